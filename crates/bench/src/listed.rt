@@ -20,7 +20,8 @@ fn items(listing: &Listing) -> usize {
 }
 
 impl Listed {
-    /// Lists the component, on the clock. What was listed is kept, so that freeing it takes none of the time.
+    /// Lists the component, on the clock. What was listed is kept, so that freeing it takes none of
+    /// the time.
     pub fn timed<R: Clock + AllocGlobal>(rt: &R, bytes: &[u8]) -> Option<Listed> {
         let start = Instant::now(rt).ok()?;
         let listing = list(rt.alloc(), bytes).ok()?;

@@ -1,7 +1,8 @@
-//! How long the builder takes for the calls that upstream's bench makes: `bench N` by rounds, `bench N grouped` call by
-//! call. It prints how many bytes came and their hash, and on standard error how many nanoseconds it took. With the word
-//! `list` in front, as `bench list N`, these bytes are then listed: it prints how many sections and items there are too,
-//! and how many nanoseconds the listing took.
+//! How long the builder takes for the calls that upstream's bench makes: `bench N` by rounds,
+//! `bench N grouped` call by call. It prints how many bytes came and their hash, and on standard
+//! error how many nanoseconds it took. With the word `list` in front, as `bench list N`, these
+//! bytes are then listed: it prints how many sections and items there are too, and how many
+//! nanoseconds the listing took.
 #![tactic(auto)]
 
 mod calls;

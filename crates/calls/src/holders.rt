@@ -118,8 +118,8 @@ fn over(alloc: Global) -> Result<Holder, AllocError>
     Ok(Holder::over([0xaa, 0xbb, 0x03, 0x00].to_vec(alloc)?, 2, 1))
 }
 
-/// All bytes and two more are kept, and then it goes back to what it was; the two bytes in front are
-/// replaced by one.
+/// All bytes and two more are kept, and then it goes back to what it was; the two bytes in front
+/// are replaced by one.
 #[tactic(auto, using(wenc_base::proofs::Groups::size_1))]
 fn kept(alloc: Global) -> Result<Holder, Fault> {
     let mut holder = over(alloc)?;

@@ -1,5 +1,5 @@
-//! Each public call made once, with memory for all that it asks for, as the kit compiles it. What more is tested of the
-//! library is tested of the same source as Rust compiles it.
+//! Each public call made once, with memory for all that it asks for, as the kit compiles it. What
+//! more is tested of the library is tested of the same source as Rust compiles it.
 #![tactic(auto)]
 
 #[cfg(test)]

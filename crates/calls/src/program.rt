@@ -100,7 +100,8 @@ fn writes(rt: HostRuntime) {
     yes(&rt, text == *b"2af0");
 }
 
-// The calls by themselves: what a test does with the answers then rests on nothing that they promise.
+// The calls by themselves: what a test does with the answers then rests on nothing that they
+// promise.
 
 fn line(alloc: Global) -> Result<Option<Command>, AllocError> {
     command(alloc, b"import f func 0")

@@ -1,4 +1,5 @@
-//! What the front of bytes is read as, by the calls of `wenc_read` and `wenc_decode` that no tree goes through.
+//! What the front of bytes is read as, by the calls of `wenc_read` and `wenc_decode` that no tree
+//! goes through.
 
 use crate::checks::{again, made, ok, yes};
 use std::alloc::AllocError;

@@ -1,4 +1,5 @@
-//! Canonical functions. They are chosen in parts, since what a match costs to prove grows with the square of its arms.
+//! Canonical functions. They are chosen in parts, since what a match costs to prove grows with the
+//! square of its arms.
 
 use crate::choices::{Choices, Choose};
 use wasm_encoder::{CanonTree, ValType};
@@ -124,7 +125,8 @@ fn of_futures(which: u8, choices: &mut Choices) -> CanonTree {
     }
 }
 
-/// Calls of errors' contexts, of sets of waitables and of backpressure: which of the ten, from 26 on.
+/// Calls of errors' contexts, of sets of waitables and of backpressure: which of the ten, from 26
+/// on.
 fn of_sets(which: u8, choices: &mut Choices) -> CanonTree {
     match which {
         26 => CanonTree::ErrorContextNew(Vec::choose(choices)),

@@ -74,8 +74,8 @@ impl Choose for bool {
     }
 }
 
-/// A byte below 200 is the number, modulo 16; one below 230 is followed by a number of two bytes, any other by one of
-/// four.
+/// A byte below 200 is the number, modulo 16; one below 230 is followed by a number of two bytes,
+/// any other by one of four.
 impl Choose for u32 {
     fn choose(choices: &mut Choices) -> u32 {
         let byte = choices.byte();
@@ -102,7 +102,8 @@ impl Choose for u64 {
     }
 }
 
-/// As many letters as a byte says, modulo 8: each is a small letter by a byte modulo 27, or the letter é.
+/// As many letters as a byte says, modulo 8: each is a small letter by a byte modulo 27, or the
+/// letter é.
 impl Choose for String {
     fn choose(choices: &mut Choices) -> String {
         let mut text = String::new(choices.alloc);

@@ -1,5 +1,6 @@
-//! Commands that the bytes on standard input choose, run. `README.md` says which bytes choose what. Answers and
-//! component are printed as `wenc` prints them, and the status is 0; where `build` is refused, it is the fault's number.
+//! Commands that the bytes on standard input choose, run. `README.md` says which bytes choose what.
+//! Answers and component are printed as `wenc` prints them, and the status is 0; where `build` is
+//! refused, it is the fault's number.
 #![tactic(auto)]
 
 mod canonicals;

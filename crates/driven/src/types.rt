@@ -46,8 +46,8 @@ impl Choose for DefinedTree {
     }
 }
 
-/// A type, in which component and instance types stand so deep in one another at most; those that would stand deeper
-/// declare nothing.
+/// A type, in which component and instance types stand so deep in one another at most; those that
+/// would stand deeper declare nothing.
 #[cycle(types)]
 pub fn ty(choices: &mut Choices, depth: u8) -> TypeTree {
     match choices.byte() % 5 {

@@ -47,7 +47,8 @@ pub fn spelt_so_alone()
     signed_text_in_words();
 }
 
-/// What begins with type 115, whose text has the byte of the primitive `string` in it, begins with no primitive type.
+/// What begins with type 115, whose text has the byte of the primitive `string` in it, begins with
+/// no primitive type.
 pub fn no_primitive()
     ensures { (p : PrimitiveValType) (r s : List ℕ)
         → (value_type (value_types.«Type» 0x73)).text ++ r ≡ (primitive p).text ++ s → ⊥ }
@@ -55,7 +56,8 @@ pub fn no_primitive()
     indices_are_no_primitives();
 }
 
-/// The text of an import is read as it and tells it, and no bytes begin with two imports, however they are spelt.
+/// The text of an import is read as it and tells it, and no bytes begin with two imports, however
+/// they are spelt.
 pub fn imports_are_told()
     ensures told { (a b : Import) (r s : List ℕ) → (import_item a).Fits → (import_item b).Fits
         → (import_item a).text ++ r ≡ (import_item b).text ++ s → (a ≡ b) × (r ≡ s) }
@@ -108,7 +110,8 @@ pub fn one_function_more<A: Allocator>(
     Ok(())
 }
 
-/// An imported function has the index that was the count of functions, and counts once. No count falls.
+/// An imported function has the index that was the count of functions, and counts once. No count
+/// falls.
 pub fn import_counted<A: Allocator, B: Allocator>(
     builder: &mut ComponentBuilder<A>,
     name: ComponentExternName<'_, B>,
@@ -148,8 +151,9 @@ pub fn finished_alike<A: Allocator, B: Allocator>(
     }
 }
 
-/// A run: without a raw item its bytes have no two sections of one collected kind side by side; the indices of the
-/// debug names ascend; and where all commands are accepted, a nested component of these commands has its bytes.
+/// A run: without a raw item its bytes have no two sections of one collected kind side by side; the
+/// indices of the debug names ascend; and where all commands are accepted, a nested component of
+/// these commands has its bytes.
 pub fn told_of_a_run<A: Allocator + Copy, B: Allocator>(
     alloc: A,
     commands: &[Command<B>],

@@ -81,8 +81,8 @@ fn joined<A: Allocator>(
     Ok(component.finish())
 }
 
-/// A component that imports a type of resources and exports it by an alias, section by section. What it is
-/// follows from the contracts of these calls alone.
+/// A component that imports a type of resources and exports it by an alias, section by section.
+/// What it is follows from the contracts of these calls alone.
 pub fn by_hand<A: Allocator + Copy>(alloc: A) -> Result<Vec<u8, A>, Fault>
     ensures { IfOk result (λ bytes. bytes.items ≡ preamble.text
         ++ (10 ∷ section_text (with_member no_members (import_item

@@ -50,8 +50,8 @@ pub fn dropping<A: Allocator>(alloc: A, ty: u32) -> Result<CanonicalFunctionSect
     Ok(section)
 }
 
-/// A component that imports a type of resources and exports it again. What it is follows from the contracts of the
-/// builder's calls alone.
+/// A component that imports a type of resources and exports it again. What it is follows from the
+/// contracts of the builder's calls alone.
 pub fn passed_on<A: Allocator + Copy>(alloc: A) -> Result<Vec<u8, A>, Fault>
     ensures { IfOk result (λ bytes. bytes.items ≡ whole (items (
         import_entry (plain_name (codes "f")) (ComponentTypeRef.«Type» TypeBounds.SubResource)

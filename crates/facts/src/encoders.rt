@@ -16,8 +16,8 @@ use wenc_parts::ComponentValType;
 use wenc_sections::{ComponentTypeSection, CoreTypeSection};
 use wenc_types::{ComponentType, ModuleType};
 
-/// A type that is begun and dropped, given up, and begun again: the section has one type more, and no trace of the
-/// other.
+/// A type that is begun and dropped, given up, and begun again: the section has one type more, and
+/// no trace of the other.
 pub fn begun_again<A: Allocator, B: Allocator>(
     section: &mut CoreTypeSection<A>,
     ty: &SubType<B>,

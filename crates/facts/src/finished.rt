@@ -17,7 +17,8 @@ use wasm_encoder::laws::{held_items_tell_bytes, one_kind_is_one_section};
 use wenc_base::Fault;
 use wenc_builder::ComponentBuilder;
 
-/// Two builders: where none of the items that they hold is raw, the bytes are equal exactly where the items are.
+/// Two builders: where none of the items that they hold is raw, the bytes are equal exactly where
+/// the items are.
 pub fn two_builders<A: Allocator, B: Allocator>(
     one: ComponentBuilder<A>,
     other: ComponentBuilder<B>,
@@ -36,7 +37,8 @@ pub fn two_builders<A: Allocator, B: Allocator>(
     }
 }
 
-/// A builder of imports alone: its bytes are one section of these. Where they are functions, these are as many.
+/// A builder of imports alone: its bytes are one section of these. Where they are functions, these
+/// are as many.
 pub fn imports_alone<A: Allocator>(builder: ComponentBuilder<A>) -> Result<(u32, Vec<u8, A>), Fault>
     ensures one_section { IfOk result (λ r. (x : Entry) (es : List Entry) → Holds builder (x ∷ es)
         → AllByRecursion (λ y. collected y ≡ Some (section_number ids.Import)) (items (x ∷ es))

@@ -13,7 +13,8 @@ use wasm_encoder::{
     Component, ComponentImportSection, ComponentTypeRef, Encode, Fault, TypeBounds,
 };
 
-/// A component that imports a type of resources. What it is follows from the contracts of these calls and a law alone.
+/// A component that imports a type of resources. What it is follows from the contracts of these
+/// calls and a law alone.
 pub fn importing<A: Allocator + Copy>(alloc: A) -> Result<Vec<u8, A>, Fault>
     ensures { IfOk result (λ bytes. bytes.items ≡ preamble.text
         ++ 0x0a ∷ (counted import_item
@@ -30,7 +31,8 @@ pub fn importing<A: Allocator + Copy>(alloc: A) -> Result<Vec<u8, A>, Fault>
     Ok(component.finish())
 }
 
-/// What a section of imports writes, whoever made which calls on it, is read as some imports, whatever follows.
+/// What a section of imports writes, whoever made which calls on it, is read as some imports,
+/// whatever follows.
 pub fn read_back<A: Allocator, B: Allocator>(
     imports: &ComponentImportSection<A>,
     sink: &mut Vec<u8, B>,

@@ -1,4 +1,5 @@
-//! Facts that are proved, of calls: the examples of the doc comments, callers of the laws, and what runs of commands tell.
+//! Facts that are proved, of calls: the examples of the doc comments, callers of the laws, and what
+//! runs of commands tell.
 #![tactic(auto)]
 
 pub mod applied;

@@ -27,8 +27,8 @@ fn add_commands<A: Allocator>(
     Ok(())
 }
 
-/// Lists a component and builds its items again, unless memory is wanting or it can't be listed. Where no command is
-/// refused, the items are those that were read.
+/// Lists a component and builds its items again, unless memory is wanting or it can't be listed.
+/// Where no command is refused, the items are those that were read.
 pub fn rebuilt<A: Allocator + Copy>(alloc: A, bytes: &[u8]) -> Option<Built<A>>
     ensures { IfSome result (λ built. (ss : List Section) × Reading Wide bytes.now ss
         × ((es : List Entry) × Ran (map command_of (flat_map members ss)) built.answers.items es

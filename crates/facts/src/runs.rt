@@ -12,7 +12,8 @@ use std::alloc::Allocator;
 use wasm_encoder::{Built, Command, build};
 use wenc_base::Fault;
 
-/// Two runs: where none of the items that they led to is raw, the bytes are equal exactly where the items are.
+/// Two runs: where none of the items that they led to is raw, the bytes are equal exactly where the
+/// items are.
 pub fn two_runs<A: Allocator + Copy, B: Allocator, C: Allocator>(
     alloc: A,
     one: &[Command<B>],
@@ -33,7 +34,8 @@ pub fn two_runs<A: Allocator + Copy, B: Allocator, C: Allocator>(
     }
 }
 
-/// A run: every answered index is its item's index. Where there is none, it isn't for something unfinished.
+/// A run: every answered index is its item's index. Where there is none, it isn't for something
+/// unfinished.
 pub fn indexed_run<A: Allocator + Copy, B: Allocator>(
     alloc: A,
     commands: &[Command<B>],

@@ -1,4 +1,5 @@
-//! Two values are equal exactly where they are the same value, and ids of sections are ordered by their numbers.
+//! Two values are equal exactly where they are the same value, and ids of sections are ordered by
+//! their numbers.
 ghost use Rattle.std.specs.Prelude.{◌≡◌, ◌↔◌, IsTrue, nat_lt};
 ghost use Rattle.std.specs.Ordering.{nat_cmp};
 ghost use Rattle.wenc_base.specs.Composites.{func_type_view, structure_view, composite_view, sub_view, rec_type_view};

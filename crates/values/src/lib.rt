@@ -1,5 +1,5 @@
-//! Facts that are proved, of values: worked texts and components on literals, and that derived equality goes by value and
-//! hashes by equality.
+//! Facts that are proved, of values: worked texts and components on literals, and that derived
+//! equality goes by value and hashes by equality.
 #![tactic(auto)]
 
 pub mod canonicals;

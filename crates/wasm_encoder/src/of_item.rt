@@ -11,7 +11,8 @@ impl<A: Allocator> From<ItemTree<A>> for Command<A> {
 
     ghost from_gives = { λ item command. command_view command ≡ command_of (item_view item) };
 
-    /// The command that adds this item, without a debug name; a nested component by its bytes. It takes no memory.
+    /// The command that adds this item, without a debug name; a nested component by its bytes. It
+    /// takes no memory.
     fn from(item: ItemTree<A>) -> Command<A> {
         match item {
             ItemTree::Module(bytes) => Command::CoreModule {

@@ -11,8 +11,9 @@ use crate::command::Command;
 use std::alloc::Allocator;
 use wenc_base::{Fault, ProducersSection};
 
-/// The command that adds a producers section: the custom section of the name `producers`, with these fields for data (tool
-/// conventions, "Producers Section"). It is refused for want of memory, or where the section is unfinished.
+/// The command that adds a producers section: the custom section of the name `producers`, with
+/// these fields for data (tool conventions, "Producers Section"). It is refused for want of memory,
+/// or where the section is unfinished.
 pub fn producers_command<A: Allocator + Copy, B: Allocator>(
     alloc: A,
     producers: &ProducersSection<B>,

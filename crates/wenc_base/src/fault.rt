@@ -5,8 +5,8 @@ ghost use Rattle.wenc_base.specs.declared.fault.Fault.TheVariants.{Memory};
 use std::alloc::{AllocError, AllocFailed};
 use thiserror::Error;
 
-/// Why a call was refused. A refused call changes nothing, but for what it was given to keep, and what
-/// an encoder had begun, which stays unfinished.
+/// Why a call was refused. A refused call changes nothing, but for what it was given to keep, and
+/// what an encoder had begun, which stays unfinished.
 ///
 /// - `Memory`: the allocator refused a growth during this call.
 /// - `TooMany`: a list's length, a count or an index space would pass 4294967295.

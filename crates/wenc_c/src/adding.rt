@@ -167,8 +167,8 @@ pub(crate) fn add_custom(
     }))
 }
 
-/// Adds the item with this text, which stands in the section with this id, from 1 to 11, with a debug name or none.
-/// Answers its index.
+/// Adds the item with this text, which stands in the section with this id, from 1 to 11, with a
+/// debug name or none. Answers its index.
 pub(crate) fn add(
     builder: &mut ComponentBuilder,
     alloc: Global,

@@ -11,7 +11,8 @@ use crate::life::{wenc_finish, wenc_new};
 use crate::spelled::wenc_item;
 use std::alloc::Global;
 
-/// Adds an item by its text. Where it is accepted, the text is read as some item, no type in which is deeper than 100.
+/// Adds an item by its text. Where it is accepted, the text is read as some item, no type in which
+/// is deeper than 100.
 pub fn item_of(
     alloc: Global,
     builder: &mut Handle,

@@ -11,15 +11,16 @@ ghost use Rattle.wenc_c.specs.declared.refused.Refused.{Refused as Refusals};
 ghost use Rattle.wenc_c.specs.declared.session.Session.{Session as Sessions};
 ghost use Rattle.wenc_list.specs.Listing.{HasDepth};
 
-/// The item that is found in a text, as `wenc_item` adds it, has that text: it is read so, widely, by the grammar. And no
-/// type in it is deeper than 100.
+/// The item that is found in a text, as `wenc_item` adds it, has that text: it is read so, widely,
+/// by the grammar. And no type in it is deeper than 100.
 pub fn what_is_found_is_read()
     ensures one { (id : ℕ) (text : List ℕ) (x : Item) → read_one id text ≡ Ok x
         → IsReadAs id text x × HasDepth 100 x }
     ensures custom { (text : List ℕ) (x : Item) → read_custom text ≡ Ok x → IsReadAs 0 text x }
 {}
 
-/// No call leaves an item of a component unfinished. So none answers that one is, but `wenc_bytes` of what isn't finished.
+/// No call leaves an item of a component unfinished. So none answers that one is, but `wenc_bytes`
+/// of what isn't finished.
 pub fn nothing_stays_unfinished()
     ensures begun { (s : Sessions) → IsEmpty s → IsSettled s }
     ensures added { (s t : Sessions) (answer : Result ℕ Refusals) (x : Entry)

@@ -12,7 +12,8 @@ use crate::session::Session;
 use std::alloc::{AllocError, Global};
 use wenc_base::Fault;
 
-/// Begins a component. The handle owns nothing before: else it is refused as a bad argument, and owns what it owned.
+/// Begins a component. The handle owns nothing before: else it is refused as a bad argument, and
+/// owns what it owned.
 #[unsafe(no_mangle)]
 pub extern "C" fn wenc_new(alloc: Global, builder: &mut Handle) -> u32
     // What it owns then holds nothing.

@@ -89,9 +89,9 @@ fn told_fault(fault: ListFault, place: &mut usize) -> u32
     }
 }
 
-/// Lists the component that these bytes are: how many sections it has, the first of them as far as there is room, and
-/// how many items there are in each of the 13 index spaces. Where it isn't listed, `number` is the place of what isn't
-/// read.
+/// Lists the component that these bytes are: how many sections it has, the first of them as far as
+/// there is room, and how many items there are in each of the 13 index spaces. Where it isn't
+/// listed, `number` is the place of what isn't read.
 #[unsafe(no_mangle)]
 pub extern "C" fn wenc_list(
     alloc: Global,

@@ -10,8 +10,8 @@ use crate::refused::{Refused, given, outcome, told};
 use crate::texts::text_where;
 use std::alloc::Global;
 
-/// Adds the item with this text in the binary format, which stands in the section with this id. A custom section has no
-/// index.
+/// Adds the item with this text in the binary format, which stands in the section with this id. A
+/// custom section has no index.
 #[unsafe(no_mangle)]
 pub extern "C" fn wenc_item(
     alloc: Global,

@@ -65,7 +65,8 @@ fn borrowed(text: Option<&str>) -> Option<CowStr<'_>>
     }
 }
 
-/// A name with the options that are there: what is implemented, the version's suffix, and a name elsewhere.
+/// A name with the options that are there: what is implemented, the version's suffix, and a name
+/// elsewhere.
 #[inline(always)]
 pub(crate) fn name_of<'a>(
     name: &'a [u8],

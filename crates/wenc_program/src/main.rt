@@ -15,8 +15,8 @@ use wenc::failure::Failure;
 use wenc::program::report;
 use wenc::run;
 
-/// The arguments without the program's name. It fails where there are some that can't be told: there is no memory for
-/// them, or they aren't text.
+/// The arguments without the program's name. It fails where there are some that can't be told:
+/// there is no memory for them, or they aren't text.
 fn arguments<R: Env + AllocGlobal>(rt: &R) -> Result<Vec<String>, Failure>
     ensures { IfErr result (λ e. (e ≡ Arguments) ⊎ (e ≡ FaultFailure (Memory alloc_error))) }
 {

@@ -85,8 +85,8 @@ fn option_of<A: Allocator>(alloc: A, bytes: &[u8]) -> Result<(OptionTree<A>, &[u
     }
 }
 
-/// A name with so many options, whose first bytes ascend from `least` on: so there are three of them at most, however many
-/// the bytes say.
+/// A name with so many options, whose first bytes ascend from `least` on: so there are three of
+/// them at most, however many the bytes say.
 fn options_from<A: Allocator + Copy>(
     alloc: A,
     name: String<A>,
@@ -130,8 +130,9 @@ fn with_options<A: Allocator + Copy>(
     Ok((NameTree { name, options }, rest))
 }
 
-/// The name of an import or an export, with its options (component model, binary format, "Import and Export Definitions"). It
-/// is refused where there is none, or where its options don't stand in the order of their numbers, each at most once.
+/// The name of an import or an export, with its options (component model, binary format, "Import
+/// and Export Definitions"). It is refused where there is none, or where its options don't stand in
+/// the order of their numbers, each at most once.
 #[tactic(auto, unfolding(wenc_base::specs::Readers::choose))]
 #[inline(always)]
 pub fn extern_name_of<A: Allocator + Copy>(

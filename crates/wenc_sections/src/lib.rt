@@ -1,8 +1,8 @@
 //! Components, and the sections that are written into them.
 //!
-//! Numbers, indices, counts and sizes are from 0 to 4294967295. What would have more items, arguments or exports is
-//! refused with `TooMany`, what would have more bytes with `TooLarge`, and what gets no memory with `Memory`. What
-//! refused a call is as it was before it.
+//! Numbers, indices, counts and sizes are from 0 to 4294967295. What would have more items,
+//! arguments or exports is refused with `TooMany`, what would have more bytes with `TooLarge`, and
+//! what gets no memory with `Memory`. What refused a call is as it was before it.
 #![tactic(auto)]
 
 pub mod aliases;

@@ -29,8 +29,8 @@ pub fn neighbours_differ()
         → runs xs ≡ front ++ Run id ys ∷ Run id zs ∷ behind → ⊥ }
 {}
 
-/// Items of one collected kind are one section, and none of them is raw. Where each takes one index in a space, they
-/// take as many there as they are.
+/// Items of one collected kind are one section, and none of them is raw. Where each takes one index
+/// in a space, they take as many there as they are.
 pub fn one_kind_is_one_section()
     ensures one { (id : ℕ) (x : Item) (xs : List Item)
         → AllByRecursion (λ y. collected y ≡ Some id) (x ∷ xs) → runs (x ∷ xs) ≡ Run id (x ∷ xs) ∷ [] }
@@ -48,8 +48,8 @@ pub fn held_items_tell_bytes()
         → (whole (items_of es) ≡ whole (items_of fs)) ↔ (items_of es ≡ items_of fs) }
 {}
 
-/// An accepted call that defines one item answers the old count of the item's space, and raises that count alone, by
-/// one.
+/// An accepted call that defines one item answers the old count of the item's space, and raises
+/// that count alone, by one.
 pub fn one_item_counts_once()
     ensures answered { (old new : State) (i : ℕ) (x : Entry) (space : Space) (es : List Entry)
         → Holds old es → Enters old new (Ok i) x → defines x.item ≡ some_in space 1
@@ -77,8 +77,8 @@ pub fn counts_never_fall()
         → count_in old space ≤ count_in new space }
 {}
 
-/// The indices in a space's list of names ascend, and each is below the space's count, where no start has a name. So it
-/// is with all that commands lead to.
+/// The indices in a space's list of names ascend, and each is below the space's count, where no
+/// start has a name. So it is with all that commands lead to.
 pub fn named_indices_ascend()
     ensures ascending { (es : List Entry) (k : ℕ) → AllByRecursion StartIsNameless es
         → IsStrictlyIncreasing (map (λ n. n.index) (names es k)) }
@@ -94,8 +94,9 @@ pub fn indices_are_no_primitives()
         → (value_type (value_types.«Type» n)).text ++ r ≡ (primitive p).text ++ s → ⊥ }
 {}
 
-/// Nested commands against which nothing stands are a run with all of them accepted, to what they lead to. And where
-/// nested commands are a run with all of them accepted, nothing stands against them, and it led there.
+/// Nested commands against which nothing stands are a run with all of them accepted, to what they
+/// lead to. And where nested commands are a run with all of them accepted, nothing stands against
+/// them, and it led there.
 pub fn nested_runs()
     ensures there { (inner : Commands) → NoCause (first_cause [] inner)
         → (answers : List (Result (Option ℕ) Fault))
@@ -105,9 +106,9 @@ pub fn nested_runs()
         → (all ≡ led [] inner) × NoCause (first_cause [] inner) }
 {}
 
-/// A type that an accepted call began on a builder, and that an encoder's accepted last call wrote and ended, is one
-/// entry more in every list that the builder held. Given up, written in part or not at all,
-/// it leaves every list held that was held.
+/// A type that an accepted call began on a builder, and that an encoder's accepted last call wrote
+/// and ended, is one entry more in every list that the builder held. Given up, written in part or
+/// not at all, it leaves every list held that was held.
 pub fn encoded_types_are_entries()
     ensures written { AreEntered }
     ensures begun_given_up { (old lent new : State) (es : List Entry) (d : Draft)
