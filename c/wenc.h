@@ -6,9 +6,10 @@
  * A builder makes one component, call by call, and hands out the index of each item. The calls are
  * those of the crate `wenc_c`, whose contracts say what each does; in short:
  *
- *  - Each call but wenc_free answers a status. WENC_DONE is 0. A call that answers another status
- *    has changed nothing: neither the builder, nor the builder that it was given, nor what an
- *    argument points to, but where its comment says so.
+ *  - Each call but wenc_free answers a status, of those that its comment has after `Answers`
+ *    (wenc_status). WENC_DONE is 0. A call that answers another status has changed nothing: neither
+ *    the builder, nor the builder that it was given, nor what an argument points to, but where its
+ *    comment says so.
  *  - A text is a pointer and a number of bytes. It is UTF-8, without a 0 at its end, and may have
  *    any bytes of UTF-8 in it. The call reads it and keeps nothing of it.
  *  - A debug name, and an option of a name, is a flag, a pointer and a number of bytes. Where the
@@ -194,7 +195,7 @@ enum wenc_space {
 
 /* Begins a component. The handle is {NULL} before: else WENC_BAD_ARGUMENT. It owns the builder
  * then, until wenc_free, or until wenc_component gives it up.
- * Also WENC_NO_MEMORY. */
+ * Answers 0, 1, 7. */
 uint32_t wenc_new(wenc_builder *builder);
 
 /* Frees the builder with its component, finished or not. The handle is {NULL} then. */
@@ -202,12 +203,12 @@ void wenc_free(wenc_builder *builder);
 
 /* Finishes the component, and puts the number of its bytes into `*len`. It takes no memory. Made
  * again it says that number again.
- * WENC_NO_BUILDER. */
+ * Answers 0, 9. */
 uint32_t wenc_finish(wenc_builder *builder, size_t *len);
 
 /* Copies the finished component to `bytes`, where `len` is the number that wenc_finish said: else
- * WENC_BAD_ARGUMENT.
- * Also WENC_UNFINISHED where wenc_finish wasn't made, WENC_NO_BUILDER. */
+ * WENC_BAD_ARGUMENT. Where wenc_finish wasn't made, WENC_UNFINISHED.
+ * Answers 0, 4, 7, 9. */
 uint32_t wenc_bytes(wenc_builder *builder, uint8_t *bytes, size_t len);
 
 /* ---- items
@@ -218,12 +219,14 @@ uint32_t wenc_bytes(wenc_builder *builder, uint8_t *bytes, size_t len);
  * WENC_FINISHED, WENC_NO_BUILDER. */
 
 /* Imports an item under a plain name: `ref` is one of wenc_ref, with its number. The item has the
- * name as its debug name. */
+ * name as its debug name.
+ * Answers 0, 1, 2, 3, 5, 7, 8, 9. */
 uint32_t wenc_import(wenc_builder *builder, const uint8_t *name, size_t name_len, uint32_t ref,
                      uint32_t of, uint32_t *index);
 
 /* Imports an item under a name with options: the interface that it implements, what follows the
- * version that the name bears, and a name that it has elsewhere, each there or not. */
+ * version that the name bears, and a name that it has elsewhere, each there or not.
+ * Answers 0, 1, 2, 3, 5, 7, 8, 9. */
 uint32_t wenc_import_named(wenc_builder *builder, const uint8_t *name, size_t name_len,
                            bool has_implements, const uint8_t *implements, size_t implements_len,
                            bool has_version_suffix, const uint8_t *version_suffix,
@@ -233,11 +236,13 @@ uint32_t wenc_import_named(wenc_builder *builder, const uint8_t *name, size_t na
 
 /* Exports the item of this kind (wenc_kind) with the index `item` under a plain name, with a type
  * (`ref` and `of`) or none (WENC_REF_NONE). `*index` is the index of the exported item, which has
- * the name as its debug name. */
+ * the name as its debug name.
+ * Answers 0, 1, 2, 3, 5, 7, 8, 9. */
 uint32_t wenc_export(wenc_builder *builder, const uint8_t *name, size_t name_len, uint32_t kind,
                      uint32_t item, uint32_t ref, uint32_t of, uint32_t *index);
 
-/* Exports an item as wenc_export does, under a name with options, as of wenc_import_named. */
+/* Exports an item as wenc_export does, under a name with options, as of wenc_import_named.
+ * Answers 0, 1, 2, 3, 5, 7, 8, 9. */
 uint32_t wenc_export_named(wenc_builder *builder, const uint8_t *name, size_t name_len,
                            bool has_implements, const uint8_t *implements, size_t implements_len,
                            bool has_version_suffix, const uint8_t *version_suffix,
@@ -245,45 +250,53 @@ uint32_t wenc_export_named(wenc_builder *builder, const uint8_t *name, size_t na
                            const uint8_t *external_id, size_t external_id_len, uint32_t kind,
                            uint32_t item, uint32_t ref, uint32_t of, uint32_t *index);
 
-/* Adds an alias of what a component instance exports under a name: `kind` is one of wenc_kind. */
+/* Adds an alias of what a component instance exports under a name: `kind` is one of wenc_kind.
+ * Answers 0, 1, 2, 3, 5, 7, 8, 9. */
 uint32_t wenc_alias_export(wenc_builder *builder, bool named, const uint8_t *debug_name,
                            size_t debug_name_len, uint32_t instance, uint32_t kind,
                            const uint8_t *name, size_t name_len, uint32_t *index);
 
-/* Adds an alias of what a core instance exports under a name: `kind` is one of wenc_core_kind. */
+/* Adds an alias of what a core instance exports under a name: `kind` is one of wenc_core_kind.
+ * Answers 0, 1, 2, 3, 5, 7, 8, 9. */
 uint32_t wenc_alias_core_export(wenc_builder *builder, bool named, const uint8_t *debug_name,
                                 size_t debug_name_len, uint32_t instance, uint32_t kind,
                                 const uint8_t *name, size_t name_len, uint32_t *index);
 
 /* Adds an alias of an item of an enclosing component, `count` components further out (0 is this
- * one): `kind` is one of wenc_outer_kind, `item` the index that the item has there. */
+ * one): `kind` is one of wenc_outer_kind, `item` the index that the item has there.
+ * Answers 0, 1, 2, 3, 5, 7, 8, 9. */
 uint32_t wenc_alias_outer(wenc_builder *builder, bool named, const uint8_t *debug_name,
                           size_t debug_name_len, uint32_t kind, uint32_t count, uint32_t item,
                           uint32_t *index);
 
-/* Adds the core module with these bytes. Nothing checks that they are a module's. */
+/* Adds the core module with these bytes. Nothing checks that they are a module's.
+ * Answers 0, 1, 2, 3, 5, 8, 9. */
 uint32_t wenc_core_module(wenc_builder *builder, bool named, const uint8_t *debug_name,
                           size_t debug_name_len, const uint8_t *bytes, size_t len,
                           uint32_t *index);
 
-/* Adds the component with these bytes. Nothing checks that they are a component's. */
+/* Adds the component with these bytes. Nothing checks that they are a component's.
+ * Answers 0, 1, 2, 3, 5, 8, 9. */
 uint32_t wenc_component_bytes(wenc_builder *builder, bool named, const uint8_t *debug_name,
                               size_t debug_name_len, const uint8_t *bytes, size_t len,
                               uint32_t *index);
 
 /* Adds what another builder holds as a nested component, and frees that builder: its handle is
  * {NULL} then. Where the call is refused, both are as they were: also where either is finished or
- * {NULL}. */
+ * {NULL}.
+ * Answers 0, 1, 2, 3, 5, 8, 9. */
 uint32_t wenc_component(wenc_builder *builder, bool named, const uint8_t *debug_name,
                         size_t debug_name_len, wenc_builder *nested, uint32_t *index);
 
-/* Adds what another builder holds as a nested component, and leaves that builder as it is. */
+/* Adds what another builder holds as a nested component, and leaves that builder as it is.
+ * Answers 0, 1, 2, 3, 5, 8, 9. */
 uint32_t wenc_component_ref(wenc_builder *builder, bool named, const uint8_t *debug_name,
                             size_t debug_name_len, wenc_builder *nested, uint32_t *index);
 
 /* Has a function called, with the values that have these indices, when the component is
  * instantiated. `results` is the number of values that it answers; `*index` is that of the first
- * of them. */
+ * of them.
+ * Answers 0, 1, 2, 3, 8, 9. */
 uint32_t wenc_start(wenc_builder *builder, uint32_t function, const uint32_t *args,
                     size_t args_len, uint32_t results, uint32_t *index);
 
@@ -292,24 +305,28 @@ uint32_t wenc_start(wenc_builder *builder, uint32_t function, const uint32_t *ar
  * `first` and `second`. Of what it doesn't take nothing is looked at. It has its own name as its
  * debug name.
  * WENC_BAD_ARGUMENT where it takes options, types or slots too (those go by wenc_item), where there
- * is no such function, and where a flag is another number. */
+ * is no such function, and where a flag is another number.
+ * Answers 0, 1, 2, 3, 7, 8, 9. */
 uint32_t wenc_builtin(wenc_builder *builder, uint32_t opcode, uint32_t first, uint32_t second,
                       uint32_t *index);
 
 /* Adds a core instance that exports core items under their names: the sort of each part is one of
- * wenc_core_kind, its number the index. */
+ * wenc_core_kind, its number the index.
+ * Answers 0, 1, 2, 3, 5, 7, 8, 9. */
 uint32_t wenc_core_exports(wenc_builder *builder, bool named, const uint8_t *debug_name,
                            size_t debug_name_len, const uint8_t *names, size_t names_len,
                            const wenc_part *exports, size_t exports_len, uint32_t *index);
 
 /* Adds the type of a record, by its fields: the sort of each part is WENC_REF_VALUE, and its number
- * the index of a type, or WENC_REF_PRIMITIVE, with one of wenc_primitive. */
+ * the index of a type, or WENC_REF_PRIMITIVE, with one of wenc_primitive.
+ * Answers 0, 1, 2, 3, 5, 7, 8, 9. */
 uint32_t wenc_record(wenc_builder *builder, bool named, const uint8_t *debug_name,
                      size_t debug_name_len, const uint8_t *names, size_t names_len,
                      const wenc_part *fields, size_t fields_len, uint32_t *index);
 
 /* Adds the type of a function: whether it is asynchronous; its parameters, as the fields of a
- * record; and what it answers, as a field (`ref` and `of`), or nothing (WENC_REF_NONE). */
+ * record; and what it answers, as a field (`ref` and `of`), or nothing (WENC_REF_NONE).
+ * Answers 0, 1, 2, 3, 5, 7, 8, 9. */
 uint32_t wenc_function(wenc_builder *builder, bool named, const uint8_t *debug_name,
                        size_t debug_name_len, bool is_async, const uint8_t *names,
                        size_t names_len, const wenc_part *params, size_t params_len, uint32_t ref,
@@ -323,7 +340,8 @@ uint32_t wenc_function(wenc_builder *builder, bool named, const uint8_t *debug_n
  * model provides its own; a start and a custom section have none: for these `debug_name` is only
  * looked at for being UTF-8. A custom section has no index: `*index` stays as it is.
  * WENC_MALFORMED also where `text` is not the text of exactly one item, WENC_TOO_DEEP,
- * WENC_BAD_ARGUMENT where `section` is above 11. */
+ * WENC_BAD_ARGUMENT where `section` is above 11.
+ * Answers 0, 1, 2, 3, 5, 6, 7, 8, 9. */
 uint32_t wenc_item(wenc_builder *builder, uint32_t section, bool named, const uint8_t *debug_name,
                    size_t debug_name_len, const uint8_t *text, size_t text_len, uint32_t *index);
 
@@ -331,19 +349,22 @@ uint32_t wenc_item(wenc_builder *builder, uint32_t section, bool named, const ui
  *
  * These are refused as the calls above. */
 
-/* Adds a custom section with this name and this data. */
+/* Adds a custom section with this name and this data.
+ * Answers 0, 1, 2, 3, 5, 8, 9. */
 uint32_t wenc_custom_section(wenc_builder *builder, const uint8_t *name, size_t name_len,
                              const uint8_t *data, size_t data_len);
 
 /* Adds a custom section with these bytes after its id. Nothing checks that they are a
- * section's. */
+ * section's.
+ * Answers 0, 1, 2, 3, 8, 9. */
 uint32_t wenc_raw_custom_section(wenc_builder *builder, const uint8_t *bytes, size_t len);
 
-/* Adds a section of the debug names so far. Without names it adds nothing. */
+/* Adds a section of the debug names so far. Without names it adds nothing.
+ * Answers 0, 1, 2, 3, 8, 9. */
 uint32_t wenc_append_names(wenc_builder *builder);
 
 /* Puts the number of items in an index space (wenc_space) into `*count`.
- * WENC_BAD_ARGUMENT, WENC_FINISHED, WENC_NO_BUILDER. */
+ * Answers 0, 7, 8, 9. */
 uint32_t wenc_count(wenc_builder *builder, uint32_t space, uint32_t *count);
 
 /* ---- listing */
@@ -363,7 +384,8 @@ typedef struct {
  * WENC_NOT_A_COMPONENT, WENC_BAD_SECTION, WENC_BAD_ITEM and WENC_TOO_DEEP say why the bytes are
  * not listed: then `*number` is the place of the first section that is not read, or 0 where not
  * even the header is. Also WENC_NO_MEMORY, and WENC_TOO_LARGE where a count has more than 64
- * bits: there `*number` stays as it is. */
+ * bits: there `*number` stays as it is.
+ * Answers 0, 1, 3, 6, 7, 10, 11, 12. */
 uint32_t wenc_list(const uint8_t *bytes, size_t len, wenc_listed *sections, size_t room,
                    uint64_t *counts, size_t counts_len, size_t *number);
 

@@ -1,17 +1,20 @@
+//! A listing on the clock.
+use std::alloc::Allocator;
 use std::io;
 use std::io::Write;
 use std::time::{Clock, Instant};
 use wenc_list::{Listing, list};
 
-/// A listing, and how long it took.
+/// What a listing found, and how long it took.
 #[derive(Drop)]
 pub struct Listed {
-    listing: Listing,
+    sections: usize,
+    items: usize,
     nanoseconds: u128,
 }
 
 /// How many items the sections have.
-fn items(listing: &Listing) -> usize {
+fn items<A: Allocator>(listing: &Listing<A>) -> usize {
     let mut items = 0usize;
     for section in &listing.sections {
         items = items.saturating_add(section.items.len());
@@ -20,14 +23,14 @@ fn items(listing: &Listing) -> usize {
 }
 
 impl Listed {
-    /// Lists the component, on the clock. What was listed is kept, so that freeing it takes none of
-    /// the time.
-    pub fn timed<R: Clock + AllocGlobal>(rt: &R, bytes: &[u8]) -> Option<Listed> {
+    /// Lists the component by this allocator, on the clock. It is freed after the time was taken.
+    pub fn timed<R: Clock, A: Allocator + Copy>(rt: &R, alloc: A, bytes: &[u8]) -> Option<Listed> {
         let start = Instant::now(rt).ok()?;
-        let listing = list(rt.alloc(), bytes).ok()?;
+        let listing = list(alloc, bytes).ok()?;
         let nanoseconds = start.elapsed(rt).ok()?.as_nanos();
         Some(Listed {
-            listing,
+            sections: listing.sections.len(),
+            items: items(&listing),
             nanoseconds,
         })
     }
@@ -39,8 +42,9 @@ impl Listed {
         out: &mut O,
         err: &mut E,
     ) -> io::Result<()> {
-        let (sections, items) = (self.listing.sections.len(), items(&self.listing));
-        let Ok(found) = format!(in rt.alloc(); "sections {sections}\nitems {items}\n") else {
+        let Ok(found) =
+            format!(in rt.alloc(); "sections {}\nitems {}\n", self.sections, self.items)
+        else {
             return Ok(());
         };
         out.write_all(found.as_bytes())?;

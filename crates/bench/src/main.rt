@@ -2,13 +2,15 @@
 //! `bench N grouped` call by call. It prints how many bytes came and their hash, and on standard
 //! error how many nanoseconds it took. With the word `list` in front, as `bench list N`, these
 //! bytes are then listed: it prints how many sections and items there are too, and how many
-//! nanoseconds the listing took.
+//! nanoseconds the listing took. With `arena` they are listed in an arena, which is given up as a
+//! whole.
 #![tactic(auto)]
 
 mod calls;
 mod hash;
 mod listed;
 
+use bumpalo::Bump;
 use calls::{Names, build};
 use hash::fnv1a;
 use listed::Listed;
@@ -21,10 +23,17 @@ use std::{env, io};
 /// How many rounds there are where no argument says it.
 const ROUNDS: u32 = 1000;
 
+/// By which allocator the bytes are listed.
+#[derive(Clone, Copy)]
+enum Lister {
+    Global,
+    Arena,
+}
+
 /// What a run is asked for.
 #[derive(Clone, Copy)]
 struct Plan {
-    lists: bool,
+    lister: Option<Lister>,
     rounds: u32,
     grouped: bool,
 }
@@ -38,13 +47,27 @@ struct Outcome {
     listed: Option<Listed>,
 }
 
+/// The lister that a word names, if it names one.
+fn lister(word: &str) -> Option<Lister> {
+    if word == "list" {
+        Some(Lister::Global)
+    } else if word == "arena" {
+        Some(Lister::Arena)
+    } else {
+        None
+    }
+}
+
 /// The plan that the arguments say, or nothing where they say none.
 fn asked<R: Env + AllocGlobal>(rt: &R) -> Option<Plan> {
     let mut args = env::args(rt).ok()?;
     let _program = args.next();
     let mut first = args.next();
-    let lists = first.as_ref().is_some_and(|word| word.as_str() == "list");
-    if lists {
+    let lister = match &first {
+        None => None,
+        Some(word) => lister(word.as_str()),
+    };
+    if lister.is_some() {
         first = args.next();
     }
     let rounds = match first {
@@ -61,7 +84,7 @@ fn asked<R: Env + AllocGlobal>(rt: &R) -> Option<Plan> {
         }
     };
     Some(Plan {
-        lists,
+        lister,
         rounds,
         grouped,
     })
@@ -73,10 +96,13 @@ fn timed<R: Clock + AllocGlobal>(rt: &R, plan: Plan) -> Option<Outcome> {
     let start = Instant::now(rt).ok()?;
     let bytes = build(rt.alloc(), &names, plan.grouped).ok()?;
     let nanoseconds = start.elapsed(rt).ok()?.as_nanos();
-    let listed = if plan.lists {
-        Some(Listed::timed(rt, bytes.as_slice())?)
-    } else {
-        None
+    let listed = match plan.lister {
+        None => None,
+        Some(Lister::Global) => Some(Listed::timed(rt, rt.alloc(), bytes.as_slice())?),
+        Some(Lister::Arena) => {
+            let arena = Bump::new(rt.alloc());
+            Some(Listed::timed(rt, &arena, bytes.as_slice())?)
+        }
     };
     Some(Outcome {
         bytes: bytes.len(),

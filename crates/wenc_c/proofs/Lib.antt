@@ -6,5 +6,6 @@ pub mod Heap
 pub mod OneRead
 pub mod Runs
 pub mod Settled
+pub mod Statuses
 pub mod Typed
 pub mod Whole

@@ -10,9 +10,10 @@ use Rattle.wenc_builder.specs.Item.{Item}
 use Rattle.wenc_builder.specs.Names.{AddsNames, none_named, kept_names}
 use Rattle.wenc_builder.specs.Space.{Indices}
 use Rattle.wenc_c.specs.Reads.{AddsReadTo, IsUnread, entry_of}
-use Rattle.wenc_c.specs.Sessions.{AddsIfTo, AddsTo, AddsWithoutIndexTo, Answered, Does, Finishes, IsEmpty, IsSettled, Nests, NestsTo, StaysSettled}
+use Rattle.wenc_c.specs.Handles.{At, OwnsSettled}
+use Rattle.wenc_c.specs.Sessions.{answer_of, AddsIfTo, AddsTo, AddsWithoutIndexTo, Answered, Does, Finishes, IsEmpty, IsSettled, Nests, NestsTo, StaysSettled}
 use Rattle.wenc_c.specs.declared.refused.Refused.{Refused as Refusals}
-use Rattle.wenc_c.specs.declared.refused.Refused.TheVariants.{Fault, Finished}
+use Rattle.wenc_c.specs.declared.refused.Refused.TheVariants.{Fault, Finished, NoBuilder}
 use Rattle.wenc_c.specs.declared.session.Session.{Session}
 use Rattle.wenc_c.specs.declared.session.Session.TheVariants as sessions
 
@@ -107,3 +108,15 @@ finished_stays (sessions.Building b) (sessions.Finished bytes) (Ok size) f a = (
 finished_stays (sessions.Building b) (sessions.Building c) (Ok size) f a = absurd a
 finished_stays (sessions.Building b) t (Err refused) f a = absurd (not_both (builder_is_finished b) f a.1)
 finished_stays (sessions.Finished bytes) t answer f a = (rw a.1 tt, (let e = a.0 in λ h. absurd cc))
+
+-- ---- by a handle
+
+-- so it is with what a handle owns, and the status isn't 4
+pub at_stays : {R : Type 0} (did : Session → Session → Result R Refusals → Type 0) → ((s t : Session) (answer : Result R Refusals) → IsSettled s → did s t answer → StaysSettled t answer)
+    → (old new : Option Session) (status : ℕ) (value : R) → OwnsSettled old → At did old new (answer_of status value) → OwnsSettled new × (status ≡ 4 → ⊥)
+at_stays {R} did stays (Some s) (Some t) status value f a = let kept = stays s t (answer_of status value) f a in (kept.0, λ four. kept.1 (rw four refl))
+at_stays did stays (Some s) None status value f a = absurd a
+at_stays {R} did stays None new status value f a = (rw a.1 tt, four)
+  where
+    four : status ≡ 4 → ⊥
+    four e = let other : answer_of 4 value ≡ Err NoBuilder = subst (λ (n : ℕ). answer_of n value ≡ Err NoBuilder) e a.0 in absurd cc

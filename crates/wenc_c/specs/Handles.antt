@@ -5,7 +5,7 @@ use Rattle.wenc_builder.specs.Entry.{Entry}
 use Rattle.wenc_builder.specs.Names.{AddsNames}
 use Rattle.wenc_builder.specs.declared.builder.space.Space.{Space}
 use Rattle.wenc_c.specs.Sessions.{Does, AddsTo, AddsIfTo, AddsWithoutIndexTo, Nests, Counts}
-use Rattle.wenc_c.specs.Sessions.{Finishes, Copies, IsEmpty}
+use Rattle.wenc_c.specs.Sessions.{Finishes, Copies, IsEmpty, IsSettled}
 use Rattle.wenc_c.specs.declared.refused.Refused.{Refused as Refusals}
 use Rattle.wenc_c.specs.declared.refused.Refused.TheVariants.{NoBuilder}
 use Rattle.wenc_c.specs.declared.session.Session.{Session}
@@ -61,6 +61,11 @@ CopiesAt None old new answer = (answer ≡ Err NoBuilder) × (new ≡ old)
 abbrev pub OwnsEmpty : Option Session → Type 0
 OwnsEmpty (Some s) = IsEmpty s
 OwnsEmpty None = ⊥
+
+-- No item of what the handle owns is unfinished.
+abbrev pub OwnsSettled : Option Session → Type 0
+OwnsSettled (Some s) = IsSettled s
+OwnsSettled None = Unit {0}
 
 -- Nothing was looked at but the arguments, and this status says so.
 abbrev pub Refuses : ℕ → ℕ → Option Session → Option Session → Type 0

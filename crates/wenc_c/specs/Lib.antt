@@ -7,3 +7,4 @@ pub mod Owned
 pub mod Packed
 pub mod Reads
 pub mod Sessions
+pub mod Statuses

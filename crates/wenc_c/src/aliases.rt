@@ -1,5 +1,5 @@
 //! The calls that add an alias.
-ghost use Rattle.std.specs.Prelude.{◌≡◌, ◌<◌, None, Some};
+ghost use Rattle.std.specs.Prelude.{◌≡◌, ◌∷◌, None, Some};
 ghost use Rattle.std.specs.Str.{IsUtf8};
 ghost use Rattle.wenc_base.specs.declared.exports.ExportKind.{ExportKind as CoreKinds};
 ghost use Rattle.wenc_builder.specs.Entry.{alias_entry};
@@ -9,6 +9,7 @@ ghost use Rattle.wenc_c.specs.Sessions.{answer_of};
 ghost use Rattle.wenc_parts.specs.Aliases.{CoreInstanceExport, InstanceExport, Outer};
 ghost use Rattle.wenc_parts.specs.declared.aliases.ComponentOuterAliasKind.{ComponentOuterAliasKind as OuterKinds};
 ghost use Rattle.wenc_parts.specs.declared.exports.ComponentExportKind.{ComponentExportKind as Kinds};
+ghost use Rattle.wenc_c.specs.Statuses.{Among, of_a_call};
 
 use crate::handle::Handle;
 use crate::numbers::{core_kind, kind, outer_kind};
@@ -39,7 +40,8 @@ pub extern "C" fn wenc_alias_export(
         → Refuses 5 result builder.old.session builder.new.session }
     ensures number { IsText named debug_name.now → IsUtf8 name.now → kind_of kind_number ≡ None
         → Refuses 7 result builder.old.session builder.new.session }
-    ensures kept { ¬ (result ≡ 0) → (index.new ≡ index.old) × (result < 10) }
+    ensures kept { ¬ (result ≡ 0) → index.new ≡ index.old }
+    ensures statuses { Among (5 ∷ 7 ∷ 9 ∷ of_a_call) result }
 {
     let debug_name = given!(text_where(named, debug_name));
     let name = given!(text(name));
@@ -77,7 +79,8 @@ pub extern "C" fn wenc_alias_core_export(
         → Refuses 5 result builder.old.session builder.new.session }
     ensures number { IsText named debug_name.now → IsUtf8 name.now → core_kind_of kind_number ≡ None
         → Refuses 7 result builder.old.session builder.new.session }
-    ensures kept { ¬ (result ≡ 0) → (index.new ≡ index.old) × (result < 10) }
+    ensures kept { ¬ (result ≡ 0) → index.new ≡ index.old }
+    ensures statuses { Among (5 ∷ 7 ∷ 9 ∷ of_a_call) result }
 {
     let debug_name = given!(text_where(named, debug_name));
     let name = given!(text(name));
@@ -113,7 +116,8 @@ pub extern "C" fn wenc_alias_outer(
         → Refuses 5 result builder.old.session builder.new.session }
     ensures number { IsText named debug_name.now → outer_kind_of kind_number ≡ None
         → Refuses 7 result builder.old.session builder.new.session }
-    ensures kept { ¬ (result ≡ 0) → (index.new ≡ index.old) × (result < 10) }
+    ensures kept { ¬ (result ≡ 0) → index.new ≡ index.old }
+    ensures statuses { Among (5 ∷ 7 ∷ 9 ∷ of_a_call) result }
 {
     let debug_name = given!(text_where(named, debug_name));
     let kind = given!(outer_kind(kind_number), or BadArgument);

@@ -1,9 +1,10 @@
 //! The calls that add a module, a component, a start, or what has no index.
-ghost use Rattle.std.specs.Prelude.{◌≡◌, ◌<◌, None};
+ghost use Rattle.std.specs.Prelude.{◌≡◌, ◌∷◌, None};
 ghost use Rattle.std.specs.Str.{IsUtf8};
 ghost use Rattle.wenc_builder.specs.Entry.{component_entry, custom_entry, module_entry, raw_entry, start_entry};
 ghost use Rattle.wenc_c.specs.Handles.{Adds, AddsNamesAt, AddsWithoutIndex, IsText, NestsAt, Refuses, text_if};
 ghost use Rattle.wenc_c.specs.Sessions.{answer_of, outcome_of};
+ghost use Rattle.wenc_c.specs.Statuses.{Among, of_a_call};
 
 use crate::handle::Handle;
 use crate::life::wenc_free;
@@ -26,7 +27,8 @@ pub extern "C" fn wenc_core_module(
         (module_entry (text_if named debug_name.now) bytes.now) }
     ensures malformed { ¬ (IsText named debug_name.now)
         → Refuses 5 result builder.old.session builder.new.session }
-    ensures kept { ¬ (result ≡ 0) → (index.new ≡ index.old) × (result < 10) }
+    ensures kept { ¬ (result ≡ 0) → index.new ≡ index.old }
+    ensures statuses { Among (5 ∷ 9 ∷ of_a_call) result }
 {
     let debug_name = given!(text_where(named, debug_name));
     let mut session = given!(builder.take(alloc), or NoBuilder);
@@ -50,7 +52,8 @@ pub extern "C" fn wenc_component_bytes(
         (component_entry (text_if named debug_name.now) bytes.now) }
     ensures malformed { ¬ (IsText named debug_name.now)
         → Refuses 5 result builder.old.session builder.new.session }
-    ensures kept { ¬ (result ≡ 0) → (index.new ≡ index.old) × (result < 10) }
+    ensures kept { ¬ (result ≡ 0) → index.new ≡ index.old }
+    ensures statuses { Among (5 ∷ 9 ∷ of_a_call) result }
 {
     let debug_name = given!(text_where(named, debug_name));
     let mut session = given!(builder.take(alloc), or NoBuilder);
@@ -73,7 +76,8 @@ pub extern "C" fn wenc_component_ref(
         nested.old.session builder.old.session builder.new.session (answer_of result index.new) }
     ensures malformed { ¬ (IsText named debug_name.now)
         → Refuses 5 result builder.old.session builder.new.session }
-    ensures kept { ¬ (result ≡ 0) → (index.new ≡ index.old) × (result < 10) }
+    ensures kept { ¬ (result ≡ 0) → index.new ≡ index.old }
+    ensures statuses { Among (5 ∷ 9 ∷ of_a_call) result }
     ensures left { nested.new.session ≡ nested.old.session }
 {
     let debug_name = given!(text_where(named, debug_name));
@@ -103,7 +107,8 @@ pub extern "C" fn wenc_component(
         nested.old.session builder.old.session builder.new.session (answer_of result index.new) }
     ensures malformed { ¬ (IsText named debug_name.now)
         → Refuses 5 result builder.old.session builder.new.session }
-    ensures kept { ¬ (result ≡ 0) → (index.new ≡ index.old) × (result < 10) }
+    ensures kept { ¬ (result ≡ 0) → index.new ≡ index.old }
+    ensures statuses { Among (5 ∷ 9 ∷ of_a_call) result }
     ensures given_up { result ≡ 0 → nested.new.session ≡ None }
     ensures left { ¬ (result ≡ 0) → nested.new.session ≡ nested.old.session }
 {
@@ -126,7 +131,8 @@ pub extern "C" fn wenc_start(
 ) -> u32
     ensures added { Adds builder.old.session builder.new.session (answer_of result index.new)
         (start_entry function args.now results) }
-    ensures kept { ¬ (result ≡ 0) → (index.new ≡ index.old) × (result < 10) }
+    ensures kept { ¬ (result ≡ 0) → index.new ≡ index.old }
+    ensures statuses { Among (9 ∷ of_a_call) result }
 {
     let mut session = given!(builder.take(alloc), or NoBuilder);
     let answer = session.start(function, args, results);
@@ -146,7 +152,7 @@ pub extern "C" fn wenc_custom_section(
         (outcome_of result) (custom_entry name.now contents.now) }
     ensures malformed { ¬ (IsUtf8 name.now)
         → Refuses 5 result builder.old.session builder.new.session }
-    ensures few { result < 10 }
+    ensures statuses { Among (5 ∷ 9 ∷ of_a_call) result }
 {
     let name = given!(text(name));
     let mut session = given!(builder.take(alloc), or NoBuilder);
@@ -160,7 +166,7 @@ pub extern "C" fn wenc_custom_section(
 pub extern "C" fn wenc_raw_custom_section(alloc: Global, builder: &mut Handle, bytes: &[u8]) -> u32
     ensures added { AddsWithoutIndex builder.old.session builder.new.session (outcome_of result)
         (raw_entry bytes.now) }
-    ensures few { result < 10 }
+    ensures statuses { Among (9 ∷ of_a_call) result }
 {
     let mut session = given!(builder.take(alloc), or NoBuilder);
     let answer = session.raw_custom_section(bytes);
@@ -172,7 +178,7 @@ pub extern "C" fn wenc_raw_custom_section(alloc: Global, builder: &mut Handle, b
 #[unsafe(no_mangle)]
 pub extern "C" fn wenc_append_names(alloc: Global, builder: &mut Handle) -> u32
     ensures named { AddsNamesAt builder.old.session builder.new.session (outcome_of result) }
-    ensures few { result < 10 }
+    ensures statuses { Among (9 ∷ of_a_call) result }
 {
     let mut session = given!(builder.take(alloc), or NoBuilder);
     let answer = session.append_names();

@@ -1,9 +1,10 @@
 //! The call that adds a function which the component model provides, of those whose operands are
 //! numbers.
-ghost use Rattle.std.specs.Prelude.{◌≡◌, ◌<◌};
+ghost use Rattle.std.specs.Prelude.{◌≡◌, ◌∷◌};
 ghost use Rattle.wenc_c.specs.Builtins.{builtin_of};
 ghost use Rattle.wenc_c.specs.Handles.{AddsIfAt};
 ghost use Rattle.wenc_c.specs.Sessions.{AddsIf, answer_of};
+ghost use Rattle.wenc_c.specs.Statuses.{Among, of_a_call};
 
 use crate::handle::Handle;
 use crate::numbers::flag;
@@ -94,7 +95,8 @@ pub extern "C" fn wenc_builtin(
 ) -> u32
     ensures added { AddsIfAt builder.old.session builder.new.session (answer_of result index.new)
         (builtin_of opcode first second) }
-    ensures kept { ¬ (result ≡ 0) → (index.new ≡ index.old) × (result < 10) }
+    ensures kept { ¬ (result ≡ 0) → index.new ≡ index.old }
+    ensures statuses { Among (9 ∷ 7 ∷ of_a_call) result }
 {
     let mut session = given!(builder.take(alloc), or NoBuilder);
     let answer = session.builtin(opcode, first, second);

@@ -1,13 +1,14 @@
 //! The laws, each applied: what follows of calls from their contracts and a law alone.
 ghost use Rattle.std.specs.Prelude.{◌≡◌, ◌≤◌};
 ghost use Rattle.wenc_builder.specs.Item.{Item};
+ghost use Rattle.wenc_c.specs.Handles.{OwnsSettled};
 ghost use Rattle.wenc_c.specs.Reads.{IsReadAs};
 ghost use Rattle.wenc_list.specs.Listing.{HasDepth};
 
-use crate::alone::wenc_core_module;
+use crate::alone::{wenc_append_names, wenc_start};
 use crate::handle::Handle;
 use crate::laws::{nothing_stays_unfinished, what_is_found_is_read};
-use crate::life::{wenc_finish, wenc_new};
+use crate::life::wenc_finish;
 use crate::spelled::wenc_item;
 use std::alloc::Global;
 
@@ -27,24 +28,27 @@ pub fn item_of(
     wenc_item(alloc, builder, section, false, &[], text, index)
 }
 
-/// A component of one core module. No call of these says that an item is unfinished.
-pub fn of_one_module(
+/// Adds a start and the debug names so far, and finishes, by a handle whose component has nothing
+/// unfinished. No call of these says that something is.
+pub fn of_a_start(
     alloc: Global,
     builder: &mut Handle,
-    bytes: &[u8],
+    function: u32,
+    args: &[u32],
     index: &mut u32,
     len: &mut usize,
 ) -> u32
+    requires { OwnsSettled builder.old.session }
     ensures { ¬ (result ≡ 4) }
 {
     nothing_stays_unfinished();
-    let begun = wenc_new(alloc, builder);
-    if begun != 0 {
-        return begun;
+    let started = wenc_start(alloc, builder, function, args, 0, index);
+    if started != 0 {
+        return started;
     }
-    let added = wenc_core_module(alloc, builder, false, &[], bytes, index);
-    if added != 0 {
-        return added;
+    let named = wenc_append_names(alloc, builder);
+    if named != 0 {
+        return named;
     }
     wenc_finish(alloc, builder, len)
 }

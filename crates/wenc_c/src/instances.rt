@@ -1,11 +1,12 @@
 //! The call that adds a core instance of exports.
-ghost use Rattle.std.specs.Prelude.{◌≡◌, ◌<◌};
+ghost use Rattle.std.specs.Prelude.{◌≡◌, ◌∷◌};
 ghost use Rattle.std.specs.Str.{IsUtf8};
 ghost use Rattle.wenc_builder.specs.Entry.{core_instance_entry};
 ghost use Rattle.wenc_c.specs.Handles.{Adds, IsText, Refuses, text_if};
 ghost use Rattle.wenc_c.specs.Numbers.{core_item_of};
 ghost use Rattle.wenc_c.specs.Packed.{ArePacked, exporting, packed};
 ghost use Rattle.wenc_c.specs.Sessions.{answer_of};
+ghost use Rattle.wenc_c.specs.Statuses.{Among, of_a_call};
 
 use crate::handle::Handle;
 use crate::packed::{Packed, Part};
@@ -36,7 +37,8 @@ pub extern "C" fn wenc_core_exports(
     ensures numbers { IsText named debug_name.now → IsUtf8 names.now
         → ¬ (ArePacked core_item_of names.now exports.now)
         → Refuses 7 result builder.old.session builder.new.session }
-    ensures kept { ¬ (result ≡ 0) → (index.new ≡ index.old) × (result < 10) }
+    ensures kept { ¬ (result ≡ 0) → index.new ≡ index.old }
+    ensures statuses { Among (5 ∷ 7 ∷ 9 ∷ of_a_call) result }
 {
     let debug_name = given!(text_where(named, debug_name));
     let names = given!(text(names));

@@ -1,9 +1,10 @@
 //! A builder's life: it is begun, finished and freed.
-ghost use Rattle.std.specs.Prelude.{◌≡◌, ◌<◌, ◌⊎◌, None, Some};
+ghost use Rattle.std.specs.Prelude.{◌≡◌, ◌⊎◌, ◌∷◌, [], None, Some};
 ghost use Rattle.wenc_c.specs.Handles.{CopiesAt, CountsAt, FinishesAt, OwnsEmpty};
 ghost use Rattle.wenc_c.specs.Numbers.{space_of};
 ghost use Rattle.wenc_c.specs.Sessions.{answer_of, outcome_of};
 ghost use Rattle.wenc_builder.specs.declared.builder.space.Space.{Space as Spaces};
+ghost use Rattle.wenc_c.specs.Statuses.{Among};
 
 use crate::handle::Handle;
 use crate::numbers::space;
@@ -21,6 +22,7 @@ pub extern "C" fn wenc_new(alloc: Global, builder: &mut Handle) -> u32
     ensures refused { ¬ (result ≡ 0) → builder.new.session ≡ builder.old.session }
     ensures owned { ¬ (builder.old.session ≡ None) → result ≡ 7 }
     ensures memory { builder.old.session ≡ None → (result ≡ 0) ⊎ (result ≡ 1) }
+    ensures statuses { Among (0 ∷ 1 ∷ 7 ∷ []) result }
 {
     if let Some(session) = builder.take(alloc) {
         builder.put(session);
@@ -50,7 +52,8 @@ pub extern "C" fn wenc_finish(alloc: Global, builder: &mut Handle, len: &mut usi
     // The bytes are the whole of the items that were held.
     ensures finished { FinishesAt builder.old.session builder.new.session
         (answer_of result len.new) }
-    ensures kept { ¬ (result ≡ 0) → (len.new ≡ len.old) × (result < 10) }
+    ensures kept { ¬ (result ≡ 0) → len.new ≡ len.old }
+    ensures statuses { Among (9 ∷ 0 ∷ 4 ∷ []) result }
 {
     let mut session = given!(builder.take(alloc), or NoBuilder);
     let answer = session.finish(alloc);
@@ -69,7 +72,7 @@ pub extern "C" fn wenc_finish(alloc: Global, builder: &mut Handle, len: &mut usi
 pub extern "C" fn wenc_bytes(alloc: Global, builder: &mut Handle, bytes: &mut [u8]) -> u32
     ensures copied { CopiesAt builder.old.session bytes.old bytes.new (outcome_of result) }
     ensures same { builder.new.session ≡ builder.old.session }
-    ensures few { result < 10 }
+    ensures statuses { Among (9 ∷ 0 ∷ 4 ∷ 7 ∷ []) result }
 {
     let session = given!(builder.take(alloc), or NoBuilder);
     let answer = session.copy(bytes);
@@ -88,7 +91,8 @@ pub extern "C" fn wenc_count(
     ensures counted { (s : Spaces) → space_of space_number ≡ Some s
         → CountsAt s builder.old.session (answer_of result count.new) }
     ensures number { space_of space_number ≡ None → result ≡ 7 }
-    ensures kept { ¬ (result ≡ 0) → (count.new ≡ count.old) × (result < 10) }
+    ensures kept { ¬ (result ≡ 0) → count.new ≡ count.old }
+    ensures statuses { Among (7 ∷ 9 ∷ 0 ∷ 8 ∷ []) result }
     ensures same { builder.new.session ≡ builder.old.session }
 {
     let space = given!(space(space_number), or BadArgument);

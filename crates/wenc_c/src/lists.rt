@@ -1,5 +1,5 @@
 //! The lister.
-ghost use Rattle.std.specs.Prelude.{◌≡◌, ◌<◌, ◌≤◌, ◌⊎◌, ◌^◌, ℕ, List, MatchOption, None, Some, length, slice_index};
+ghost use Rattle.std.specs.Prelude.{◌≡◌, ◌<◌, ◌≤◌, ◌⊎◌, ◌^◌, ◌∷◌, ℕ, List, MatchOption, None, Some, length, slice_index};
 ghost use Rattle.wenc_base.specs.Piece.{Wide};
 ghost use Rattle.wenc_builder.specs.Sections.{Reading, Section};
 ghost use Rattle.wenc_c.specs.Lists.{AreRows, Lists, list_fault_of, row_of};
@@ -7,6 +7,7 @@ ghost use Rattle.wenc_list.specs.Listing.{AreWithin, HasNoHeader, IsFaultOf, cou
 ghost use Rattle.wenc_list.specs.declared.fault.ListFault.{ListFault as Faults};
 ghost use Rattle.wenc_list.specs.declared.listing.ListedSection.{ListedSection as Sections};
 ghost use Rattle.std.specs.Global.{Global as Heap};
+ghost use Rattle.wenc_c.specs.Statuses.{Among, of_a_fault};
 
 use crate::refused::Refused;
 use std::alloc::Global;
@@ -67,6 +68,7 @@ fn told_fault(fault: ListFault, place: &mut usize) -> u32
     ensures told { list_fault_of result place.new ≡ Some fault }
     ensures some { ¬ (result ≡ 0) }
     ensures kept { result ≡ 1 → place.new ≡ place.old }
+    ensures among { Among of_a_fault result }
 {
     match fault {
         ListFault::Memory => 1,
@@ -123,6 +125,7 @@ pub extern "C" fn wenc_list(
     ensures number_kept { (result ≡ 1) ⊎ (result ≡ 3) → number.new ≡ number.old }
     ensures refused { ¬ (result ≡ 0)
         → (sections.new ≡ sections.old) × (counts.new ≡ counts.old) }
+    ensures statuses { Among (7 ∷ 3 ∷ 0 ∷ of_a_fault) result }
 {
     if counts.len() != 13 {
         return Refused::BadArgument.number();

@@ -1,5 +1,5 @@
 //! The calls that add imports and exports.
-ghost use Rattle.std.specs.Prelude.{◌≡◌, ◌<◌, None, Option, Some};
+ghost use Rattle.std.specs.Prelude.{◌≡◌, ◌∷◌, None, Option, Some};
 ghost use Rattle.std.specs.Str.{IsUtf8};
 ghost use Rattle.wenc_builder.specs.Entry.{export_entry, import_entry};
 ghost use Rattle.wenc_c.specs.Handles.{Adds, Refuses};
@@ -9,6 +9,7 @@ ghost use Rattle.wenc_c.specs.Sessions.{answer_of};
 ghost use Rattle.wenc_parts.specs.Imports.{plain_name};
 ghost use Rattle.wenc_parts.specs.declared.exports.ComponentExportKind.{ComponentExportKind as Kinds};
 ghost use Rattle.wenc_parts.specs.declared.imports.ComponentTypeRef.{ComponentTypeRef as References};
+ghost use Rattle.wenc_c.specs.Statuses.{Among, of_a_call};
 
 use crate::handle::Handle;
 use crate::numbers::{given_type, kind, type_ref};
@@ -33,7 +34,8 @@ pub extern "C" fn wenc_import(
         → Refuses 5 result builder.old.session builder.new.session }
     ensures number { IsUtf8 name.now → type_ref_of reference of ≡ None
         → Refuses 7 result builder.old.session builder.new.session }
-    ensures kept { ¬ (result ≡ 0) → (index.new ≡ index.old) × (result < 10) }
+    ensures kept { ¬ (result ≡ 0) → index.new ≡ index.old }
+    ensures statuses { Among (5 ∷ 7 ∷ 9 ∷ of_a_call) result }
 {
     let name = given!(text(name));
     let ty = given!(type_ref(reference, of), or BadArgument);
@@ -73,7 +75,8 @@ pub extern "C" fn wenc_import_named(
         (given has_version_suffix version_suffix.now) (given has_external_id external_id.now)
         → type_ref_of reference of ≡ None
         → Refuses 7 result builder.old.session builder.new.session }
-    ensures kept { ¬ (result ≡ 0) → (index.new ≡ index.old) × (result < 10) }
+    ensures kept { ¬ (result ≡ 0) → index.new ≡ index.old }
+    ensures statuses { Among (5 ∷ 7 ∷ 9 ∷ of_a_call) result }
 {
     let name = given!(name_of(
         name,
@@ -113,7 +116,8 @@ pub extern "C" fn wenc_export(
         → Refuses 7 result builder.old.session builder.new.session }
     ensures reference { IsUtf8 name.now → given_type_of reference of ≡ None
         → Refuses 7 result builder.old.session builder.new.session }
-    ensures kept { ¬ (result ≡ 0) → (index.new ≡ index.old) × (result < 10) }
+    ensures kept { ¬ (result ≡ 0) → index.new ≡ index.old }
+    ensures statuses { Among (5 ∷ 7 ∷ 9 ∷ of_a_call) result }
 {
     let name = given!(text(name));
     let kind = given!(kind(kind_number), or BadArgument);
@@ -162,7 +166,8 @@ pub extern "C" fn wenc_export_named(
         (given has_version_suffix version_suffix.now) (given has_external_id external_id.now)
         → given_type_of reference of ≡ None
         → Refuses 7 result builder.old.session builder.new.session }
-    ensures kept { ¬ (result ≡ 0) → (index.new ≡ index.old) × (result < 10) }
+    ensures kept { ¬ (result ≡ 0) → index.new ≡ index.old }
+    ensures statuses { Among (5 ∷ 7 ∷ 9 ∷ of_a_call) result }
 {
     let name = given!(name_of(
         name,

@@ -1,6 +1,7 @@
 //! Why a call is refused, and how C is told.
 ghost use Rattle.std.specs.Prelude.{◌≡◌, ◌<◌, Err, ℕ};
 ghost use Rattle.wenc_c.specs.Sessions.{answer_of, outcome_of};
+ghost use Rattle.wenc_c.specs.Statuses.{number_of, status_of};
 
 use std::alloc::AllocError;
 use wenc_base::Fault;
@@ -26,10 +27,10 @@ pub enum Refused {
 impl Refused {
     /// The number by which C is told, from 1 to 9.
     pub fn number(self) -> u32
+        ensures is { result ≡ number_of self }
         ensures told { (i : ℕ) → answer_of result i ≡ Err self }
         ensures outcome { outcome_of result ≡ Err self }
         ensures some { 0 < result }
-        ensures few { result < 10 }
     {
         match self {
             Refused::Fault(fault) => u32::from(fault.number()),
@@ -90,7 +91,8 @@ pub(crate) use given;
 /// Tells C an answer: a status, and where it is 0 what is put out.
 pub(crate) fn told(answer: Result<u32, Refused>, out: &mut u32) -> u32
     ensures told { answer_of result out.new ≡ answer }
-    ensures kept { ¬ (result ≡ 0) → (out.new ≡ out.old) × (result < 10) }
+    ensures status { result ≡ status_of answer }
+    ensures kept { ¬ (result ≡ 0) → out.new ≡ out.old }
 {
     match answer {
         Ok(value) => {
@@ -104,7 +106,7 @@ pub(crate) fn told(answer: Result<u32, Refused>, out: &mut u32) -> u32
 /// Tells C an answer that puts nothing out: a status.
 pub(crate) fn outcome(answer: Result<(), Refused>) -> u32
     ensures told { outcome_of result ≡ answer }
-    ensures few { result < 10 }
+    ensures status { result ≡ status_of answer }
 {
     match answer {
         Ok(()) => 0,

@@ -1,6 +1,6 @@
 //! What a handle owns: a builder, and then the component that it finished.
 ghost use Rattle.std.specs.Option.{option_copied};
-ghost use Rattle.std.specs.Prelude.{◌≡◌, IfErr, IfOk, None};
+ghost use Rattle.std.specs.Prelude.{◌≡◌, ◌∷◌, [], IfErr, IfOk, None};
 ghost use Rattle.wenc_base.specs.Fault.{IsMemory};
 ghost use Rattle.wenc_builder.specs.Builder.{count_in};
 ghost use Rattle.wenc_builder.specs.Enters.{Enters, EntersWithoutIndex};
@@ -12,6 +12,7 @@ ghost use Rattle.wenc_c.specs.Packed.{exporting, function_of, record_of};
 ghost use Rattle.wenc_c.specs.Reads.{AddsReadTo, read_custom, read_one};
 ghost use Rattle.wenc_c.specs.Sessions.{AddsIfTo, AddsTo, AddsWithoutIndexTo, Copies, Counts, Does, Finishes, IsEmpty};
 ghost use Rattle.wenc_c.specs.Sessions.{IsFaultThat, Nests, of_builder};
+ghost use Rattle.wenc_c.specs.Statuses.{Among, of_a_call, status_of};
 ghost use Rattle.wenc_parts.specs.Aliases.{alias_view};
 ghost use Rattle.wenc_parts.specs.Imports.{extern_name_view};
 
@@ -60,8 +61,10 @@ fn count_of(builder: &ComponentBuilder, space: Space) -> u32
 }
 
 /// What the builder answered.
+#[tactic(auto, using(crate::proofs::Statuses::fault_among))]
 pub(crate) fn by_builder<T: Drop>(answer: Result<T, Fault>) -> Result<T, Refused>
-    ensures { result ≡ of_builder answer }
+    ensures told { result ≡ of_builder answer }
+    ensures among { Among of_a_call (status_of result) }
 {
     match answer {
         Ok(value) => Ok(value),
@@ -88,7 +91,9 @@ impl Session {
         name: ComponentExternName<'_>,
         ty: ComponentTypeRef,
     ) -> Result<u32, Refused>
-        ensures { AddsTo self.old self.new result (import_entry (extern_name_view name.entry) ty) }
+        ensures added { AddsTo self.old self.new result
+            (import_entry (extern_name_view name.entry) ty) }
+        ensures among { Among of_a_call (status_of result) }
     {
         match self {
             Session::Building(builder) => by_builder(builder.import(name, ty)),
@@ -105,8 +110,9 @@ impl Session {
         index: u32,
         ty: Option<ComponentTypeRef>,
     ) -> Result<u32, Refused>
-        ensures { AddsTo self.old self.new result
+        ensures added { AddsTo self.old self.new result
             (export_entry (extern_name_view name.entry) kind index ty) }
+        ensures among { Among of_a_call (status_of result) }
     {
         match self {
             Session::Building(builder) => by_builder(builder.export(name, kind, index, ty)),
@@ -117,8 +123,9 @@ impl Session {
     /// Adds an alias.
     #[inline(always)]
     pub fn alias(&mut self, debug_name: Option<&str>, alias: Alias<'_>) -> Result<u32, Refused>
-        ensures { AddsTo self.old self.new result
+        ensures added { AddsTo self.old self.new result
             (alias_entry (option_copied debug_name.entry) (alias_view alias.entry)) }
+        ensures among { Among of_a_call (status_of result) }
     {
         match self {
             Session::Building(builder) => by_builder(builder.alias(debug_name, alias)),
@@ -127,8 +134,10 @@ impl Session {
     }
 
     /// Adds the function that the component model provides with this opcode, by up to two numbers.
+    #[tactic(auto, using(crate::proofs::Statuses::if_among))]
     pub fn builtin(&mut self, opcode: u32, first: u32, second: u32) -> Result<u32, Refused>
-        ensures { AddsIfTo self.old self.new result (builtin_of opcode first second) }
+        ensures added { AddsIfTo self.old self.new result (builtin_of opcode first second) }
+        ensures among { Among (7 ∷ of_a_call) (status_of result) }
     {
         match self {
             Session::Building(builder) => add_builtin(builder, opcode, first, second),
@@ -142,8 +151,9 @@ impl Session {
         debug_name: Option<&str>,
         exports: Packed<'_, (ExportKind, u32)>,
     ) -> Result<u32, Refused>
-        ensures { AddsTo self.old self.new result
+        ensures added { AddsTo self.old self.new result
             (core_instance_entry (option_copied debug_name.entry) (exporting exports.entry)) }
+        ensures among { Among of_a_call (status_of result) }
     {
         match self {
             Session::Building(builder) => by_builder(write_exports(builder, debug_name, exports)),
@@ -157,8 +167,9 @@ impl Session {
         debug_name: Option<&str>,
         fields: Packed<'_, ComponentValType>,
     ) -> Result<u32, Refused>
-        ensures { AddsTo self.old self.new result
+        ensures added { AddsTo self.old self.new result
             (type_entry (option_copied debug_name.entry) (record_of fields.entry)) }
+        ensures among { Among of_a_call (status_of result) }
     {
         match self {
             Session::Building(builder) => {
@@ -179,9 +190,10 @@ impl Session {
         params: Packed<'_, ComponentValType>,
         answer: Option<ComponentValType>,
     ) -> Result<u32, Refused>
-        ensures { AddsTo self.old self.new result
+        ensures added { AddsTo self.old self.new result
             (type_entry (option_copied debug_name.entry)
             (function_of is_async params.entry answer)) }
+        ensures among { Among of_a_call (status_of result) }
     {
         match self {
             Session::Building(builder) => {
@@ -196,8 +208,9 @@ impl Session {
 
     /// Adds the core module with these bytes.
     pub fn core_module(&mut self, debug_name: Option<&str>, bytes: &[u8]) -> Result<u32, Refused>
-        ensures { AddsTo self.old self.new result
+        ensures added { AddsTo self.old self.new result
             (module_entry (option_copied debug_name.entry) bytes.now) }
+        ensures among { Among of_a_call (status_of result) }
     {
         match self {
             Session::Building(builder) => by_builder(builder.core_module_raw(debug_name, bytes)),
@@ -211,8 +224,9 @@ impl Session {
         debug_name: Option<&str>,
         bytes: &[u8],
     ) -> Result<u32, Refused>
-        ensures { AddsTo self.old self.new result
+        ensures added { AddsTo self.old self.new result
             (component_entry (option_copied debug_name.entry) bytes.now) }
+        ensures among { Among of_a_call (status_of result) }
     {
         match self {
             Session::Building(builder) => by_builder(builder.component_raw(debug_name, bytes)),
@@ -222,7 +236,8 @@ impl Session {
 
     /// Adds another component, which is left as it is.
     pub fn component(&mut self, debug_name: Option<&str>, nested: &Session) -> Result<u32, Refused>
-        ensures { Nests (option_copied debug_name.entry) nested.now self.old self.new result }
+        ensures nested { Nests (option_copied debug_name.entry) nested.now self.old self.new result }
+        ensures among { Among of_a_call (status_of result) }
     {
         match nested {
             Session::Building(nested) => match self {
@@ -237,7 +252,8 @@ impl Session {
 
     /// Adds a start.
     pub fn start(&mut self, function: u32, args: &[u32], results: u32) -> Result<u32, Refused>
-        ensures { AddsTo self.old self.new result (start_entry function args.now results) }
+        ensures added { AddsTo self.old self.new result (start_entry function args.now results) }
+        ensures among { Among of_a_call (status_of result) }
     {
         match self {
             Session::Building(builder) => by_builder(builder.start(function, args, results)),
@@ -247,7 +263,9 @@ impl Session {
 
     /// Adds a custom section.
     pub fn custom_section(&mut self, name: &str, contents: &[u8]) -> Result<(), Refused>
-        ensures { AddsWithoutIndexTo self.old self.new result (custom_entry name.now contents.now) }
+        ensures added { AddsWithoutIndexTo self.old self.new result
+            (custom_entry name.now contents.now) }
+        ensures among { Among of_a_call (status_of result) }
     {
         match self {
             Session::Building(builder) => {
@@ -263,7 +281,8 @@ impl Session {
 
     /// Adds a custom section, by the bytes after its id.
     pub fn raw_custom_section(&mut self, bytes: &[u8]) -> Result<(), Refused>
-        ensures { AddsWithoutIndexTo self.old self.new result (raw_entry bytes.now) }
+        ensures added { AddsWithoutIndexTo self.old self.new result (raw_entry bytes.now) }
+        ensures among { Among of_a_call (status_of result) }
     {
         match self {
             Session::Building(builder) => by_builder(builder.raw_custom_section(bytes)),
@@ -273,7 +292,8 @@ impl Session {
 
     /// Adds a section of the debug names so far.
     pub fn append_names(&mut self) -> Result<(), Refused>
-        ensures { Does AddsNames self.old self.new result }
+        ensures named { Does AddsNames self.old self.new result }
+        ensures among { Among of_a_call (status_of result) }
     {
         match self {
             Session::Building(builder) => by_builder(builder.append_names()),
@@ -282,6 +302,7 @@ impl Session {
     }
 
     /// Adds the item with this text, which stands in the section with this id, from 1 to 11.
+    #[tactic(auto, using(crate::proofs::Statuses::found_among))]
     pub fn item(
         &mut self,
         alloc: Global,
@@ -289,8 +310,9 @@ impl Session {
         debug_name: Option<&str>,
         text: &[u8],
     ) -> Result<u32, Refused>
-        ensures { AddsReadTo Enters self.old self.new result (option_copied debug_name.entry)
+        ensures added { AddsReadTo Enters self.old self.new result (option_copied debug_name.entry)
             (read_one section text.now) }
+        ensures among { Among (5 ∷ 6 ∷ of_a_call) (status_of result) }
     {
         match self {
             Session::Building(builder) => {
@@ -304,9 +326,11 @@ impl Session {
     }
 
     /// Adds the custom section with this content.
+    #[tactic(auto, using(crate::proofs::Statuses::found_among))]
     pub fn custom_item(&mut self, alloc: Global, text: &[u8]) -> Result<(), Refused>
-        ensures { AddsReadTo EntersWithoutIndex self.old self.new result None
+        ensures added { AddsReadTo EntersWithoutIndex self.old self.new result None
             (read_custom text.now) }
+        ensures among { Among (5 ∷ 6 ∷ of_a_call) (status_of result) }
     {
         match self {
             Session::Building(builder) => {
@@ -321,7 +345,8 @@ impl Session {
 
     /// How many items this space has.
     pub fn count(&self, space: Space) -> Result<u32, Refused>
-        ensures { Counts space self.now result }
+        ensures counted { Counts space self.now result }
+        ensures among { Among (0 ∷ 8 ∷ []) (status_of result) }
     {
         match self {
             Session::Building(builder) => Ok(count_of(builder, space)),
@@ -331,7 +356,8 @@ impl Session {
 
     /// Finishes the component, and answers how many bytes it has. It takes no memory.
     pub fn finish(&mut self, alloc: Global) -> Result<usize, Refused>
-        ensures { Finishes self.old self.new result }
+        ensures finished { Finishes self.old self.new result }
+        ensures among { Among (0 ∷ 4 ∷ []) (status_of result) }
     {
         match self {
             Session::Building(builder) => {
@@ -360,7 +386,8 @@ impl Session {
 
     /// Copies the bytes of the finished component to room for just so many.
     pub fn copy(&self, out: &mut [u8]) -> Result<(), Refused>
-        ensures { Copies self.now out.old out.new result }
+        ensures copied { Copies self.now out.old out.new result }
+        ensures among { Among (0 ∷ 4 ∷ 7 ∷ []) (status_of result) }
     {
         match self {
             Session::Building(_) => Err(Refused::Fault(Fault::Unfinished)),

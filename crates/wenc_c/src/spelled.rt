@@ -1,9 +1,10 @@
 //! The call that adds an item by its text.
-ghost use Rattle.std.specs.Prelude.{◌≡◌, ◌<◌, ◌≤◌, None};
+ghost use Rattle.std.specs.Prelude.{◌≡◌, ◌<◌, ◌≤◌, ◌∷◌, None};
 ghost use Rattle.wenc_builder.specs.Enters.{Enters, EntersWithoutIndex};
 ghost use Rattle.wenc_c.specs.Handles.{IsText, Refuses, text_if};
 ghost use Rattle.wenc_c.specs.Reads.{AddsReadAt, read_custom, read_one};
 ghost use Rattle.wenc_c.specs.Sessions.{answer_of, outcome_of};
+ghost use Rattle.wenc_c.specs.Statuses.{Among, of_a_call};
 
 use crate::handle::Handle;
 use crate::refused::{Refused, given, outcome, told};
@@ -33,7 +34,8 @@ pub extern "C" fn wenc_item(
         → Refuses 5 result builder.old.session builder.new.session }
     ensures number { IsText named debug_name.now → 11 < section
         → Refuses 7 result builder.old.session builder.new.session }
-    ensures kept { ¬ (result ≡ 0) → (index.new ≡ index.old) × (result < 10) }
+    ensures kept { ¬ (result ≡ 0) → index.new ≡ index.old }
+    ensures statuses { Among (7 ∷ 9 ∷ 5 ∷ 6 ∷ of_a_call) result }
     ensures none { section ≡ 0 → index.new ≡ index.old }
 {
     let debug_name = given!(text_where(named, debug_name));

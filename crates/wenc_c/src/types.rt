@@ -1,5 +1,5 @@
 //! The calls that add types.
-ghost use Rattle.std.specs.Prelude.{◌≡◌, ◌<◌, None, Option, Some};
+ghost use Rattle.std.specs.Prelude.{◌≡◌, ◌∷◌, None, Option, Some};
 ghost use Rattle.std.specs.Str.{IsUtf8};
 ghost use Rattle.wenc_builder.specs.Entry.{type_entry};
 ghost use Rattle.wenc_c.specs.Handles.{Adds, IsText, Refuses, text_if};
@@ -7,6 +7,7 @@ ghost use Rattle.wenc_c.specs.Numbers.{answer_type_of, value_of};
 ghost use Rattle.wenc_c.specs.Packed.{ArePacked, function_of, packed, record_of};
 ghost use Rattle.wenc_c.specs.Sessions.{answer_of};
 ghost use Rattle.wenc_parts.specs.declared.types.ComponentValType.{ComponentValType as Values};
+ghost use Rattle.wenc_c.specs.Statuses.{Among, of_a_call};
 
 use crate::handle::Handle;
 use crate::numbers::answer_type;
@@ -39,7 +40,8 @@ pub extern "C" fn wenc_record(
     ensures numbers { IsText named debug_name.now → IsUtf8 names.now
         → ¬ (ArePacked value_of names.now fields.now)
         → Refuses 7 result builder.old.session builder.new.session }
-    ensures kept { ¬ (result ≡ 0) → (index.new ≡ index.old) × (result < 10) }
+    ensures kept { ¬ (result ≡ 0) → index.new ≡ index.old }
+    ensures statuses { Among (5 ∷ 7 ∷ 9 ∷ of_a_call) result }
 {
     let debug_name = given!(text_where(named, debug_name));
     let names = given!(text(names));
@@ -81,7 +83,8 @@ pub extern "C" fn wenc_function(
     ensures reference { IsText named debug_name.now → IsUtf8 names.now
         → answer_type_of reference of ≡ None
         → Refuses 7 result builder.old.session builder.new.session }
-    ensures kept { ¬ (result ≡ 0) → (index.new ≡ index.old) × (result < 10) }
+    ensures kept { ¬ (result ≡ 0) → index.new ≡ index.old }
+    ensures statuses { Among (5 ∷ 7 ∷ 9 ∷ of_a_call) result }
 {
     let debug_name = given!(text_where(named, debug_name));
     let names = given!(text(names));
