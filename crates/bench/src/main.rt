@@ -98,10 +98,10 @@ fn timed<R: Clock + AllocGlobal>(rt: &R, plan: Plan) -> Option<Outcome> {
     let nanoseconds = start.elapsed(rt).ok()?.as_nanos();
     let listed = match plan.lister {
         None => None,
-        Some(Lister::Global) => Some(Listed::timed(rt, rt.alloc(), bytes.as_slice())?),
+        Some(Lister::Global) => Some(Listed::timed(rt, bytes.as_slice())?),
         Some(Lister::Arena) => {
             let arena = Bump::new(rt.alloc());
-            Some(Listed::timed(rt, &arena, bytes.as_slice())?)
+            Some(Listed::timed_in(rt, &arena, bytes.as_slice())?)
         }
     };
     Some(Outcome {

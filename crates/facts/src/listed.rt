@@ -1,18 +1,16 @@
 //! What ran, and what was built, is listed.
-ghost use Rattle.std.specs.Prelude.{◌≡◌, ◌⊎◌, ℕ, List, Option, Result, IfSome, MatchResult, length, map};
+ghost use Rattle.std.specs.Prelude.{◌≡◌, ◌⊎◌, ℕ, List, Option, Result, IfSome, MatchResult, map};
 ghost use Rattle.wasm_encoder.specs.Command.{CommandTree, command_view};
 ghost use Rattle.wasm_encoder.specs.Ran.{Ran};
 ghost use Rattle.wenc_builder.specs.Raw.{HasNoRaw, IsEncodable};
-ghost use Rattle.wenc_base.specs.Piece.{Wide};
 ghost use Rattle.wenc_base.specs.declared.fault.Fault.{Fault};
 ghost use Rattle.wenc_builder.specs.Entry.{Entry, items as items_of};
-ghost use Rattle.wenc_builder.specs.Sections.{Reading, Section, runs, whole};
+ghost use Rattle.wenc_builder.specs.Sections.{runs, whole};
 ghost use Rattle.wenc_list.specs.Items.{section_view};
 ghost use Rattle.wenc_list.specs.Listing.{AreWithin, IsFaultOf, IsMemoryOrTooDeep};
 ghost use Rattle.wenc_list.specs.declared.fault.ListFault.TheVariants.{Memory, TooDeep};
 ghost use Rattle.wenc_list.specs.declared.fault.ListFault.{ListFault};
 
-use bumpalo::Bump;
 use std::alloc::Allocator;
 use wasm_encoder::laws::one_reading;
 use wasm_encoder::{Built, Command, build};
@@ -35,18 +33,6 @@ pub fn faults_of_what_ran()
 {
     one_reading();
     faults_of_what_is_read();
-}
-
-/// How many sections a component has. All that is listed lies in an arena, which the caller gives up
-/// as a whole.
-pub fn sections_in_an_arena(arena: &Bump, bytes: &[u8]) -> Option<usize>
-    ensures { IfSome result (λ count. (ss : List Section)
-        × Reading Wide bytes.now ss × (length ss ≡ count)) }
-{
-    match list(arena, bytes) {
-        Ok(listing) => Some(listing.sections.len()),
-        Err(_) => None,
-    }
 }
 
 /// Builds a component, and lists it. Without a raw item its sections are the runs of the accepted
