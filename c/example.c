@@ -21,15 +21,16 @@ static const uint8_t module[] = {
     0x02, 0x01, 0x00, 0x07, 0x07, 0x01, 0x03, 0x72, 0x75, 0x6e, 0x00, 0x00, 0x0a, 0x04, 0x01,
     0x02, 0x00, 0x0b};
 
-static void check(uint32_t status) {
+static void check(enum wenc_status status) {
   if (status != WENC_DONE) {
-    fprintf(stderr, "refused: %u\n", status);
+    fprintf(stderr, "refused: %u\n", (unsigned)status);
     exit(1);
   }
 }
 
 /* Adds an item by its text, and answers its index. */
-static uint32_t item(wenc_builder *builder, uint32_t section, const uint8_t *text, size_t len) {
+static uint32_t item(wenc_builder *builder, enum wenc_section section, const uint8_t *text,
+                     size_t len) {
   uint32_t index = 0;
   check(wenc_item(builder, section, UNNAMED, text, len, &index));
   return index;
@@ -93,6 +94,7 @@ int main(void) {
   size_t len, k;
   uint8_t *bytes;
 
+  if (wenc_version() != WENC_VERSION) return 1;
   check(wenc_new(&builder));
   build(&builder);
   check(wenc_finish(&builder, &len));

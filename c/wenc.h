@@ -94,21 +94,21 @@ enum wenc_kind {
 
 /* What is imported, or the type that an export is given. It goes with a number, `of`. */
 enum wenc_ref {
+  /* No type, for exports and answers alone. `of` is not looked at. */
+  WENC_REF_NONE = 0,
   /* A core module, a function, a component or an instance: `of` is the index of its type. */
-  WENC_REF_MODULE = 0,
-  WENC_REF_FUNC = 1,
+  WENC_REF_MODULE = 1,
+  WENC_REF_FUNC = 2,
   /* A value of the type with this index. */
-  WENC_REF_VALUE = 2,
+  WENC_REF_VALUE = 3,
   /* A type that is equal to the one with this index. */
-  WENC_REF_TYPE = 3,
-  WENC_REF_COMPONENT = 4,
-  WENC_REF_INSTANCE = 5,
+  WENC_REF_TYPE = 4,
+  WENC_REF_COMPONENT = 5,
+  WENC_REF_INSTANCE = 6,
   /* A fresh resource type. `of` is not looked at. */
-  WENC_REF_RESOURCE = 6,
+  WENC_REF_RESOURCE = 7,
   /* A value of a primitive type: `of` is one of wenc_primitive. */
-  WENC_REF_PRIMITIVE = 7,
-  /* No type, for exports alone. `of` is not looked at. */
-  WENC_REF_NONE = 8
+  WENC_REF_PRIMITIVE = 8
 };
 
 /* Primitive types of values, by their bytes in the binary format. */
@@ -191,12 +191,22 @@ enum wenc_space {
   WENC_SPACES = 13
 };
 
+/* The library takes and answers enumerations as 32 bits: a compiler that makes them shorter
+ * (-fshort-enums) is told not to. */
+typedef char wenc_enums_have_32_bits[sizeof(enum wenc_status) == 4 ? 1 : -1];
+
+/* The version of this header: 10000 times its first number, 100 times the second, and the third. */
+#define WENC_VERSION 100
+
+/* The version of the library, which is to be WENC_VERSION. */
+uint32_t wenc_version(void);
+
 /* ---- a builder's life */
 
 /* Begins a component. The handle is {NULL} before: else WENC_BAD_ARGUMENT. It owns the builder
  * then, until wenc_free, or until wenc_component gives it up.
  * Answers 0, 1, 7. */
-uint32_t wenc_new(wenc_builder *builder);
+enum wenc_status wenc_new(wenc_builder *builder);
 
 /* Frees the builder with its component, finished or not. The handle is {NULL} then. */
 void wenc_free(wenc_builder *builder);
@@ -204,12 +214,12 @@ void wenc_free(wenc_builder *builder);
 /* Finishes the component, and puts the number of its bytes into `*len`. It takes no memory. Made
  * again it says that number again.
  * Answers 0, 9. */
-uint32_t wenc_finish(wenc_builder *builder, size_t *len);
+enum wenc_status wenc_finish(wenc_builder *builder, size_t *len);
 
 /* Copies the finished component to `bytes`, where `len` is the number that wenc_finish said: else
  * WENC_BAD_ARGUMENT. Where wenc_finish wasn't made, WENC_UNFINISHED.
  * Answers 0, 4, 7, 9. */
-uint32_t wenc_bytes(wenc_builder *builder, uint8_t *bytes, size_t len);
+enum wenc_status wenc_bytes(wenc_builder *builder, uint8_t *bytes, size_t len);
 
 /* ---- items
  *
@@ -221,84 +231,88 @@ uint32_t wenc_bytes(wenc_builder *builder, uint8_t *bytes, size_t len);
 /* Imports an item under a plain name: `ref` is one of wenc_ref, with its number. The item has the
  * name as its debug name.
  * Answers 0, 1, 2, 3, 5, 7, 8, 9. */
-uint32_t wenc_import(wenc_builder *builder, const uint8_t *name, size_t name_len, uint32_t ref,
-                     uint32_t of, uint32_t *index);
+enum wenc_status wenc_import(wenc_builder *builder, const uint8_t *name, size_t name_len,
+                             enum wenc_ref ref, uint32_t of, uint32_t *index);
 
 /* Imports an item under a name with options: the interface that it implements, what follows the
  * version that the name bears, and a name that it has elsewhere, each there or not.
  * Answers 0, 1, 2, 3, 5, 7, 8, 9. */
-uint32_t wenc_import_named(wenc_builder *builder, const uint8_t *name, size_t name_len,
-                           bool has_implements, const uint8_t *implements, size_t implements_len,
-                           bool has_version_suffix, const uint8_t *version_suffix,
-                           size_t version_suffix_len, bool has_external_id,
-                           const uint8_t *external_id, size_t external_id_len, uint32_t ref,
-                           uint32_t of, uint32_t *index);
+enum wenc_status wenc_import_named(wenc_builder *builder, const uint8_t *name, size_t name_len,
+                                   bool has_implements, const uint8_t *implements,
+                                   size_t implements_len, bool has_version_suffix,
+                                   const uint8_t *version_suffix, size_t version_suffix_len,
+                                   bool has_external_id, const uint8_t *external_id,
+                                   size_t external_id_len, enum wenc_ref ref, uint32_t of,
+                                   uint32_t *index);
 
 /* Exports the item of this kind (wenc_kind) with the index `item` under a plain name, with a type
  * (`ref` and `of`) or none (WENC_REF_NONE). `*index` is the index of the exported item, which has
  * the name as its debug name.
  * Answers 0, 1, 2, 3, 5, 7, 8, 9. */
-uint32_t wenc_export(wenc_builder *builder, const uint8_t *name, size_t name_len, uint32_t kind,
-                     uint32_t item, uint32_t ref, uint32_t of, uint32_t *index);
+enum wenc_status wenc_export(wenc_builder *builder, const uint8_t *name, size_t name_len,
+                             enum wenc_kind kind, uint32_t item, enum wenc_ref ref, uint32_t of,
+                             uint32_t *index);
 
 /* Exports an item as wenc_export does, under a name with options, as of wenc_import_named.
  * Answers 0, 1, 2, 3, 5, 7, 8, 9. */
-uint32_t wenc_export_named(wenc_builder *builder, const uint8_t *name, size_t name_len,
-                           bool has_implements, const uint8_t *implements, size_t implements_len,
-                           bool has_version_suffix, const uint8_t *version_suffix,
-                           size_t version_suffix_len, bool has_external_id,
-                           const uint8_t *external_id, size_t external_id_len, uint32_t kind,
-                           uint32_t item, uint32_t ref, uint32_t of, uint32_t *index);
+enum wenc_status wenc_export_named(wenc_builder *builder, const uint8_t *name, size_t name_len,
+                                   bool has_implements, const uint8_t *implements,
+                                   size_t implements_len, bool has_version_suffix,
+                                   const uint8_t *version_suffix, size_t version_suffix_len,
+                                   bool has_external_id, const uint8_t *external_id,
+                                   size_t external_id_len, enum wenc_kind kind, uint32_t item,
+                                   enum wenc_ref ref, uint32_t of, uint32_t *index);
 
 /* Adds an alias of what a component instance exports under a name: `kind` is one of wenc_kind.
  * Answers 0, 1, 2, 3, 5, 7, 8, 9. */
-uint32_t wenc_alias_export(wenc_builder *builder, bool named, const uint8_t *debug_name,
-                           size_t debug_name_len, uint32_t instance, uint32_t kind,
-                           const uint8_t *name, size_t name_len, uint32_t *index);
+enum wenc_status wenc_alias_export(wenc_builder *builder, bool named, const uint8_t *debug_name,
+                                   size_t debug_name_len, uint32_t instance, enum wenc_kind kind,
+                                   const uint8_t *name, size_t name_len, uint32_t *index);
 
 /* Adds an alias of what a core instance exports under a name: `kind` is one of wenc_core_kind.
  * Answers 0, 1, 2, 3, 5, 7, 8, 9. */
-uint32_t wenc_alias_core_export(wenc_builder *builder, bool named, const uint8_t *debug_name,
-                                size_t debug_name_len, uint32_t instance, uint32_t kind,
-                                const uint8_t *name, size_t name_len, uint32_t *index);
+enum wenc_status wenc_alias_core_export(wenc_builder *builder, bool named,
+                                        const uint8_t *debug_name, size_t debug_name_len,
+                                        uint32_t instance, enum wenc_core_kind kind,
+                                        const uint8_t *name, size_t name_len, uint32_t *index);
 
 /* Adds an alias of an item of an enclosing component, `count` components further out (0 is this
  * one): `kind` is one of wenc_outer_kind, `item` the index that the item has there.
  * Answers 0, 1, 2, 3, 5, 7, 8, 9. */
-uint32_t wenc_alias_outer(wenc_builder *builder, bool named, const uint8_t *debug_name,
-                          size_t debug_name_len, uint32_t kind, uint32_t count, uint32_t item,
-                          uint32_t *index);
+enum wenc_status wenc_alias_outer(wenc_builder *builder, bool named, const uint8_t *debug_name,
+                                  size_t debug_name_len, enum wenc_outer_kind kind, uint32_t count,
+                                  uint32_t item, uint32_t *index);
 
 /* Adds the core module with these bytes. Nothing checks that they are a module's.
  * Answers 0, 1, 2, 3, 5, 8, 9. */
-uint32_t wenc_core_module(wenc_builder *builder, bool named, const uint8_t *debug_name,
-                          size_t debug_name_len, const uint8_t *bytes, size_t len,
-                          uint32_t *index);
+enum wenc_status wenc_core_module(wenc_builder *builder, bool named, const uint8_t *debug_name,
+                                  size_t debug_name_len, const uint8_t *bytes, size_t len,
+                                  uint32_t *index);
 
 /* Adds the component with these bytes. Nothing checks that they are a component's.
  * Answers 0, 1, 2, 3, 5, 8, 9. */
-uint32_t wenc_component_bytes(wenc_builder *builder, bool named, const uint8_t *debug_name,
-                              size_t debug_name_len, const uint8_t *bytes, size_t len,
-                              uint32_t *index);
+enum wenc_status wenc_component_bytes(wenc_builder *builder, bool named, const uint8_t *debug_name,
+                                      size_t debug_name_len, const uint8_t *bytes, size_t len,
+                                      uint32_t *index);
 
 /* Adds what another builder holds as a nested component, and frees that builder: its handle is
  * {NULL} then. Where the call is refused, both are as they were: also where either is finished or
  * {NULL}.
  * Answers 0, 1, 2, 3, 5, 8, 9. */
-uint32_t wenc_component(wenc_builder *builder, bool named, const uint8_t *debug_name,
-                        size_t debug_name_len, wenc_builder *nested, uint32_t *index);
+enum wenc_status wenc_component(wenc_builder *builder, bool named, const uint8_t *debug_name,
+                                size_t debug_name_len, wenc_builder *nested, uint32_t *index);
 
 /* Adds what another builder holds as a nested component, and leaves that builder as it is.
  * Answers 0, 1, 2, 3, 5, 8, 9. */
-uint32_t wenc_component_ref(wenc_builder *builder, bool named, const uint8_t *debug_name,
-                            size_t debug_name_len, wenc_builder *nested, uint32_t *index);
+enum wenc_status wenc_component_ref(wenc_builder *builder, bool named, const uint8_t *debug_name,
+                                    size_t debug_name_len, wenc_builder *nested, uint32_t *index);
 
 /* Has a function called, with the values that have these indices, when the component is
  * instantiated. `results` is the number of values that it answers; `*index` is that of the first
  * of them.
  * Answers 0, 1, 2, 3, 8, 9. */
-uint32_t wenc_start(wenc_builder *builder, uint32_t function, const uint32_t *args,
-                    size_t args_len, uint32_t results, uint32_t *index);
+enum wenc_status wenc_start(wenc_builder *builder, uint32_t function, const uint32_t *args,
+                            size_t args_len, uint32_t results, uint32_t *index);
 
 /* Adds a function that the component model provides, by its opcode in the binary format: one that
  * takes indices, or an index and a flag (0 or 1), or a flag alone, or nothing, in that order
@@ -307,30 +321,30 @@ uint32_t wenc_start(wenc_builder *builder, uint32_t function, const uint32_t *ar
  * WENC_BAD_ARGUMENT where it takes options, types or slots too (those go by wenc_item), where there
  * is no such function, and where a flag is another number.
  * Answers 0, 1, 2, 3, 7, 8, 9. */
-uint32_t wenc_builtin(wenc_builder *builder, uint32_t opcode, uint32_t first, uint32_t second,
-                      uint32_t *index);
+enum wenc_status wenc_builtin(wenc_builder *builder, uint32_t opcode, uint32_t first,
+                              uint32_t second, uint32_t *index);
 
 /* Adds a core instance that exports core items under their names: the sort of each part is one of
  * wenc_core_kind, its number the index.
  * Answers 0, 1, 2, 3, 5, 7, 8, 9. */
-uint32_t wenc_core_exports(wenc_builder *builder, bool named, const uint8_t *debug_name,
-                           size_t debug_name_len, const uint8_t *names, size_t names_len,
-                           const wenc_part *exports, size_t exports_len, uint32_t *index);
+enum wenc_status wenc_core_exports(wenc_builder *builder, bool named, const uint8_t *debug_name,
+                                   size_t debug_name_len, const uint8_t *names, size_t names_len,
+                                   const wenc_part *exports, size_t exports_len, uint32_t *index);
 
 /* Adds the type of a record, by its fields: the sort of each part is WENC_REF_VALUE, and its number
  * the index of a type, or WENC_REF_PRIMITIVE, with one of wenc_primitive.
  * Answers 0, 1, 2, 3, 5, 7, 8, 9. */
-uint32_t wenc_record(wenc_builder *builder, bool named, const uint8_t *debug_name,
-                     size_t debug_name_len, const uint8_t *names, size_t names_len,
-                     const wenc_part *fields, size_t fields_len, uint32_t *index);
+enum wenc_status wenc_record(wenc_builder *builder, bool named, const uint8_t *debug_name,
+                             size_t debug_name_len, const uint8_t *names, size_t names_len,
+                             const wenc_part *fields, size_t fields_len, uint32_t *index);
 
 /* Adds the type of a function: whether it is asynchronous; its parameters, as the fields of a
  * record; and what it answers, as a field (`ref` and `of`), or nothing (WENC_REF_NONE).
  * Answers 0, 1, 2, 3, 5, 7, 8, 9. */
-uint32_t wenc_function(wenc_builder *builder, bool named, const uint8_t *debug_name,
-                       size_t debug_name_len, bool is_async, const uint8_t *names,
-                       size_t names_len, const wenc_part *params, size_t params_len, uint32_t ref,
-                       uint32_t of, uint32_t *index);
+enum wenc_status wenc_function(wenc_builder *builder, bool named, const uint8_t *debug_name,
+                               size_t debug_name_len, bool is_async, const uint8_t *names,
+                               size_t names_len, const wenc_part *params, size_t params_len,
+                               enum wenc_ref ref, uint32_t of, uint32_t *index);
 
 /* Adds the item that has this text in the binary format: the bytes that stand for it in a section
  * with this id (wenc_section). Of a section that is one item (a custom section, a core module, a
@@ -342,8 +356,9 @@ uint32_t wenc_function(wenc_builder *builder, bool named, const uint8_t *debug_n
  * WENC_MALFORMED also where `text` is not the text of exactly one item, WENC_TOO_DEEP,
  * WENC_BAD_ARGUMENT where `section` is above 11.
  * Answers 0, 1, 2, 3, 5, 6, 7, 8, 9. */
-uint32_t wenc_item(wenc_builder *builder, uint32_t section, bool named, const uint8_t *debug_name,
-                   size_t debug_name_len, const uint8_t *text, size_t text_len, uint32_t *index);
+enum wenc_status wenc_item(wenc_builder *builder, enum wenc_section section, bool named,
+                           const uint8_t *debug_name, size_t debug_name_len, const uint8_t *text,
+                           size_t text_len, uint32_t *index);
 
 /* ---- what has no index
  *
@@ -351,21 +366,21 @@ uint32_t wenc_item(wenc_builder *builder, uint32_t section, bool named, const ui
 
 /* Adds a custom section with this name and this data.
  * Answers 0, 1, 2, 3, 5, 8, 9. */
-uint32_t wenc_custom_section(wenc_builder *builder, const uint8_t *name, size_t name_len,
-                             const uint8_t *data, size_t data_len);
+enum wenc_status wenc_custom_section(wenc_builder *builder, const uint8_t *name, size_t name_len,
+                                     const uint8_t *data, size_t data_len);
 
 /* Adds a custom section with these bytes after its id. Nothing checks that they are a
  * section's.
  * Answers 0, 1, 2, 3, 8, 9. */
-uint32_t wenc_raw_custom_section(wenc_builder *builder, const uint8_t *bytes, size_t len);
+enum wenc_status wenc_raw_custom_section(wenc_builder *builder, const uint8_t *bytes, size_t len);
 
 /* Adds a section of the debug names so far. Without names it adds nothing.
  * Answers 0, 1, 2, 3, 8, 9. */
-uint32_t wenc_append_names(wenc_builder *builder);
+enum wenc_status wenc_append_names(wenc_builder *builder);
 
 /* Puts the number of items in an index space (wenc_space) into `*count`.
  * Answers 0, 7, 8, 9. */
-uint32_t wenc_count(wenc_builder *builder, uint32_t space, uint32_t *count);
+enum wenc_status wenc_count(wenc_builder *builder, enum wenc_space space, uint32_t *count);
 
 /* ---- listing */
 
@@ -386,8 +401,8 @@ typedef struct {
  * even the header is. Also WENC_NO_MEMORY, and WENC_TOO_LARGE where a count has more than 64
  * bits: there `*number` stays as it is.
  * Answers 0, 1, 3, 6, 7, 10, 11, 12. */
-uint32_t wenc_list(const uint8_t *bytes, size_t len, wenc_listed *sections, size_t room,
-                   uint64_t *counts, size_t counts_len, size_t *number);
+enum wenc_status wenc_list(const uint8_t *bytes, size_t len, wenc_listed *sections, size_t room,
+                           uint64_t *counts, size_t counts_len, size_t *number);
 
 #ifdef __cplusplus
 }

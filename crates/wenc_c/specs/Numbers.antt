@@ -38,30 +38,30 @@ primitive_of n =
 -- what is imported, by the number of its sort and a number that goes with it
 abbrev pub type_ref_of : ℕ → ℕ → Option ComponentTypeRef
 type_ref_of sort n =
-    if nat_eq sort 0 then Some (refs.Module n)
-    else (if nat_eq sort 1 then Some (refs.Func n)
-    else (if nat_eq sort 2 then Some (refs.Value (values.«Type» n))
-    else (if nat_eq sort 3 then Some (refs.«Type» (bounds.Eq n))
-    else (if nat_eq sort 4 then Some (refs.Component n)
-    else (if nat_eq sort 5 then Some (refs.Instance n)
-    else (if nat_eq sort 6 then Some (refs.«Type» bounds.SubResource)
-    else (if nat_eq sort 7
+    if nat_eq sort 1 then Some (refs.Module n)
+    else (if nat_eq sort 2 then Some (refs.Func n)
+    else (if nat_eq sort 3 then Some (refs.Value (values.«Type» n))
+    else (if nat_eq sort 4 then Some (refs.«Type» (bounds.Eq n))
+    else (if nat_eq sort 5 then Some (refs.Component n)
+    else (if nat_eq sort 6 then Some (refs.Instance n)
+    else (if nat_eq sort 7 then Some (refs.«Type» bounds.SubResource)
+    else (if nat_eq sort 8
     then option_map (λ p. refs.Value (values.Primitive p)) (primitive_of n)
     else None)))))))
 
 -- the type that an export is given, or none
 abbrev pub given_type_of : ℕ → ℕ → Option (Option ComponentTypeRef)
-given_type_of sort n = if nat_eq sort 8 then Some None else option_map Some (type_ref_of sort n)
+given_type_of sort n = if nat_eq sort 0 then Some None else option_map Some (type_ref_of sort n)
 
 -- a type of values, by the numbers of a reference to a value
 abbrev pub value_of : ℕ → ℕ → Option ComponentValType
 value_of sort n =
-    if nat_eq sort 2 then Some (values.«Type» n)
-    else (if nat_eq sort 7 then option_map values.Primitive (primitive_of n) else None)
+    if nat_eq sort 3 then Some (values.«Type» n)
+    else (if nat_eq sort 8 then option_map values.Primitive (primitive_of n) else None)
 
 -- what a function answers, or nothing
 abbrev pub answer_type_of : ℕ → ℕ → Option (Option ComponentValType)
-answer_type_of sort n = if nat_eq sort 8 then Some None else option_map Some (value_of sort n)
+answer_type_of sort n = if nat_eq sort 0 then Some None else option_map Some (value_of sort n)
 
 -- whether it holds
 abbrev pub flag_of : ℕ → Option Bool

@@ -13,6 +13,14 @@ use crate::session::Session;
 use std::alloc::{AllocError, Global};
 use wenc_base::Fault;
 
+/// The version of the library: 10000 times its first number, 100 times the second, and the third.
+#[unsafe(no_mangle)]
+pub extern "C" fn wenc_version() -> u32
+    ensures { result ≡ 100 }
+{
+    100
+}
+
 /// Begins a component. The handle owns nothing before: else it is refused as a bad argument, and
 /// owns what it owned.
 #[unsafe(no_mangle)]

@@ -38,14 +38,14 @@ pub(crate) fn type_ref(sort: u32, of: u32) -> Option<ComponentTypeRef>
     ensures { result ≡ type_ref_of sort of }
 {
     match sort {
-        0 => Some(ComponentTypeRef::Module(of)),
-        1 => Some(ComponentTypeRef::Func(of)),
-        2 => Some(ComponentTypeRef::Value(ComponentValType::Type(of))),
-        3 => Some(ComponentTypeRef::Type(TypeBounds::Eq(of))),
-        4 => Some(ComponentTypeRef::Component(of)),
-        5 => Some(ComponentTypeRef::Instance(of)),
-        6 => Some(ComponentTypeRef::Type(TypeBounds::SubResource)),
-        7 => match primitive(of) {
+        1 => Some(ComponentTypeRef::Module(of)),
+        2 => Some(ComponentTypeRef::Func(of)),
+        3 => Some(ComponentTypeRef::Value(ComponentValType::Type(of))),
+        4 => Some(ComponentTypeRef::Type(TypeBounds::Eq(of))),
+        5 => Some(ComponentTypeRef::Component(of)),
+        6 => Some(ComponentTypeRef::Instance(of)),
+        7 => Some(ComponentTypeRef::Type(TypeBounds::SubResource)),
+        8 => match primitive(of) {
             Some(primitive) => Some(ComponentTypeRef::Value(ComponentValType::Primitive(
                 primitive,
             ))),
@@ -60,7 +60,7 @@ pub(crate) fn given_type(sort: u32, of: u32) -> Option<Option<ComponentTypeRef>>
     ensures { result ≡ given_type_of sort of }
 {
     match sort {
-        8 => Some(None),
+        0 => Some(None),
         _ => match type_ref(sort, of) {
             Some(ty) => Some(Some(ty)),
             None => None,
@@ -74,8 +74,8 @@ pub(crate) fn value(sort: u32, of: u32) -> Option<ComponentValType>
     ensures { result ≡ value_of sort of }
 {
     match sort {
-        2 => Some(ComponentValType::Type(of)),
-        7 => match primitive(of) {
+        3 => Some(ComponentValType::Type(of)),
+        8 => match primitive(of) {
             Some(primitive) => Some(ComponentValType::Primitive(primitive)),
             None => None,
         },
@@ -88,7 +88,7 @@ pub(crate) fn answer_type(sort: u32, of: u32) -> Option<Option<ComponentValType>
     ensures { result ≡ answer_type_of sort of }
 {
     match sort {
-        8 => Some(None),
+        0 => Some(None),
         _ => match value(sort, of) {
             Some(ty) => Some(Some(ty)),
             None => None,
