@@ -5,11 +5,11 @@ ghost use Rattle.wenc_c.specs.Handles.{OwnsSettled};
 ghost use Rattle.wenc_c.specs.Reads.{IsReadAs};
 ghost use Rattle.wenc_list.specs.Listing.{HasDepth};
 
-use crate::alone::{wenc_append_names, wenc_start};
+use crate::by_text::wenc_item;
 use crate::handle::Handle;
 use crate::laws::{nothing_stays_unfinished, what_is_found_is_read};
-use crate::life::wenc_finish;
-use crate::spelled::wenc_item;
+use crate::lifecycle::wenc_finish;
+use crate::standalone::{wenc_append_names, wenc_start};
 use std::alloc::Global;
 
 /// Adds an item by its text. Where it is accepted, the text is read as some item, no type in which

@@ -9,14 +9,14 @@
 
 mod adding;
 mod aliases;
-mod alone;
 mod builtins;
+mod by_text;
 pub mod callers;
 mod handle;
 mod instances;
 mod items;
 pub mod laws;
-mod life;
+mod lifecycle;
 mod lists;
 mod named;
 mod numbers;
@@ -24,7 +24,7 @@ mod packed;
 mod placed;
 mod refused;
 mod session;
-mod spelled;
+mod standalone;
 mod texts;
 mod types;
 mod written;

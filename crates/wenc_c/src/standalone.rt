@@ -7,7 +7,7 @@ ghost use Rattle.wenc_c.specs.Sessions.{answer_of, outcome_of};
 ghost use Rattle.wenc_c.specs.Statuses.{Among, of_a_call};
 
 use crate::handle::Handle;
-use crate::life::wenc_free;
+use crate::lifecycle::wenc_free;
 use crate::refused::{Refused, given, outcome, told};
 use crate::texts::{text, text_where};
 use std::alloc::Global;
