@@ -5,10 +5,11 @@ use Rattle.wenc_base.specs.Readers.{Flaw}
 use Rattle.wenc_base.specs.declared.fault.Fault.{Fault as Faults}
 use Rattle.wenc_base.specs.declared.fault.Fault.TheVariants.{Memory, TooMany, TooLarge, Unfinished}
 use Rattle.wenc_builder.specs.Builder.{State, builder_is_finished}
+use Rattle.wenc_builder.specs.Enters.{Enters}
 use Rattle.wenc_builder.specs.Entry.{Entry}
 use Rattle.wenc_builder.specs.Item.{Item}
-use Rattle.wenc_c.specs.Reads.{AddsRead, AddsReadTo, IsUnread}
-use Rattle.wenc_c.specs.Sessions.{AddsIf, AddsIfTo, Answered}
+use Rattle.wenc_c.specs.Reads.{AddsRead, AddsReadTo, IsUnread, entry_of}
+use Rattle.wenc_c.specs.Sessions.{AddsIf, Answered}
 use Rattle.wenc_c.specs.Statuses.{Among, of_a_call, status_of}
 use Rattle.wenc_c.specs.declared.refused.Refused.{Refused as Refusals}
 use Rattle.wenc_c.specs.declared.refused.Refused.TheVariants.{Fault, Malformed, TooDeep, BadArgument, Finished, NoBuilder}
@@ -29,14 +30,12 @@ answered_among did (Ok r) a = inl refl
 answered_among did (Err (Fault fault)) a = fault_among fault
 answered_among did (Err other) a = absurd a
 
+pub if_among : (old new : State) (answer : Result ℕ Refusals) (x : Option Entry) → AddsIf old new answer x → Among (7 ∷ of_a_call) (status_of answer)
+if_among old new answer (Some x) a = inr (answered_among (λ (result : _). Enters old new result x) answer a)
+if_among old new answer None a = rw a.0 (inl refl)
+
 closed_among : {R : Type 0} (answer : Result R Refusals) → answer ≡ Err Finished → Among of_a_call (status_of answer)
 closed_among answer e = rw e finished_among
-
-pub if_among : (s t : Session) (answer : Result ℕ Refusals) (x : Option Entry) → AddsIfTo s t answer x → Among (7 ∷ of_a_call) (status_of answer)
-if_among (sessions.Building b) (sessions.Building c) answer (Some x) a = inr (answered_among _ answer a)
-if_among (sessions.Building b) (sessions.Building c) answer None a = rw a.0 (inl refl)
-if_among (sessions.Building b) (sessions.Finished bytes) answer x a = absurd a
-if_among (sessions.Finished bytes) t answer x a = inr (closed_among answer a.0)
 
 unread_among : {R : Type 0} (finished : _) (flaw : Flaw) (answer : Result R Refusals) → IsUnread finished flaw answer → Among (5 ∷ 6 ∷ of_a_call) (status_of answer)
 unread_among finished flaw (Ok r) a = absurd a
@@ -49,7 +48,7 @@ unread_among finished flaw (Err NoBuilder) a = absurd a
 
 read_among : {R : Type 0} (enters : State → State → Result R Faults → Entry → Type 0) (b c : State) (answer : Result R Refusals) (name : Option (List ℕ)) (found : Result Item Flaw) → AddsRead enters b c answer name found
     → Among (5 ∷ 6 ∷ of_a_call) (status_of answer)
-read_among enters b c answer name (Ok x) a = inr (inr (answered_among _ answer a))
+read_among enters b c answer name (Ok x) a = inr (inr (answered_among (λ (result : _). enters b c result (entry_of name x)) answer a))
 read_among enters b c answer name (Err flaw) a = unread_among (builder_is_finished b) flaw answer a.1
 
 pub found_among : {R : Type 0} (enters : State → State → Result R Faults → Entry → Type 0) (s t : Session) (answer : Result R Refusals) (name : Option (List ℕ)) (found : Result Item Flaw) → AddsReadTo enters s t answer name found

@@ -9,7 +9,6 @@ use crate::by_text::wenc_item;
 use crate::handle::Handle;
 use crate::laws::{nothing_stays_unfinished, what_is_found_is_read};
 use crate::lifecycle::wenc_finish;
-use crate::standalone::{wenc_append_names, wenc_start};
 use std::alloc::Global;
 
 /// Adds an item by its text. Where it is accepted, the text is read as some item, no type in which
@@ -28,27 +27,25 @@ pub fn item_of(
     wenc_item(alloc, builder, section, false, &[], text, index)
 }
 
-/// Adds a start and the debug names so far, and finishes, by a handle whose component has nothing
-/// unfinished. No call of these says that something is.
-pub fn of_a_start(
+/// Adds an item by its text, and finishes, by a handle whose component has nothing unfinished. No
+/// call of these says that something is.
+pub fn of_one_item(
     alloc: Global,
     builder: &mut Handle,
-    function: u32,
-    args: &[u32],
+    section: u32,
+    text: &[u8],
     index: &mut u32,
     len: &mut usize,
 ) -> u32
-    requires { OwnsSettled builder.old.session }
+    requires settled { OwnsSettled builder.old.session }
+    requires some { ¬ (section ≡ 0) }
+    requires few { section ≤ 11 }
     ensures { ¬ (result ≡ 4) }
 {
     nothing_stays_unfinished();
-    let started = wenc_start(alloc, builder, function, args, 0, index);
-    if started != 0 {
-        return started;
-    }
-    let named = wenc_append_names(alloc, builder);
-    if named != 0 {
-        return named;
+    let added = wenc_item(alloc, builder, section, false, &[], text, index);
+    if added != 0 {
+        return added;
     }
     wenc_finish(alloc, builder, len)
 }

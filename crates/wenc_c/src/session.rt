@@ -134,7 +134,6 @@ impl Session {
     }
 
     /// Adds the function that the component model provides with this opcode, by up to two numbers.
-    #[tactic(auto, using(crate::proofs::Statuses::if_among))]
     pub fn builtin(&mut self, opcode: u32, first: u32, second: u32) -> Result<u32, Refused>
         ensures added { AddsIfTo self.old self.new result (builtin_of opcode first second) }
         ensures among { Among (7 ∷ of_a_call) (status_of result) }

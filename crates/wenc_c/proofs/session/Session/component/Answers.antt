@@ -3,9 +3,9 @@ use Rattle.wenc_c.specs.Sessions.{NestsTo}
 use Rattle.wenc_c.proofs.Answers.{answered}
 use Rattle.wenc_c.proofs.session.Session.component.Goals as goal
 
-pub returns-in-Building-self : goal.returns-in-Building-self
-returns-in-Building-self c =
+pub returns-in-Building-self-clause-nested : goal.returns-in-Building-self-clause-nested
+returns-in-Building-self-clause-nested c =
     let did = c.component_ref.ensures in
-    rw (c.in-Building.is, c.in-Building-self.is, c.by_builder.ensures)
+    rw (c.in-Building.is, c.in-Building-self.is, c.by_builder.ensures.told)
     (answered (NestsTo (option_copied c.args.debug_name) c.in-Building.nested c.in-Building-self.builder c.component_ref.new.self) c.component_ref.result
     (record { entered = did.entered; bytes = did.bytes; unfinished = did.unfinished; err = did.err }))
