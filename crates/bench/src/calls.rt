@@ -1,3 +1,4 @@
+//! The calls of the bench, round by round.
 use std::alloc::Global;
 use wasm_encoder::{
     AddsBuiltin, ComponentBuilder, ComponentExportKind, ComponentTypeRef, ComponentValType,
@@ -114,7 +115,7 @@ fn name_at(names: &Vec<String>, i: u32) -> &str {
     }
 }
 
-/// All rounds one behind the other, or each call of all rounds; then the names.
+/// All rounds one after the other, or each call of all rounds; then the names.
 pub fn build(alloc: Global, names: &Names, grouped: bool) -> Result<Vec<u8>, Fault> {
     let mut builder = ComponentBuilder::new(alloc)?;
     if grouped {

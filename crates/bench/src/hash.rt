@@ -1,3 +1,4 @@
+//! A hash, by which bytes are compared.
 /// What FNV-1a of 64 bits begins with.
 const BASIS: u64 = 0xcbf29ce484222325;
 

@@ -69,8 +69,7 @@ impl Listed {
         out: &mut O,
         err: &mut E,
     ) -> io::Result<()> {
-        let Ok(found) =
-            format!(in rt.alloc(); "sections {}\nitems {}\n", self.sections, self.items)
+        let Ok(found) = format!(in rt.alloc(); "sections {}\nitems {}\n", self.sections, self.items)
         else {
             return Ok(());
         };

@@ -85,7 +85,7 @@ fn plain(builder: &mut ComponentBuilder) -> Result<u32, Fault> {
     builder.thread_yield_then_promote()
 }
 
-/// Each canonical function, behind the header and the id of their section.
+/// Each canonical function, after the header and the id of their section.
 #[test]
 fn canonical_functions(rt: HostRuntime) {
     let alloc = rt.alloc();

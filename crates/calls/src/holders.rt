@@ -47,7 +47,7 @@ fn close(holder: &mut Holder) -> Result<(), Fault> {
     holder.close(&[4])
 }
 
-/// The same as what lends itself.
+/// Adds a member as what lends itself does.
 fn lend(holder: &mut Holder) -> Result<(), Fault> {
     if holder.is_finished() {
         return Err(Fault::Unfinished);
@@ -110,7 +110,7 @@ fn members(rt: HostRuntime) {
     );
 }
 
-/// Two bytes in front, and one member behind them.
+/// Two bytes in front, and one member after them.
 #[tactic(auto, using(wenc_base::proofs::Groups::size_1))]
 fn over(alloc: Global) -> Result<Holder, AllocError>
     ensures { IfOk result (λ h. h ≡ holding (0xaa ∷ 0xbb ∷ []) 1 (0x03 ∷ 0x00 ∷ [])) }

@@ -12,7 +12,7 @@ use wenc_read::{
 };
 use wenc_sections::Sort;
 
-/// What is read is this, and this is behind it.
+/// What is read is this, and this follows it.
 fn is_read<T: PartialEq + Drop>(
     rt: &impl Abort,
     read: Result<(T, &[u8]), Refusal>,

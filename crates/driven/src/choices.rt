@@ -1,3 +1,4 @@
+//! Choices, made by bytes.
 use std::alloc::Global;
 
 /// Choices that are taken from bytes, one by one. Where the bytes end, more are 0.

@@ -1,3 +1,4 @@
+//! Commands, as bytes choose them.
 use crate::choices::{Choices, Choose, bytes};
 use crate::types::ty;
 use wasm_encoder::{

@@ -1,3 +1,4 @@
+//! Core types, as bytes choose them.
 use crate::choices::{Choices, Choose};
 use wasm_encoder::{
     AbstractHeapType, ArrayType, CompositeType, CoreTypeTree, EntityType, ExportKind, FieldType,

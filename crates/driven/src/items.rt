@@ -1,3 +1,4 @@
+//! Parts of items, as bytes choose them.
 use crate::choices::{Choices, Choose};
 use wasm_encoder::{
     AliasTree, CanonicalOption, ComponentExportKind, ComponentOuterAliasKind, ComponentTypeRef,

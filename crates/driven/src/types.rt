@@ -1,3 +1,4 @@
+//! Types of values, functions, components and instances, as bytes choose them.
 use crate::choices::{Choices, Choose};
 use wasm_encoder::{
     AliasTree, CaseTree, ComponentDecl, ComponentTypeRef, ComponentValType, CoreTypeTree,

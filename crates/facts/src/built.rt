@@ -13,7 +13,7 @@ use wenc_base::Fault;
 use wenc_builder::ComponentBuilder;
 use wenc_parts::ComponentValType;
 
-/// An option: the builder holds its entry behind those that it held, and the answer is its index.
+/// An option: the builder holds its entry after those that it held, and the answer is its index.
 pub fn option_built<A: Allocator>(
     builder: &mut ComponentBuilder<A>,
     ty: ComponentValType,

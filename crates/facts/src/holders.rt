@@ -11,10 +11,10 @@ use wenc_base::{Fault, Holder, Verbatim};
 use wenc_canon::CanonicalFunctionSection;
 use wenc_sections::ComponentAliasSection;
 
-/// Two bytes, and the text of an alias behind them.
+/// Two bytes, and the text of an alias after them.
 const ALIAS: [u8; 7] = [0xaa, 0xbb, 0x01, 0x00, 0x00, 0x01, 0x66];
 
-/// Two bytes, and the text of a function behind them.
+/// Two bytes, and the text of a function after them.
 const FUNCTION: [u8; 3] = [0xaa, 0xbb, 0x05];
 
 /// A holder of that alias.
@@ -25,7 +25,7 @@ fn alias_kept<A: Allocator>(alloc: A) -> Result<Holder<A>, AllocError>
     Ok(Holder::over(Vec::from_array(alloc, ALIAS)?, 2, 1))
 }
 
-/// The same with an alias that is being written.
+/// Two bytes, the text of an alias, and an alias that is being written.
 fn alias_begun<A: Allocator>(alloc: A) -> Result<Holder<A>, Fault>
     ensures { IfOk result (HasMembers (HasForm alias)) }
 {
@@ -57,7 +57,7 @@ pub fn functions<A: Allocator>(alloc: A) -> Result<CanonicalFunctionSection<A>, 
     Ok(CanonicalFunctionSection::from_holder(function_kept(alloc)?))
 }
 
-/// Two bytes in front, and one member behind them.
+/// Two bytes in front, and one member after them.
 #[tactic(auto, using(wenc_base::proofs::Groups::size_1))]
 pub fn over_four_bytes<A: Allocator>(alloc: A) -> Result<Holder<A>, AllocError>
     ensures { IfOk result (λ h. h ≡ holding (0xaa ∷ 0xbb ∷ []) 1 (0x03 ∷ 0x00 ∷ [])) }

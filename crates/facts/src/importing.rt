@@ -1,3 +1,4 @@
+//! Components of imports: what is written of them, and how it is read.
 ghost use Rattle.std.specs.Prelude.{◌≡◌, ◌∷◌, ◌++◌, [], ℕ, List, IfOk, OnOk, codes};
 ghost use Rattle.wenc_base.specs.Forms.{counted};
 ghost use Rattle.wenc_base.specs.Piece.{Spelling};

@@ -11,7 +11,7 @@ use wenc_decode::Decode;
 use wenc_parts::AliasTree;
 use wenc_read::{Refusal, u32_of};
 
-/// Two numbers, one behind the other, and what is behind them.
+/// Two numbers, one after the other, and what follows them.
 pub fn two_numbers(bytes: &[u8]) -> Result<((u32, u32), &[u8]), Refusal>
     ensures { Gives (λ x. (x.0.0 ∷ x.0.1 ∷ [], x.1.now)) result (times read_u32 2 bytes.now) }
 {
@@ -20,7 +20,7 @@ pub fn two_numbers(bytes: &[u8]) -> Result<((u32, u32), &[u8]), Refusal>
     Ok(((first, second), rest))
 }
 
-/// An alias, and what is behind it: the bytes spell it there.
+/// An alias, and what follows it: the bytes spell it there.
 pub fn alias_of<A: Allocator + Copy>(
     alloc: A,
     bytes: &[u8],

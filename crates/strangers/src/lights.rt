@@ -25,7 +25,7 @@ pub fn lights_are_told(a: &&[Light], b: &&[Light])
     texts_tell_equals(a, b);
 }
 
-/// The same of a light that may be there, which nothing keeps from being encoded.
+/// Equal texts tell lights that may be there, which nothing keeps from being encoded.
 pub fn optional_lights_are_told(a: &Option<Light>, b: &Option<Light>)
     ensures { (r s : List ℕ)
         → (option light a.now).text ++ r ≡ (option light b.now).text ++ s

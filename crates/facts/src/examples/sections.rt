@@ -226,7 +226,7 @@ pub fn nested<A: Allocator + Copy>(alloc: A) -> Result<Vec<u8, A>, Fault>
     Ok(bytes)
 }
 
-/// `ComponentStartSection`, behind what has the function and the value.
+/// `ComponentStartSection`, after what has the function and the value.
 pub fn start<A: Allocator>(component: &mut Component<A>) -> Result<(), Fault>
     ensures { OnOk result (component.new
         ≡ component.old ++ 0x09 ∷ (start_form (started 0 (0 ∷ []) 0)).text) }
