@@ -12,9 +12,12 @@ use Rattle.wenc_base.specs.declared.fault.Fault.{Fault}
 use Rattle.wenc_base.specs.declared.fault.Fault.TheVariants.{Memory, TooMany, TooLarge, Unfinished}
 use Rattle.wenc_builder.specs.Builder.{BegunItem, OpenSection, State, content_of, entered_at, item_appended}
 use Rattle.wenc_builder.specs.Cause.{EnterCause, SectionCause}
-use Rattle.wenc_builder.specs.Entry.{core_instance_entry}
+use Rattle.wenc_builder.specs.Entry.{canonical_entry, core_instance_entry, instance_entry}
 use Rattle.wenc_builder.specs.LenderState.{no_room_in_section}
-use Rattle.wenc_sections.specs.Instances.{CoreExport, CoreExports, core_export}
+use Rattle.wenc_canon.specs.Canonicals.{Lift, Lower, canonical, canonical_option}
+use Rattle.wenc_canon.specs.declared.canonicals.CanonicalOption.{CanonicalOption}
+use Rattle.wenc_sections.specs.Instances.{Argument, CoreExport, CoreExports, CoreInstantiate, Exports, InlineExport, Instantiate, InstantiateArg}
+use Rattle.wenc_sections.specs.Instances.{argument, core_export, core_instance, inline_export, instance, instantiate_arg}
 use Rattle.wenc_types.specs.DefinedTypes.{LabelledType, labelled_type}
 
 -- ---- a list
@@ -84,6 +87,64 @@ exports_grow old name xs more fault (inl (inr (inr c))) =
     inl (inr (inr (section_grows old.settled.sections.closed old.settled.sections.current 2 (0x01 ∷ (list core_export xs).text) (0x01 ∷ (list core_export (xs ++ more)).text)
     (omega (arith, text_grows core_export xs more)) fault c)))
 exports_grow old name xs more fault (inr c) = inr c
+
+-- ---- a core instance of a module
+
+pub core_arguments_grow : (old : State) (name : Option (List ℕ)) (index : ℕ) (xs more : List Argument) (fault : Fault) → EnterCause old (core_instance_entry name (CoreInstantiate index xs)) fault
+    → EnterCause old (core_instance_entry name (CoreInstantiate index (xs ++ more))) fault
+core_arguments_grow old name index xs more fault (inl (inl (inl c))) = inl (inl (inl c))
+core_arguments_grow old name index xs more fault (inl (inl (inr c))) = inl (inl (inr (cause_grows argument xs more fault c)))
+core_arguments_grow old name index xs more fault (inl (inr (inl c))) = inl (inr (inl c))
+core_arguments_grow old name index xs more fault (inl (inr (inr c))) =
+    inl (inr (inr (section_grows old.settled.sections.closed old.settled.sections.current 2 (core_instance (CoreInstantiate index xs)).text (core_instance (CoreInstantiate index (xs ++ more))).text
+    (omega (arith, length-append (unsigned_text index) (list argument xs).text, length-append (unsigned_text index) (list argument (xs ++ more)).text, text_grows argument xs more)) fault c)))
+core_arguments_grow old name index xs more fault (inr c) = inr c
+
+-- ---- an instance of a component
+
+pub arguments_grow : (old : State) (name : Option (List ℕ)) (index : ℕ) (xs more : List InstantiateArg) (fault : Fault) → EnterCause old (instance_entry name (Instantiate index xs)) fault
+    → EnterCause old (instance_entry name (Instantiate index (xs ++ more))) fault
+arguments_grow old name index xs more fault (inl (inl (inl c))) = inl (inl (inl c))
+arguments_grow old name index xs more fault (inl (inl (inr c))) = inl (inl (inr (cause_grows instantiate_arg xs more fault c)))
+arguments_grow old name index xs more fault (inl (inr (inl c))) = inl (inr (inl c))
+arguments_grow old name index xs more fault (inl (inr (inr c))) =
+    inl (inr (inr (section_grows old.settled.sections.closed old.settled.sections.current 5 (instance (Instantiate index xs)).text (instance (Instantiate index (xs ++ more))).text
+    (omega (arith, length-append (unsigned_text index) (list instantiate_arg xs).text, length-append (unsigned_text index) (list instantiate_arg (xs ++ more)).text, text_grows instantiate_arg xs more)) fault c)))
+arguments_grow old name index xs more fault (inr c) = inr c
+
+-- ---- an instance of exports
+
+pub items_grow : (old : State) (name : Option (List ℕ)) (xs more : List InlineExport) (fault : Fault) → EnterCause old (instance_entry name (Exports xs)) fault
+    → EnterCause old (instance_entry name (Exports (xs ++ more))) fault
+items_grow old name xs more fault (inl (inl c)) = inl (inl (cause_grows inline_export xs more fault c))
+items_grow old name xs more fault (inl (inr (inl c))) = inl (inr (inl c))
+items_grow old name xs more fault (inl (inr (inr c))) =
+    inl (inr (inr (section_grows old.settled.sections.closed old.settled.sections.current 5 (instance (Exports xs)).text (instance (Exports (xs ++ more))).text
+    (omega (arith, text_grows inline_export xs more)) fault c)))
+items_grow old name xs more fault (inr c) = inr c
+
+-- ---- a function that is lifted, or lowered
+
+pub lifted_grow : (old : State) (name : Option (List ℕ)) (function ty : ℕ) (xs more : List CanonicalOption) (fault : Fault) → EnterCause old (canonical_entry name (Lift function xs ty)) fault
+    → EnterCause old (canonical_entry name (Lift function (xs ++ more) ty)) fault
+lifted_grow old name function ty xs more fault (inl (inl (inl c))) = inl (inl (inl c))
+lifted_grow old name function ty xs more fault (inl (inl (inr (inl c)))) = inl (inl (inr (inl (cause_grows canonical_option xs more fault c))))
+lifted_grow old name function ty xs more fault (inl (inl (inr (inr c)))) = inl (inl (inr (inr c)))
+lifted_grow old name function ty xs more fault (inl (inr (inl c))) = inl (inr (inl c))
+lifted_grow old name function ty xs more fault (inl (inr (inr c))) =
+    inl (inr (inr (section_grows old.settled.sections.closed old.settled.sections.current 8 (canonical (Lift function xs ty)).text (canonical (Lift function (xs ++ more) ty)).text
+    (omega (arith, length-append (unsigned_text function) ((list canonical_option xs).text ++ unsigned_text ty), length-append (unsigned_text function) ((list canonical_option (xs ++ more)).text ++ unsigned_text ty), length-append (list canonical_option xs).text (unsigned_text ty), length-append (list canonical_option (xs ++ more)).text (unsigned_text ty), text_grows canonical_option xs more)) fault c)))
+lifted_grow old name function ty xs more fault (inr c) = inr c
+
+pub lowered_grow : (old : State) (name : Option (List ℕ)) (function : ℕ) (xs more : List CanonicalOption) (fault : Fault) → EnterCause old (canonical_entry name (Lower function xs)) fault
+    → EnterCause old (canonical_entry name (Lower function (xs ++ more))) fault
+lowered_grow old name function xs more fault (inl (inl (inl c))) = inl (inl (inl c))
+lowered_grow old name function xs more fault (inl (inl (inr c))) = inl (inl (inr (cause_grows canonical_option xs more fault c)))
+lowered_grow old name function xs more fault (inl (inr (inl c))) = inl (inr (inl c))
+lowered_grow old name function xs more fault (inl (inr (inr c))) =
+    inl (inr (inr (section_grows old.settled.sections.closed old.settled.sections.current 8 (canonical (Lower function xs)).text (canonical (Lower function (xs ++ more))).text
+    (omega (arith, length-append (unsigned_text function) (list canonical_option xs).text, length-append (unsigned_text function) (list canonical_option (xs ++ more)).text, text_grows canonical_option xs more)) fault c)))
+lowered_grow old name function xs more fault (inr c) = inr c
 
 -- ---- types
 

@@ -1,6 +1,6 @@
 -- What is made of all that an iterator shows: what was done with its values was done with that list, or refused for a
 -- cause of that list.
-use Rattle.std.proofs.Common.{◌≡◌, ℕ, List, ◌++◌, map, Result, Ok, Err, sym, ap, subst, ◌∙◌}
+use Rattle.std.proofs.Common.{◌≡◌, ℕ, List, [], ◌∷◌, ◌++◌, map, Option, Result, Ok, Err, refl, sym, ap, subst, ◌∙◌}
 use Rattle.std.specs.Iterator.{YieldsFirstBy}
 use Rattle.wenc_base.specs.Fault.{either}
 use Rattle.wenc_base.specs.Lender.{Extended, Extends, ExtendsListed}
@@ -64,3 +64,23 @@ module _ {S A B C : Type 0} (view : A → B) (rest : S → List B) (make : B →
         warranted = still_warranted (EnterCause old (x (made run.items))) (EnterCause old (x all)) (λ g c. subst (λ xs. EnterCause old (x xs) g) (sym e) (grows (made run.items) front.0 g c)) f w.warranted;
         unfinished = w.unfinished;
       }
+
+-- ---- nothing is made of the values
+
+pub as_they_are : {B : Type 0} (xs : List B) → map (λ (x : B). x) xs ≡ xs
+as_they_are [] = refl
+as_they_are (x ∷ xs) = ap (λ ys. x ∷ ys) (as_they_are xs)
+
+pub listed_as_they_are : {S B : Type 0} (steps : S → Option B → S → Type 0) (values : S) (old new : State) (result : Result ℕ Fault) (x : List B → Entry) → EntersListed steps values old new result x
+    → EntersListed steps values old new result (λ vs. x (map (λ (v : B). v) vs))
+listed_as_they_are steps values old new (Ok i) x a =
+    let run = a.ok.0 in
+    record { ok = (run, a.ok.1, a.ok.2, subst (λ xs. Enters old new (Ok i) (x xs)) (sym (as_they_are run.items)) a.ok.3); refused = tt }
+listed_as_they_are steps values old new (Err f) x a =
+    let run = a.refused.0 in
+    record { ok = tt; refused = (run, a.refused.1, subst (λ xs. Enters old new (Err f) (x xs)) (sym (as_they_are run.items)) a.refused.2) }
+
+-- what an iterator shows was done, as the list that is left
+pub shown_enters : {S A B : Type 0} (view : A → B) (rest : S → List B) (values : S) (old new : State) (result : Result ℕ Fault) (x : List B → Entry) → ((xs more : List B) (fault : Fault) → EnterCause old (x xs) fault → EnterCause old (x (xs ++ more)) fault)
+    → EntersListed (YieldsFirstBy view rest) values old new result (λ vs. x (map (λ (v : A). view v) vs)) → Enters old new result (x (rest values))
+shown_enters {B = B} view rest values old new result x grows a = subst (λ xs. Enters old new result (x xs)) (as_they_are (rest values)) (whole_enters view rest (λ (y : B). y) values old new result x grows a)

@@ -82,3 +82,8 @@ IsText false text = Unit {0}
 abbrev pub text_if : Bool → List ℕ → Option (List ℕ)
 text_if true text = Some text
 text_if false text = None
+
+-- the number, if it is there
+abbrev pub number_if : Bool → ℕ → Option ℕ
+number_if true n = Some n
+number_if false n = None

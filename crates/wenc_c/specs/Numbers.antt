@@ -5,6 +5,8 @@ use Rattle.wenc_base.specs.declared.exports.ExportKind.{ExportKind}
 use Rattle.wenc_base.specs.declared.exports.ExportKind.TheVariants as core_kinds
 use Rattle.wenc_builder.specs.declared.builder.space.Space.{Space}
 use Rattle.wenc_builder.specs.declared.builder.space.Space.TheVariants as spaces
+use Rattle.wenc_canon.specs.declared.canonicals.CanonicalOption.{CanonicalOption}
+use Rattle.wenc_canon.specs.declared.canonicals.CanonicalOption.TheVariants as options
 use Rattle.wenc_parts.specs.declared.aliases.ComponentOuterAliasKind.{ComponentOuterAliasKind}
 use Rattle.wenc_parts.specs.declared.aliases.ComponentOuterAliasKind.TheVariants as outer_kinds
 use Rattle.wenc_parts.specs.declared.exports.ComponentExportKind.{ComponentExportKind}
@@ -12,6 +14,8 @@ use Rattle.wenc_parts.specs.declared.exports.ComponentExportKind.TheVariants as 
 use Rattle.wenc_parts.specs.declared.imports.ComponentTypeRef.{ComponentTypeRef}
 use Rattle.wenc_parts.specs.declared.imports.ComponentTypeRef.TheVariants as refs
 use Rattle.wenc_parts.specs.declared.imports.TypeBounds.TheVariants as bounds
+use Rattle.wenc_parts.specs.declared.instances.ModuleArg.{ModuleArg}
+use Rattle.wenc_parts.specs.declared.instances.ModuleArg.TheVariants as args
 use Rattle.wenc_parts.specs.declared.types.ComponentValType.{ComponentValType}
 use Rattle.wenc_parts.specs.declared.types.ComponentValType.TheVariants as values
 use Rattle.wenc_parts.specs.declared.types.PrimitiveValType.{PrimitiveValType}
@@ -87,6 +91,29 @@ core_kind_of n =
 -- a core item, by its kind and its index
 abbrev pub core_item_of : ℕ → ℕ → Option (ExportKind × ℕ)
 core_item_of kind index = option_map (λ k. (k, index)) (core_kind_of kind)
+
+-- an item, by its kind and its index
+abbrev pub named_item_of : ℕ → ℕ → Option (ComponentExportKind × ℕ)
+named_item_of kind index = option_map (λ k. (k, index)) (kind_of kind)
+
+-- what a core module is given: a core instance, which has the sort 0
+abbrev pub module_arg_of : ℕ → ℕ → Option ModuleArg
+module_arg_of sort index = if nat_eq sort 0 then Some (args.Instance index) else None
+
+-- an option of a canonical function, by its byte in the binary format and a number that goes with
+-- it
+abbrev pub option_of : ℕ → ℕ → Option CanonicalOption
+option_of b n =
+    if nat_eq b 0 then Some options.UTF8
+    else (if nat_eq b 1 then Some options.UTF16
+    else (if nat_eq b 2 then Some options.CompactUTF16
+    else (if nat_eq b 3 then Some (options.Memory n)
+    else (if nat_eq b 4 then Some (options.Realloc n)
+    else (if nat_eq b 5 then Some (options.PostReturn n)
+    else (if nat_eq b 6 then Some options.Async
+    else (if nat_eq b 7 then Some (options.Callback n)
+    else (if nat_eq b 8 then Some (options.CoreType n)
+    else (if nat_eq b 9 then Some options.Gc else None)))))))))
 
 abbrev pub outer_kind_of : ℕ → Option ComponentOuterAliasKind
 outer_kind_of n =

@@ -3,8 +3,15 @@ use Rattle.std.specs.Option.{IsSome}
 use Rattle.std.specs.Prelude.{◌≡◌, ℕ, List, [], ◌∷◌, Option, Some, None, map, take, drop, Bool}
 use Rattle.std.specs.Str.{IsCharBoundary}
 use Rattle.wenc_base.specs.declared.exports.ExportKind.{ExportKind}
+use Rattle.wenc_canon.specs.Canonicals.{Canonical, Lift, Lower}
+use Rattle.wenc_canon.specs.declared.canonicals.CanonicalOption.{CanonicalOption}
+use Rattle.wenc_parts.specs.Imports.{plain_name}
+use Rattle.wenc_parts.specs.declared.exports.ComponentExportKind.{ComponentExportKind}
+use Rattle.wenc_parts.specs.declared.instances.ModuleArg.{ModuleArg}
 use Rattle.wenc_parts.specs.declared.types.ComponentValType.{ComponentValType}
-use Rattle.wenc_sections.specs.Instances.{CoreExport, CoreInstance, CoreExports}
+use Rattle.wenc_sections.specs.Instances.{Argument, CoreExport, CoreInstance, CoreExports}
+use Rattle.wenc_sections.specs.Instances.{CoreInstantiate, Exports, InlineExport, Instance}
+use Rattle.wenc_sections.specs.Instances.{InstantiateArg, Instantiate}
 use Rattle.wenc_types.specs.ComponentTypes.{DefType, DefinedType, FunctionType}
 use Rattle.wenc_types.specs.DefinedTypes.{LabelledType, Record}
 use Rattle.wenc_c.specs.declared.packed.Part.{Part}
@@ -35,6 +42,34 @@ core_export_of e = record { name = e.0; kind = e.1.0; index = e.1.1 }
 
 abbrev pub exporting : List (List ℕ × (ExportKind × ℕ)) → CoreInstance
 exporting es = CoreExports (map core_export_of es)
+
+abbrev pub argument_of : List ℕ × ModuleArg → Argument
+argument_of a = record { name = a.0; value = a.1 }
+
+abbrev pub core_instantiating : ℕ → List (List ℕ × ModuleArg) → CoreInstance
+core_instantiating index gs = CoreInstantiate index (map argument_of gs)
+
+abbrev pub arg_of : List ℕ × (ComponentExportKind × ℕ) → InstantiateArg
+arg_of a = record { name = a.0; kind = a.1.0; index = a.1.1 }
+
+abbrev pub instantiating : ℕ → List (List ℕ × (ComponentExportKind × ℕ)) → Instance
+instantiating index gs = Instantiate index (map arg_of gs)
+
+abbrev pub inline_of : List ℕ × (ComponentExportKind × ℕ) → InlineExport
+inline_of e = record { name = plain_name e.0; kind = e.1.0; index = e.1.1 }
+
+abbrev pub inline_exporting : List (List ℕ × (ComponentExportKind × ℕ)) → Instance
+inline_exporting es = Exports (map inline_of es)
+
+-- options have no names
+abbrev pub second : {T : Type 0} → List ℕ × T → T
+second x = x.1
+
+abbrev pub lifting : ℕ → ℕ → List (List ℕ × CanonicalOption) → Canonical
+lifting function ty os = Lift function (map second os) ty
+
+abbrev pub lowering : ℕ → List (List ℕ × CanonicalOption) → Canonical
+lowering function os = Lower function (map second os)
 
 abbrev pub labelled : List ℕ × ComponentValType → LabelledType
 labelled f = record { name = f.0; ty = f.1 }

@@ -12,6 +12,7 @@ mod aliases;
 mod builtins;
 mod by_text;
 pub mod callers;
+mod canonicals;
 mod handle;
 mod instances;
 mod items;

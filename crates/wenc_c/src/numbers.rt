@@ -1,12 +1,14 @@
 //! What the numbers of C stand for (`c/wenc.h` names them).
 ghost use Rattle.std.specs.Prelude.{◌≡◌};
 ghost use Rattle.wenc_c.specs.Numbers.{answer_type_of, core_item_of, core_kind_of, flag_of, given_type_of, kind_of};
-ghost use Rattle.wenc_c.specs.Numbers.{outer_kind_of, primitive_of, space_of, type_ref_of, value_of};
+ghost use Rattle.wenc_c.specs.Numbers.{module_arg_of, named_item_of, option_of, outer_kind_of, primitive_of, space_of};
+ghost use Rattle.wenc_c.specs.Numbers.{type_ref_of, value_of};
 
 use wenc_base::ExportKind;
 use wenc_builder::Space;
+use wenc_canon::CanonicalOption;
 use wenc_parts::{
-    ComponentExportKind, ComponentOuterAliasKind, ComponentTypeRef, ComponentValType,
+    ComponentExportKind, ComponentOuterAliasKind, ComponentTypeRef, ComponentValType, ModuleArg,
     PrimitiveValType, TypeBounds,
 };
 
@@ -144,6 +146,48 @@ pub(crate) fn core_item(kind: u32, index: u32) -> Option<(ExportKind, u32)>
     match core_kind(kind) {
         Some(kind) => Some((kind, index)),
         None => None,
+    }
+}
+
+/// An item, by its kind and its index.
+#[inline]
+pub(crate) fn named_item(kind_number: u32, index: u32) -> Option<(ComponentExportKind, u32)>
+    ensures { result ≡ named_item_of kind_number index }
+{
+    match kind(kind_number) {
+        Some(kind) => Some((kind, index)),
+        None => None,
+    }
+}
+
+/// What a core module is given: the core instance with this index, which has the sort 0.
+#[inline]
+pub(crate) fn module_arg(sort: u32, index: u32) -> Option<ModuleArg>
+    ensures { result ≡ module_arg_of sort index }
+{
+    match sort {
+        0 => Some(ModuleArg::Instance(index)),
+        _ => None,
+    }
+}
+
+/// An option of a canonical function, by its byte in the binary format and the number that goes
+/// with it.
+pub(crate) fn option(byte: u32, number: u32) -> Option<CanonicalOption>
+    ensures { result ≡ option_of byte number }
+{
+    match byte {
+        0 => Some(CanonicalOption::UTF8),
+        1 => Some(CanonicalOption::UTF16),
+        2 => Some(CanonicalOption::CompactUTF16),
+        3 => Some(CanonicalOption::Memory(number)),
+        4 => Some(CanonicalOption::Realloc(number)),
+        5 => Some(CanonicalOption::PostReturn(number)),
+        6 => Some(CanonicalOption::Async),
+        7 => Some(CanonicalOption::Callback(number)),
+        8 => Some(CanonicalOption::CoreType(number)),
+        9 => Some(CanonicalOption::Gc),
+        _ => None,
     }
 }
 

@@ -2,13 +2,14 @@
 //! part for each.
 ghost use Rattle.std.specs.Iterator.{YieldsFirstBy, item_count};
 ghost use Rattle.std.specs.Prelude.{◌≡◌, ℕ, MatchOption, Option as Options};
-ghost use Rattle.wenc_c.specs.Numbers.{core_item_of, value_of};
+ghost use Rattle.wenc_c.specs.Numbers.{core_item_of, module_arg_of, named_item_of, option_of, value_of};
 ghost use Rattle.wenc_c.specs.Packed.{ArePacked, packed};
 
-use crate::numbers::{core_item, value};
+use crate::numbers::{core_item, module_arg, named_item, option, value};
 use std::marker::{Model, PhantomData};
 use wenc_base::ExportKind;
-use wenc_parts::ComponentValType;
+use wenc_canon::CanonicalOption;
+use wenc_parts::{ComponentExportKind, ComponentExternName, ComponentValType, ModuleArg};
 
 /// A part of a list: how many bytes its name has, and what has the name, by two numbers. C sees it
 /// as `wenc_part`.
@@ -47,6 +48,33 @@ impl Sort for (ExportKind, u32) {
 
     fn of(sort: u32, number: u32) -> Option<Self> {
         core_item(sort, number)
+    }
+}
+
+/// The kind of an item, and its index.
+impl Sort for (ComponentExportKind, u32) {
+    ghost of = { named_item_of };
+
+    fn of(sort: u32, number: u32) -> Option<Self> {
+        named_item(sort, number)
+    }
+}
+
+/// The sort 0, and the index of a core instance.
+impl Sort for ModuleArg {
+    ghost of = { module_arg_of };
+
+    fn of(sort: u32, number: u32) -> Option<Self> {
+        module_arg(sort, number)
+    }
+}
+
+/// The byte of an option, and the number that goes with it.
+impl Sort for CanonicalOption {
+    ghost of = { option_of };
+
+    fn of(sort: u32, number: u32) -> Option<Self> {
+        option(sort, number)
     }
 }
 
@@ -126,5 +154,63 @@ impl<'a> Iterator for Exports<'a> {
     fn next(&mut self) -> Option<(&'a str, ExportKind, u32)> {
         let (name, (kind, index)) = self.0.next()?;
         Some((name, kind, index))
+    }
+}
+
+/// What is left of a list of items, as a component is given them.
+#[derive(Drop)]
+pub struct Items<'a>(pub Packed<'a, (ComponentExportKind, u32)>);
+
+impl<'a> Iterator for Items<'a> {
+    type Item = (&'a str, ComponentExportKind, u32);
+
+    ghost next_gives = { YieldsFirstBy (λ e. (e.0.now, (e.1, e.2))) (λ s. s.0) };
+
+    ghost remaining = { item_count (λ s. s.0) };
+
+    fn next(&mut self) -> Option<(&'a str, ComponentExportKind, u32)> {
+        let (name, (kind, index)) = self.0.next()?;
+        Some((name, kind, index))
+    }
+}
+
+/// What is left of a list of items, as an instance exports them.
+#[derive(Drop)]
+pub struct InlineItems<'a>(pub Packed<'a, (ComponentExportKind, u32)>);
+
+impl<'a> Iterator for InlineItems<'a> {
+    ghost use Rattle.std.specs.Prelude.{map};
+    ghost use Rattle.wenc_c.specs.Packed.{inline_of};
+    ghost use Rattle.wenc_sections.specs.Instances.{inline_export_view};
+
+    type Item = (ComponentExternName<'a>, ComponentExportKind, u32);
+
+    ghost next_gives = { YieldsFirstBy inline_export_view (λ s. map inline_of s.0) };
+
+    ghost remaining = { item_count (λ s. map inline_of s.0) };
+
+    fn next(&mut self) -> Option<(ComponentExternName<'a>, ComponentExportKind, u32)> {
+        let (name, (kind, index)) = self.0.next()?;
+        Some((name.into(), kind, index))
+    }
+}
+
+/// What is left of a list of options.
+#[derive(Drop)]
+pub struct Options<'a>(pub Packed<'a, CanonicalOption>);
+
+impl<'a> Iterator for Options<'a> {
+    ghost use Rattle.std.specs.Prelude.{map};
+    ghost use Rattle.wenc_c.specs.Packed.{second};
+
+    type Item = CanonicalOption;
+
+    ghost next_gives = { YieldsFirstBy (λ o. o) (λ s. map second s.0) };
+
+    ghost remaining = { item_count (λ s. map second s.0) };
+
+    fn next(&mut self) -> Option<CanonicalOption> {
+        let (_, option) = self.0.next()?;
+        Some(option)
     }
 }

@@ -5,28 +5,34 @@ ghost use Rattle.wenc_base.specs.Fault.{IsMemory};
 ghost use Rattle.wenc_builder.specs.Builder.{count_in};
 ghost use Rattle.wenc_builder.specs.Enters.{Enters, EntersWithoutIndex};
 ghost use Rattle.wenc_builder.specs.Entry.{import_entry, export_entry, alias_entry, module_entry, component_entry};
-ghost use Rattle.wenc_builder.specs.Entry.{start_entry, custom_entry, raw_entry, core_instance_entry, type_entry};
+ghost use Rattle.wenc_builder.specs.Entry.{canonical_entry, start_entry, custom_entry, raw_entry, core_instance_entry, instance_entry, type_entry};
 ghost use Rattle.wenc_builder.specs.Names.{AddsNames};
 ghost use Rattle.wenc_c.specs.Builtins.{builtin_of};
-ghost use Rattle.wenc_c.specs.Packed.{exporting, function_of, record_of};
+ghost use Rattle.wenc_c.specs.Packed.{core_instantiating, exporting, function_of, inline_exporting, instantiating, lifting, lowering, record_of};
 ghost use Rattle.wenc_c.specs.Reads.{AddsReadTo, read_custom, read_one};
 ghost use Rattle.wenc_c.specs.Sessions.{AddsIfTo, AddsTo, AddsWithoutIndexTo, Copies, Counts, Does, Finishes, IsEmpty};
 ghost use Rattle.wenc_c.specs.Sessions.{IsFaultThat, Nests, of_builder};
 ghost use Rattle.wenc_c.specs.Statuses.{Among, of_a_call, status_of};
+ghost use Rattle.wenc_base.specs.declared.types.ValType.TheVariants.{I32};
 ghost use Rattle.wenc_parts.specs.Aliases.{alias_view};
 ghost use Rattle.wenc_parts.specs.Imports.{extern_name_view};
+ghost use Rattle.wenc_types.specs.ComponentTypes.{ResourceType};
 
 use crate::adding::{add, add_custom};
 use crate::builtins::add_builtin;
 use crate::packed::Packed;
 use crate::refused::Refused;
-use crate::written::{write_exports, write_function, write_record};
+use crate::written::{
+    write_core_instance, write_exports, write_function, write_instance, write_items, write_lifted,
+    write_lowered, write_record,
+};
 use std::alloc::Global;
 use std::mem::replace;
-use wenc_base::{CustomSection, ExportKind, Fault};
+use wenc_base::{CustomSection, ExportKind, Fault, ValType};
 use wenc_builder::{ComponentBuilder, Space};
+use wenc_canon::CanonicalOption;
 use wenc_parts::{
-    Alias, ComponentExportKind, ComponentExternName, ComponentTypeRef, ComponentValType,
+    Alias, ComponentExportKind, ComponentExternName, ComponentTypeRef, ComponentValType, ModuleArg,
 };
 
 /// A component, while it is built and when it is finished. Each call is the builder's; a finished
@@ -144,6 +150,70 @@ impl Session {
         }
     }
 
+    /// Lifts a core function to a function of this type, by these options.
+    pub fn lift(
+        &mut self,
+        debug_name: Option<&str>,
+        function: u32,
+        ty: u32,
+        options: Packed<'_, CanonicalOption>,
+    ) -> Result<u32, Refused>
+        ensures added { AddsTo self.old self.new result
+            (canonical_entry (option_copied debug_name.entry)
+            (lifting function ty options.entry)) }
+        ensures among { Among of_a_call (status_of result) }
+    {
+        match self {
+            Session::Building(builder) => by_builder(write_lifted(
+                builder, debug_name, function, ty, options,
+            )),
+            Session::Finished(_) => Err(Refused::Finished),
+        }
+    }
+
+    /// Lowers a function to a core function, by these options.
+    pub fn lower(
+        &mut self,
+        debug_name: Option<&str>,
+        function: u32,
+        options: Packed<'_, CanonicalOption>,
+    ) -> Result<u32, Refused>
+        ensures added { AddsTo self.old self.new result
+            (canonical_entry (option_copied debug_name.entry)
+            (lowering function options.entry)) }
+        ensures among { Among of_a_call (status_of result) }
+    {
+        match self {
+            Session::Building(builder) => by_builder(write_lowered(
+                builder, debug_name, function, options,
+            )),
+            Session::Finished(_) => Err(Refused::Finished),
+        }
+    }
+
+    /// Adds an instance of this core module, which is given these arguments.
+    pub fn core_instance(
+        &mut self,
+        debug_name: Option<&str>,
+        module_index: u32,
+        args: Packed<'_, ModuleArg>,
+    ) -> Result<u32, Refused>
+        ensures added { AddsTo self.old self.new result
+            (core_instance_entry (option_copied debug_name.entry)
+            (core_instantiating module_index args.entry)) }
+        ensures among { Among of_a_call (status_of result) }
+    {
+        match self {
+            Session::Building(builder) => by_builder(write_core_instance(
+                builder,
+                debug_name,
+                module_index,
+                args,
+            )),
+            Session::Finished(_) => Err(Refused::Finished),
+        }
+    }
+
     /// Adds a core instance of these exports.
     pub fn core_exports(
         &mut self,
@@ -156,6 +226,62 @@ impl Session {
     {
         match self {
             Session::Building(builder) => by_builder(write_exports(builder, debug_name, exports)),
+            Session::Finished(_) => Err(Refused::Finished),
+        }
+    }
+
+    /// Adds an instance of this component, which is given these arguments.
+    pub fn instance(
+        &mut self,
+        debug_name: Option<&str>,
+        component_index: u32,
+        args: Packed<'_, (ComponentExportKind, u32)>,
+    ) -> Result<u32, Refused>
+        ensures added { AddsTo self.old self.new result
+            (instance_entry (option_copied debug_name.entry)
+            (instantiating component_index args.entry)) }
+        ensures among { Among of_a_call (status_of result) }
+    {
+        match self {
+            Session::Building(builder) => by_builder(write_instance(
+                builder,
+                debug_name,
+                component_index,
+                args,
+            )),
+            Session::Finished(_) => Err(Refused::Finished),
+        }
+    }
+
+    /// Adds an instance of these exports.
+    pub fn items(
+        &mut self,
+        debug_name: Option<&str>,
+        items: Packed<'_, (ComponentExportKind, u32)>,
+    ) -> Result<u32, Refused>
+        ensures added { AddsTo self.old self.new result
+            (instance_entry (option_copied debug_name.entry) (inline_exporting items.entry)) }
+        ensures among { Among of_a_call (status_of result) }
+    {
+        match self {
+            Session::Building(builder) => by_builder(write_items(builder, debug_name, items)),
+            Session::Finished(_) => Err(Refused::Finished),
+        }
+    }
+
+    /// Adds a type of resources, which are represented by numbers of 32 bits, with the core
+    /// function that is called when one is dropped, or none.
+    pub fn resource(&mut self, debug_name: Option<&str>, dtor: Option<u32>) -> Result<u32, Refused>
+        ensures added { AddsTo self.old self.new result
+            (type_entry (option_copied debug_name.entry) (ResourceType I32 dtor)) }
+        ensures among { Among of_a_call (status_of result) }
+    {
+        match self {
+            Session::Building(builder) => by_builder(builder.type_resource(
+                debug_name,
+                ValType::I32,
+                dtor,
+            )),
             Session::Finished(_) => Err(Refused::Finished),
         }
     }

@@ -2,12 +2,14 @@
 ghost use Rattle.std.specs.Prelude.{◌≡◌, ◌∷◌, None, Option, Some};
 ghost use Rattle.std.specs.Str.{IsUtf8};
 ghost use Rattle.wenc_builder.specs.Entry.{type_entry};
-ghost use Rattle.wenc_c.specs.Handles.{Adds, IsText, Refuses, text_if};
+ghost use Rattle.wenc_base.specs.declared.types.ValType.TheVariants.{I32};
+ghost use Rattle.wenc_c.specs.Handles.{Adds, IsText, Refuses, number_if, text_if};
 ghost use Rattle.wenc_c.specs.Numbers.{answer_type_of, value_of};
 ghost use Rattle.wenc_c.specs.Packed.{ArePacked, function_of, packed, record_of};
 ghost use Rattle.wenc_c.specs.Sessions.{answer_of};
 ghost use Rattle.wenc_parts.specs.declared.types.ComponentValType.{ComponentValType as Values};
 ghost use Rattle.wenc_c.specs.Statuses.{Among, of_a_call};
+ghost use Rattle.wenc_types.specs.ComponentTypes.{ResourceType};
 
 use crate::handle::Handle;
 use crate::numbers::answer_type;
@@ -92,6 +94,34 @@ pub extern "C" fn wenc_function(
     let answer_type = given!(answer_type(reference, of), or BadArgument);
     let mut session = given!(builder.take(alloc), or NoBuilder);
     let answer = session.function(debug_name, is_async, params, answer_type);
+    builder.put(session);
+    told(answer, index)
+}
+
+/// Adds a type of resources, which numbers of 32 bits stand for: with the core function that is
+/// called when one is dropped, or none.
+#[unsafe(no_mangle)]
+pub extern "C" fn wenc_type_resource(
+    alloc: Global,
+    builder: &mut Handle,
+    named: bool,
+    debug_name: &[u8],
+    has_dtor: bool,
+    dtor: u32,
+    index: &mut u32,
+) -> u32
+    ensures added { IsText named debug_name.now
+        → Adds builder.old.session builder.new.session (answer_of result index.new)
+        (type_entry (text_if named debug_name.now) (ResourceType I32 (number_if has_dtor dtor))) }
+    ensures malformed { ¬ (IsText named debug_name.now)
+        → Refuses 5 result builder.old.session builder.new.session }
+    ensures kept { ¬ (result ≡ 0) → index.new ≡ index.old }
+    ensures statuses { Among (5 ∷ 9 ∷ of_a_call) result }
+{
+    let debug_name = given!(text_where(named, debug_name));
+    let dtor = if has_dtor { Some(dtor) } else { None };
+    let mut session = given!(builder.take(alloc), or NoBuilder);
+    let answer = session.resource(debug_name, dtor);
     builder.put(session);
     told(answer, index)
 }

@@ -3,19 +3,20 @@ ghost use Rattle.std.specs.Option.{option_copied};
 ghost use Rattle.std.specs.Prelude.{◌≡◌, [], Err, List, OnErr, true};
 ghost use Rattle.wenc_builder.specs.Builder.{builder_is_finished, draft_in, item_given_up};
 ghost use Rattle.wenc_builder.specs.Enters.{BeginsItem, Enters};
-ghost use Rattle.wenc_builder.specs.Entry.{Entry, core_instance_entry, core_type_entry, type_entry};
+ghost use Rattle.wenc_builder.specs.Entry.{Entry, canonical_entry, core_instance_entry, core_type_entry, instance_entry, type_entry};
 ghost use Rattle.wenc_builder.specs.Holds.{Holds};
 ghost use Rattle.wenc_builder.specs.declared.builder.space.Space.{Space};
-ghost use Rattle.wenc_c.specs.Packed.{exporting, function_of, record_of};
+ghost use Rattle.wenc_c.specs.Packed.{core_instantiating, exporting, function_of, inline_exporting, instantiating, lifting, lowering, record_of};
 ghost use Rattle.wenc_parts.specs.declared.component.ComponentSectionId.TheVariants as ids;
 ghost use Rattle.wenc_types.specs.CoreTypeTrees.{core_type_view};
 ghost use Rattle.wenc_types.specs.FuncStages.{async_byte};
 ghost use Rattle.wenc_types.specs.TypeTrees.{type_view};
 
-use crate::packed::{Exports, Packed};
+use crate::packed::{Exports, InlineItems, Items, Options, Packed};
 use wenc_base::{ExportKind, Fault, Lender};
 use wenc_builder::ComponentBuilder;
-use wenc_parts::{ComponentValType, ResultList};
+use wenc_canon::CanonicalOption;
+use wenc_parts::{ComponentExportKind, ComponentValType, ModuleArg, ResultList};
 use wenc_types::{CoreTypeTree, TypeTree};
 
 /// Gives up the item that was being written when this fault was met.
@@ -76,6 +77,74 @@ pub(crate) fn write_exports(
         (core_instance_entry (option_copied debug_name.entry) (exporting exports.entry)) }
 {
     builder.core_instantiate_exports(debug_name, Exports(exports))
+}
+
+/// Adds an instance of this core module with these arguments, with a debug name or none, and
+/// answers its index.
+pub(crate) fn write_core_instance(
+    builder: &mut ComponentBuilder,
+    debug_name: Option<&str>,
+    module_index: u32,
+    args: Packed<'_, ModuleArg>,
+) -> Result<u32, Fault>
+    ensures { Enters builder.old builder.new result
+        (core_instance_entry (option_copied debug_name.entry)
+        (core_instantiating module_index args.entry)) }
+{
+    builder.core_instantiate(debug_name, module_index, args)
+}
+
+/// Adds an instance of this component with these arguments, with a debug name or none, and answers
+/// its index.
+pub(crate) fn write_instance(
+    builder: &mut ComponentBuilder,
+    debug_name: Option<&str>,
+    component_index: u32,
+    args: Packed<'_, (ComponentExportKind, u32)>,
+) -> Result<u32, Fault>
+    ensures { Enters builder.old builder.new result
+        (instance_entry (option_copied debug_name.entry) (instantiating component_index args.entry)) }
+{
+    builder.instantiate(debug_name, component_index, Items(args))
+}
+
+/// Adds an instance of these exports, with a debug name or none, and answers its index.
+pub(crate) fn write_items(
+    builder: &mut ComponentBuilder,
+    debug_name: Option<&str>,
+    items: Packed<'_, (ComponentExportKind, u32)>,
+) -> Result<u32, Fault>
+    ensures { Enters builder.old builder.new result
+        (instance_entry (option_copied debug_name.entry) (inline_exporting items.entry)) }
+{
+    builder.instantiate_exports(debug_name, InlineItems(items))
+}
+
+/// Lifts a core function by these options, with a debug name or none, and answers its index.
+pub(crate) fn write_lifted(
+    builder: &mut ComponentBuilder,
+    debug_name: Option<&str>,
+    function: u32,
+    ty: u32,
+    options: Packed<'_, CanonicalOption>,
+) -> Result<u32, Fault>
+    ensures { Enters builder.old builder.new result
+        (canonical_entry (option_copied debug_name.entry) (lifting function ty options.entry)) }
+{
+    builder.lift_func(debug_name, function, ty, Options(options))
+}
+
+/// Lowers a function by these options, with a debug name or none, and answers its index.
+pub(crate) fn write_lowered(
+    builder: &mut ComponentBuilder,
+    debug_name: Option<&str>,
+    function: u32,
+    options: Packed<'_, CanonicalOption>,
+) -> Result<u32, Fault>
+    ensures { Enters builder.old builder.new result
+        (canonical_entry (option_copied debug_name.entry) (lowering function options.entry)) }
+{
+    builder.lower_func(debug_name, function, Options(options))
 }
 
 /// Adds a record of these fields, with a debug name or none, and answers its index. What is
