@@ -84,9 +84,9 @@ static uint32_t call(wenc_builder *to, int number) {
   static const char type[] = "\x42\x02\x00\x60\x00\x00\x01\x6b\x73";
   uint32_t index;
   switch (number) {
-    case 0: return wenc_record(to, NAMED, TEXT("xyyyy"), parts, 2, &index);
+    case 0: return wenc_type_record(to, NAMED, TEXT("xyyyy"), parts, 2, &index);
     case 1:
-      return wenc_function(to, NAMED, true, TEXT("xyyyy"), parts, 2, WENC_REF_NONE, 0, &index);
+      return wenc_type_function(to, NAMED, true, TEXT("xyyyy"), parts, 2, WENC_REF_NONE, 0, &index);
     case 2: return wenc_import(to, TEXT("an import"), WENC_REF_FUNC, 1, &index);
     case 3: return wenc_export(to, TEXT("an export"), WENC_FUNC, 0, WENC_REF_NONE, 0, &index);
     case 4: return wenc_alias_export(to, NAMED, 0, WENC_INSTANCE, TEXT("an alias"), &index);

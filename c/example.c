@@ -42,9 +42,9 @@ static void build_nested(wenc_builder *builder) {
                                      {1, WENC_REF_PRIMITIVE, WENC_S32}};
   wenc_part params[] = {{2, WENC_REF_VALUE, 0}};
   uint32_t index, record, ty;
-  check(wenc_record(builder, true, TEXT("point"), TEXT("xy"), ALL(fields), &record));
+  check(wenc_type_record(builder, true, TEXT("point"), TEXT("xy"), ALL(fields), &record));
   check(wenc_import(builder, TEXT("point"), WENC_REF_TYPE, record, &params[0].number));
-  check(wenc_function(builder, UNNAMED, false, TEXT("at"), ALL(params), WENC_REF_PRIMITIVE,
+  check(wenc_type_function(builder, UNNAMED, false, TEXT("at"), ALL(params), WENC_REF_PRIMITIVE,
                       WENC_STRING, &ty));
   check(wenc_import(builder, TEXT("f"), WENC_REF_FUNC, ty, &index));
 }
@@ -73,7 +73,7 @@ static void build(wenc_builder *builder) {
   check(wenc_core_exports(builder, UNNAMED, TEXT("runinc"), ALL(exports), &index));
 
   /* Its function is lifted: no options, the type that takes and gives nothing. */
-  check(wenc_function(builder, UNNAMED, false, TEXT(""), exports, 0, WENC_REF_NONE, 0, &ty));
+  check(wenc_type_function(builder, UNNAMED, false, TEXT(""), exports, 0, WENC_REF_NONE, 0, &ty));
   run = item(builder, WENC_SECTION_CANON, TEXT("\x00\x00\x00\x00\x01"));
   check(wenc_export(builder, TEXT("run"), WENC_FUNC, run, WENC_REF_NONE, 0, &index));
   check(wenc_append_names(builder));

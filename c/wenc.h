@@ -334,14 +334,14 @@ enum wenc_status wenc_core_exports(wenc_builder *builder, bool named, const uint
 /* Adds the type of a record, by its fields: the sort of each part is WENC_REF_VALUE, and its number
  * the index of a type, or WENC_REF_PRIMITIVE, with one of wenc_primitive.
  * Answers 0, 1, 2, 3, 5, 7, 8, 9. */
-enum wenc_status wenc_record(wenc_builder *builder, bool named, const uint8_t *debug_name,
+enum wenc_status wenc_type_record(wenc_builder *builder, bool named, const uint8_t *debug_name,
                              size_t debug_name_len, const uint8_t *names, size_t names_len,
                              const wenc_part *fields, size_t fields_len, uint32_t *index);
 
 /* Adds the type of a function: whether it is asynchronous; its parameters, as the fields of a
  * record; and what it answers, as a field (`ref` and `of`), or nothing (WENC_REF_NONE).
  * Answers 0, 1, 2, 3, 5, 7, 8, 9. */
-enum wenc_status wenc_function(wenc_builder *builder, bool named, const uint8_t *debug_name,
+enum wenc_status wenc_type_function(wenc_builder *builder, bool named, const uint8_t *debug_name,
                                size_t debug_name_len, bool is_async, const uint8_t *names,
                                size_t names_len, const wenc_part *params, size_t params_len,
                                enum wenc_ref ref, uint32_t of, uint32_t *index);

@@ -13,7 +13,7 @@ use wenc_parts::{
 };
 
 /// A primitive type, by its byte in the binary format.
-fn primitive(number: u32) -> Option<PrimitiveValType>
+pub(crate) fn primitive(number: u32) -> Option<PrimitiveValType>
     ensures { result ≡ primitive_of number }
 {
     match number {

@@ -16,7 +16,8 @@ ghost use Rattle.wenc_c.specs.Statuses.{Among, of_a_call, status_of};
 ghost use Rattle.wenc_base.specs.declared.types.ValType.TheVariants.{I32};
 ghost use Rattle.wenc_parts.specs.Aliases.{alias_view};
 ghost use Rattle.wenc_parts.specs.Imports.{extern_name_view};
-ghost use Rattle.wenc_types.specs.ComponentTypes.{ResourceType};
+ghost use Rattle.wenc_types.specs.ComponentTypes.{DefinedType, ResourceType};
+ghost use Rattle.wenc_types.specs.TypeTrees.{defined_view};
 
 use crate::adding::{add, add_custom};
 use crate::builtins::add_builtin;
@@ -24,7 +25,7 @@ use crate::packed::Packed;
 use crate::refused::Refused;
 use crate::written::{
     write_core_instance, write_exports, write_function, write_instance, write_items, write_lifted,
-    write_lowered, write_record,
+    write_lowered, write_record, write_type,
 };
 use std::alloc::Global;
 use std::mem::replace;
@@ -34,6 +35,7 @@ use wenc_canon::CanonicalOption;
 use wenc_parts::{
     Alias, ComponentExportKind, ComponentExternName, ComponentTypeRef, ComponentValType, ModuleArg,
 };
+use wenc_types::{DefinedTree, TypeTree};
 
 /// A component, while it is built and when it is finished. Each call is the builder's; a finished
 /// component refuses it, and a refused call changes nothing.
@@ -302,6 +304,23 @@ impl Session {
                     return Err(Refused::Fault(Fault::Unfinished));
                 }
                 by_builder(write_record(builder, debug_name, fields))
+            }
+            Session::Finished(_) => Err(Refused::Finished),
+        }
+    }
+
+    /// Adds this type of values.
+    pub fn defined(&mut self, debug_name: Option<&str>, ty: DefinedTree) -> Result<u32, Refused>
+        ensures added { AddsTo self.old self.new result
+            (type_entry (option_copied debug_name.entry) (DefinedType (defined_view ty))) }
+        ensures among { Among of_a_call (status_of result) }
+    {
+        match self {
+            Session::Building(builder) => {
+                if !builder.is_finished() {
+                    return Err(Refused::Fault(Fault::Unfinished));
+                }
+                by_builder(write_type(builder, debug_name, &TypeTree::Defined(ty)))
             }
             Session::Finished(_) => Err(Refused::Finished),
         }

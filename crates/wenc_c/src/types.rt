@@ -21,7 +21,7 @@ use std::alloc::Global;
 /// Adds a record, by its fields: each by its name, the sort of a reference to a value, and the
 /// number that goes with it.
 #[unsafe(no_mangle)]
-pub extern "C" fn wenc_record(
+pub extern "C" fn wenc_type_record(
     alloc: Global,
     builder: &mut Handle,
     named: bool,
@@ -57,7 +57,7 @@ pub extern "C" fn wenc_record(
 /// Adds a type of functions: whether they are asynchronous, their parameters, as the fields of a
 /// record, and what they answer, or nothing.
 #[unsafe(no_mangle)]
-pub extern "C" fn wenc_function(
+pub extern "C" fn wenc_type_function(
     alloc: Global,
     builder: &mut Handle,
     named: bool,
