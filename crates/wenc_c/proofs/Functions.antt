@@ -30,7 +30,7 @@ use Rattle.wenc_types.specs.DefinedTypes.{LabelledType, function_type_of, labell
 use Rattle.wenc_types.specs.FuncStages.{async_byte}
 use Rattle.wenc_types.proofs.Serving.{fields_serve, lent_field}
 use Rattle.wenc_c.specs.Packed.{labelled}
-use Rattle.wenc_c.proofs.Grown.{labelled_grow, room_grows}
+use Rattle.wenc_c.proofs.Grown.{listed_grow, room_grows}
 use Rattle.wenc_c.proofs.Typed.{writing_refused, written}
 use Rattle.wenc_c.proofs.Whole.{whole_extends}
 
@@ -46,7 +46,7 @@ pub params_extend : (is_async : Bool) (tag : ℕ) → tag ≡ async_byte is_asyn
 params_extend is_async tag is params lent mid outcome a =
     let lead = async_byte is_async ∷ [] in
     let tagged = subst (λ t. ExtendsListed Steps params lent mid outcome (item_appended lent) (no_room_in_section lent) (λ vs. behind_bytes (t ∷ []) (list lent_field vs))) is a in
-    whole_extends (λ x. (x.0.now, x.1)) (λ rest. rest) labelled params (item_appended lent) (no_room_in_section lent) (λ ps. async_byte is_async ▸ list labelled_type ps) (labelled_grow lent (async_byte is_async)) lent mid outcome
+    whole_extends (λ x. (x.0.now, x.1)) (λ rest. rest) labelled params (item_appended lent) (no_room_in_section lent) (λ ps. async_byte is_async ▸ list labelled_type ps) (listed_grow labelled_type lent (async_byte is_async)) lent mid outcome
     (extends_as Steps params lent mid outcome (item_appended lent) (no_room_in_section lent) (λ vs. behind_bytes lead (list lent_field vs)) (λ vs. behind_bytes lead (list labelled_type (map lent_named vs))) (fields_serve lead) tagged)
 
 module _ (is_async : Bool) (params : List LabelledType) (answer : Option ComponentValType) where

@@ -18,7 +18,6 @@ use Rattle.wenc_canon.specs.Canonicals.{Lift, Lower, canonical, canonical_option
 use Rattle.wenc_canon.specs.declared.canonicals.CanonicalOption.{CanonicalOption}
 use Rattle.wenc_sections.specs.Instances.{Argument, CoreExport, CoreExports, CoreInstantiate, Exports, InlineExport, Instantiate, InstantiateArg}
 use Rattle.wenc_sections.specs.Instances.{argument, core_export, core_instance, inline_export, instance, instantiate_arg}
-use Rattle.wenc_types.specs.DefinedTypes.{LabelledType, labelled_type}
 
 -- ---- a list
 
@@ -159,10 +158,9 @@ room_grows_at s (Some b) text longer e h c =
 pub room_grows : (s : State) (text longer : List ℕ) → length text ≤ length longer → (fault : Fault) → no_room_in_section s text fault → no_room_in_section s longer fault
 room_grows s text longer h fault p = (p.0, room_grows_at s s.begun text longer refl h p.1)
 
-module _ (lent : State) (tag : ℕ) (xs more : List LabelledType) where
-  -- a list of labelled types behind a byte: the fields of a record, the parameters of a function
-  pub labelled_grow : (fault : Fault) → either (tag ▸ list labelled_type xs).Cause (no_room_in_section lent (tag ▸ list labelled_type xs).text) fault
-      → either (tag ▸ list labelled_type (xs ++ more)).Cause (no_room_in_section lent (tag ▸ list labelled_type (xs ++ more)).text) fault
-  labelled_grow fault (inl c) = inl (cause_grows labelled_type xs more fault c)
-  labelled_grow fault (inr p) =
-      inr (room_grows lent (tag ∷ (list labelled_type xs).text) (tag ∷ (list labelled_type (xs ++ more)).text) (omega (arith, text_grows labelled_type xs more)) fault p)
+module _ {A : Type 0} (form : Form A) (lent : State) (tag : ℕ) (xs more : List A) where
+  -- a list after a byte: the fields of a record, the parameters of a function
+  pub listed_grow : (fault : Fault) → either (tag ▸ list form xs).Cause (no_room_in_section lent (tag ▸ list form xs).text) fault
+      → either (tag ▸ list form (xs ++ more)).Cause (no_room_in_section lent (tag ▸ list form (xs ++ more)).text) fault
+  listed_grow fault (inl c) = inl (cause_grows form xs more fault c)
+  listed_grow fault (inr p) = inr (room_grows lent (tag ∷ (list form xs).text) (tag ∷ (list form (xs ++ more)).text) (omega (arith, text_grows form xs more)) fault p)

@@ -67,6 +67,10 @@ value_of sort n =
 abbrev pub answer_type_of : ℕ → ℕ → Option (Option ComponentValType)
 answer_type_of sort n = if nat_eq sort 0 then Some None else option_map Some (value_of sort n)
 
+-- nothing, which has the sort 0
+abbrev pub nothing_of : ℕ → ℕ → Option (Unit {0})
+nothing_of sort n = if nat_eq sort 0 then Some tt else None
+
 -- whether it holds
 abbrev pub flag_of : ℕ → Option Bool
 flag_of n = if nat_eq n 0 then Some false else (if nat_eq n 1 then Some true else None)

@@ -13,7 +13,8 @@ use Rattle.wenc_sections.specs.Instances.{Argument, CoreExport, CoreInstance, Co
 use Rattle.wenc_sections.specs.Instances.{CoreInstantiate, Exports, InlineExport, Instance}
 use Rattle.wenc_sections.specs.Instances.{InstantiateArg, Instantiate}
 use Rattle.wenc_types.specs.ComponentTypes.{DefType, DefinedType, FunctionType}
-use Rattle.wenc_types.specs.DefinedTypes.{LabelledType, Record}
+use Rattle.wenc_types.specs.DefinedTypes.{Case, Enumeration, Flags, LabelledType, Record, Tuple}
+use Rattle.wenc_types.specs.DefinedTypes.{Variant}
 use Rattle.wenc_c.specs.declared.packed.Part.{Part}
 
 -- The names of these parts are the text, one after the other, each so many bytes of it and whole
@@ -61,7 +62,7 @@ inline_of e = record { name = plain_name e.0; kind = e.1.0; index = e.1.1 }
 abbrev pub inline_exporting : List (List ℕ × (ComponentExportKind × ℕ)) → Instance
 inline_exporting es = Exports (map inline_of es)
 
--- options have no names
+-- what has no name
 abbrev pub second : {T : Type 0} → List ℕ × T → T
 second x = x.1
 
@@ -76,6 +77,25 @@ labelled f = record { name = f.0; ty = f.1 }
 
 abbrev pub record_of : List (List ℕ × ComponentValType) → DefType
 record_of fs = DefinedType (Record (map labelled fs))
+
+abbrev pub case_of : List ℕ × Option ComponentValType → Case
+case_of c = record { name = c.0; ty = c.1 }
+
+abbrev pub variant_of : List (List ℕ × Option ComponentValType) → DefType
+variant_of cs = DefinedType (Variant (map case_of cs))
+
+abbrev pub tuple_of : List (List ℕ × ComponentValType) → DefType
+tuple_of es = DefinedType (Tuple (map second es))
+
+-- names of nothing
+abbrev pub first : List ℕ × Unit {0} → List ℕ
+first x = x.0
+
+abbrev pub flags_of : List (List ℕ × Unit {0}) → DefType
+flags_of ns = DefinedType (Flags (map first ns))
+
+abbrev pub enum_of : List (List ℕ × Unit {0}) → DefType
+enum_of ns = DefinedType (Enumeration (map first ns))
 
 abbrev pub function_of : Bool → List (List ℕ × ComponentValType) → Option ComponentValType
     → DefType

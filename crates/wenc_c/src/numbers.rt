@@ -1,7 +1,7 @@
 //! What the numbers of C stand for (`c/wenc.h` names them).
 ghost use Rattle.std.specs.Prelude.{◌≡◌};
 ghost use Rattle.wenc_c.specs.Numbers.{answer_type_of, core_item_of, core_kind_of, flag_of, given_type_of, kind_of};
-ghost use Rattle.wenc_c.specs.Numbers.{module_arg_of, named_item_of, option_of, outer_kind_of, primitive_of, space_of};
+ghost use Rattle.wenc_c.specs.Numbers.{module_arg_of, named_item_of, nothing_of, option_of, outer_kind_of, primitive_of, space_of};
 ghost use Rattle.wenc_c.specs.Numbers.{type_ref_of, value_of};
 
 use wenc_base::ExportKind;
@@ -95,6 +95,17 @@ pub(crate) fn answer_type(sort: u32, of: u32) -> Option<Option<ComponentValType>
             Some(ty) => Some(Some(ty)),
             None => None,
         },
+    }
+}
+
+/// Nothing, which has the sort 0.
+#[inline]
+pub(crate) fn nothing(sort: u32, number: u32) -> Option<()>
+    ensures { result ≡ nothing_of sort number }
+{
+    match sort {
+        0 => Some(()),
+        _ => None,
     }
 }
 

@@ -2,10 +2,10 @@
 //! part for each.
 ghost use Rattle.std.specs.Iterator.{YieldsFirstBy, item_count};
 ghost use Rattle.std.specs.Prelude.{◌≡◌, ℕ, MatchOption, Option as Options};
-ghost use Rattle.wenc_c.specs.Numbers.{core_item_of, module_arg_of, named_item_of, option_of, value_of};
+ghost use Rattle.wenc_c.specs.Numbers.{answer_type_of, core_item_of, module_arg_of, named_item_of, nothing_of, option_of, value_of};
 ghost use Rattle.wenc_c.specs.Packed.{ArePacked, packed};
 
-use crate::numbers::{core_item, module_arg, named_item, option, value};
+use crate::numbers::{answer_type, core_item, module_arg, named_item, nothing, option, value};
 use std::marker::{Model, PhantomData};
 use wenc_base::ExportKind;
 use wenc_canon::CanonicalOption;
@@ -39,6 +39,24 @@ impl Sort for ComponentValType {
 
     fn of(sort: u32, number: u32) -> Option<Self> {
         value(sort, number)
+    }
+}
+
+/// The sort of a reference to a value, or none.
+impl Sort for Option<ComponentValType> {
+    ghost of = { answer_type_of };
+
+    fn of(sort: u32, number: u32) -> Option<Self> {
+        answer_type(sort, number)
+    }
+}
+
+/// The sort 0.
+impl Sort for () {
+    ghost of = { nothing_of };
+
+    fn of(sort: u32, number: u32) -> Option<Self> {
+        nothing(sort, number)
     }
 }
 
@@ -195,22 +213,42 @@ impl<'a> Iterator for InlineItems<'a> {
     }
 }
 
-/// What is left of a list of options.
+/// What is left of a list of what has no name.
 #[derive(Drop)]
-pub struct Options<'a>(pub Packed<'a, CanonicalOption>);
+pub struct Unnamed<'a, T: Sort>(pub Packed<'a, T>);
 
-impl<'a> Iterator for Options<'a> {
+impl<'a, T: Sort> Iterator for Unnamed<'a, T> {
     ghost use Rattle.std.specs.Prelude.{map};
     ghost use Rattle.wenc_c.specs.Packed.{second};
 
-    type Item = CanonicalOption;
+    type Item = T;
 
-    ghost next_gives = { YieldsFirstBy (λ o. o) (λ s. map second s.0) };
+    ghost next_gives = { YieldsFirstBy (λ x. x) (λ s. map second s.0) };
 
     ghost remaining = { item_count (λ s. map second s.0) };
 
-    fn next(&mut self) -> Option<CanonicalOption> {
-        let (_, option) = self.0.next()?;
-        Some(option)
+    fn next(&mut self) -> Option<T> {
+        let (_, item) = self.0.next()?;
+        Some(item)
+    }
+}
+
+/// What is left of a list of names.
+#[derive(Drop)]
+pub struct Names<'a>(pub Packed<'a, ()>);
+
+impl<'a> Iterator for Names<'a> {
+    ghost use Rattle.std.specs.Prelude.{map};
+    ghost use Rattle.wenc_c.specs.Packed.{first};
+
+    type Item = &'a str;
+
+    ghost next_gives = { YieldsFirstBy (λ n. n.now) (λ s. map first s.0) };
+
+    ghost remaining = { item_count (λ s. map first s.0) };
+
+    fn next(&mut self) -> Option<&'a str> {
+        let (name, ()) = self.0.next()?;
+        Some(name)
     }
 }

@@ -8,7 +8,7 @@ ghost use Rattle.wenc_builder.specs.Entry.{import_entry, export_entry, alias_ent
 ghost use Rattle.wenc_builder.specs.Entry.{canonical_entry, start_entry, custom_entry, raw_entry, core_instance_entry, instance_entry, type_entry};
 ghost use Rattle.wenc_builder.specs.Names.{AddsNames};
 ghost use Rattle.wenc_c.specs.Builtins.{builtin_of};
-ghost use Rattle.wenc_c.specs.Packed.{core_instantiating, exporting, function_of, inline_exporting, instantiating, lifting, lowering, record_of};
+ghost use Rattle.wenc_c.specs.Packed.{core_instantiating, enum_of, exporting, flags_of, function_of, inline_exporting, instantiating, lifting, lowering, record_of, tuple_of, variant_of};
 ghost use Rattle.wenc_c.specs.Reads.{AddsReadTo, read_custom, read_one};
 ghost use Rattle.wenc_c.specs.Sessions.{AddsIfTo, AddsTo, AddsWithoutIndexTo, Copies, Counts, Does, Finishes, IsEmpty};
 ghost use Rattle.wenc_c.specs.Sessions.{IsFaultThat, Nests, of_builder};
@@ -24,8 +24,8 @@ use crate::builtins::add_builtin;
 use crate::packed::Packed;
 use crate::refused::Refused;
 use crate::written::{
-    write_core_instance, write_exports, write_function, write_instance, write_items, write_lifted,
-    write_lowered, write_record, write_type,
+    write_core_instance, write_enum, write_exports, write_flags, write_function, write_instance,
+    write_items, write_lifted, write_lowered, write_record, write_tuple, write_type, write_variant,
 };
 use std::alloc::Global;
 use std::mem::replace;
@@ -304,6 +304,86 @@ impl Session {
                     return Err(Refused::Fault(Fault::Unfinished));
                 }
                 by_builder(write_record(builder, debug_name, fields))
+            }
+            Session::Finished(_) => Err(Refused::Finished),
+        }
+    }
+
+    /// Adds a variant of these cases.
+    pub fn variant(
+        &mut self,
+        debug_name: Option<&str>,
+        cases: Packed<'_, Option<ComponentValType>>,
+    ) -> Result<u32, Refused>
+        ensures added { AddsTo self.old self.new result
+            (type_entry (option_copied debug_name.entry) (variant_of cases.entry)) }
+        ensures among { Among of_a_call (status_of result) }
+    {
+        match self {
+            Session::Building(builder) => {
+                if !builder.is_finished() {
+                    return Err(Refused::Fault(Fault::Unfinished));
+                }
+                by_builder(write_variant(builder, debug_name, cases))
+            }
+            Session::Finished(_) => Err(Refused::Finished),
+        }
+    }
+
+    /// Adds a tuple of these elements.
+    pub fn tuple(
+        &mut self,
+        debug_name: Option<&str>,
+        elements: Packed<'_, ComponentValType>,
+    ) -> Result<u32, Refused>
+        ensures added { AddsTo self.old self.new result
+            (type_entry (option_copied debug_name.entry) (tuple_of elements.entry)) }
+        ensures among { Among of_a_call (status_of result) }
+    {
+        match self {
+            Session::Building(builder) => {
+                if !builder.is_finished() {
+                    return Err(Refused::Fault(Fault::Unfinished));
+                }
+                by_builder(write_tuple(builder, debug_name, elements))
+            }
+            Session::Finished(_) => Err(Refused::Finished),
+        }
+    }
+
+    /// Adds flags of these names.
+    pub fn flags(&mut self, debug_name: Option<&str>, names: Packed<'_, ()>) -> Result<u32, Refused>
+        ensures added { AddsTo self.old self.new result
+            (type_entry (option_copied debug_name.entry) (flags_of names.entry)) }
+        ensures among { Among of_a_call (status_of result) }
+    {
+        match self {
+            Session::Building(builder) => {
+                if !builder.is_finished() {
+                    return Err(Refused::Fault(Fault::Unfinished));
+                }
+                by_builder(write_flags(builder, debug_name, names))
+            }
+            Session::Finished(_) => Err(Refused::Finished),
+        }
+    }
+
+    /// Adds an enumeration of these names.
+    pub fn enumeration(
+        &mut self,
+        debug_name: Option<&str>,
+        names: Packed<'_, ()>,
+    ) -> Result<u32, Refused>
+        ensures added { AddsTo self.old self.new result
+            (type_entry (option_copied debug_name.entry) (enum_of names.entry)) }
+        ensures among { Among of_a_call (status_of result) }
+    {
+        match self {
+            Session::Building(builder) => {
+                if !builder.is_finished() {
+                    return Err(Refused::Fault(Fault::Unfinished));
+                }
+                by_builder(write_enum(builder, debug_name, names))
             }
             Session::Finished(_) => Err(Refused::Finished),
         }

@@ -1,11 +1,11 @@
 //! The calls that add types.
-ghost use Rattle.std.specs.Prelude.{◌≡◌, ◌∷◌, None, Option, Some};
+ghost use Rattle.std.specs.Prelude.{◌≡◌, ◌∷◌, [], None, Option, Some};
 ghost use Rattle.std.specs.Str.{IsUtf8};
 ghost use Rattle.wenc_builder.specs.Entry.{type_entry};
 ghost use Rattle.wenc_base.specs.declared.types.ValType.TheVariants.{I32};
 ghost use Rattle.wenc_c.specs.Handles.{Adds, IsText, Refuses, number_if, text_if};
-ghost use Rattle.wenc_c.specs.Numbers.{answer_type_of, value_of};
-ghost use Rattle.wenc_c.specs.Packed.{ArePacked, function_of, packed, record_of};
+ghost use Rattle.wenc_c.specs.Numbers.{answer_type_of, nothing_of, value_of};
+ghost use Rattle.wenc_c.specs.Packed.{ArePacked, enum_of, flags_of, function_of, packed, record_of, tuple_of, variant_of};
 ghost use Rattle.wenc_c.specs.Sessions.{answer_of};
 ghost use Rattle.wenc_parts.specs.declared.types.ComponentValType.{ComponentValType as Values};
 ghost use Rattle.wenc_c.specs.Statuses.{Among, of_a_call};
@@ -50,6 +50,141 @@ pub extern "C" fn wenc_type_record(
     let fields = given!(Packed::new(names, fields), or BadArgument);
     let mut session = given!(builder.take(alloc), or NoBuilder);
     let answer = session.record(debug_name, fields);
+    builder.put(session);
+    told(answer, index)
+}
+
+/// Adds a variant, by its cases: each by its name, and what it has, as a field of a record, or
+/// nothing.
+#[unsafe(no_mangle)]
+pub extern "C" fn wenc_type_variant(
+    alloc: Global,
+    builder: &mut Handle,
+    named: bool,
+    debug_name: &[u8],
+    names: &[u8],
+    cases: &[Part],
+    index: &mut u32,
+) -> u32
+    ensures added { IsText named debug_name.now → IsUtf8 names.now
+        → ArePacked answer_type_of names.now cases.now
+        → Adds builder.old.session builder.new.session (answer_of result index.new)
+        (type_entry (text_if named debug_name.now)
+        (variant_of (packed answer_type_of names.now cases.now))) }
+    ensures malformed { ¬ (IsText named debug_name.now)
+        → Refuses 5 result builder.old.session builder.new.session }
+    ensures malformed_names { ¬ (IsUtf8 names.now)
+        → Refuses 5 result builder.old.session builder.new.session }
+    ensures numbers { IsText named debug_name.now → IsUtf8 names.now
+        → ¬ (ArePacked answer_type_of names.now cases.now)
+        → Refuses 7 result builder.old.session builder.new.session }
+    ensures kept { ¬ (result ≡ 0) → index.new ≡ index.old }
+    ensures statuses { Among (5 ∷ 7 ∷ 9 ∷ of_a_call) result }
+{
+    let debug_name = given!(text_where(named, debug_name));
+    let names = given!(text(names));
+    let cases = given!(Packed::new(names, cases), or BadArgument);
+    let mut session = given!(builder.take(alloc), or NoBuilder);
+    let answer = session.variant(debug_name, cases);
+    builder.put(session);
+    told(answer, index)
+}
+
+/// Adds a tuple, by its elements: each by the sort of a reference to a value, and the number that
+/// goes with it, without a name.
+#[unsafe(no_mangle)]
+pub extern "C" fn wenc_type_tuple(
+    alloc: Global,
+    builder: &mut Handle,
+    named: bool,
+    debug_name: &[u8],
+    elements: &[Part],
+    index: &mut u32,
+) -> u32
+    ensures added { IsText named debug_name.now → ArePacked value_of [] elements.now
+        → Adds builder.old.session builder.new.session (answer_of result index.new)
+        (type_entry (text_if named debug_name.now) (tuple_of (packed value_of [] elements.now))) }
+    ensures malformed { ¬ (IsText named debug_name.now)
+        → Refuses 5 result builder.old.session builder.new.session }
+    ensures numbers { IsText named debug_name.now → ¬ (ArePacked value_of [] elements.now)
+        → Refuses 7 result builder.old.session builder.new.session }
+    ensures kept { ¬ (result ≡ 0) → index.new ≡ index.old }
+    ensures statuses { Among (5 ∷ 7 ∷ 9 ∷ of_a_call) result }
+{
+    let debug_name = given!(text_where(named, debug_name));
+    let elements = given!(Packed::new("", elements), or BadArgument);
+    let mut session = given!(builder.take(alloc), or NoBuilder);
+    let answer = session.tuple(debug_name, elements);
+    builder.put(session);
+    told(answer, index)
+}
+
+/// Adds flags, by their names, whose sort is 0.
+#[unsafe(no_mangle)]
+pub extern "C" fn wenc_type_flags(
+    alloc: Global,
+    builder: &mut Handle,
+    named: bool,
+    debug_name: &[u8],
+    names: &[u8],
+    flags: &[Part],
+    index: &mut u32,
+) -> u32
+    ensures added { IsText named debug_name.now → IsUtf8 names.now
+        → ArePacked nothing_of names.now flags.now
+        → Adds builder.old.session builder.new.session (answer_of result index.new)
+        (type_entry (text_if named debug_name.now)
+        (flags_of (packed nothing_of names.now flags.now))) }
+    ensures malformed { ¬ (IsText named debug_name.now)
+        → Refuses 5 result builder.old.session builder.new.session }
+    ensures malformed_names { ¬ (IsUtf8 names.now)
+        → Refuses 5 result builder.old.session builder.new.session }
+    ensures numbers { IsText named debug_name.now → IsUtf8 names.now
+        → ¬ (ArePacked nothing_of names.now flags.now)
+        → Refuses 7 result builder.old.session builder.new.session }
+    ensures kept { ¬ (result ≡ 0) → index.new ≡ index.old }
+    ensures statuses { Among (5 ∷ 7 ∷ 9 ∷ of_a_call) result }
+{
+    let debug_name = given!(text_where(named, debug_name));
+    let names = given!(text(names));
+    let flags = given!(Packed::new(names, flags), or BadArgument);
+    let mut session = given!(builder.take(alloc), or NoBuilder);
+    let answer = session.flags(debug_name, flags);
+    builder.put(session);
+    told(answer, index)
+}
+
+/// Adds an enumeration, by the names of its cases, whose sort is 0.
+#[unsafe(no_mangle)]
+pub extern "C" fn wenc_type_enum(
+    alloc: Global,
+    builder: &mut Handle,
+    named: bool,
+    debug_name: &[u8],
+    names: &[u8],
+    cases: &[Part],
+    index: &mut u32,
+) -> u32
+    ensures added { IsText named debug_name.now → IsUtf8 names.now
+        → ArePacked nothing_of names.now cases.now
+        → Adds builder.old.session builder.new.session (answer_of result index.new)
+        (type_entry (text_if named debug_name.now)
+        (enum_of (packed nothing_of names.now cases.now))) }
+    ensures malformed { ¬ (IsText named debug_name.now)
+        → Refuses 5 result builder.old.session builder.new.session }
+    ensures malformed_names { ¬ (IsUtf8 names.now)
+        → Refuses 5 result builder.old.session builder.new.session }
+    ensures numbers { IsText named debug_name.now → IsUtf8 names.now
+        → ¬ (ArePacked nothing_of names.now cases.now)
+        → Refuses 7 result builder.old.session builder.new.session }
+    ensures kept { ¬ (result ≡ 0) → index.new ≡ index.old }
+    ensures statuses { Among (5 ∷ 7 ∷ 9 ∷ of_a_call) result }
+{
+    let debug_name = given!(text_where(named, debug_name));
+    let names = given!(text(names));
+    let cases = given!(Packed::new(names, cases), or BadArgument);
+    let mut session = given!(builder.take(alloc), or NoBuilder);
+    let answer = session.enumeration(debug_name, cases);
     builder.put(session);
     told(answer, index)
 }

@@ -6,13 +6,13 @@ ghost use Rattle.wenc_builder.specs.Enters.{BeginsItem, Enters};
 ghost use Rattle.wenc_builder.specs.Entry.{Entry, canonical_entry, core_instance_entry, core_type_entry, instance_entry, type_entry};
 ghost use Rattle.wenc_builder.specs.Holds.{Holds};
 ghost use Rattle.wenc_builder.specs.declared.builder.space.Space.{Space};
-ghost use Rattle.wenc_c.specs.Packed.{core_instantiating, exporting, function_of, inline_exporting, instantiating, lifting, lowering, record_of};
+ghost use Rattle.wenc_c.specs.Packed.{core_instantiating, enum_of, exporting, flags_of, function_of, inline_exporting, instantiating, lifting, lowering, record_of, tuple_of, variant_of};
 ghost use Rattle.wenc_parts.specs.declared.component.ComponentSectionId.TheVariants as ids;
 ghost use Rattle.wenc_types.specs.CoreTypeTrees.{core_type_view};
 ghost use Rattle.wenc_types.specs.FuncStages.{async_byte};
 ghost use Rattle.wenc_types.specs.TypeTrees.{type_view};
 
-use crate::packed::{Exports, InlineItems, Items, Options, Packed};
+use crate::packed::{Exports, InlineItems, Items, Names, Packed, Unnamed};
 use wenc_base::{ExportKind, Fault, Lender};
 use wenc_builder::ComponentBuilder;
 use wenc_canon::CanonicalOption;
@@ -131,7 +131,7 @@ pub(crate) fn write_lifted(
     ensures { Enters builder.old builder.new result
         (canonical_entry (option_copied debug_name.entry) (lifting function ty options.entry)) }
 {
-    builder.lift_func(debug_name, function, ty, Options(options))
+    builder.lift_func(debug_name, function, ty, Unnamed(options))
 }
 
 /// Lowers a function by these options, with a debug name or none, and answers its index.
@@ -144,7 +144,7 @@ pub(crate) fn write_lowered(
     ensures { Enters builder.old builder.new result
         (canonical_entry (option_copied debug_name.entry) (lowering function options.entry)) }
 {
-    builder.lower_func(debug_name, function, Options(options))
+    builder.lower_func(debug_name, function, Unnamed(options))
 }
 
 /// Adds a record of these fields, with a debug name or none, and answers its index. What is
@@ -161,6 +161,90 @@ pub(crate) fn write_record(
 {
     match builder.type_defined(debug_name) {
         Ok((index, encoder)) => match encoder.record(fields) {
+            Ok(()) => Ok(index),
+            Err(fault) => give_up(builder, fault),
+        },
+        Err(fault) => Err(fault),
+    }
+}
+
+/// Adds a variant of these cases, with a debug name or none, and answers its index. What is
+/// refused is given up.
+pub(crate) fn write_variant(
+    builder: &mut ComponentBuilder,
+    debug_name: Option<&str>,
+    cases: Packed<'_, Option<ComponentValType>>,
+) -> Result<u32, Fault>
+    requires settled { builder_is_finished builder.old ≡ true }
+    requires some { ∥ ((es : List Entry) × Holds builder.old es) ∥₁ }
+    ensures { Enters builder.old builder.new result
+        (type_entry (option_copied debug_name.entry) (variant_of cases.entry)) }
+{
+    match builder.type_defined(debug_name) {
+        Ok((index, encoder)) => match encoder.variant(cases) {
+            Ok(()) => Ok(index),
+            Err(fault) => give_up(builder, fault),
+        },
+        Err(fault) => Err(fault),
+    }
+}
+
+/// Adds a tuple of these elements, with a debug name or none, and answers its index. What is
+/// refused is given up.
+pub(crate) fn write_tuple(
+    builder: &mut ComponentBuilder,
+    debug_name: Option<&str>,
+    elements: Packed<'_, ComponentValType>,
+) -> Result<u32, Fault>
+    requires settled { builder_is_finished builder.old ≡ true }
+    requires some { ∥ ((es : List Entry) × Holds builder.old es) ∥₁ }
+    ensures { Enters builder.old builder.new result
+        (type_entry (option_copied debug_name.entry) (tuple_of elements.entry)) }
+{
+    match builder.type_defined(debug_name) {
+        Ok((index, encoder)) => match encoder.tuple(Unnamed(elements)) {
+            Ok(()) => Ok(index),
+            Err(fault) => give_up(builder, fault),
+        },
+        Err(fault) => Err(fault),
+    }
+}
+
+/// Adds flags of these names, with a debug name or none, and answers its index. What is
+/// refused is given up.
+pub(crate) fn write_flags(
+    builder: &mut ComponentBuilder,
+    debug_name: Option<&str>,
+    names: Packed<'_, ()>,
+) -> Result<u32, Fault>
+    requires settled { builder_is_finished builder.old ≡ true }
+    requires some { ∥ ((es : List Entry) × Holds builder.old es) ∥₁ }
+    ensures { Enters builder.old builder.new result
+        (type_entry (option_copied debug_name.entry) (flags_of names.entry)) }
+{
+    match builder.type_defined(debug_name) {
+        Ok((index, encoder)) => match encoder.flags(Names(names)) {
+            Ok(()) => Ok(index),
+            Err(fault) => give_up(builder, fault),
+        },
+        Err(fault) => Err(fault),
+    }
+}
+
+/// Adds an enumeration of these names, with a debug name or none, and answers its index. What is
+/// refused is given up.
+pub(crate) fn write_enum(
+    builder: &mut ComponentBuilder,
+    debug_name: Option<&str>,
+    names: Packed<'_, ()>,
+) -> Result<u32, Fault>
+    requires settled { builder_is_finished builder.old ≡ true }
+    requires some { ∥ ((es : List Entry) × Holds builder.old es) ∥₁ }
+    ensures { Enters builder.old builder.new result
+        (type_entry (option_copied debug_name.entry) (enum_of names.entry)) }
+{
+    match builder.type_defined(debug_name) {
+        Ok((index, encoder)) => match encoder.enum_type(Names(names)) {
             Ok(()) => Ok(index),
             Err(fault) => give_up(builder, fault),
         },
