@@ -149,12 +149,33 @@ enum wenc_outer_kind {
 /* A part of a list of named things: how many bytes its name has, and what has the name, by two
  * numbers. The names are handed in as one text, one after the other; each is whole characters of
  * it, and together they are all of it. Where some of the text is left over, or it is too short, or
- * a name ends within a character, the call is refused: WENC_BAD_ARGUMENT. */
+ * a name ends within a character, the call is refused: WENC_BAD_ARGUMENT. Where the parts of a list
+ * have no names, each has 0 bytes of one. */
 typedef struct {
   size_t name_len;
   uint32_t sort;
   uint32_t number;
 } wenc_part;
+
+/* Options of functions that are lifted or lowered, by their bytes in the binary format. What stands
+ * before one says what the number is that goes with it. */
+enum wenc_option {
+  WENC_OPTION_UTF8 = 0,
+  WENC_OPTION_UTF16 = 1,
+  WENC_OPTION_COMPACT_UTF16 = 2,
+  /* The index of a core memory. */
+  WENC_OPTION_MEMORY = 3,
+  /* The index of a core function. */
+  WENC_OPTION_REALLOC = 4,
+  /* The index of a core function. */
+  WENC_OPTION_POST_RETURN = 5,
+  WENC_OPTION_ASYNC = 6,
+  /* The index of a core function. */
+  WENC_OPTION_CALLBACK = 7,
+  /* The index of a core type. */
+  WENC_OPTION_CORE_TYPE = 8,
+  WENC_OPTION_GC = 9
+};
 
 /* Sections, by their ids in the binary format. */
 enum wenc_section {
@@ -324,6 +345,27 @@ enum wenc_status wenc_start(wenc_builder *builder, uint32_t function, const uint
 enum wenc_status wenc_builtin(wenc_builder *builder, uint32_t opcode, uint32_t first,
                               uint32_t second, uint32_t *index);
 
+/* Lifts the core function with the index `function` to a function of the type with the index `ty`:
+ * the sort of each part is one of wenc_option, its number what the option says.
+ * Answers 0, 1, 2, 3, 5, 7, 8, 9. */
+enum wenc_status wenc_lift(wenc_builder *builder, bool named, const uint8_t *debug_name,
+                           size_t debug_name_len, uint32_t function, uint32_t ty,
+                           const wenc_part *options, size_t options_len, uint32_t *index);
+
+/* Lowers the function with the index `function` to a core function, by such options.
+ * Answers 0, 1, 2, 3, 5, 7, 8, 9. */
+enum wenc_status wenc_lower(wenc_builder *builder, bool named, const uint8_t *debug_name,
+                            size_t debug_name_len, uint32_t function, const wenc_part *options,
+                            size_t options_len, uint32_t *index);
+
+/* Adds an instance of the core module with the index `module`, which is given core instances under
+ * names: the sort of each part is 0, its number the index.
+ * Answers 0, 1, 2, 3, 5, 7, 8, 9. */
+enum wenc_status wenc_core_instantiate(wenc_builder *builder, bool named, const uint8_t *debug_name,
+                                       size_t debug_name_len, uint32_t module, const uint8_t *names,
+                                       size_t names_len, const wenc_part *args, size_t args_len,
+                                       uint32_t *index);
+
 /* Adds a core instance that exports core items under their names: the sort of each part is one of
  * wenc_core_kind, its number the index.
  * Answers 0, 1, 2, 3, 5, 7, 8, 9. */
@@ -331,20 +373,126 @@ enum wenc_status wenc_core_exports(wenc_builder *builder, bool named, const uint
                                    size_t debug_name_len, const uint8_t *names, size_t names_len,
                                    const wenc_part *exports, size_t exports_len, uint32_t *index);
 
+/* Adds an instance of the component with the index `component`, which is given items under names:
+ * the sort of each part is one of wenc_kind, its number the index.
+ * Answers 0, 1, 2, 3, 5, 7, 8, 9. */
+enum wenc_status wenc_instantiate(wenc_builder *builder, bool named, const uint8_t *debug_name,
+                                  size_t debug_name_len, uint32_t component, const uint8_t *names,
+                                  size_t names_len, const wenc_part *args, size_t args_len,
+                                  uint32_t *index);
+
+/* Adds an instance that exports items under their names: the parts as of wenc_instantiate.
+ * Answers 0, 1, 2, 3, 5, 7, 8, 9. */
+enum wenc_status wenc_export_items(wenc_builder *builder, bool named, const uint8_t *debug_name,
+                                   size_t debug_name_len, const uint8_t *names, size_t names_len,
+                                   const wenc_part *items, size_t items_len, uint32_t *index);
+
+/* Adds a type of resources, which numbers of 32 bits stand for, with the index of the core function
+ * that is called when one is dropped, or none.
+ * Answers 0, 1, 2, 3, 5, 8, 9. */
+enum wenc_status wenc_type_resource(wenc_builder *builder, bool named, const uint8_t *debug_name,
+                                    size_t debug_name_len, bool has_dtor, uint32_t dtor,
+                                    uint32_t *index);
+
 /* Adds the type of a record, by its fields: the sort of each part is WENC_REF_VALUE, and its number
  * the index of a type, or WENC_REF_PRIMITIVE, with one of wenc_primitive.
  * Answers 0, 1, 2, 3, 5, 7, 8, 9. */
 enum wenc_status wenc_type_record(wenc_builder *builder, bool named, const uint8_t *debug_name,
-                             size_t debug_name_len, const uint8_t *names, size_t names_len,
-                             const wenc_part *fields, size_t fields_len, uint32_t *index);
+                                  size_t debug_name_len, const uint8_t *names, size_t names_len,
+                                  const wenc_part *fields, size_t fields_len, uint32_t *index);
+
+/* Adds the type of a variant, by its cases: each has what a field of a record has, or nothing
+ * (WENC_REF_NONE).
+ * Answers 0, 1, 2, 3, 5, 7, 8, 9. */
+enum wenc_status wenc_type_variant(wenc_builder *builder, bool named, const uint8_t *debug_name,
+                                   size_t debug_name_len, const uint8_t *names, size_t names_len,
+                                   const wenc_part *cases, size_t cases_len, uint32_t *index);
+
+/* Adds the type of a tuple, by its elements: the parts of fields, without names.
+ * Answers 0, 1, 2, 3, 5, 7, 8, 9. */
+enum wenc_status wenc_type_tuple(wenc_builder *builder, bool named, const uint8_t *debug_name,
+                                 size_t debug_name_len, const wenc_part *elements,
+                                 size_t elements_len, uint32_t *index);
+
+/* Adds the type of flags, by their names: the sort of each part is 0.
+ * Answers 0, 1, 2, 3, 5, 7, 8, 9. */
+enum wenc_status wenc_type_flags(wenc_builder *builder, bool named, const uint8_t *debug_name,
+                                 size_t debug_name_len, const uint8_t *names, size_t names_len,
+                                 const wenc_part *flags, size_t flags_len, uint32_t *index);
+
+/* Adds the type of an enumeration, by the names of its cases: the sort of each part is 0.
+ * Answers 0, 1, 2, 3, 5, 7, 8, 9. */
+enum wenc_status wenc_type_enum(wenc_builder *builder, bool named, const uint8_t *debug_name,
+                                size_t debug_name_len, const uint8_t *names, size_t names_len,
+                                const wenc_part *cases, size_t cases_len, uint32_t *index);
+
+/* Adds a primitive type: one of wenc_primitive.
+ * Answers 0, 1, 2, 3, 5, 7, 8, 9. */
+enum wenc_status wenc_type_primitive(wenc_builder *builder, bool named, const uint8_t *debug_name,
+                                     size_t debug_name_len, enum wenc_primitive primitive,
+                                     uint32_t *index);
+
+/* Adds the type of lists of a value that `ref` and `of` tell, as a part of a record.
+ * Answers 0, 1, 2, 3, 5, 7, 8, 9. */
+enum wenc_status wenc_type_list(wenc_builder *builder, bool named, const uint8_t *debug_name,
+                                size_t debug_name_len, enum wenc_ref ref, uint32_t of,
+                                uint32_t *index);
+
+/* Adds the type of lists of so many of these values.
+ * Answers 0, 1, 2, 3, 5, 7, 8, 9. */
+enum wenc_status wenc_type_fixed_length_list(wenc_builder *builder, bool named,
+                                             const uint8_t *debug_name, size_t debug_name_len,
+                                             enum wenc_ref ref, uint32_t of, uint32_t length,
+                                             uint32_t *index);
+
+/* Adds the type of maps, by the type of their keys and that of their values.
+ * Answers 0, 1, 2, 3, 5, 7, 8, 9. */
+enum wenc_status wenc_type_map(wenc_builder *builder, bool named, const uint8_t *debug_name,
+                               size_t debug_name_len, enum wenc_ref key_ref, uint32_t key_of,
+                               enum wenc_ref ref, uint32_t of, uint32_t *index);
+
+/* Adds the type of such a value or none.
+ * Answers 0, 1, 2, 3, 5, 7, 8, 9. */
+enum wenc_status wenc_type_option(wenc_builder *builder, bool named, const uint8_t *debug_name,
+                                  size_t debug_name_len, enum wenc_ref ref, uint32_t of,
+                                  uint32_t *index);
+
+/* Adds the type of a success or a failure, each with a value or without (WENC_REF_NONE).
+ * Answers 0, 1, 2, 3, 5, 7, 8, 9. */
+enum wenc_status wenc_type_result(wenc_builder *builder, bool named, const uint8_t *debug_name,
+                                  size_t debug_name_len, enum wenc_ref ok_ref, uint32_t ok_of,
+                                  enum wenc_ref err_ref, uint32_t err_of, uint32_t *index);
+
+/* Adds the type of handles that own a resource of the type with the index `resource`.
+ * Answers 0, 1, 2, 3, 5, 8, 9. */
+enum wenc_status wenc_type_own(wenc_builder *builder, bool named, const uint8_t *debug_name,
+                               size_t debug_name_len, uint32_t resource, uint32_t *index);
+
+/* Adds the type of handles that borrow a resource of the type with the index `resource`.
+ * Answers 0, 1, 2, 3, 5, 8, 9. */
+enum wenc_status wenc_type_borrow(wenc_builder *builder, bool named, const uint8_t *debug_name,
+                                  size_t debug_name_len, uint32_t resource, uint32_t *index);
+
+/* Adds the type of a value that comes later, or of nothing but that it has come (WENC_REF_NONE).
+ * Answers 0, 1, 2, 3, 5, 7, 8, 9. */
+enum wenc_status wenc_type_future(wenc_builder *builder, bool named, const uint8_t *debug_name,
+                                  size_t debug_name_len, enum wenc_ref ref, uint32_t of,
+                                  uint32_t *index);
+
+/* Adds the type of values that come one after the other, or of nothing but that they have come
+ * (WENC_REF_NONE).
+ * Answers 0, 1, 2, 3, 5, 7, 8, 9. */
+enum wenc_status wenc_type_stream(wenc_builder *builder, bool named, const uint8_t *debug_name,
+                                  size_t debug_name_len, enum wenc_ref ref, uint32_t of,
+                                  uint32_t *index);
 
 /* Adds the type of a function: whether it is asynchronous; its parameters, as the fields of a
  * record; and what it answers, as a field (`ref` and `of`), or nothing (WENC_REF_NONE).
  * Answers 0, 1, 2, 3, 5, 7, 8, 9. */
 enum wenc_status wenc_type_function(wenc_builder *builder, bool named, const uint8_t *debug_name,
-                               size_t debug_name_len, bool is_async, const uint8_t *names,
-                               size_t names_len, const wenc_part *params, size_t params_len,
-                               enum wenc_ref ref, uint32_t of, uint32_t *index);
+                                    size_t debug_name_len, bool is_async, const uint8_t *names,
+                                    size_t names_len, const wenc_part *params, size_t params_len,
+                                    enum wenc_ref ref, uint32_t of, uint32_t *index);
 
 /* Adds the item that has this text in the binary format: the bytes that stand for it in a section
  * with this id (wenc_section). Of a section that is one item (a custom section, a core module, a
