@@ -1,5 +1,5 @@
-/* A component that imports an instance, has a nested component and a core module, and exports what
- * it lifts from that module: its bytes in hexadecimal, and its sections.
+/* A component that imports a function, has a nested component and a core module, and exports what it
+ * lifts from that module: its bytes in hexadecimal, and its sections.
  *
  *     ./c/archive
  *     gcc -Wall -Wextra -Werror -o example c/example.c c/out/libwenc.a && ./example */
@@ -28,14 +28,6 @@ static void check(enum wenc_status status) {
   }
 }
 
-/* Adds an item by its text, and answers its index. */
-static uint32_t item(wenc_builder *builder, enum wenc_section section, const uint8_t *text,
-                     size_t len) {
-  uint32_t index = 0;
-  check(wenc_item(builder, section, UNNAMED, text, len, &index));
-  return index;
-}
-
 /* A component that imports a type, a point, and a function that takes one and gives a text. */
 static void build_nested(wenc_builder *builder) {
   static const wenc_part fields[] = {{1, WENC_REF_PRIMITIVE, WENC_S32},
@@ -50,7 +42,7 @@ static void build_nested(wenc_builder *builder) {
 }
 
 static void build(wenc_builder *builder) {
-  uint32_t index, ty, run;
+  uint32_t index, ty, instance, run;
   wenc_part exports[] = {{3, WENC_CORE_FUNC, 0}, {3, WENC_CORE_FUNC, 0}};
   wenc_builder nested = {NULL};
 
@@ -58,23 +50,22 @@ static void build(wenc_builder *builder) {
   build_nested(&nested);
   check(wenc_component(builder, UNNAMED, &nested, &index));
 
-  /* An instance that exports nothing is imported. */
-  ty = item(builder, WENC_SECTION_TYPE, TEXT("\x42\x00"));
-  check(wenc_import(builder, TEXT("log"), WENC_REF_INSTANCE, ty, &index));
+  /* A function that takes and gives nothing is imported. */
+  check(wenc_type_function(builder, UNNAMED, false, TEXT(""), exports, 0, WENC_REF_NONE, 0, &ty));
+  check(wenc_import(builder, TEXT("log"), WENC_REF_FUNC, ty, &index));
 
-  /* Core module 0 is instantiated. */
+  /* The core module is instantiated without arguments. */
   check(wenc_core_module(builder, UNNAMED, module, sizeof module, &index));
-  item(builder, WENC_SECTION_CORE_INSTANCE, TEXT("\x00\x00\x00"));
+  check(wenc_core_instantiate(builder, UNNAMED, index, TEXT(""), exports, 0, &instance));
 
   /* Its function and `backpressure.inc` are exported by another core instance. */
-  check(wenc_alias_core_export(builder, UNNAMED, 0, WENC_CORE_FUNC, TEXT("run"),
+  check(wenc_alias_core_export(builder, UNNAMED, instance, WENC_CORE_FUNC, TEXT("run"),
                                &exports[0].number));
-  check(wenc_builtin(builder, 0x24, 0, 0, &exports[1].number));
+  check(wenc_builtin(builder, WENC_BACKPRESSURE_INC, 0, 0, &exports[1].number));
   check(wenc_core_exports(builder, UNNAMED, TEXT("runinc"), ALL(exports), &index));
 
-  /* Its function is lifted: no options, the type that takes and gives nothing. */
-  check(wenc_type_function(builder, UNNAMED, false, TEXT(""), exports, 0, WENC_REF_NONE, 0, &ty));
-  run = item(builder, WENC_SECTION_CANON, TEXT("\x00\x00\x00\x00\x01"));
+  /* Its function is lifted, without options, and exported. */
+  check(wenc_lift(builder, UNNAMED, exports[0].number, ty, exports, 0, &run));
   check(wenc_export(builder, TEXT("run"), WENC_FUNC, run, WENC_REF_NONE, 0, &index));
   check(wenc_append_names(builder));
 }

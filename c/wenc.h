@@ -157,6 +157,49 @@ typedef struct {
   uint32_t number;
 } wenc_part;
 
+/* Functions that the component model provides, of those that wenc_builtin adds, by their opcodes in
+ * the binary format. */
+enum wenc_function {
+  WENC_RESOURCE_NEW = 0x02,
+  WENC_RESOURCE_DROP = 0x03,
+  WENC_RESOURCE_REP = 0x04,
+  WENC_TASK_CANCEL = 0x05,
+  WENC_SUBTASK_CANCEL = 0x06,
+  WENC_THREAD_YIELD = 0x0c,
+  WENC_SUBTASK_DROP = 0x0d,
+  WENC_STREAM_NEW = 0x0e,
+  WENC_STREAM_CANCEL_READ = 0x11,
+  WENC_STREAM_CANCEL_WRITE = 0x12,
+  WENC_STREAM_DROP_READABLE = 0x13,
+  WENC_STREAM_DROP_WRITABLE = 0x14,
+  WENC_FUTURE_NEW = 0x15,
+  WENC_FUTURE_CANCEL_READ = 0x18,
+  WENC_FUTURE_CANCEL_WRITE = 0x19,
+  WENC_FUTURE_DROP_READABLE = 0x1a,
+  WENC_FUTURE_DROP_WRITABLE = 0x1b,
+  WENC_ERROR_CONTEXT_DROP = 0x1e,
+  WENC_WAITABLE_SET_NEW = 0x1f,
+  WENC_WAITABLE_SET_WAIT = 0x20,
+  WENC_WAITABLE_SET_POLL = 0x21,
+  WENC_WAITABLE_SET_DROP = 0x22,
+  WENC_WAITABLE_JOIN = 0x23,
+  WENC_BACKPRESSURE_INC = 0x24,
+  WENC_BACKPRESSURE_DEC = 0x25,
+  WENC_THREAD_INDEX = 0x26,
+  WENC_THREAD_NEW_INDIRECT = 0x27,
+  WENC_THREAD_RESUME_LATER = 0x28,
+  WENC_THREAD_SUSPEND = 0x29,
+  WENC_THREAD_SUSPEND_THEN_RESUME = 0x2a,
+  WENC_THREAD_YIELD_THEN_RESUME = 0x2b,
+  WENC_THREAD_SUSPEND_THEN_PROMOTE = 0x2c,
+  WENC_THREAD_YIELD_THEN_PROMOTE = 0x2d,
+  WENC_STREAM_FORWARD = 0x2e,
+  WENC_FUTURE_FORWARD = 0x2f,
+  WENC_THREAD_SPAWN_REF = 0x40,
+  WENC_THREAD_SPAWN_INDIRECT = 0x41,
+  WENC_THREAD_AVAILABLE_PARALLELISM = 0x42
+};
+
 /* Options of functions that are lifted or lowered, by their bytes in the binary format. What stands
  * before one says what the number is that goes with it. */
 enum wenc_option {
@@ -335,14 +378,13 @@ enum wenc_status wenc_component_ref(wenc_builder *builder, bool named, const uin
 enum wenc_status wenc_start(wenc_builder *builder, uint32_t function, const uint32_t *args,
                             size_t args_len, uint32_t results, uint32_t *index);
 
-/* Adds a function that the component model provides, by its opcode in the binary format: one that
- * takes indices, or an index and a flag (0 or 1), or a flag alone, or nothing, in that order
- * `first` and `second`. Of what it doesn't take nothing is looked at. It has its own name as its
- * debug name.
- * WENC_BAD_ARGUMENT where it takes options, types or slots too (those go by wenc_item), where there
- * is no such function, and where a flag is another number.
+/* Adds a function that the component model provides: one that takes indices, or an index and a flag
+ * (0 or 1), or a flag alone, or nothing, in that order `first` and `second`. Of what it doesn't
+ * take nothing is looked at. It has its own name as its debug name.
+ * WENC_BAD_ARGUMENT where it is none of these (what takes options, types or slots goes by
+ * wenc_item), and where a flag is another number.
  * Answers 0, 1, 2, 3, 7, 8, 9. */
-enum wenc_status wenc_builtin(wenc_builder *builder, uint32_t opcode, uint32_t first,
+enum wenc_status wenc_builtin(wenc_builder *builder, enum wenc_function function, uint32_t first,
                               uint32_t second, uint32_t *index);
 
 /* Lifts the core function with the index `function` to a function of the type with the index `ty`:
