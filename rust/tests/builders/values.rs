@@ -123,19 +123,19 @@ fn what_is_nested_is_given_up_also_where_it_is_refused() {
     assert_eq!(behind_header(b), "04 08 00 61 73 6d 0d 00 01 00");
 }
 
-/// So many functions.
-fn functions(number: u32) -> ComponentBuilder {
-    let mut b = builder();
-    for i in 0..number {
-        assert_eq!(b.import(format!("f{i}"), ComponentTypeRef::Func(i)), i);
-    }
-    b
-}
-
 #[cfg(not(target_family = "wasm"))]
 mod threads {
     use super::*;
     use std::thread;
+
+    /// So many functions.
+    fn functions(number: u32) -> ComponentBuilder {
+        let mut b = builder();
+        for i in 0..number {
+            assert_eq!(b.import(format!("f{i}"), ComponentTypeRef::Func(i)), i);
+        }
+        b
+    }
 
     #[test]
     fn two_builders_work_on_two_threads() {
