@@ -1,5 +1,5 @@
-/* Makes each call that adds a type, an instance, or a function that is lifted or lowered, and prints
- * the component. Then it hands in what these calls refuse. */
+/* Makes each call that example.c doesn't, and hands in what is refused as a bad argument. It prints
+ * how many items there are in each space, and the component. */
 #include "wenc.h"
 
 #include <stdio.h>
@@ -66,7 +66,8 @@ static void build_values(wenc_builder *builder) {
   if (own != 2 || list != 9) exit(1);
 }
 
-static void build_functions(wenc_builder *builder) {
+/* The answer is the type of its functions. */
+static uint32_t build_functions(wenc_builder *builder) {
   static const wenc_part params[] = {{4, WENC_REF_PRIMITIVE, WENC_STRING}};
   static const wenc_part lifting[] = {
       {0, WENC_OPTION_UTF8, 0},        {0, WENC_OPTION_MEMORY, 0}, {0, WENC_OPTION_REALLOC, 1},
@@ -88,6 +89,50 @@ static void build_functions(wenc_builder *builder) {
                          &items[0].number));
   check(wenc_export_items(builder, NAMED("world"), TEXT("wasi:io/streams@0.2.0mcv"), ALL(items),
                           &index));
+  return ty;
+}
+
+static void build_components(wenc_builder *builder) {
+  static const uint8_t component[] = {0x00, 0x61, 0x73, 0x6d, 0x0d, 0x00, 0x01, 0x00};
+  wenc_builder nested = {NULL};
+  uint32_t index;
+  check(wenc_component_bytes(builder, NAMED("bytes"), ALL(component), &index));
+  check(wenc_new(&nested));
+  check(wenc_import(&nested, TEXT("r"), WENC_REF_RESOURCE, 0, &index));
+  check(wenc_component_ref(builder, UNNAMED, &nested, &index));
+  wenc_free(&nested);
+  check(wenc_alias_export(builder, NAMED("a"), 0, WENC_FUNC, TEXT("open"), &index));
+  check(wenc_alias_outer(builder, UNNAMED, WENC_OUTER_CORE_TYPE, 1, 200, &index));
+  check(wenc_alias_outer(builder, NAMED("o"), WENC_OUTER_COMPONENT, 2, 3, &index));
+}
+
+/* `ty` is the type of the function 0. */
+static void build_named(wenc_builder *builder, uint32_t ty) {
+  static const uint32_t args[] = {0, 1};
+  static const uint8_t data[] = {1, 2, 3};
+  static const uint8_t raw[] = {3, 1, 0x79, 0x2b};
+  uint32_t index;
+  check(wenc_import_named(builder, TEXT("wasi:io/poll@0.2"), NAMED("x:y/z"), NAMED(".6"),
+                          NAMED("id"), WENC_REF_FUNC, ty, &index));
+  check(wenc_import_named(builder, TEXT("plain"), UNNAMED, UNNAMED, UNNAMED, WENC_REF_PRIMITIVE,
+                          WENC_U16, &index));
+  check(wenc_export_named(builder, TEXT("w"), UNNAMED, NAMED("v"), UNNAMED, WENC_FUNC, 0,
+                          WENC_REF_FUNC, ty, &index));
+  check(wenc_item(builder, WENC_SECTION_TYPE, NAMED("t"), (const uint8_t *)"\x42\x00", 2, &index));
+  check(wenc_start(builder, 0, ALL(args), 2, &index));
+  check(wenc_custom_section(builder, TEXT("notes"), ALL(data)));
+  check(wenc_item(builder, WENC_SECTION_CUSTOM, UNNAMED, TEXT("\x01x*"), &index));
+  check(wenc_raw_custom_section(builder, ALL(raw)));
+}
+
+static void print_counts(wenc_builder *builder) {
+  uint32_t count;
+  int space;
+  for (space = 0; space < WENC_SPACES; space++) {
+    check(wenc_count(builder, (enum wenc_space)space, &count));
+    printf(space == 0 ? "%u" : " %u", (unsigned)count);
+  }
+  putchar('\n');
 }
 
 /* No number stands for anything here, or a part has a name where there is none. */
@@ -116,17 +161,25 @@ static void refuse(wenc_builder *builder) {
   refused(wenc_type_result(builder, UNNAMED, WENC_REF_NONE, 0, WENC_REF_TYPE, 0, &index));
   refused(wenc_type_future(builder, UNNAMED, WENC_REF_FUNC, 0, &index));
   refused(wenc_type_stream(builder, UNNAMED, WENC_REF_FUNC, 0, &index));
+  refused(wenc_alias_outer(builder, UNNAMED, (enum wenc_outer_kind)4, 0, 0, &index));
+  refused(wenc_import_named(builder, TEXT("a"), UNNAMED, UNNAMED, UNNAMED, WENC_REF_NONE, 0, &index));
+  refused(wenc_item(builder, (enum wenc_section)12, UNNAMED, TEXT("a"), &index));
+  refused(wenc_count(builder, (enum wenc_space)13, &index));
 }
 
 int main(void) {
   wenc_builder builder = {NULL};
   size_t len, k;
+  uint32_t ty;
   uint8_t *bytes;
   check(wenc_new(&builder));
   build_instances(&builder);
   build_values(&builder);
-  build_functions(&builder);
+  ty = build_functions(&builder);
+  build_components(&builder);
+  build_named(&builder, ty);
   refuse(&builder);
+  print_counts(&builder);
   check(wenc_append_names(&builder));
   check(wenc_finish(&builder, &len));
   bytes = malloc(len);
