@@ -162,7 +162,8 @@ static void refuse(wenc_builder *builder) {
   refused(wenc_type_future(builder, UNNAMED, WENC_REF_FUNC, 0, &index));
   refused(wenc_type_stream(builder, UNNAMED, WENC_REF_FUNC, 0, &index));
   refused(wenc_alias_outer(builder, UNNAMED, (enum wenc_outer_kind)4, 0, 0, &index));
-  refused(wenc_import_named(builder, TEXT("a"), UNNAMED, UNNAMED, UNNAMED, WENC_REF_NONE, 0, &index));
+  refused(wenc_import_named(builder, TEXT("a"), UNNAMED, UNNAMED, UNNAMED, WENC_REF_NONE, 0,
+                            &index));
   refused(wenc_item(builder, (enum wenc_section)12, UNNAMED, TEXT("a"), &index));
   refused(wenc_count(builder, (enum wenc_space)13, &index));
 }
