@@ -114,8 +114,8 @@ static void build_named(wenc_builder *builder, uint32_t ty) {
   uint32_t index;
   check(wenc_import_named(builder, TEXT("wasi:io/poll@0.2"), NAMED("x:y/z"), NAMED(".6"),
                           NAMED("id"), WENC_REF_FUNC, ty, &index));
-  check(wenc_import_named(builder, TEXT("plain"), UNNAMED, UNNAMED, UNNAMED, WENC_REF_PRIMITIVE,
-                          WENC_U16, &index));
+  check(wenc_import_named(builder, TEXT("plain"), UNNAMED, UNNAMED, UNNAMED, WENC_REF_COMPONENT, 18,
+                          &index));
   check(wenc_export_named(builder, TEXT("w"), UNNAMED, NAMED("v"), UNNAMED, WENC_FUNC, 0,
                           WENC_REF_FUNC, ty, &index));
   check(wenc_item(builder, WENC_SECTION_TYPE, NAMED("t"), (const uint8_t *)"\x42\x00", 2, &index));
