@@ -4,6 +4,8 @@
 
 #[cfg(all(test, feature = "std"))]
 mod for_tests;
+#[cfg(feature = "capi")]
+pub mod handle;
 #[cfg(feature = "std")]
 pub mod hex;
 pub mod rt_std;
