@@ -67,15 +67,17 @@
 //! # Features
 //!
 //! Without the feature `std`, which brings the program `wenc`, the crate is `no_std` and needs
-//! `alloc`.
+//! `alloc`. The feature `capi` brings the functions of `c/wenc.h`, for C.
 #![no_std]
-#![forbid(unsafe_code)]
+#![cfg_attr(not(feature = "capi"), forbid(unsafe_code))]
 #![deny(missing_docs)]
 
 extern crate alloc;
 #[cfg(feature = "std")]
 extern crate std;
 
+#[cfg(feature = "capi")]
+mod capi;
 mod component;
 mod core;
 #[cfg(feature = "std")]

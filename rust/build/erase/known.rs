@@ -10,6 +10,9 @@ pub const HANDED: [&str; 2] = ["format", "vec"];
 /// Macros that mean the same there and here.
 pub const PLAIN: [&str; 4] = ["concat", "matches", "write", "writeln"];
 
+/// Macros of the sources that other files of their crate use.
+pub const SHARED: [&str; 1] = ["given"];
+
 /// Words that a `!` or a path may follow, and that are no names.
 pub const KEYWORDS: [&str; 15] = [
     "as", "break", "dyn", "else", "extern", "for", "if", "impl", "in", "match", "mut", "ref",
@@ -21,11 +24,12 @@ pub const DERIVED: [&str; 8] =
     ["Clone", "Copy", "Debug", "Eq", "Hash", "Ord", "PartialEq", "PartialOrd"];
 
 /// Attributes that mean the same there and here, as they are written.
-pub const ATTRIBUTES: [&str; 5] = [
+pub const ATTRIBUTES: [&str; 6] = [
     "# [ cold ]",
     "# [ inline ( always ) ]",
     "# [ inline ( never ) ]",
     "# [ inline ]",
+    "# [ repr ( C ) ]",
     "# [ repr ( u8 ) ]",
 ];
 
@@ -68,3 +72,14 @@ pub const PRINTED: [&str; 1] = ["Alias"];
 /// Methods of trees that stay in this crate: their contracts ask for what nothing tests, or they
 /// answer what the facade has in another shape.
 pub const NARROWED: [(&str, &str); 2] = [("FuncType", "new"), ("NameTree", "as_name")];
+
+/// What stands in front of a function that C calls, whose arguments cross as only the kit makes
+/// them cross.
+pub const EXPORTED: &str = "# [ unsafe ( no_mangle ) ] pub extern \"C\" fn";
+
+/// Crates whose private modules the facade calls.
+pub const OPENED: [&str; 1] = ["wenc_c"];
+
+/// Modules that are made of the kit's pointers, by their crate: `src/proved` has what stands for
+/// them.
+pub const BY_HAND: [(&str, &str); 2] = [("wenc_c", "handle"), ("wenc_c", "placed")];
