@@ -48,7 +48,7 @@ struct Outcome {
 }
 
 /// The lister that a word names, if it names one.
-fn lister(word: &str) -> Option<Lister> {
+fn lister_of(word: &str) -> Option<Lister> {
     if word == "list" {
         Some(Lister::Global)
     } else if word == "arena" {
@@ -65,7 +65,7 @@ fn asked<R: Env + AllocGlobal>(rt: &R) -> Option<Plan> {
     let mut first = args.next();
     let lister = match &first {
         None => None,
-        Some(word) => lister(word.as_str()),
+        Some(word) => lister_of(word.as_str()),
     };
     if lister.is_some() {
         first = args.next();
