@@ -23,8 +23,8 @@ const LIBRARY: [&str; 10] = [
 /// The crates behind the programs.
 const PROGRAMS: [&str; 2] = ["wenc", "driven"];
 
-/// The crate behind the calls for C.
-const FOR_C: [&str; 1] = ["wenc_c"];
+/// The crates behind the calls for C.
+const FOR_C: [&str; 2] = ["wenc_session", "wenc_c"];
 
 /// What the tests call beside those: proved callers, the examples of the documentation, and types of a stranger's own.
 const TESTS: [&str; 3] = ["facts", "strangers", "values"];

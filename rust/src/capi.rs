@@ -7,12 +7,11 @@
 use crate::proved::handle::Handle;
 use crate::proved::rt_std::alloc::Global;
 use crate::proved::wenc_c::lists::Row;
-use crate::proved::wenc_c::packed::Part;
-use crate::proved::wenc_c::session::Session;
 use crate::proved::wenc_c::{
     aliases, builtins, by_text, canonicals, defined, instances, lifecycle, lists, named,
     standalone, types,
 };
+use crate::proved::wenc_session::{Part, Session};
 use alloc::boxed::Box;
 use core::ffi::c_void;
 use core::{mem, ptr, slice};

@@ -3,10 +3,10 @@ use Rattle.std.proofs.Common.{◌≡◌, ℕ, List, Option, Some, None, Result, 
 use Rattle.wenc_base.specs.Readers.{Flaw}
 use Rattle.wenc_builder.specs.Enters.{Enters}
 use Rattle.wenc_builder.specs.Item.{Item}
-use Rattle.wenc_c.specs.Reads.{AddsReadAt}
-use Rattle.wenc_c.specs.Sessions.{answer_of}
-use Rattle.wenc_c.specs.declared.session.Session.{Session}
-use Rattle.wenc_c.specs.declared.session.Session.TheVariants as sessions
+use Rattle.wenc_c.specs.Handles.{AddsReadAt}
+use Rattle.wenc_session.specs.Sessions.{answer_of}
+use Rattle.wenc_session.specs.declared.session.Session.{Session}
+use Rattle.wenc_session.specs.declared.session.Session.TheVariants as sessions
 
 found_by : (old new : Option Session) (i : ℕ) (name : Option (List ℕ)) (found : Result Item Flaw) → AddsReadAt Enters old new (Ok i) name found → (x : Item) × (found ≡ Ok x)
 found_by old new i name (Ok x) a = (x, refl)

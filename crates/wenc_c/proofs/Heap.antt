@@ -38,8 +38,8 @@ use Rattle.std.specs.contracts.boxed.Box.into_raw_with_allocator as Ra
 use Rattle.std.specs.contracts.alloc.Global as Heap
 use Rattle.std.specs.contracts.impls.GlobalAllocator.TheImpl.{ghosts, dict}
 use Rattle.std.proofs.alloc.Global.TheLaws as heap
-use Rattle.wenc_c.specs.contracts.session.Session as Inner
-use Rattle.wenc_c.proofs.session.Session.TheLaws as inner
+use Rattle.wenc_session.specs.contracts.session.Session as Inner
+use Rattle.wenc_session.proofs.session.Session.TheLaws as inner
 use Rattle.wenc_c.specs.contracts.placed.Placed as Placed
 use Rattle.wenc_c.specs.contracts.handle.Handle as Held
 use Rattle.wenc_c.specs.Owned.{owned}

@@ -1,11 +1,2 @@
-pub mod Answers
 pub mod Found
-pub mod Functions
-pub mod Grown
 pub mod Heap
-pub mod OneRead
-pub mod Runs
-pub mod Settled
-pub mod Statuses
-pub mod Typed
-pub mod Whole

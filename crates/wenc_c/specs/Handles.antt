@@ -4,11 +4,11 @@ use Rattle.std.specs.Str.{IsUtf8}
 use Rattle.wenc_builder.specs.Entry.{Entry}
 use Rattle.wenc_builder.specs.Names.{AddsNames}
 use Rattle.wenc_builder.specs.declared.builder.space.Space.{Space}
-use Rattle.wenc_c.specs.Sessions.{Does, AddsTo, AddsIfTo, AddsWithoutIndexTo, Nests, Counts}
-use Rattle.wenc_c.specs.Sessions.{Finishes, Copies, IsEmpty, IsSettled}
-use Rattle.wenc_c.specs.declared.refused.Refused.{Refused as Refusals}
-use Rattle.wenc_c.specs.declared.refused.Refused.TheVariants.{NoBuilder}
-use Rattle.wenc_c.specs.declared.session.Session.{Session}
+use Rattle.wenc_session.specs.Sessions.{Does, AddsTo, AddsIfTo, AddsWithoutIndexTo, Nests, Counts}
+use Rattle.wenc_session.specs.Sessions.{Finishes, Copies, IsEmpty, IsSettled}
+use Rattle.wenc_session.specs.declared.refused.Refused.{Refused as Refusals}
+use Rattle.wenc_session.specs.declared.refused.Refused.TheVariants.{NoBuilder}
+use Rattle.wenc_session.specs.declared.session.Session.{Session}
 
 -- This was done to what the handle owns; or it owns nothing, and that is answered.
 abbrev pub At : {R : Type 0} → (Session → Session → Result R Refusals → Type 0) → Option Session
@@ -24,6 +24,13 @@ Adds old new answer x = At (λ s s' a. AddsTo s s' a x) old new answer
 -- The entry was added to what the handle owns, where there is one (`AddsIfTo`).
 abbrev pub AddsIfAt : Option Session → Option Session → Result ℕ Refusals → Option Entry → Type 0
 AddsIfAt old new answer x = At (λ s s' a. AddsIfTo s s' a x) old new answer
+
+-- The item that was read was added to what the handle owns (`AddsReadTo`).
+abbrev pub AddsReadAt : {R : Type 0} → (State → State → Result R Faults → Entry → Type 0)
+    → Option Session → Option Session → Result R Refusals → Option (List ℕ) → Result Item Flaw
+    → Type 0
+AddsReadAt enters old new answer name read =
+    At (λ s s' a. AddsReadTo enters s s' a name read) old new answer
 
 -- This entry, which has no index, was added to what the handle owns (`AddsWithoutIndexTo`).
 abbrev pub AddsWithoutIndex : Option Session → Option Session → Result (Unit {0}) Refusals → Entry
@@ -70,20 +77,3 @@ OwnsSettled None = Unit {0}
 -- Nothing was looked at but the arguments, and this status says so.
 abbrev pub Refuses : ℕ → ℕ → Option Session → Option Session → Type 0
 Refuses status result old new = (result ≡ status) × (new ≡ old)
-
--- ---- texts that are there or not
-
--- A text that is there is UTF-8.
-abbrev pub IsText : Bool → List ℕ → Type 0
-IsText true text = IsUtf8 text
-IsText false text = Unit {0}
-
--- the text, if it is there
-abbrev pub text_if : Bool → List ℕ → Option (List ℕ)
-text_if true text = Some text
-text_if false text = None
-
--- the number, if it is there
-abbrev pub number_if : Bool → ℕ → Option ℕ
-number_if true n = Some n
-number_if false n = None

@@ -1,10 +1,3 @@
-pub mod Builtins
 pub mod Handles
 pub mod Lists
-pub mod Names
-pub mod Numbers
 pub mod Owned
-pub mod Packed
-pub mod Reads
-pub mod Sessions
-pub mod Statuses

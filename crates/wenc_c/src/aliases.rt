@@ -3,20 +3,21 @@ ghost use Rattle.std.specs.Prelude.{◌≡◌, ◌∷◌, None, Some};
 ghost use Rattle.std.specs.Str.{IsUtf8};
 ghost use Rattle.wenc_base.specs.declared.exports.ExportKind.{ExportKind as CoreKinds};
 ghost use Rattle.wenc_builder.specs.Entry.{alias_entry};
-ghost use Rattle.wenc_c.specs.Handles.{Adds, IsText, Refuses, text_if};
-ghost use Rattle.wenc_c.specs.Numbers.{core_kind_of, kind_of, outer_kind_of};
-ghost use Rattle.wenc_c.specs.Sessions.{answer_of};
+ghost use Rattle.wenc_c.specs.Handles.{Adds, Refuses};
+ghost use Rattle.wenc_session.specs.Flagged.{IsText, text_if};
+ghost use Rattle.wenc_session.specs.Numbers.{core_kind_of, kind_of, outer_kind_of};
+ghost use Rattle.wenc_session.specs.Sessions.{answer_of};
 ghost use Rattle.wenc_parts.specs.Aliases.{CoreInstanceExport, InstanceExport, Outer};
 ghost use Rattle.wenc_parts.specs.declared.aliases.ComponentOuterAliasKind.{ComponentOuterAliasKind as OuterKinds};
 ghost use Rattle.wenc_parts.specs.declared.exports.ComponentExportKind.{ComponentExportKind as Kinds};
-ghost use Rattle.wenc_c.specs.Statuses.{Among, of_a_call};
+ghost use Rattle.wenc_session.specs.Statuses.{Among, of_a_call};
 
+use crate::answers::{given, told};
 use crate::handle::Handle;
-use crate::numbers::{core_kind, kind, outer_kind};
-use crate::refused::{given, told};
-use crate::texts::{text, text_where};
 use std::alloc::Global;
 use wenc_parts::Alias;
+use wenc_session::numbers::{core_kind, kind, outer_kind};
+use wenc_session::texts::{text, text_where};
 
 /// Adds an alias of what a component instance exports under this name.
 #[unsafe(no_mangle)]

@@ -1,15 +1,18 @@
 //! The call that adds an item by its text.
 ghost use Rattle.std.specs.Prelude.{◌≡◌, ◌<◌, ◌≤◌, ◌∷◌, None};
 ghost use Rattle.wenc_builder.specs.Enters.{Enters, EntersWithoutIndex};
-ghost use Rattle.wenc_c.specs.Handles.{IsText, Refuses, text_if};
-ghost use Rattle.wenc_c.specs.Reads.{AddsReadAt, read_custom, read_one};
-ghost use Rattle.wenc_c.specs.Sessions.{answer_of, outcome_of};
-ghost use Rattle.wenc_c.specs.Statuses.{Among, of_a_call};
+ghost use Rattle.wenc_c.specs.Handles.{Refuses};
+ghost use Rattle.wenc_session.specs.Flagged.{IsText, text_if};
+ghost use Rattle.wenc_c.specs.Handles.{AddsReadAt};
+ghost use Rattle.wenc_session.specs.Reads.{read_custom, read_one};
+ghost use Rattle.wenc_session.specs.Sessions.{answer_of, outcome_of};
+ghost use Rattle.wenc_session.specs.Statuses.{Among, of_a_call};
 
+use crate::answers::{given, outcome, told};
 use crate::handle::Handle;
-use crate::refused::{Refused, given, outcome, told};
-use crate::texts::text_where;
 use std::alloc::Global;
+use wenc_session::Refused;
+use wenc_session::texts::text_where;
 
 /// Adds the item with this text in the binary format, which stands in the section with this id. A
 /// custom section has no index.

@@ -2,14 +2,14 @@
 ghost use Rattle.std.specs.Prelude.{◌≡◌, ◌≤◌};
 ghost use Rattle.wenc_builder.specs.Item.{Item};
 ghost use Rattle.wenc_c.specs.Handles.{OwnsSettled};
-ghost use Rattle.wenc_c.specs.Reads.{IsReadAs};
+ghost use Rattle.wenc_session.specs.Reads.{IsReadAs};
 ghost use Rattle.wenc_list.specs.Listing.{HasDepth};
 
 use crate::by_text::wenc_item;
 use crate::handle::Handle;
-use crate::laws::{nothing_stays_unfinished, what_is_found_is_read};
 use crate::lifecycle::wenc_finish;
 use std::alloc::Global;
+use wenc_session::laws::{nothing_stays_unfinished, what_is_found_is_read};
 
 /// Adds an item by its text. Where it is accepted, the text is read as some item, no type in which
 /// is deeper than 100.

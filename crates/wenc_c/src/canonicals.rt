@@ -1,17 +1,18 @@
 //! The calls that lift and lower functions.
 ghost use Rattle.std.specs.Prelude.{◌≡◌, ◌∷◌, []};
 ghost use Rattle.wenc_builder.specs.Entry.{canonical_entry};
-ghost use Rattle.wenc_c.specs.Handles.{Adds, IsText, Refuses, text_if};
-ghost use Rattle.wenc_c.specs.Numbers.{option_of};
-ghost use Rattle.wenc_c.specs.Packed.{ArePacked, lifting, lowering, packed};
-ghost use Rattle.wenc_c.specs.Sessions.{answer_of};
-ghost use Rattle.wenc_c.specs.Statuses.{Among, of_a_call};
+ghost use Rattle.wenc_c.specs.Handles.{Adds, Refuses};
+ghost use Rattle.wenc_session.specs.Flagged.{IsText, text_if};
+ghost use Rattle.wenc_session.specs.Numbers.{option_of};
+ghost use Rattle.wenc_session.specs.Packed.{ArePacked, lifting, lowering, packed};
+ghost use Rattle.wenc_session.specs.Sessions.{answer_of};
+ghost use Rattle.wenc_session.specs.Statuses.{Among, of_a_call};
 
+use crate::answers::{given, told};
 use crate::handle::Handle;
-use crate::packed::{Packed, Part};
-use crate::refused::{given, told};
-use crate::texts::text_where;
 use std::alloc::Global;
+use wenc_session::texts::text_where;
+use wenc_session::{Packed, Part};
 
 /// Lifts the core function with the index `function` to a function of the type `ty`. The options
 /// are parts without a name: each by its byte in the binary format, and the number that goes with

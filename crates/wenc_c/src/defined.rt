@@ -2,21 +2,22 @@
 ghost use Rattle.std.specs.Option.{option_copied};
 ghost use Rattle.std.specs.Prelude.{◌≡◌, ◌∷◌, None, Option, Some};
 ghost use Rattle.wenc_builder.specs.Entry.{type_entry};
-ghost use Rattle.wenc_c.specs.Handles.{Adds, IsText, Refuses, text_if};
-ghost use Rattle.wenc_c.specs.Numbers.{answer_type_of, primitive_of, value_of};
-ghost use Rattle.wenc_c.specs.Sessions.{answer_of};
-ghost use Rattle.wenc_c.specs.Statuses.{Among, of_a_call};
+ghost use Rattle.wenc_c.specs.Handles.{Adds, Refuses};
+ghost use Rattle.wenc_session.specs.Flagged.{IsText, text_if};
+ghost use Rattle.wenc_session.specs.Numbers.{answer_type_of, primitive_of, value_of};
+ghost use Rattle.wenc_session.specs.Sessions.{answer_of};
+ghost use Rattle.wenc_session.specs.Statuses.{Among, of_a_call};
 ghost use Rattle.wenc_parts.specs.declared.types.ComponentValType.{ComponentValType as Values};
 ghost use Rattle.wenc_parts.specs.declared.types.PrimitiveValType.{PrimitiveValType as Primitives};
 ghost use Rattle.wenc_types.specs.ComponentTypes.{DefinedType};
 ghost use Rattle.wenc_types.specs.DefinedTypes.{Borrow, FixedLengthList, Future, ListOf, MapOf, OptionOf, Own, Primitive, ResultOf, Stream};
 ghost use Rattle.wenc_types.specs.TypeTrees.{defined_view};
 
+use crate::answers::{given, told};
 use crate::handle::Handle;
-use crate::numbers::{answer_type, primitive, value};
-use crate::refused::{given, told};
-use crate::texts::text_where;
 use std::alloc::Global;
+use wenc_session::numbers::{answer_type, primitive, value};
+use wenc_session::texts::text_where;
 use wenc_types::DefinedTree;
 
 /// Adds a type of values to what a handle owns, and tells C.

@@ -2,14 +2,14 @@
 //! `typedef struct { void *at; } wenc_builder;`.
 ghost use Rattle.std.specs.Prelude.{◌≡◌, Option, Some, None, is_none, option_map};
 ghost use Rattle.std.specs.Option.{IsSome};
-ghost use Rattle.wenc_c.specs.declared.session.Session.{Session};
+ghost use Rattle.wenc_session.specs.declared.session.Session.{Session};
 
 use crate::placed::Placed;
-use crate::session::Session;
 use std::alloc::Global;
 use std::marker::Model;
 use std::mem::replace;
 use std::ptr::null_mut;
+use wenc_session::Session;
 
 /// A pointer to a session, which it owns, or null. Dropped it forgets that.
 #[repr(C)]
@@ -22,7 +22,7 @@ pub struct Handle {
 }
 
 impl Model for Handle {
-    ghost use Rattle.wenc_c.specs.contracts.session.Session.{the_row};
+    ghost use Rattle.wenc_session.specs.contracts.session.Session.{the_row};
     ghost use Rattle.wenc_c.specs.Owned.{owned};
 
     ghost also_owns = { λ h. owned the_row h.alloc h.at h.session };

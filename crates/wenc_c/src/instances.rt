@@ -2,17 +2,18 @@
 ghost use Rattle.std.specs.Prelude.{◌≡◌, ◌∷◌};
 ghost use Rattle.std.specs.Str.{IsUtf8};
 ghost use Rattle.wenc_builder.specs.Entry.{core_instance_entry, instance_entry};
-ghost use Rattle.wenc_c.specs.Handles.{Adds, IsText, Refuses, text_if};
-ghost use Rattle.wenc_c.specs.Numbers.{core_item_of, module_arg_of, named_item_of};
-ghost use Rattle.wenc_c.specs.Packed.{ArePacked, core_instantiating, exporting, inline_exporting, instantiating, packed};
-ghost use Rattle.wenc_c.specs.Sessions.{answer_of};
-ghost use Rattle.wenc_c.specs.Statuses.{Among, of_a_call};
+ghost use Rattle.wenc_c.specs.Handles.{Adds, Refuses};
+ghost use Rattle.wenc_session.specs.Flagged.{IsText, text_if};
+ghost use Rattle.wenc_session.specs.Numbers.{core_item_of, module_arg_of, named_item_of};
+ghost use Rattle.wenc_session.specs.Packed.{ArePacked, core_instantiating, exporting, inline_exporting, instantiating, packed};
+ghost use Rattle.wenc_session.specs.Sessions.{answer_of};
+ghost use Rattle.wenc_session.specs.Statuses.{Among, of_a_call};
 
+use crate::answers::{given, told};
 use crate::handle::Handle;
-use crate::packed::{Packed, Part};
-use crate::refused::{given, told};
-use crate::texts::{text, text_where};
 use std::alloc::Global;
+use wenc_session::texts::{text, text_where};
+use wenc_session::{Packed, Part};
 
 /// Adds an instance of the core module with this index, which is given core instances under names.
 #[unsafe(no_mangle)]

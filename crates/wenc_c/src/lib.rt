@@ -7,8 +7,8 @@
 //! nothing, but that `wenc_list` puts out a fault's place.
 #![tactic(auto)]
 
-mod adding;
 mod aliases;
+mod answers;
 mod builtins;
 mod by_text;
 pub mod callers;
@@ -16,17 +16,9 @@ mod canonicals;
 mod defined;
 mod handle;
 mod instances;
-mod items;
-pub mod laws;
-mod lifecycle;
+pub mod lifecycle;
 mod lists;
 mod named;
-mod numbers;
-mod packed;
 mod placed;
-mod refused;
-mod session;
 mod standalone;
-mod texts;
 mod types;
-mod written;

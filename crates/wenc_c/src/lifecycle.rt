@@ -1,17 +1,17 @@
 //! A builder's life: it is begun, finished and freed.
 ghost use Rattle.std.specs.Prelude.{◌≡◌, ◌⊎◌, ◌∷◌, [], None, Some};
 ghost use Rattle.wenc_c.specs.Handles.{CopiesAt, CountsAt, FinishesAt, OwnsEmpty};
-ghost use Rattle.wenc_c.specs.Numbers.{space_of};
-ghost use Rattle.wenc_c.specs.Sessions.{answer_of, outcome_of};
+ghost use Rattle.wenc_session.specs.Numbers.{space_of};
+ghost use Rattle.wenc_session.specs.Sessions.{answer_of, outcome_of};
 ghost use Rattle.wenc_builder.specs.declared.builder.space.Space.{Space as Spaces};
-ghost use Rattle.wenc_c.specs.Statuses.{Among};
+ghost use Rattle.wenc_session.specs.Statuses.{Among};
 
+use crate::answers::{given, outcome, told};
 use crate::handle::Handle;
-use crate::numbers::space;
-use crate::refused::{Refused, given, outcome, told};
-use crate::session::Session;
 use std::alloc::{AllocError, Global};
 use wenc_base::Fault;
+use wenc_session::numbers::space;
+use wenc_session::{Refused, Session};
 
 /// The version of the library: 10000 times its first number, 100 times the second, and the third.
 #[unsafe(no_mangle)]

@@ -7,12 +7,12 @@ ghost use Rattle.wenc_list.specs.Listing.{AreWithin, HasNoHeader, IsFaultOf, cou
 ghost use Rattle.wenc_list.specs.declared.fault.ListFault.{ListFault as Faults};
 ghost use Rattle.wenc_list.specs.declared.listing.ListedSection.{ListedSection as Sections};
 ghost use Rattle.std.specs.Global.{Global as Heap};
-ghost use Rattle.wenc_c.specs.Statuses.{Among, of_a_fault};
+ghost use Rattle.wenc_session.specs.Statuses.{Among, of_a_fault};
 
-use crate::refused::Refused;
 use std::alloc::Global;
 use wenc_base::Fault;
 use wenc_list::{ListFault, ListedSection, list};
+use wenc_session::Refused;
 
 /// A section that was read. C sees it as `wenc_listed`.
 #[repr(C)]

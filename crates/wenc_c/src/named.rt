@@ -3,19 +3,19 @@ ghost use Rattle.std.specs.Prelude.{◌≡◌, ◌∷◌, None, Option, Some};
 ghost use Rattle.std.specs.Str.{IsUtf8};
 ghost use Rattle.wenc_builder.specs.Entry.{export_entry, import_entry};
 ghost use Rattle.wenc_c.specs.Handles.{Adds, Refuses};
-ghost use Rattle.wenc_c.specs.Names.{AreTexts, given, name_with};
-ghost use Rattle.wenc_c.specs.Numbers.{given_type_of, kind_of, type_ref_of};
-ghost use Rattle.wenc_c.specs.Sessions.{answer_of};
+ghost use Rattle.wenc_session.specs.Names.{AreTexts, given, name_with};
+ghost use Rattle.wenc_session.specs.Numbers.{given_type_of, kind_of, type_ref_of};
+ghost use Rattle.wenc_session.specs.Sessions.{answer_of};
 ghost use Rattle.wenc_parts.specs.Imports.{plain_name};
 ghost use Rattle.wenc_parts.specs.declared.exports.ComponentExportKind.{ComponentExportKind as Kinds};
 ghost use Rattle.wenc_parts.specs.declared.imports.ComponentTypeRef.{ComponentTypeRef as References};
-ghost use Rattle.wenc_c.specs.Statuses.{Among, of_a_call};
+ghost use Rattle.wenc_session.specs.Statuses.{Among, of_a_call};
 
+use crate::answers::{given, told};
 use crate::handle::Handle;
-use crate::numbers::{given_type, kind, type_ref};
-use crate::refused::{given, told};
-use crate::texts::{name_of, text};
 use std::alloc::Global;
+use wenc_session::numbers::{given_type, kind, type_ref};
+use wenc_session::texts::{name_of, text};
 
 /// Imports an item under a plain name, by the sort of a reference and the number that goes with it.
 #[unsafe(no_mangle)]

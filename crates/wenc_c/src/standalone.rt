@@ -2,15 +2,17 @@
 ghost use Rattle.std.specs.Prelude.{◌≡◌, ◌∷◌, None};
 ghost use Rattle.std.specs.Str.{IsUtf8};
 ghost use Rattle.wenc_builder.specs.Entry.{component_entry, custom_entry, module_entry, raw_entry, start_entry};
-ghost use Rattle.wenc_c.specs.Handles.{Adds, AddsNamesAt, AddsWithoutIndex, IsText, NestsAt, Refuses, text_if};
-ghost use Rattle.wenc_c.specs.Sessions.{answer_of, outcome_of};
-ghost use Rattle.wenc_c.specs.Statuses.{Among, of_a_call};
+ghost use Rattle.wenc_c.specs.Handles.{Adds, AddsNamesAt, AddsWithoutIndex, NestsAt, Refuses};
+ghost use Rattle.wenc_session.specs.Flagged.{IsText, text_if};
+ghost use Rattle.wenc_session.specs.Sessions.{answer_of, outcome_of};
+ghost use Rattle.wenc_session.specs.Statuses.{Among, of_a_call};
 
+use crate::answers::{given, outcome, told};
 use crate::handle::Handle;
 use crate::lifecycle::wenc_free;
-use crate::refused::{Refused, given, outcome, told};
-use crate::texts::{text, text_where};
 use std::alloc::Global;
+use wenc_session::Refused;
+use wenc_session::texts::{text, text_where};
 
 /// Adds the core module with these bytes.
 #[unsafe(no_mangle)]

@@ -3,20 +3,21 @@ ghost use Rattle.std.specs.Prelude.{◌≡◌, ◌∷◌, [], None, Option, Some
 ghost use Rattle.std.specs.Str.{IsUtf8};
 ghost use Rattle.wenc_builder.specs.Entry.{type_entry};
 ghost use Rattle.wenc_base.specs.declared.types.ValType.TheVariants.{I32};
-ghost use Rattle.wenc_c.specs.Handles.{Adds, IsText, Refuses, number_if, text_if};
-ghost use Rattle.wenc_c.specs.Numbers.{answer_type_of, nothing_of, value_of};
-ghost use Rattle.wenc_c.specs.Packed.{ArePacked, enum_of, flags_of, function_of, packed, record_of, tuple_of, variant_of};
-ghost use Rattle.wenc_c.specs.Sessions.{answer_of};
+ghost use Rattle.wenc_c.specs.Handles.{Adds, Refuses};
+ghost use Rattle.wenc_session.specs.Flagged.{IsText, number_if, text_if};
+ghost use Rattle.wenc_session.specs.Numbers.{answer_type_of, nothing_of, value_of};
+ghost use Rattle.wenc_session.specs.Packed.{ArePacked, enum_of, flags_of, function_of, packed, record_of, tuple_of, variant_of};
+ghost use Rattle.wenc_session.specs.Sessions.{answer_of};
 ghost use Rattle.wenc_parts.specs.declared.types.ComponentValType.{ComponentValType as Values};
-ghost use Rattle.wenc_c.specs.Statuses.{Among, of_a_call};
+ghost use Rattle.wenc_session.specs.Statuses.{Among, of_a_call};
 ghost use Rattle.wenc_types.specs.ComponentTypes.{ResourceType};
 
+use crate::answers::{given, told};
 use crate::handle::Handle;
-use crate::numbers::answer_type;
-use crate::packed::{Packed, Part};
-use crate::refused::{given, told};
-use crate::texts::{text, text_where};
 use std::alloc::Global;
+use wenc_session::numbers::answer_type;
+use wenc_session::texts::{text, text_where};
+use wenc_session::{Packed, Part};
 
 /// Adds a record, by its fields: each by its name, the sort of a reference to a value, and the
 /// number that goes with it.

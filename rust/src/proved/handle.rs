@@ -3,7 +3,7 @@
 
 use super::rt_std::alloc::Global;
 use super::rt_std::boxed::Box;
-use super::wenc_c::session::Session;
+use super::wenc_session::Session;
 
 /// A session on the heap, or none.
 #[derive(Default)]

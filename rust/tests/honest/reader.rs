@@ -41,7 +41,7 @@ pub const WAYS: [&str; 33] = [
     "unsafe of a block left out",
 ];
 
-const CRATES: [&str; 17] = [
+const CRATES: [&str; 18] = [
     "wenc_base",
     "wenc_parts",
     "wenc_types",
@@ -53,6 +53,7 @@ const CRATES: [&str; 17] = [
     "wenc_list",
     "wasm_encoder",
     "wenc",
+    "wenc_session",
     "wenc_c",
     "driven",
     "facts",

@@ -1,4 +1,4 @@
-use Rattle.wenc_c.specs.Reads.{read_one}
+use Rattle.wenc_session.specs.Reads.{read_one}
 use Rattle.wenc_c.proofs.Found.{found_at}
 use Rattle.wenc_c.proofs.callers.item_of.Goals as goal
 

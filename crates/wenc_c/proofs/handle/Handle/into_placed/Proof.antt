@@ -33,7 +33,7 @@ use Rattle.wenc_c.proofs.handle.Handle.into_placed.Statement as stated
 use Rattle.wenc_c.proofs.handle.Handle.into_placed.Code as code
 use Rattle.wenc_c.specs.Owned.{owned}
 use Rattle.wenc_c.specs.contracts.handle.Handle as Held
-use Rattle.wenc_c.specs.contracts.session.Session as Inner
+use Rattle.wenc_session.specs.contracts.session.Session as Inner
 
 -- the session that a handle owns, where it owns one
 session_of : (o : Option Inner.the_row.Denot) → IsSome o → (x : Inner.the_row.Denot) × (o ≡ Some x)

@@ -1,0 +1,109 @@
+-- No call leaves an item unfinished.
+use Rattle.std.proofs.Common.{◌≡◌, ℕ, Bool, true, false, true≢false, List, Option, Some, None, Result, Ok, Err, refl, sym, subst, ◌∙◌}
+use Rattle.wenc_base.specs.declared.fault.Fault.{Fault as Faults}
+use Rattle.wenc_base.specs.declared.fault.Fault.TheVariants.{Memory, TooMany, TooLarge, Unfinished}
+use Rattle.wenc_base.specs.Readers.{Flaw}
+use Rattle.wenc_builder.specs.Builder.{State, builder_is_finished}
+use Rattle.wenc_builder.specs.Enters.{EntersWith, Enters, EntersWithoutIndex}
+use Rattle.wenc_builder.specs.Entry.{Entry}
+use Rattle.wenc_builder.specs.Item.{Item}
+use Rattle.wenc_builder.specs.Names.{AddsNames, none_named, kept_names}
+use Rattle.wenc_builder.specs.Space.{Indices}
+use Rattle.wenc_session.specs.Reads.{AddsReadTo, IsUnread, entry_of}
+use Rattle.wenc_session.specs.Sessions.{answer_of, AddsIfTo, AddsTo, AddsWithoutIndexTo, Answered, Does, Finishes, IsEmpty, IsSettled, Nests, NestsTo, StaysSettled}
+use Rattle.wenc_session.specs.declared.refused.Refused.{Refused as Refusals}
+use Rattle.wenc_session.specs.declared.refused.Refused.TheVariants.{Fault, Finished, NoBuilder}
+use Rattle.wenc_session.specs.declared.session.Session.{Session}
+use Rattle.wenc_session.specs.declared.session.Session.TheVariants as sessions
+
+not_both : (b : Bool) → b ≡ true → b ≡ false → ⊥
+not_both b t f = true≢false (sym t ∙ f)
+
+-- ---- of a builder
+
+abbrev Stays : {R : Type 0} → State → Result R Faults → Type 0
+Stays new result = (builder_is_finished new ≡ true) × (result ≡ Err Unfinished → ⊥)
+
+-- a call that does this, of a builder that has nothing unfinished
+abbrev Keeps : {R : Type 0} → (State → State → Result R Faults → Type 0) → Type 0
+Keeps {R} did = (b c : State) (result : Result R Faults) → builder_is_finished b ≡ true → did b c result → Stays c result
+
+enters_keep : {R : Type 0} {Told : List Entry → R → Type 0} {Counted : Option Indices → R → Type 0} (x : Entry) (b c : State) (result : Result R Faults) → builder_is_finished b ≡ true → EntersWith b c result x Told Counted → Stays c result
+enters_keep x b c (Ok r) f e = (rw e.state refl, λ h. absurd cc)
+enters_keep x b c (Err fault) f e = (rw e.err f, λ h. not_both (builder_is_finished b) f (e.unfinished.1 h))
+
+names_keep : Keeps AddsNames
+names_keep b c result f a = by_names (none_named (kept_names b)) refl
+  where
+    by_names : (n : Bool) → none_named (kept_names b) ≡ n → Stays c result
+    by_names true e = let same = a.none e f in (rw same.1 f, λ h. not_both (builder_is_finished b) f (a.unfinished.1 h))
+    by_names false e = enters_keep _ b c result f (a.some e)
+
+-- ---- of what a handle owns
+
+answered_stays : {R : Type 0} (did : Result R Faults → Type 0) (c : State) (answer : Result R Refusals) → ((result : Result R Faults) → did result → Stays c result) → Answered did answer → StaysSettled (sessions.Building c) answer
+answered_stays did c (Ok r) k a = ((k (Ok r) a).0, λ h. absurd cc)
+answered_stays did c (Err (Fault Unfinished)) k a = absurd ((k (Err Unfinished) a).1 refl)
+answered_stays did c (Err (Fault (Memory e))) k a = ((k (Err (Memory e)) a).0, λ h. absurd cc)
+answered_stays did c (Err (Fault TooMany)) k a = ((k (Err TooMany) a).0, λ h. absurd cc)
+answered_stays did c (Err (Fault TooLarge)) k a = ((k (Err TooLarge) a).0, λ h. absurd cc)
+answered_stays did c (Err other) k a = absurd a
+
+-- what is finished stays so
+closed_stays : {R : Type 0} (t : Session) (answer : Result R Refusals) (s : Session) → IsSettled s → answer ≡ Err Finished → t ≡ s → StaysSettled t answer
+closed_stays t answer s f e same = (subst IsSettled (sym same) f, λ h. absurd cc)
+
+does_stay : {R : Type 0} (did : State → State → Result R Faults → Type 0) → Keeps did → (s t : Session) (answer : Result R Refusals) → IsSettled s → Does did s t answer → StaysSettled t answer
+does_stay did k (sessions.Building b) (sessions.Building c) answer f a = answered_stays (did b c) c answer (λ result d. k b c result f d) a
+does_stay did k (sessions.Building b) (sessions.Finished bytes) answer f a = absurd a
+does_stay did k (sessions.Finished bytes) t answer f a = closed_stays t answer (sessions.Finished bytes) tt a.0 a.1
+
+pub empty_settled : (s : Session) → IsEmpty s → IsSettled s
+empty_settled (sessions.Building b) h = rw h.finished refl
+empty_settled (sessions.Finished bytes) h = absurd h
+
+pub added_stays : (s t : Session) (answer : Result ℕ Refusals) (x : Entry) → IsSettled s → AddsTo s t answer x → StaysSettled t answer
+added_stays s t answer x f a = does_stay (λ b c result. Enters b c result x) (λ b c result f e. enters_keep x b c result f e) s t answer f a
+
+pub without_index_stays : (s t : Session) (answer : Result (Unit {0}) Refusals) (x : Entry) → IsSettled s → AddsWithoutIndexTo s t answer x → StaysSettled t answer
+without_index_stays s t answer x f a = does_stay (λ b c result. EntersWithoutIndex b c result x) (λ b c result f e. enters_keep x b c result f e) s t answer f a
+
+pub names_stay : (s t : Session) (answer : Result (Unit {0}) Refusals) → IsSettled s → Does AddsNames s t answer → StaysSettled t answer
+names_stay s t answer f a = does_stay AddsNames names_keep s t answer f a
+
+unchanged_stays : {R : Type 0} (b c : State) (answer : Result R Refusals) → builder_is_finished b ≡ true → c ≡ b → (answer ≡ Err (Fault Unfinished) → ⊥) → StaysSettled (sessions.Building c) answer
+unchanged_stays b c answer f same other = (rw same f, other)
+
+pub added_if_stays : (s t : Session) (answer : Result ℕ Refusals) (x : Option Entry) → IsSettled s → AddsIfTo s t answer x → StaysSettled t answer
+added_if_stays (sessions.Building b) (sessions.Building c) answer (Some x) f a = answered_stays (λ result. Enters b c result x) c answer (λ result d. enters_keep x b c result f d) a
+added_if_stays (sessions.Building b) (sessions.Building c) answer None f a = unchanged_stays b c answer f a.1 (let e = a.0 in λ h. absurd cc)
+added_if_stays (sessions.Building b) (sessions.Finished bytes) answer x f a = absurd a
+added_if_stays (sessions.Finished bytes) t answer x f a = closed_stays t answer (sessions.Finished bytes) tt a.0 a.1
+
+unread_is_other : {R : Type 0} (b : Bool) (flaw : Flaw) (answer : Result R Refusals) → b ≡ true → IsUnread b flaw answer → answer ≡ Err (Fault Unfinished) → ⊥
+unread_is_other b flaw (Ok r) f u h = absurd u
+unread_is_other b flaw (Err (Fault Unfinished)) f u h = not_both b f u.1
+unread_is_other b flaw (Err other) f u h = absurd cc
+
+read_stays : {R : Type 0} (enters : State → State → Result R Faults → Entry → Type 0) → ((x : Entry) → Keeps (λ b c result. enters b c result x))
+    → (s t : Session) (answer : Result R Refusals) (name : Option (List ℕ)) (found : Result Item Flaw) → IsSettled s → AddsReadTo enters s t answer name found → StaysSettled t answer
+read_stays enters k (sessions.Building b) (sessions.Building c) answer name (Ok x) f a = answered_stays (λ result. enters b c result (entry_of name x)) c answer (λ result d. k (entry_of name x) b c result f d) a
+read_stays enters k (sessions.Building b) (sessions.Building c) answer name (Err flaw) f a = unchanged_stays b c answer f a.0 (unread_is_other (builder_is_finished b) flaw answer f a.1)
+read_stays enters k (sessions.Building b) (sessions.Finished bytes) answer name found f a = absurd a
+read_stays enters k (sessions.Finished bytes) t answer name found f a = closed_stays t answer (sessions.Finished bytes) tt a.0 a.1
+
+pub found_stays : (s t : Session) (answer : Result ℕ Refusals) (name : Option (List ℕ)) (found : Result Item Flaw) → IsSettled s → AddsReadTo Enters s t answer name found → StaysSettled t answer
+found_stays s t answer name found f a = read_stays Enters (λ x b c result f e. enters_keep x b c result f e) s t answer name found f a
+
+pub custom_stays : (s t : Session) (answer : Result (Unit {0}) Refusals) (name : Option (List ℕ)) (found : Result Item Flaw) → IsSettled s → AddsReadTo EntersWithoutIndex s t answer name found → StaysSettled t answer
+custom_stays s t answer name found f a = read_stays EntersWithoutIndex (λ x b c result f e. enters_keep x b c result f e) s t answer name found f a
+
+pub nested_stays : (s t inner : Session) (answer : Result ℕ Refusals) (name : Option (List ℕ)) → IsSettled s → IsSettled inner → Nests name inner s t answer → StaysSettled t answer
+nested_stays s t (sessions.Building inner) answer name f g a = does_stay (NestsTo name inner) (λ b c result h n. enters_keep _ b c result h (n.bytes g)) s t answer f a
+nested_stays s t (sessions.Finished bytes) answer name f g a = closed_stays t answer s f a.0 a.1
+
+pub finished_stays : (s t : Session) (answer : Result ℕ Refusals) → IsSettled s → Finishes s t answer → StaysSettled t answer
+finished_stays (sessions.Building b) (sessions.Finished bytes) (Ok size) f a = (tt, λ h. absurd cc)
+finished_stays (sessions.Building b) (sessions.Building c) (Ok size) f a = absurd a
+finished_stays (sessions.Building b) t (Err refused) f a = absurd (not_both (builder_is_finished b) f a.1)
+finished_stays (sessions.Finished bytes) t answer f a = (rw a.1 tt, (let e = a.0 in λ h. absurd cc))

@@ -1,0 +1,18 @@
+//! A component while C builds it and when it is finished, and what C hands its calls: numbers,
+//! texts, and lists in a packed form. `wenc_c` has the calls, by handles.
+#![tactic(auto)]
+
+mod adding;
+mod builtins;
+mod items;
+pub mod laws;
+pub mod numbers;
+pub mod packed;
+pub mod refused;
+pub mod session;
+pub mod texts;
+mod written;
+
+pub use packed::{Packed, Part};
+pub use refused::Refused;
+pub use session::Session;
