@@ -1,5 +1,4 @@
 //! The calls that add a type of values which has no list in it.
-ghost use Rattle.std.specs.Option.{option_copied};
 ghost use Rattle.std.specs.Prelude.{◌≡◌, ◌∷◌, None, Option, Some};
 ghost use Rattle.wenc_builder.specs.Entry.{type_entry};
 ghost use Rattle.wenc_c.specs.Handles.{Adds, Refuses};
@@ -11,33 +10,15 @@ ghost use Rattle.wenc_parts.specs.declared.types.ComponentValType.{ComponentValT
 ghost use Rattle.wenc_parts.specs.declared.types.PrimitiveValType.{PrimitiveValType as Primitives};
 ghost use Rattle.wenc_types.specs.ComponentTypes.{DefinedType};
 ghost use Rattle.wenc_types.specs.DefinedTypes.{Borrow, FixedLengthList, Future, ListOf, MapOf, OptionOf, Own, Primitive, ResultOf, Stream};
-ghost use Rattle.wenc_types.specs.TypeTrees.{defined_view};
 
-use crate::answers::{given, told};
+use crate::answers::given;
 use crate::handle::Handle;
+use crate::types::add_type;
 use std::alloc::Global;
+use wenc_session::Described;
 use wenc_session::numbers::{answer_type, primitive, value};
 use wenc_session::texts::text_where;
 use wenc_types::DefinedTree;
-
-/// Adds a type of values to what a handle owns, and tells C.
-fn add_defined(
-    alloc: Global,
-    builder: &mut Handle,
-    debug_name: Option<&str>,
-    ty: DefinedTree,
-    index: &mut u32,
-) -> u32
-    ensures added { Adds builder.old.session builder.new.session (answer_of result index.new)
-        (type_entry (option_copied debug_name.entry) (DefinedType (defined_view ty))) }
-    ensures kept { ¬ (result ≡ 0) → index.new ≡ index.old }
-    ensures statuses { Among (9 ∷ of_a_call) result }
-{
-    let mut session = given!(builder.take(alloc), or NoBuilder);
-    let answer = session.defined(debug_name, ty);
-    builder.put(session);
-    told(answer, index)
-}
 
 /// Adds a primitive type, by its byte in the binary format.
 #[unsafe(no_mangle)]
@@ -62,11 +43,11 @@ pub extern "C" fn wenc_type_primitive(
 {
     let debug_name = given!(text_where(named, debug_name));
     let ty = given!(primitive(number), or BadArgument);
-    add_defined(
+    add_type(
         alloc,
         builder,
         debug_name,
-        DefinedTree::Primitive(ty),
+        Described::Defined(DefinedTree::Primitive(ty)),
         index,
     )
 }
@@ -95,7 +76,13 @@ pub extern "C" fn wenc_type_list(
 {
     let debug_name = given!(text_where(named, debug_name));
     let ty = given!(value(reference, of), or BadArgument);
-    add_defined(alloc, builder, debug_name, DefinedTree::List(ty), index)
+    add_type(
+        alloc,
+        builder,
+        debug_name,
+        Described::Defined(DefinedTree::List(ty)),
+        index,
+    )
 }
 
 /// Adds the type of lists of so many such values.
@@ -123,14 +110,14 @@ pub extern "C" fn wenc_type_fixed_length_list(
 {
     let debug_name = given!(text_where(named, debug_name));
     let ty = given!(value(reference, of), or BadArgument);
-    add_defined(
+    add_type(
         alloc,
         builder,
         debug_name,
-        DefinedTree::FixedLengthList {
+        Described::Defined(DefinedTree::FixedLengthList {
             element: ty,
             length,
-        },
+        }),
         index,
     )
 }
@@ -165,11 +152,11 @@ pub extern "C" fn wenc_type_map(
     let debug_name = given!(text_where(named, debug_name));
     let key = given!(value(key_reference, key_of), or BadArgument);
     let value = given!(value(reference, of), or BadArgument);
-    add_defined(
+    add_type(
         alloc,
         builder,
         debug_name,
-        DefinedTree::Map { key, value },
+        Described::Defined(DefinedTree::Map { key, value }),
         index,
     )
 }
@@ -198,7 +185,13 @@ pub extern "C" fn wenc_type_option(
 {
     let debug_name = given!(text_where(named, debug_name));
     let ty = given!(value(reference, of), or BadArgument);
-    add_defined(alloc, builder, debug_name, DefinedTree::Option(ty), index)
+    add_type(
+        alloc,
+        builder,
+        debug_name,
+        Described::Defined(DefinedTree::Option(ty)),
+        index,
+    )
 }
 
 /// Adds the type of a success or a failure, each with such a value or without.
@@ -231,11 +224,11 @@ pub extern "C" fn wenc_type_result(
     let debug_name = given!(text_where(named, debug_name));
     let ok = given!(answer_type(ok_reference, ok_of), or BadArgument);
     let err = given!(answer_type(err_reference, err_of), or BadArgument);
-    add_defined(
+    add_type(
         alloc,
         builder,
         debug_name,
-        DefinedTree::Result { ok, err },
+        Described::Defined(DefinedTree::Result { ok, err }),
         index,
     )
 }
@@ -259,11 +252,11 @@ pub extern "C" fn wenc_type_own(
     ensures statuses { Among (5 ∷ 9 ∷ of_a_call) result }
 {
     let debug_name = given!(text_where(named, debug_name));
-    add_defined(
+    add_type(
         alloc,
         builder,
         debug_name,
-        DefinedTree::Own(resource),
+        Described::Defined(DefinedTree::Own(resource)),
         index,
     )
 }
@@ -287,11 +280,11 @@ pub extern "C" fn wenc_type_borrow(
     ensures statuses { Among (5 ∷ 9 ∷ of_a_call) result }
 {
     let debug_name = given!(text_where(named, debug_name));
-    add_defined(
+    add_type(
         alloc,
         builder,
         debug_name,
-        DefinedTree::Borrow(resource),
+        Described::Defined(DefinedTree::Borrow(resource)),
         index,
     )
 }
@@ -320,7 +313,13 @@ pub extern "C" fn wenc_type_future(
 {
     let debug_name = given!(text_where(named, debug_name));
     let ty = given!(answer_type(reference, of), or BadArgument);
-    add_defined(alloc, builder, debug_name, DefinedTree::Future(ty), index)
+    add_type(
+        alloc,
+        builder,
+        debug_name,
+        Described::Defined(DefinedTree::Future(ty)),
+        index,
+    )
 }
 
 /// Adds the type of values that come one after the other, or of nothing but that they have come.
@@ -347,5 +346,11 @@ pub extern "C" fn wenc_type_stream(
 {
     let debug_name = given!(text_where(named, debug_name));
     let ty = given!(answer_type(reference, of), or BadArgument);
-    add_defined(alloc, builder, debug_name, DefinedTree::Stream(ty), index)
+    add_type(
+        alloc,
+        builder,
+        debug_name,
+        Described::Defined(DefinedTree::Stream(ty)),
+        index,
+    )
 }

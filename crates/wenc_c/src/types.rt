@@ -1,9 +1,11 @@
 //! The calls that add types.
+ghost use Rattle.std.specs.Option.{option_copied};
 ghost use Rattle.std.specs.Prelude.{◌≡◌, ◌∷◌, [], None, Option, Some};
 ghost use Rattle.std.specs.Str.{IsUtf8};
 ghost use Rattle.wenc_builder.specs.Entry.{type_entry};
 ghost use Rattle.wenc_base.specs.declared.types.ValType.TheVariants.{I32};
 ghost use Rattle.wenc_c.specs.Handles.{Adds, Refuses};
+ghost use Rattle.wenc_session.specs.Described.{described_view};
 ghost use Rattle.wenc_session.specs.Flagged.{IsText, number_if, text_if};
 ghost use Rattle.wenc_session.specs.Numbers.{answer_type_of, nothing_of, value_of};
 ghost use Rattle.wenc_session.specs.Packed.{ArePacked, enum_of, flags_of, function_of, packed, record_of, tuple_of, variant_of};
@@ -15,9 +17,29 @@ ghost use Rattle.wenc_types.specs.ComponentTypes.{ResourceType};
 use crate::answers::{given, told};
 use crate::handle::Handle;
 use std::alloc::Global;
+use wenc_base::ValType;
 use wenc_session::numbers::answer_type;
 use wenc_session::texts::{text, text_where};
-use wenc_session::{Packed, Part};
+use wenc_session::{Described, Packed, Part};
+
+/// Adds a type to what a handle owns, and tells C.
+pub(crate) fn add_type(
+    alloc: Global,
+    builder: &mut Handle,
+    debug_name: Option<&str>,
+    ty: Described<'_>,
+    index: &mut u32,
+) -> u32
+    ensures added { Adds builder.old.session builder.new.session (answer_of result index.new)
+        (type_entry (option_copied debug_name.entry) (described_view ty.entry)) }
+    ensures kept { ¬ (result ≡ 0) → index.new ≡ index.old }
+    ensures statuses { Among (9 ∷ of_a_call) result }
+{
+    let mut session = given!(builder.take(alloc), or NoBuilder);
+    let answer = session.ty(alloc, debug_name, ty);
+    builder.put(session);
+    told(answer, index)
+}
 
 /// Adds a record, by its fields: each by its name, the sort of a reference to a value, and the
 /// number that goes with it.
@@ -49,10 +71,7 @@ pub extern "C" fn wenc_type_record(
     let debug_name = given!(text_where(named, debug_name));
     let names = given!(text(names));
     let fields = given!(Packed::new(names, fields), or BadArgument);
-    let mut session = given!(builder.take(alloc), or NoBuilder);
-    let answer = session.record(debug_name, fields);
-    builder.put(session);
-    told(answer, index)
+    add_type(alloc, builder, debug_name, Described::Record(fields), index)
 }
 
 /// Adds a variant, by its cases: each by its name, and what it has, as a field of a record, or
@@ -85,10 +104,7 @@ pub extern "C" fn wenc_type_variant(
     let debug_name = given!(text_where(named, debug_name));
     let names = given!(text(names));
     let cases = given!(Packed::new(names, cases), or BadArgument);
-    let mut session = given!(builder.take(alloc), or NoBuilder);
-    let answer = session.variant(debug_name, cases);
-    builder.put(session);
-    told(answer, index)
+    add_type(alloc, builder, debug_name, Described::Variant(cases), index)
 }
 
 /// Adds a tuple, by its elements: each by the sort of a reference to a value, and the number that
@@ -114,10 +130,13 @@ pub extern "C" fn wenc_type_tuple(
 {
     let debug_name = given!(text_where(named, debug_name));
     let elements = given!(Packed::new("", elements), or BadArgument);
-    let mut session = given!(builder.take(alloc), or NoBuilder);
-    let answer = session.tuple(debug_name, elements);
-    builder.put(session);
-    told(answer, index)
+    add_type(
+        alloc,
+        builder,
+        debug_name,
+        Described::Tuple(elements),
+        index,
+    )
 }
 
 /// Adds flags, by their names, whose sort is 0.
@@ -149,10 +168,7 @@ pub extern "C" fn wenc_type_flags(
     let debug_name = given!(text_where(named, debug_name));
     let names = given!(text(names));
     let flags = given!(Packed::new(names, flags), or BadArgument);
-    let mut session = given!(builder.take(alloc), or NoBuilder);
-    let answer = session.flags(debug_name, flags);
-    builder.put(session);
-    told(answer, index)
+    add_type(alloc, builder, debug_name, Described::Flags(flags), index)
 }
 
 /// Adds an enumeration, by the names of its cases, whose sort is 0.
@@ -184,10 +200,7 @@ pub extern "C" fn wenc_type_enum(
     let debug_name = given!(text_where(named, debug_name));
     let names = given!(text(names));
     let cases = given!(Packed::new(names, cases), or BadArgument);
-    let mut session = given!(builder.take(alloc), or NoBuilder);
-    let answer = session.enumeration(debug_name, cases);
-    builder.put(session);
-    told(answer, index)
+    add_type(alloc, builder, debug_name, Described::Enum(cases), index)
 }
 
 /// Adds a type of functions: whether they are asynchronous, their parameters, as the fields of a
@@ -228,10 +241,12 @@ pub extern "C" fn wenc_type_function(
     let names = given!(text(names));
     let params = given!(Packed::new(names, params), or BadArgument);
     let answer_type = given!(answer_type(reference, of), or BadArgument);
-    let mut session = given!(builder.take(alloc), or NoBuilder);
-    let answer = session.function(debug_name, is_async, params, answer_type);
-    builder.put(session);
-    told(answer, index)
+    let ty = Described::Func {
+        is_async,
+        params,
+        result: answer_type,
+    };
+    add_type(alloc, builder, debug_name, ty, index)
 }
 
 /// Adds a type of resources, which numbers of 32 bits stand for: with the core function that is
@@ -256,8 +271,9 @@ pub extern "C" fn wenc_type_resource(
 {
     let debug_name = given!(text_where(named, debug_name));
     let dtor = if has_dtor { Some(dtor) } else { None };
-    let mut session = given!(builder.take(alloc), or NoBuilder);
-    let answer = session.resource(debug_name, dtor);
-    builder.put(session);
-    told(answer, index)
+    let ty = Described::Resource {
+        rep: ValType::I32,
+        dtor,
+    };
+    add_type(alloc, builder, debug_name, ty, index)
 }

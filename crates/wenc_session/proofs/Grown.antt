@@ -144,23 +144,3 @@ lowered_grow old name function xs more fault (inl (inr (inr c))) =
     inl (inr (inr (section_grows old.settled.sections.closed old.settled.sections.current 8 (canonical (Lower function xs)).text (canonical (Lower function (xs ++ more))).text
     (omega (arith, length-append (unsigned_text function) (list canonical_option xs).text, length-append (unsigned_text function) (list canonical_option (xs ++ more)).text, text_grows canonical_option xs more)) fault c)))
 lowered_grow old name function xs more fault (inr c) = inr c
-
--- ---- types
-
--- where a text has no room, one that is no shorter has none
-room_grows_at : (s : State) (b : Option BegunItem) (text longer : List ℕ) → s.begun ≡ b → length text ≤ length longer → SectionCause (content_of (item_appended s text)).sections.current TooLarge
-    → SectionCause (content_of (item_appended s longer)).sections.current TooLarge
-room_grows_at s None text longer e h c = rw e (rw e at c)
-room_grows_at s (Some b) text longer e h c =
-    let d = rw e at c in
-    rw e (section_grows s.settled.sections.closed s.settled.sections.current b.id (b.text ++ text) (b.text ++ longer) (omega (arith, h, length-append b.text text, length-append b.text longer)) TooLarge d)
-
-pub room_grows : (s : State) (text longer : List ℕ) → length text ≤ length longer → (fault : Fault) → no_room_in_section s text fault → no_room_in_section s longer fault
-room_grows s text longer h fault p = (p.0, room_grows_at s s.begun text longer refl h p.1)
-
-module _ {A : Type 0} (form : Form A) (lent : State) (tag : ℕ) (xs more : List A) where
-  -- a list after a byte: the fields of a record, the parameters of a function
-  pub listed_grow : (fault : Fault) → either (tag ▸ list form xs).Cause (no_room_in_section lent (tag ▸ list form xs).text) fault
-      → either (tag ▸ list form (xs ++ more)).Cause (no_room_in_section lent (tag ▸ list form (xs ++ more)).text) fault
-  listed_grow fault (inl c) = inl (cause_grows form xs more fault c)
-  listed_grow fault (inr p) = inr (room_grows lent (tag ∷ (list form xs).text) (tag ∷ (list form (xs ++ more)).text) (omega (arith, text_grows form xs more)) fault p)

@@ -1,5 +1,4 @@
 pub mod Answers
-pub mod Functions
 pub mod Grown
 pub mod OneRead
 pub mod Runs

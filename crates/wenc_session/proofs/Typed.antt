@@ -5,7 +5,7 @@ use Rattle.std.proofs.Math.Nat.{ℕ_set}
 use Rattle.std.specs.Prelude.{is_none}
 use Rattle.wenc_base.specs.Fault.{IsWarranted, NoCause, either}
 use Rattle.wenc_base.specs.declared.fault.Fault.{Fault}
-use Rattle.wenc_base.specs.declared.fault.Fault.TheVariants.{Unfinished}
+use Rattle.wenc_base.specs.declared.fault.Fault.TheVariants.{Memory, Unfinished}
 use Rattle.wenc_base.specs.laws.Serves.{still_warranted}
 use Rattle.wenc_builder.specs.Builder.{BegunItem, Namespace, Content, State, step, content_of, builder_is_finished, namespace_at, Draft, draft, draft_indices, item_begun, item_appended, item_ended, item_given_up}
 use Rattle.wenc_builder.specs.Cause.{BeginCause, CallCause, EnterCause}
@@ -122,3 +122,19 @@ module _ (old : State) (x : Entry) (d : Draft) (w : IsWrittenType x d) (settled 
 
       never : ◌≡◌ {A = Result ℕ Fault} (Ok index) (Err Unfinished) → ⊥
       never is = cc
+
+-- for want of memory anything may be refused where nothing is unfinished
+pub no_memory : (old : State) (x : Entry) (e : _) → builder_is_finished old ≡ true → Enters old old (Err (Memory e)) x
+no_memory old x e settled = record {
+  held = λ es h. tt;
+  state = tt;
+  counted = tt;
+  fits = tt;
+  free = tt;
+  err = refl;
+  warranted = tt;
+  unfinished = ((λ un. absurd (contradicts un)), λ is. absurd cc);
+}
+  where
+    contradicts : builder_is_finished old ≡ false → ⊥
+    contradicts un = cc

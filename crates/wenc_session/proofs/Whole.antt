@@ -20,29 +20,6 @@ module _ {S A B C : Type 0} (view : A → B) (rest : S → List B) (make : B →
   abbrev made : List A → List C
   made vs = map (λ x. make (view x)) vs
 
-  module _ {T : Type 0} (next : List ℕ → T) (refuses : List ℕ → Fault → Type 0) (piece : List C → Piece) where
-    abbrev Refused : List C → Fault → Type 0
-    Refused xs = either (piece xs).Cause (refuses (piece xs).text)
-
-    pub whole_extends : ((xs more : List C) (fault : Fault) → Refused xs fault → Refused (xs ++ more) fault) → (old new : T) (outcome : Result (Unit {0}) Fault)
-        → ExtendsListed (YieldsFirstBy view rest) values old new outcome next refuses (λ vs. piece (made vs)) → Extends old new (next (piece all).text) outcome (piece all) (refuses (piece all).text)
-    whole_extends grows old new (Ok u) a =
-        let run = a.ok.0 in
-        let e : made run.items ≡ all = sym (gave_all view rest make run a.ok.2) ∙ ap (λ s. map make (rest s)) a.ok.1 in
-        let x = subst (λ xs. Extended new next refuses (piece xs)) e a.ok.3 in
-        record { ok = x.state; fits = x.fits; free = x.free; err = tt; warranted = tt }
-    whole_extends grows old new (Err f) a =
-        let run = a.warranted.0 in
-        let front = gave_front view rest make run in
-        let e : all ≡ made run.items ++ front.0 = ap (λ s. map make (rest s)) (sym a.warranted.1) ∙ front.1 in
-        record {
-          ok = tt;
-          fits = tt;
-          free = tt;
-          err = a.err;
-          warranted = still_warranted (Refused (made run.items)) (Refused all) (λ g c. subst (λ xs. Refused xs g) (sym e) (grows (made run.items) front.0 g c)) f a.warranted.2;
-        }
-
   pub whole_enters : (old new : State) (result : Result ℕ Fault) (x : List C → Entry) → ((xs more : List C) (fault : Fault) → EnterCause old (x xs) fault → EnterCause old (x (xs ++ more)) fault)
       → EntersListed (YieldsFirstBy view rest) values old new result (λ vs. x (made vs)) → Enters old new result (x all)
   whole_enters old new (Ok i) x grows a =
@@ -84,27 +61,3 @@ listed_as_they_are steps values old new (Err f) x a =
 pub shown_enters : {S A B : Type 0} (view : A → B) (rest : S → List B) (values : S) (old new : State) (result : Result ℕ Fault) (x : List B → Entry) → ((xs more : List B) (fault : Fault) → EnterCause old (x xs) fault → EnterCause old (x (xs ++ more)) fault)
     → EntersListed (YieldsFirstBy view rest) values old new result (λ vs. x (map (λ (v : A). view v) vs)) → Enters old new result (x (rest values))
 shown_enters {B = B} view rest values old new result x grows a = subst (λ xs. Enters old new result (x xs)) (as_they_are (rest values)) (whole_enters view rest (λ (y : B). y) values old new result x grows a)
-
-extends_as_they_are : {T S B : Type 0} (steps : S → Option B → S → Type 0) (values : S) (old new : T) (outcome : Result (Unit {0}) Fault) (next : List ℕ → T) (refuses : List ℕ → Fault → Type 0) (piece : List B → Piece)
-    → ExtendsListed steps values old new outcome next refuses piece → ExtendsListed steps values old new outcome next refuses (λ vs. piece (map (λ (v : B). v) vs))
-extends_as_they_are steps values old new (Ok u) next refuses piece a =
-    let run = a.ok.0 in
-    record { ok = (run, a.ok.1, a.ok.2, subst (λ xs. Extended new next refuses (piece xs)) (sym (as_they_are run.items)) a.ok.3); err = tt; warranted = tt }
-extends_as_they_are steps values old new (Err f) next refuses piece a =
-    let run = a.warranted.0 in
-    record { ok = tt; err = a.err; warranted = (run, a.warranted.1, subst (λ xs. IsWarranted (either (piece xs).Cause (refuses (piece xs).text)) f) (sym (as_they_are run.items)) a.warranted.2) }
-
-module _ {S B T : Type 0} (rest : S → List B) (values : S) (next : List ℕ → T) (refuses : List ℕ → Fault → Type 0) (piece : List B → Piece) where
-  abbrev Grows : Type 0
-  Grows = (xs more : List B) (fault : Fault) → either (piece xs).Cause (refuses (piece xs).text) fault → either (piece (xs ++ more)).Cause (refuses (piece (xs ++ more)).text) fault
-
-  abbrev Shown : T → T → Result (Unit {0}) Fault → Type 0
-  Shown old new outcome = Extends old new (next (piece (rest values)).text) outcome (piece (rest values)) (refuses (piece (rest values)).text)
-
-  pub shown_extends : {A : Type 0} (view : A → B) → Grows → (old new : T) (outcome : Result (Unit {0}) Fault) → ExtendsListed (YieldsFirstBy view rest) values old new outcome next refuses (λ vs. piece (map (λ (v : A). view v) vs)) → Shown old new outcome
-  shown_extends view grows old new outcome a =
-      subst (λ xs. Extends old new (next (piece xs).text) outcome (piece xs) (refuses (piece xs).text)) (as_they_are (rest values))
-      (whole_extends view rest (λ (y : B). y) values next refuses piece grows old new outcome a)
-
-  pub listed_extends : Grows → (old new : T) (outcome : Result (Unit {0}) Fault) → ExtendsListed (YieldsFirstBy (λ (v : B). v) rest) values old new outcome next refuses piece → Shown old new outcome
-  listed_extends grows old new outcome a = shown_extends (λ (v : B). v) grows old new outcome (extends_as_they_are (YieldsFirstBy (λ (v : B). v) rest) values old new outcome next refuses piece a)

@@ -4,6 +4,7 @@
 
 mod adding;
 mod builtins;
+pub mod described;
 mod items;
 pub mod laws;
 pub mod numbers;
@@ -13,6 +14,7 @@ pub mod session;
 pub mod texts;
 mod written;
 
+pub use described::Described;
 pub use packed::{Packed, Part};
 pub use refused::Refused;
 pub use session::Session;

@@ -232,23 +232,3 @@ impl<'a, T: Sort> Iterator for Unnamed<'a, T> {
         Some(item)
     }
 }
-
-/// What is left of a list of names.
-#[derive(Drop)]
-pub struct Names<'a>(pub Packed<'a, ()>);
-
-impl<'a> Iterator for Names<'a> {
-    ghost use Rattle.std.specs.Prelude.{map};
-    ghost use Rattle.wenc_session.specs.Packed.{first};
-
-    type Item = &'a str;
-
-    ghost next_gives = { YieldsFirstBy (λ n. n.now) (λ s. map first s.0) };
-
-    ghost remaining = { item_count (λ s. map first s.0) };
-
-    fn next(&mut self) -> Option<&'a str> {
-        let (name, ()) = self.0.next()?;
-        Some(name)
-    }
-}

@@ -8,34 +8,30 @@ ghost use Rattle.wenc_builder.specs.Entry.{import_entry, export_entry, alias_ent
 ghost use Rattle.wenc_builder.specs.Entry.{canonical_entry, start_entry, custom_entry, raw_entry, core_instance_entry, instance_entry, type_entry};
 ghost use Rattle.wenc_builder.specs.Names.{AddsNames};
 ghost use Rattle.wenc_session.specs.Builtins.{builtin_of};
-ghost use Rattle.wenc_session.specs.Packed.{core_instantiating, enum_of, exporting, flags_of, function_of, inline_exporting, instantiating, lifting, lowering, record_of, tuple_of, variant_of};
+ghost use Rattle.wenc_session.specs.Described.{described_view};
+ghost use Rattle.wenc_session.specs.Packed.{core_instantiating, exporting, inline_exporting, instantiating, lifting, lowering};
 ghost use Rattle.wenc_session.specs.Reads.{AddsReadTo, read_custom, read_one};
 ghost use Rattle.wenc_session.specs.Sessions.{AddsIfTo, AddsTo, AddsWithoutIndexTo, Copies, Counts, Does, Finishes, IsEmpty};
 ghost use Rattle.wenc_session.specs.Sessions.{IsFaultThat, Nests, of_builder};
 ghost use Rattle.wenc_session.specs.Statuses.{Among, of_a_call, status_of};
-ghost use Rattle.wenc_base.specs.declared.types.ValType.TheVariants.{I32};
 ghost use Rattle.wenc_parts.specs.Aliases.{alias_view};
 ghost use Rattle.wenc_parts.specs.Imports.{extern_name_view};
-ghost use Rattle.wenc_types.specs.ComponentTypes.{DefinedType, ResourceType};
-ghost use Rattle.wenc_types.specs.TypeTrees.{defined_view};
 
 use crate::adding::{add, add_custom};
 use crate::builtins::add_builtin;
+use crate::described::Described;
 use crate::packed::Packed;
 use crate::refused::Refused;
 use crate::written::{
-    write_core_instance, write_enum, write_exports, write_flags, write_function, write_instance,
-    write_items, write_lifted, write_lowered, write_record, write_tuple, write_type, write_variant,
+    write_core_instance, write_described, write_exports, write_instance, write_items, write_lifted,
+    write_lowered,
 };
 use std::alloc::Global;
 use std::mem::replace;
-use wenc_base::{CustomSection, ExportKind, Fault, ValType};
+use wenc_base::{CustomSection, ExportKind, Fault};
 use wenc_builder::{ComponentBuilder, Space};
 use wenc_canon::CanonicalOption;
-use wenc_parts::{
-    Alias, ComponentExportKind, ComponentExternName, ComponentTypeRef, ComponentValType, ModuleArg,
-};
-use wenc_types::{DefinedTree, TypeTree};
+use wenc_parts::{Alias, ComponentExportKind, ComponentExternName, ComponentTypeRef, ModuleArg};
 
 /// A component, while it is built and when it is finished. Each call is the builder's; a finished
 /// component refuses it, and a refused call changes nothing.
@@ -271,161 +267,21 @@ impl Session {
         }
     }
 
-    /// Adds a type of resources, which are represented by numbers of 32 bits, with the core
-    /// function that is called when one is dropped, or none.
-    pub fn resource(&mut self, debug_name: Option<&str>, dtor: Option<u32>) -> Result<u32, Refused>
+    /// Adds a type.
+    pub fn ty(
+        &mut self,
+        alloc: Global,
+        debug_name: Option<&str>,
+        ty: Described<'_>,
+    ) -> Result<u32, Refused>
         ensures added { AddsTo self.old self.new result
-            (type_entry (option_copied debug_name.entry) (ResourceType I32 dtor)) }
+            (type_entry (option_copied debug_name.entry) (described_view ty.entry)) }
         ensures among { Among of_a_call (status_of result) }
     {
         match self {
-            Session::Building(builder) => by_builder(builder.type_resource(
-                debug_name,
-                ValType::I32,
-                dtor,
+            Session::Building(builder) => by_builder(write_described(
+                builder, alloc, debug_name, ty,
             )),
-            Session::Finished(_) => Err(Refused::Finished),
-        }
-    }
-
-    /// Adds a record of these fields.
-    pub fn record(
-        &mut self,
-        debug_name: Option<&str>,
-        fields: Packed<'_, ComponentValType>,
-    ) -> Result<u32, Refused>
-        ensures added { AddsTo self.old self.new result
-            (type_entry (option_copied debug_name.entry) (record_of fields.entry)) }
-        ensures among { Among of_a_call (status_of result) }
-    {
-        match self {
-            Session::Building(builder) => {
-                if !builder.is_finished() {
-                    return Err(Refused::Fault(Fault::Unfinished));
-                }
-                by_builder(write_record(builder, debug_name, fields))
-            }
-            Session::Finished(_) => Err(Refused::Finished),
-        }
-    }
-
-    /// Adds a variant of these cases.
-    pub fn variant(
-        &mut self,
-        debug_name: Option<&str>,
-        cases: Packed<'_, Option<ComponentValType>>,
-    ) -> Result<u32, Refused>
-        ensures added { AddsTo self.old self.new result
-            (type_entry (option_copied debug_name.entry) (variant_of cases.entry)) }
-        ensures among { Among of_a_call (status_of result) }
-    {
-        match self {
-            Session::Building(builder) => {
-                if !builder.is_finished() {
-                    return Err(Refused::Fault(Fault::Unfinished));
-                }
-                by_builder(write_variant(builder, debug_name, cases))
-            }
-            Session::Finished(_) => Err(Refused::Finished),
-        }
-    }
-
-    /// Adds a tuple of these elements.
-    pub fn tuple(
-        &mut self,
-        debug_name: Option<&str>,
-        elements: Packed<'_, ComponentValType>,
-    ) -> Result<u32, Refused>
-        ensures added { AddsTo self.old self.new result
-            (type_entry (option_copied debug_name.entry) (tuple_of elements.entry)) }
-        ensures among { Among of_a_call (status_of result) }
-    {
-        match self {
-            Session::Building(builder) => {
-                if !builder.is_finished() {
-                    return Err(Refused::Fault(Fault::Unfinished));
-                }
-                by_builder(write_tuple(builder, debug_name, elements))
-            }
-            Session::Finished(_) => Err(Refused::Finished),
-        }
-    }
-
-    /// Adds flags of these names.
-    pub fn flags(&mut self, debug_name: Option<&str>, names: Packed<'_, ()>) -> Result<u32, Refused>
-        ensures added { AddsTo self.old self.new result
-            (type_entry (option_copied debug_name.entry) (flags_of names.entry)) }
-        ensures among { Among of_a_call (status_of result) }
-    {
-        match self {
-            Session::Building(builder) => {
-                if !builder.is_finished() {
-                    return Err(Refused::Fault(Fault::Unfinished));
-                }
-                by_builder(write_flags(builder, debug_name, names))
-            }
-            Session::Finished(_) => Err(Refused::Finished),
-        }
-    }
-
-    /// Adds an enumeration of these names.
-    pub fn enumeration(
-        &mut self,
-        debug_name: Option<&str>,
-        names: Packed<'_, ()>,
-    ) -> Result<u32, Refused>
-        ensures added { AddsTo self.old self.new result
-            (type_entry (option_copied debug_name.entry) (enum_of names.entry)) }
-        ensures among { Among of_a_call (status_of result) }
-    {
-        match self {
-            Session::Building(builder) => {
-                if !builder.is_finished() {
-                    return Err(Refused::Fault(Fault::Unfinished));
-                }
-                by_builder(write_enum(builder, debug_name, names))
-            }
-            Session::Finished(_) => Err(Refused::Finished),
-        }
-    }
-
-    /// Adds this type of values.
-    pub fn defined(&mut self, debug_name: Option<&str>, ty: DefinedTree) -> Result<u32, Refused>
-        ensures added { AddsTo self.old self.new result
-            (type_entry (option_copied debug_name.entry) (DefinedType (defined_view ty))) }
-        ensures among { Among of_a_call (status_of result) }
-    {
-        match self {
-            Session::Building(builder) => {
-                if !builder.is_finished() {
-                    return Err(Refused::Fault(Fault::Unfinished));
-                }
-                by_builder(write_type(builder, debug_name, &TypeTree::Defined(ty)))
-            }
-            Session::Finished(_) => Err(Refused::Finished),
-        }
-    }
-
-    /// Adds a type of functions.
-    pub fn function(
-        &mut self,
-        debug_name: Option<&str>,
-        is_async: bool,
-        params: Packed<'_, ComponentValType>,
-        answer: Option<ComponentValType>,
-    ) -> Result<u32, Refused>
-        ensures added { AddsTo self.old self.new result
-            (type_entry (option_copied debug_name.entry)
-            (function_of is_async params.entry answer)) }
-        ensures among { Among of_a_call (status_of result) }
-    {
-        match self {
-            Session::Building(builder) => {
-                if !builder.is_finished() {
-                    return Err(Refused::Fault(Fault::Unfinished));
-                }
-                by_builder(write_function(builder, debug_name, is_async, params, answer))
-            }
             Session::Finished(_) => Err(Refused::Finished),
         }
     }
