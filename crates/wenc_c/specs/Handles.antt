@@ -48,6 +48,18 @@ abbrev pub NestsAt : Option (List ℕ) → Option Session → Option Session →
 NestsAt name (Some inner) old new answer = At (Nests name inner) old new answer
 NestsAt name None old new answer = (answer ≡ Err NoBuilder) × (new ≡ old)
 
+-- The type that one handle owns was added to what another owns (`AddsType`). Where the one owned
+-- nothing, that is answered, and nothing is changed.
+abbrev pub AddsTypeAt : Option (List ℕ) → Option Session → Option Session → Option Session
+    → Result ℕ Refusals → Type 0
+AddsTypeAt name (Some inner) old new answer = At (AddsType name inner) old new answer
+AddsTypeAt name None old new answer = (answer ≡ Err NoBuilder) × (new ≡ old)
+
+-- The type that the handle owns declared this export (`ExportsTo`).
+abbrev pub ExportsAt : Option Session → Option Session → Result ℕ Refusals → ExternName
+    → ComponentTypeRef → Type 0
+ExportsAt old new answer name ty = At (λ s s' a. ExportsTo s s' a name ty) old new answer
+
 -- The answer is how many items this space has in what the handle owns (`Counts`), or that it owns
 -- nothing.
 abbrev pub CountsAt : Space → Option Session → Result ℕ Refusals → Type 0

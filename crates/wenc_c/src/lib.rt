@@ -13,6 +13,7 @@ mod builtins;
 mod by_text;
 pub mod callers;
 mod canonicals;
+mod declarations;
 mod defined;
 mod handle;
 mod instances;

@@ -1,4 +1,5 @@
 pub mod Answers
+pub mod Declared
 pub mod Grown
 pub mod OneRead
 pub mod Runs

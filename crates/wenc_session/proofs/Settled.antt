@@ -1,18 +1,26 @@
 -- No call leaves an item unfinished.
-use Rattle.std.proofs.Common.{◌≡◌, ℕ, Bool, true, false, true≢false, List, Option, Some, None, Result, Ok, Err, refl, sym, subst, ◌∙◌}
+use Rattle.std.proofs.Common.{◌≡◌, inl, inr, ℕ, Bool, true, false, true≢false, List, Option, Some, None, Result, Ok, Err, refl, sym, subst, ◌∙◌}
 use Rattle.wenc_base.specs.declared.fault.Fault.{Fault as Faults}
 use Rattle.wenc_base.specs.declared.fault.Fault.TheVariants.{Memory, TooMany, TooLarge, Unfinished}
 use Rattle.wenc_base.specs.Readers.{Flaw}
+use Rattle.wenc_base.specs.Fault.{IsWarranted}
+use Rattle.wenc_base.specs.Holder.{Accepted, AddCause, HolderState, is_finished}
+use Rattle.wenc_base.specs.Piece.{Piece}
 use Rattle.wenc_builder.specs.Builder.{State, builder_is_finished}
+use Rattle.wenc_builder.specs.laws.Never.{never_unfinished}
+use Rattle.wenc_session.specs.Declaring.{DeclaresTo, declaration_of, state_of}
+use Rattle.wenc_session.specs.declared.declaring.Declaring.{Declaring}
+use Rattle.wenc_session.specs.declared.declaring.Declaring.TheVariants as declaring
+use Rattle.wenc_types.specs.ComponentTypes.{ComponentDeclaration, ComponentType, Declared, Imported, InstanceDeclaration, InstanceType, and_component, and_instance, component_declaration, instance_declaration, no_component, no_instance}
 use Rattle.wenc_builder.specs.Enters.{EntersWith, Enters, EntersWithoutIndex}
 use Rattle.wenc_builder.specs.Entry.{Entry}
-use Rattle.wenc_builder.specs.Item.{Item}
+use Rattle.wenc_builder.specs.Item.{Item, TypeItem}
 use Rattle.wenc_builder.specs.Names.{AddsNames, none_named, kept_names}
 use Rattle.wenc_builder.specs.Space.{Indices}
 use Rattle.wenc_session.specs.Reads.{AddsReadTo, IsUnread, entry_of}
-use Rattle.wenc_session.specs.Sessions.{answer_of, AddsIfTo, AddsTo, AddsWithoutIndexTo, Answered, Does, Finishes, IsEmpty, IsSettled, Nests, NestsTo, StaysSettled}
+use Rattle.wenc_session.specs.Sessions.{answer_of, AddsIfTo, AddsTo, AddsWithoutIndexTo, Answered, DeclaresIfTo, Does, Finishes, IsEmpty, IsSettled, Nests, NestsTo, StaysSettled}
 use Rattle.wenc_session.specs.declared.refused.Refused.{Refused as Refusals}
-use Rattle.wenc_session.specs.declared.refused.Refused.TheVariants.{Fault, Finished, NoBuilder}
+use Rattle.wenc_session.specs.declared.refused.Refused.TheVariants.{BadArgument, Fault, Finished}
 use Rattle.wenc_session.specs.declared.session.Session.{Session}
 use Rattle.wenc_session.specs.declared.session.Session.TheVariants as sessions
 
@@ -53,17 +61,75 @@ answered_stays did c (Err other) k a = absurd a
 closed_stays : {R : Type 0} (t : Session) (answer : Result R Refusals) (s : Session) → IsSettled s → answer ≡ Err Finished → t ≡ s → StaysSettled t answer
 closed_stays t answer s f e same = (subst IsSettled (sym same) f, λ h. absurd cc)
 
+-- so does what can't do it
+other_stays : {R : Type 0} (t : Session) (answer : Result R Refusals) (s : Session) → IsSettled s → answer ≡ Err BadArgument → t ≡ s → StaysSettled t answer
+other_stays t answer s f e same = (subst IsSettled (sym same) f, λ h. absurd cc)
+
 does_stay : {R : Type 0} (did : State → State → Result R Faults → Type 0) → Keeps did → (s t : Session) (answer : Result R Refusals) → IsSettled s → Does did s t answer → StaysSettled t answer
 does_stay did k (sessions.Building b) (sessions.Building c) answer f a = answered_stays (did b c) c answer (λ result d. k b c result f d) a
 does_stay did k (sessions.Building b) (sessions.Finished bytes) answer f a = absurd a
+does_stay did k (sessions.Building b) (sessions.Declaring c) answer f a = absurd a
+does_stay did k (sessions.Declaring d) t answer f a = other_stays t answer (sessions.Declaring d) f a.0 a.1
 does_stay did k (sessions.Finished bytes) t answer f a = closed_stays t answer (sessions.Finished bytes) tt a.0 a.1
 
 pub empty_settled : (s : Session) → IsEmpty s → IsSettled s
 empty_settled (sessions.Building b) h = rw h.finished refl
 empty_settled (sessions.Finished bytes) h = absurd h
+empty_settled (sessions.Declaring t) h = absurd h
+
+-- ---- of a type
+
+added_to : {old new : HolderState} {p : Piece} → is_finished old ≡ true → Accepted p old new → is_finished new ≡ true
+added_to f a = rw a.state f
+
+settled_cause : (h : HolderState) (text : List ℕ) (cause : Faults → Type 0) → is_finished h ≡ true → (cause Unfinished → ⊥) → IsWarranted (AddCause h text cause) Unfinished → ⊥
+settled_cause h text cause f never (inl c) = never c
+settled_cause h text cause f never (inr (inl c)) = absurd c
+settled_cause h text cause f never (inr (inr c)) = not_both (is_finished h) f c.1
+
+component_never : (d : ComponentDeclaration) → (component_declaration d).Cause Unfinished → ⊥
+component_never d c = never_unfinished (TypeItem (ComponentType (and_component d no_component))) (inr (inl c))
+
+instance_never : (d : InstanceDeclaration) → (instance_declaration d).Cause Unfinished → ⊥
+instance_never d c = never_unfinished (TypeItem (InstanceType (and_instance d no_instance))) (inr (inl c))
+
+abbrev Kept : {R : Type 0} → Declaring → Result R Refusals → Type 0
+Kept new answer = (is_finished (state_of new).held ≡ true) × (answer ≡ Err (Fault Unfinished) → ⊥)
+
+not_answered : (answer : Result ℕ Refusals) → Answered (λ result. ⊥) answer → ⊥
+not_answered (Ok i) a = a
+not_answered (Err (Fault fault)) a = a
+not_answered (Err other) a = absurd a
+
+declared_kept : (old new : Declaring) (answer : Result ℕ Refusals) (d : ComponentDeclaration) → is_finished (state_of old).held ≡ true → Answered (λ result. DeclaresTo old new result d) answer → Kept new answer
+declared_kept (declaring.Component t) (declaring.Component u) (Ok i) d f a = (added_to f a.0.added.ok, λ h. absurd cc)
+declared_kept (declaring.Component t) (declaring.Component u) (Err (Fault Unfinished)) d f a = absurd (settled_cause t.held (component_declaration d).text (component_declaration d).Cause f (component_never d) a.0.added.warranted)
+declared_kept (declaring.Component t) (declaring.Component u) (Err (Fault (Memory e))) d f a = (rw a.0.err f, λ h. absurd cc)
+declared_kept (declaring.Component t) (declaring.Component u) (Err (Fault TooMany)) d f a = (rw a.0.err f, λ h. absurd cc)
+declared_kept (declaring.Component t) (declaring.Component u) (Err (Fault TooLarge)) d f a = (rw a.0.err f, λ h. absurd cc)
+declared_kept (declaring.Instance t) (declaring.Instance u) (Ok i) (Declared d) f a = (added_to f a.0.added.ok, λ h. absurd cc)
+declared_kept (declaring.Instance t) (declaring.Instance u) (Err (Fault Unfinished)) (Declared d) f a = absurd (settled_cause t.held (instance_declaration d).text (instance_declaration d).Cause f (instance_never d) a.0.added.warranted)
+declared_kept (declaring.Instance t) (declaring.Instance u) (Err (Fault (Memory e))) (Declared d) f a = (rw a.0.err f, λ h. absurd cc)
+declared_kept (declaring.Instance t) (declaring.Instance u) (Err (Fault TooMany)) (Declared d) f a = (rw a.0.err f, λ h. absurd cc)
+declared_kept (declaring.Instance t) (declaring.Instance u) (Err (Fault TooLarge)) (Declared d) f a = (rw a.0.err f, λ h. absurd cc)
+declared_kept (declaring.Component t) (declaring.Instance u) answer d f a = absurd (not_answered answer a)
+declared_kept (declaring.Instance t) (declaring.Component u) answer d f a = absurd (not_answered answer a)
+declared_kept (declaring.Instance t) (declaring.Instance u) answer (Imported name ty) f a = absurd (not_answered answer a)
+declared_kept (declaring.Component t) (declaring.Component u) (Err other) d f a = absurd a
+declared_kept (declaring.Instance t) (declaring.Instance u) (Err other) (Declared d) f a = absurd a
+
+declared_stays : (old new : Declaring) (answer : Result ℕ Refusals) (d : Option ComponentDeclaration) → is_finished (state_of old).held ≡ true → DeclaresIfTo old new answer d → Kept new answer
+declared_stays old new answer (Some d) f a = declared_kept old new answer d f a
+declared_stays old new answer None f a = (rw a.1 f, (let e = a.0 in λ h. absurd cc))
+
+-- ---- of what a handle owns
 
 pub added_stays : (s t : Session) (answer : Result ℕ Refusals) (x : Entry) → IsSettled s → AddsTo s t answer x → StaysSettled t answer
-added_stays s t answer x f a = does_stay (λ b c result. Enters b c result x) (λ b c result f e. enters_keep x b c result f e) s t answer f a
+added_stays (sessions.Building b) t answer x f a = does_stay (λ b c result. Enters b c result x) (λ b c result f e. enters_keep x b c result f e) (sessions.Building b) t answer f a
+added_stays (sessions.Finished bytes) t answer x f a = closed_stays t answer (sessions.Finished bytes) tt a.0 a.1
+added_stays (sessions.Declaring d) (sessions.Declaring e) answer x f a = declared_stays d e answer (declaration_of d x) f a
+added_stays (sessions.Declaring d) (sessions.Building b) answer x f a = absurd a
+added_stays (sessions.Declaring d) (sessions.Finished bytes) answer x f a = absurd a
 
 pub without_index_stays : (s t : Session) (answer : Result (Unit {0}) Refusals) (x : Entry) → IsSettled s → AddsWithoutIndexTo s t answer x → StaysSettled t answer
 without_index_stays s t answer x f a = does_stay (λ b c result. EntersWithoutIndex b c result x) (λ b c result f e. enters_keep x b c result f e) s t answer f a
@@ -78,6 +144,8 @@ pub added_if_stays : (s t : Session) (answer : Result ℕ Refusals) (x : Option 
 added_if_stays (sessions.Building b) (sessions.Building c) answer (Some x) f a = answered_stays (λ result. Enters b c result x) c answer (λ result d. enters_keep x b c result f d) a
 added_if_stays (sessions.Building b) (sessions.Building c) answer None f a = unchanged_stays b c answer f a.1 (let e = a.0 in λ h. absurd cc)
 added_if_stays (sessions.Building b) (sessions.Finished bytes) answer x f a = absurd a
+added_if_stays (sessions.Building b) (sessions.Declaring d) answer x f a = absurd a
+added_if_stays (sessions.Declaring d) t answer x f a = other_stays t answer (sessions.Declaring d) f a.0 a.1
 added_if_stays (sessions.Finished bytes) t answer x f a = closed_stays t answer (sessions.Finished bytes) tt a.0 a.1
 
 unread_is_other : {R : Type 0} (b : Bool) (flaw : Flaw) (answer : Result R Refusals) → b ≡ true → IsUnread b flaw answer → answer ≡ Err (Fault Unfinished) → ⊥
@@ -90,6 +158,8 @@ read_stays : {R : Type 0} (enters : State → State → Result R Faults → Entr
 read_stays enters k (sessions.Building b) (sessions.Building c) answer name (Ok x) f a = answered_stays (λ result. enters b c result (entry_of name x)) c answer (λ result d. k (entry_of name x) b c result f d) a
 read_stays enters k (sessions.Building b) (sessions.Building c) answer name (Err flaw) f a = unchanged_stays b c answer f a.0 (unread_is_other (builder_is_finished b) flaw answer f a.1)
 read_stays enters k (sessions.Building b) (sessions.Finished bytes) answer name found f a = absurd a
+read_stays enters k (sessions.Building b) (sessions.Declaring d) answer name found f a = absurd a
+read_stays enters k (sessions.Declaring d) t answer name found f a = other_stays t answer (sessions.Declaring d) f a.0 a.1
 read_stays enters k (sessions.Finished bytes) t answer name found f a = closed_stays t answer (sessions.Finished bytes) tt a.0 a.1
 
 pub found_stays : (s t : Session) (answer : Result ℕ Refusals) (name : Option (List ℕ)) (found : Result Item Flaw) → IsSettled s → AddsReadTo Enters s t answer name found → StaysSettled t answer
@@ -101,9 +171,12 @@ custom_stays s t answer name found f a = read_stays EntersWithoutIndex (λ x b c
 pub nested_stays : (s t inner : Session) (answer : Result ℕ Refusals) (name : Option (List ℕ)) → IsSettled s → IsSettled inner → Nests name inner s t answer → StaysSettled t answer
 nested_stays s t (sessions.Building inner) answer name f g a = does_stay (NestsTo name inner) (λ b c result h n. enters_keep _ b c result h (n.bytes g)) s t answer f a
 nested_stays s t (sessions.Finished bytes) answer name f g a = closed_stays t answer s f a.0 a.1
+nested_stays s t (sessions.Declaring d) answer name f g a = other_stays t answer s f a.0 a.1
 
 pub finished_stays : (s t : Session) (answer : Result ℕ Refusals) → IsSettled s → Finishes s t answer → StaysSettled t answer
 finished_stays (sessions.Building b) (sessions.Finished bytes) (Ok size) f a = (tt, λ h. absurd cc)
 finished_stays (sessions.Building b) (sessions.Building c) (Ok size) f a = absurd a
+finished_stays (sessions.Building b) (sessions.Declaring d) (Ok size) f a = absurd a
+finished_stays (sessions.Declaring d) t answer f a = other_stays t answer (sessions.Declaring d) f a.0 a.1
 finished_stays (sessions.Building b) t (Err refused) f a = absurd (not_both (builder_is_finished b) f a.1)
 finished_stays (sessions.Finished bytes) t answer f a = (rw a.1 tt, (let e = a.0 in λ h. absurd cc))

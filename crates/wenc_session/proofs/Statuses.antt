@@ -37,6 +37,9 @@ if_among old new answer None a = rw a.0 (inl refl)
 closed_among : {R : Type 0} (answer : Result R Refusals) → answer ≡ Err Finished → Among of_a_call (status_of answer)
 closed_among answer e = rw e finished_among
 
+other_among : {R : Type 0} (answer : Result R Refusals) → answer ≡ Err BadArgument → Among of_a_call (status_of answer)
+other_among answer e = rw e (inr (inr (inr (inr (inr (inr (inl refl)))))))
+
 unread_among : {R : Type 0} (finished : _) (flaw : Flaw) (answer : Result R Refusals) → IsUnread finished flaw answer → Among (5 ∷ 6 ∷ of_a_call) (status_of answer)
 unread_among finished flaw (Ok r) a = absurd a
 unread_among finished flaw (Err (Fault fault)) a = inr (inr (fault_among fault))
@@ -56,3 +59,5 @@ pub found_among : {R : Type 0} (enters : State → State → Result R Faults →
 found_among enters (sessions.Building b) (sessions.Building c) answer name found a = read_among enters b c answer name found a
 found_among enters (sessions.Building b) (sessions.Finished bytes) answer name found a = absurd a
 found_among enters (sessions.Finished bytes) t answer name found a = inr (inr (closed_among answer a.0))
+found_among enters (sessions.Building b) (sessions.Declaring d) answer name found a = absurd a
+found_among enters (sessions.Declaring d) t answer name found a = inr (inr (other_among answer a.0))

@@ -1,4 +1,5 @@
 pub mod Builtins
+pub mod Declaring
 pub mod Described
 pub mod Flagged
 pub mod Names

@@ -109,12 +109,15 @@ abbrev pub of_nested_refusal : NestedRefusal → Refusals
 of_nested_refusal (nested.Flat refusal) = of_refusal refusal
 of_nested_refusal nested.TooDeep = TooDeep
 
--- The item that was read was added (`AddsRead`); or the component is finished, and nothing is
--- changed.
+-- The item that was read was added (`AddsRead`); or the component is finished, or it is a type, and
+-- nothing is changed.
 abbrev pub AddsReadTo : {R : Type 0} → (State → State → Result R Faults → Entry → Type 0) → Session
     → Session → Result R Refusals → Option (List ℕ) → Result Item Flaw → Type 0
 AddsReadTo enters (sessions.Building b) (sessions.Building b') answer name read =
     AddsRead enters b b' answer name read
 AddsReadTo enters (sessions.Building b) (sessions.Finished bytes) answer name read = ⊥
+AddsReadTo enters (sessions.Building b) (sessions.Declaring t) answer name read = ⊥
 AddsReadTo enters (sessions.Finished bytes) new answer name read =
     (answer ≡ Err Finished) × (new ≡ sessions.Finished bytes)
+AddsReadTo enters (sessions.Declaring t) new answer name read =
+    (answer ≡ Err BadArgument) × (new ≡ sessions.Declaring t)

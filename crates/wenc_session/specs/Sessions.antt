@@ -1,16 +1,25 @@
 -- What a call does to what a handle owns, and what C is told.
-use Rattle.std.specs.Prelude.{◌≡◌, ◌↔◌, ℕ, List, [], Option, Some, None, Result, Ok, Err, OnErr}
+use Rattle.std.specs.Prelude.{◌≡◌, ◌↔◌, ℕ, List, [], Option, Some, None, Result, Ok, Err, OnOk, OnErr}
 use Rattle.std.specs.Prelude.{nat_eq, if◌then◌else◌, alloc_error, length, true, false}
+use Rattle.wenc_base.specs.Holder.{is_finished}
 use Rattle.wenc_base.specs.Piece.{Spelling}
 use Rattle.wenc_base.specs.declared.fault.Fault.{Fault as Faults}
 use Rattle.wenc_base.specs.declared.fault.Fault.TheVariants.{Memory, TooMany, TooLarge, Unfinished}
 use Rattle.wenc_builder.specs.Builder.{State, builder_is_finished, count_in, sections_text}
-use Rattle.wenc_builder.specs.Entry.{Entry, items, component_entry}
+use Rattle.wenc_builder.specs.Entry.{Entry, items, component_entry, type_entry}
 use Rattle.wenc_builder.specs.Enters.{Enters, EntersWithoutIndex}
 use Rattle.wenc_builder.specs.Holds.{Holds}
 use Rattle.wenc_builder.specs.Raw.{HasNoRaw}
 use Rattle.wenc_builder.specs.Sections.{Reading, Section, runs, whole}
 use Rattle.wenc_builder.specs.declared.builder.space.Space.{Space}
+use Rattle.wenc_parts.specs.Imports.{ExternName}
+use Rattle.wenc_parts.specs.declared.imports.ComponentTypeRef.{ComponentTypeRef}
+use Rattle.wenc_types.specs.ComponentTypes.{ComponentDeclaration, ComponentType, Declared, DefType}
+use Rattle.wenc_types.specs.ComponentTypes.{Exported, InstanceType, components_of, instances_of}
+use Rattle.wenc_types.specs.Declarations.{ComponentDeclares, InstanceDeclares, TypeState}
+use Rattle.wenc_session.specs.Declaring.{DeclaresTo, counted_in, declaration_of, state_of}
+use Rattle.wenc_session.specs.declared.declaring.Declaring.{Declaring}
+use Rattle.wenc_session.specs.declared.declaring.Declaring.TheVariants as declaring
 use Rattle.wenc_session.specs.declared.refused.Refused.{Refused as Refusals}
 use Rattle.wenc_session.specs.declared.refused.Refused.TheVariants.{Fault, Malformed, TooDeep}
 use Rattle.wenc_session.specs.declared.refused.Refused.TheVariants.{BadArgument, Finished, NoBuilder}
@@ -56,16 +65,29 @@ Answered did (Err other) = ⊥
 
 -- ---- what a component is told
 
--- The builder did this; or the component is finished, and nothing is changed.
+-- The builder did this; or the component is finished, or it is a type, and nothing is changed.
 abbrev pub Does : {R : Type 0} → (State → State → Result R Faults → Type 0) → Session → Session
     → Result R Refusals → Type 0
 Does did (sessions.Building b) (sessions.Building b') answer = Answered (did b b') answer
 Does did (sessions.Building b) (sessions.Finished bytes) answer = ⊥
+Does did (sessions.Building b) (sessions.Declaring t) answer = ⊥
 Does did (sessions.Finished bytes) new answer =
     (answer ≡ Err Finished) × (new ≡ sessions.Finished bytes)
+Does did (sessions.Declaring t) new answer =
+    (answer ≡ Err BadArgument) × (new ≡ sessions.Declaring t)
 
--- This entry was added, and the answer is its index, or it was refused for a cause (`Enters`).
+-- The type declared this, where it can; else that is answered, and nothing is changed.
+abbrev pub DeclaresIfTo : Declaring → Declaring → Result ℕ Refusals → Option ComponentDeclaration
+    → Type 0
+DeclaresIfTo old new answer (Some d) = Answered (λ result. DeclaresTo old new result d) answer
+DeclaresIfTo old new answer None = (answer ≡ Err BadArgument) × (new ≡ old)
+
+-- This entry was added, and the answer is its index, or it was refused for a cause (`Enters`). A
+-- type declares it, if it can.
 abbrev pub AddsTo : Session → Session → Result ℕ Refusals → Entry → Type 0
+AddsTo (sessions.Declaring t) (sessions.Declaring t') answer x =
+    DeclaresIfTo t t' answer (declaration_of t x)
+AddsTo (sessions.Declaring t) new answer x = ⊥
 AddsTo old new answer x = Does (λ b b' result. Enters b b' result x) old new answer
 
 -- This entry, which has no index, was added, or it was refused for a cause (`EntersWithoutIndex`).
@@ -78,13 +100,16 @@ abbrev pub AddsIf : State → State → Result ℕ Refusals → Option Entry →
 AddsIf old new answer (Some x) = Answered (λ result. Enters old new result x) answer
 AddsIf old new answer None = (answer ≡ Err BadArgument) × (new ≡ old)
 
--- The entry was added, where there is one (`AddsIf`); or the component is finished, and nothing is
--- changed.
+-- The entry was added, where there is one (`AddsIf`); or the component is finished, or it is a type,
+-- and nothing is changed.
 abbrev pub AddsIfTo : Session → Session → Result ℕ Refusals → Option Entry → Type 0
 AddsIfTo (sessions.Building b) (sessions.Building b') answer x = AddsIf b b' answer x
 AddsIfTo (sessions.Building b) (sessions.Finished bytes) answer x = ⊥
+AddsIfTo (sessions.Building b) (sessions.Declaring t) answer x = ⊥
 AddsIfTo (sessions.Finished bytes) new answer x =
     (answer ≡ Err Finished) × (new ≡ sessions.Finished bytes)
+AddsIfTo (sessions.Declaring t) new answer x =
+    (answer ≡ Err BadArgument) × (new ≡ sessions.Declaring t)
 
 -- What a call of a builder does with another one as a nested component: the clauses of the
 -- builder's own call.
@@ -97,15 +122,46 @@ pub record NestsTo (name : Option (List ℕ)) (inner old new : State) (result : 
   pub unfinished : builder_is_finished inner ≡ false → result ≡ Err Unfinished
   pub err : OnErr result (new ≡ old)
 
--- A component that is built was added; one that is finished is refused.
+-- A component that is built was added; one that is finished is refused, and a type.
 abbrev pub Nests : Option (List ℕ) → Session → Session → Session → Result ℕ Refusals → Type 0
 Nests name (sessions.Building inner) old new answer = Does (NestsTo name inner) old new answer
 Nests name (sessions.Finished bytes) old new answer = (answer ≡ Err Finished) × (new ≡ old)
+Nests name (sessions.Declaring t) old new answer = (answer ≡ Err BadArgument) × (new ≡ old)
 
--- the number of items in a space
+-- What a call does with a type of components or of instances: it adds the type with these
+-- declarations. One that has something unfinished is refused, and nothing is changed.
+pub record AddsTypeOf {D : Type 0} (name : Option (List ℕ)) (t : TypeState)
+    (declares : TypeState → List D → Type 0) (type_of : List D → DefType)
+    (old new : Session) (answer : Result ℕ Refusals) : Type 0 where
+  pub added : (ds : List D) → declares t ds → AddsTo old new answer (type_entry name (type_of ds))
+  pub unfinished : is_finished t.held ≡ false → OnOk answer ⊥ × (new ≡ old)
+
+-- A type was added; what is none is refused.
+abbrev pub AddsType : Option (List ℕ) → Session → Session → Session → Result ℕ Refusals → Type 0
+AddsType name (sessions.Declaring (declaring.Component t)) old new answer =
+    AddsTypeOf name t ComponentDeclares (λ ds. ComponentType (components_of ds)) old new answer
+AddsType name (sessions.Declaring (declaring.Instance t)) old new answer =
+    AddsTypeOf name t InstanceDeclares (λ ds. InstanceType (instances_of ds)) old new answer
+AddsType name other old new answer = (answer ≡ Err BadArgument) × (new ≡ old)
+
+-- A type declared this export; what is no type refuses it.
+abbrev pub ExportsTo : Session → Session → Result ℕ Refusals → ExternName → ComponentTypeRef
+    → Type 0
+ExportsTo (sessions.Declaring t) (sessions.Declaring t') answer name ty =
+    DeclaresIfTo t t' answer (Some (Declared (Exported name ty)))
+ExportsTo old new answer name ty = (answer ≡ Err BadArgument) × (new ≡ old)
+
+-- what is there, or the answer that it isn't
+abbrev pub answer_if : {R : Type 0} → Option R → Result R Refusals
+answer_if (Some r) = Ok r
+answer_if None = Err BadArgument
+
+-- the number of items in a space; of a type, where they are counted
 abbrev pub Counts : Space → Session → Result ℕ Refusals → Type 0
 Counts space (sessions.Building b) answer = answer ≡ Ok (count_in b space)
 Counts space (sessions.Finished bytes) answer = answer ≡ Err Finished
+Counts space (sessions.Declaring t) answer =
+    answer ≡ answer_if (counted_in (state_of t).counts space)
 
 -- ---- the whole
 
@@ -121,15 +177,18 @@ pub record IsComponentOf (b : State) (bytes : List ℕ) : Type 0 where
 abbrev pub IsFinishedAs : (List ℕ → Type 0) → ℕ → Session → Type 0
 IsFinishedAs P size (sessions.Building b) = ⊥
 IsFinishedAs P size (sessions.Finished bytes) = (size ≡ length bytes.items) × P bytes.items
+IsFinishedAs P size (sessions.Declaring t) = ⊥
 
 -- A component that was built is finished, or an item of it is unfinished and nothing is changed;
--- one that was finished is as it was.
+-- one that was finished is as it was, and a type is none.
 abbrev pub Finishes : Session → Session → Result ℕ Refusals → Type 0
 Finishes (sessions.Building b) new (Ok size) = IsFinishedAs (IsComponentOf b) size new
 Finishes (sessions.Building b) new (Err refused) =
     (refused ≡ Fault Unfinished) × (builder_is_finished b ≡ false) × (new ≡ sessions.Building b)
 Finishes (sessions.Finished bytes) new answer =
     (answer ≡ Ok (length bytes.items)) × (new ≡ sessions.Finished bytes)
+Finishes (sessions.Declaring t) new answer =
+    (answer ≡ Err BadArgument) × (new ≡ sessions.Declaring t)
 
 -- The bytes of a finished component were copied to room for so many.
 abbrev pub Copies : Session → List ℕ → List ℕ → Result (Unit {0}) Refusals → Type 0
@@ -137,18 +196,21 @@ Copies (sessions.Building b) old new answer = (answer ≡ Err (Fault Unfinished)
 Copies (sessions.Finished bytes) old new (Ok r) = new ≡ bytes.items
 Copies (sessions.Finished bytes) old new (Err refused) =
     (refused ≡ BadArgument) × (new ≡ old) × (length old ≡ length bytes.items → ⊥)
+Copies (sessions.Declaring t) old new answer = (answer ≡ Err BadArgument) × (new ≡ old)
 
 -- A builder that holds nothing.
 abbrev pub IsEmpty : Session → Type 0
 IsEmpty (sessions.Building b) = Holds b []
 IsEmpty (sessions.Finished bytes) = ⊥
+IsEmpty (sessions.Declaring t) = ⊥
 
 -- ---- nothing stays unfinished
 
--- no item of what is built is unfinished
+-- no item of what is built is unfinished, and no type of what is declared
 abbrev pub IsSettled : Session → Type 0
 IsSettled (sessions.Building b) = builder_is_finished b ≡ true
 IsSettled (sessions.Finished bytes) = Unit {0}
+IsSettled (sessions.Declaring t) = is_finished (state_of t).held ≡ true
 
 -- so it is, and the answer isn't that one was
 abbrev pub StaysSettled : {R : Type 0} → Session → Result R Refusals → Type 0

@@ -1,5 +1,5 @@
 //! Types as C describes them: by numbers and by packed lists.
-ghost use Rattle.std.specs.Prelude.{◌≡◌, ◌×◌, ℕ, IfOk, List, map};
+ghost use Rattle.std.specs.Prelude.{◌≡◌, ℕ, IfOk, List, map};
 ghost use Rattle.wenc_session.specs.Described.{described_view};
 ghost use Rattle.wenc_types.specs.TypeTrees.{type_view};
 
@@ -48,18 +48,18 @@ impl<'a> Described<'a> {
         ensures { IfOk result (λ t. type_view t ≡ described_view self.entry) }
     {
         let defined = match self {
-            Described::Record(fields) => DefinedTree::Record(kept(alloc, fields)?),
-            Described::Variant(cases) => DefinedTree::Variant(kept(alloc, cases)?),
-            Described::Tuple(elements) => DefinedTree::Tuple(kept(alloc, elements)?),
-            Described::Flags(names) => DefinedTree::Flags(kept(alloc, names)?),
-            Described::Enum(names) => DefinedTree::Enum(kept(alloc, names)?),
+            Described::Record(fields) => DefinedTree::Record(collected(alloc, fields)?),
+            Described::Variant(cases) => DefinedTree::Variant(collected(alloc, cases)?),
+            Described::Tuple(elements) => DefinedTree::Tuple(collected(alloc, elements)?),
+            Described::Flags(names) => DefinedTree::Flags(collected(alloc, names)?),
+            Described::Enum(names) => DefinedTree::Enum(collected(alloc, names)?),
             Described::Defined(tree) => tree,
             Described::Func {
                 is_async,
                 params,
                 result,
             } => {
-                let params = kept(alloc, params)?;
+                let params = collected(alloc, params)?;
                 return Ok(TypeTree::Func {
                     is_async,
                     params,
@@ -156,7 +156,7 @@ impl Kept<()> for String {
 }
 
 /// What a tree has of a packed list.
-fn kept<T: Sort, K: Kept<T>>(alloc: Global, list: Packed<'_, T>) -> Result<Vec<K>, AllocError>
+fn collected<T: Sort, K: Kept<T>>(alloc: Global, list: Packed<'_, T>) -> Result<Vec<K>, AllocError>
     ensures { IfOk result (λ ks. map K.seen ks.items ≡ map K.of list.entry) }
 {
     let mut all = Vec::new(alloc);

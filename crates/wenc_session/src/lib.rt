@@ -4,6 +4,7 @@
 
 mod adding;
 mod builtins;
+pub mod declaring;
 pub mod described;
 mod items;
 pub mod laws;
@@ -14,6 +15,7 @@ pub mod session;
 pub mod texts;
 mod written;
 
+pub use declaring::Declaring;
 pub use described::Described;
 pub use packed::{Packed, Part};
 pub use refused::Refused;

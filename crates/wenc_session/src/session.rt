@@ -1,4 +1,4 @@
-//! What a handle owns: a builder, and then the component that it finished.
+//! What a handle owns: a builder, and then the component that it finished; or a type.
 ghost use Rattle.std.specs.Option.{option_copied};
 ghost use Rattle.std.specs.Prelude.{◌≡◌, ◌∷◌, [], IfErr, IfOk, None};
 ghost use Rattle.wenc_base.specs.Fault.{IsMemory};
@@ -11,7 +11,7 @@ ghost use Rattle.wenc_session.specs.Builtins.{builtin_of};
 ghost use Rattle.wenc_session.specs.Described.{described_view};
 ghost use Rattle.wenc_session.specs.Packed.{core_instantiating, exporting, inline_exporting, instantiating, lifting, lowering};
 ghost use Rattle.wenc_session.specs.Reads.{AddsReadTo, read_custom, read_one};
-ghost use Rattle.wenc_session.specs.Sessions.{AddsIfTo, AddsTo, AddsWithoutIndexTo, Copies, Counts, Does, Finishes, IsEmpty};
+ghost use Rattle.wenc_session.specs.Sessions.{AddsIfTo, AddsTo, AddsType, AddsWithoutIndexTo, Copies, Counts, Does, ExportsTo, Finishes, IsEmpty};
 ghost use Rattle.wenc_session.specs.Sessions.{IsFaultThat, Nests, of_builder};
 ghost use Rattle.wenc_session.specs.Statuses.{Among, of_a_call, status_of};
 ghost use Rattle.wenc_parts.specs.Aliases.{alias_view};
@@ -19,12 +19,13 @@ ghost use Rattle.wenc_parts.specs.Imports.{extern_name_view};
 
 use crate::adding::{add, add_custom};
 use crate::builtins::add_builtin;
+use crate::declaring::Declaring;
 use crate::described::Described;
 use crate::packed::Packed;
 use crate::refused::Refused;
 use crate::written::{
     write_core_instance, write_described, write_exports, write_instance, write_items, write_lifted,
-    write_lowered,
+    write_lowered, write_type_of,
 };
 use std::alloc::Global;
 use std::mem::replace;
@@ -33,14 +34,17 @@ use wenc_builder::{ComponentBuilder, Space};
 use wenc_canon::CanonicalOption;
 use wenc_parts::{Alias, ComponentExportKind, ComponentExternName, ComponentTypeRef, ModuleArg};
 
-/// A component, while it is built and when it is finished. Each call is the builder's; a finished
-/// component refuses it, and a refused call changes nothing.
+/// A component, while it is built and when it is finished, or a type while it is declared. Each call
+/// is the builder's: a finished component refuses it, and so does a type that can't declare what is
+/// added. A refused call changes nothing.
 #[derive(Drop)]
 pub enum Session {
     /// It takes more items.
     Building(ComponentBuilder),
     /// Its bytes.
     Finished(Vec<u8>),
+    /// It is a type, which declares more.
+    Declaring(Declaring),
 }
 
 /// How many items a builder has in this space.
@@ -102,6 +106,7 @@ impl Session {
         match self {
             Session::Building(builder) => by_builder(builder.import(name, ty)),
             Session::Finished(_) => Err(Refused::Finished),
+            Session::Declaring(types) => types.import(name, ty),
         }
     }
 
@@ -121,6 +126,7 @@ impl Session {
         match self {
             Session::Building(builder) => by_builder(builder.export(name, kind, index, ty)),
             Session::Finished(_) => Err(Refused::Finished),
+            Session::Declaring(_) => Err(Refused::BadArgument),
         }
     }
 
@@ -134,6 +140,10 @@ impl Session {
         match self {
             Session::Building(builder) => by_builder(builder.alias(debug_name, alias)),
             Session::Finished(_) => Err(Refused::Finished),
+            Session::Declaring(types) => match debug_name {
+                Some(_) => Err(Refused::BadArgument),
+                None => by_builder(types.alias(alias)),
+            },
         }
     }
 
@@ -145,6 +155,7 @@ impl Session {
         match self {
             Session::Building(builder) => add_builtin(builder, opcode, first, second),
             Session::Finished(_) => Err(Refused::Finished),
+            Session::Declaring(_) => Err(Refused::BadArgument),
         }
     }
 
@@ -166,6 +177,7 @@ impl Session {
                 builder, debug_name, function, ty, options,
             )),
             Session::Finished(_) => Err(Refused::Finished),
+            Session::Declaring(_) => Err(Refused::BadArgument),
         }
     }
 
@@ -186,6 +198,7 @@ impl Session {
                 builder, debug_name, function, options,
             )),
             Session::Finished(_) => Err(Refused::Finished),
+            Session::Declaring(_) => Err(Refused::BadArgument),
         }
     }
 
@@ -209,6 +222,7 @@ impl Session {
                 args,
             )),
             Session::Finished(_) => Err(Refused::Finished),
+            Session::Declaring(_) => Err(Refused::BadArgument),
         }
     }
 
@@ -225,6 +239,7 @@ impl Session {
         match self {
             Session::Building(builder) => by_builder(write_exports(builder, debug_name, exports)),
             Session::Finished(_) => Err(Refused::Finished),
+            Session::Declaring(_) => Err(Refused::BadArgument),
         }
     }
 
@@ -248,6 +263,7 @@ impl Session {
                 args,
             )),
             Session::Finished(_) => Err(Refused::Finished),
+            Session::Declaring(_) => Err(Refused::BadArgument),
         }
     }
 
@@ -264,6 +280,7 @@ impl Session {
         match self {
             Session::Building(builder) => by_builder(write_items(builder, debug_name, items)),
             Session::Finished(_) => Err(Refused::Finished),
+            Session::Declaring(_) => Err(Refused::BadArgument),
         }
     }
 
@@ -283,6 +300,44 @@ impl Session {
                 builder, alloc, debug_name, ty,
             )),
             Session::Finished(_) => Err(Refused::Finished),
+            Session::Declaring(types) => match debug_name {
+                Some(_) => Err(Refused::BadArgument),
+                None => by_builder(types.ty(alloc, ty)),
+            },
+        }
+    }
+
+    /// Adds the type that another declares, which is left as it is.
+    pub fn type_of(&mut self, debug_name: Option<&str>, types: &Session) -> Result<u32, Refused>
+        ensures added { AddsType (option_copied debug_name.entry) types.now self.old self.new
+            result }
+        ensures among { Among of_a_call (status_of result) }
+    {
+        let Session::Declaring(types) = types else {
+            return Err(Refused::BadArgument);
+        };
+        match self {
+            Session::Building(builder) => by_builder(write_type_of(builder, debug_name, types)),
+            Session::Finished(_) => Err(Refused::Finished),
+            Session::Declaring(to) => match debug_name {
+                Some(_) => Err(Refused::BadArgument),
+                None => by_builder(to.type_of(types)),
+            },
+        }
+    }
+
+    /// Declares an export of a type.
+    pub fn declare_export(
+        &mut self,
+        name: ComponentExternName<'_>,
+        ty: ComponentTypeRef,
+    ) -> Result<u32, Refused>
+        ensures added { ExportsTo self.old self.new result (extern_name_view name.entry) ty }
+        ensures among { Among of_a_call (status_of result) }
+    {
+        match self {
+            Session::Declaring(types) => by_builder(types.export(name, ty)),
+            _ => Err(Refused::BadArgument),
         }
     }
 
@@ -295,6 +350,7 @@ impl Session {
         match self {
             Session::Building(builder) => by_builder(builder.core_module_raw(debug_name, bytes)),
             Session::Finished(_) => Err(Refused::Finished),
+            Session::Declaring(_) => Err(Refused::BadArgument),
         }
     }
 
@@ -311,6 +367,7 @@ impl Session {
         match self {
             Session::Building(builder) => by_builder(builder.component_raw(debug_name, bytes)),
             Session::Finished(_) => Err(Refused::Finished),
+            Session::Declaring(_) => Err(Refused::BadArgument),
         }
     }
 
@@ -325,8 +382,10 @@ impl Session {
                     by_builder(builder.component_ref(debug_name, nested))
                 }
                 Session::Finished(_) => Err(Refused::Finished),
+                Session::Declaring(_) => Err(Refused::BadArgument),
             },
             Session::Finished(_) => Err(Refused::Finished),
+            Session::Declaring(_) => Err(Refused::BadArgument),
         }
     }
 
@@ -338,6 +397,7 @@ impl Session {
         match self {
             Session::Building(builder) => by_builder(builder.start(function, args, results)),
             Session::Finished(_) => Err(Refused::Finished),
+            Session::Declaring(_) => Err(Refused::BadArgument),
         }
     }
 
@@ -356,6 +416,7 @@ impl Session {
                 by_builder(builder.custom_section(&section))
             }
             Session::Finished(_) => Err(Refused::Finished),
+            Session::Declaring(_) => Err(Refused::BadArgument),
         }
     }
 
@@ -367,6 +428,7 @@ impl Session {
         match self {
             Session::Building(builder) => by_builder(builder.raw_custom_section(bytes)),
             Session::Finished(_) => Err(Refused::Finished),
+            Session::Declaring(_) => Err(Refused::BadArgument),
         }
     }
 
@@ -378,6 +440,7 @@ impl Session {
         match self {
             Session::Building(builder) => by_builder(builder.append_names()),
             Session::Finished(_) => Err(Refused::Finished),
+            Session::Declaring(_) => Err(Refused::BadArgument),
         }
     }
 
@@ -402,6 +465,7 @@ impl Session {
                 add(builder, alloc, section, debug_name, text)
             }
             Session::Finished(_) => Err(Refused::Finished),
+            Session::Declaring(_) => Err(Refused::BadArgument),
         }
     }
 
@@ -420,24 +484,29 @@ impl Session {
                 add_custom(builder, alloc, text)
             }
             Session::Finished(_) => Err(Refused::Finished),
+            Session::Declaring(_) => Err(Refused::BadArgument),
         }
     }
 
     /// How many items this space has.
     pub fn count(&self, space: Space) -> Result<u32, Refused>
         ensures counted { Counts space self.now result }
-        ensures among { Among (0 ∷ 8 ∷ []) (status_of result) }
+        ensures among { Among (0 ∷ 7 ∷ 8 ∷ []) (status_of result) }
     {
         match self {
             Session::Building(builder) => Ok(count_of(builder, space)),
             Session::Finished(_) => Err(Refused::Finished),
+            Session::Declaring(types) => match types.count(space) {
+                Some(count) => Ok(count),
+                None => Err(Refused::BadArgument),
+            },
         }
     }
 
     /// Finishes the component, and answers how many bytes it has. It takes no memory.
     pub fn finish(&mut self, alloc: Global) -> Result<usize, Refused>
         ensures finished { Finishes self.old self.new result }
-        ensures among { Among (0 ∷ 4 ∷ []) (status_of result) }
+        ensures among { Among (0 ∷ 4 ∷ 7 ∷ []) (status_of result) }
     {
         match self {
             Session::Building(builder) => {
@@ -446,6 +515,7 @@ impl Session {
                 }
             }
             Session::Finished(bytes) => return Ok(bytes.len()),
+            Session::Declaring(_) => return Err(Refused::BadArgument),
         }
         match replace(self, Session::Finished(Vec::new(alloc))) {
             Session::Building(builder) => match builder.finish() {
@@ -460,6 +530,10 @@ impl Session {
                 let len = bytes.len();
                 *self = Session::Finished(bytes);
                 Ok(len)
+            }
+            Session::Declaring(types) => {
+                *self = Session::Declaring(types);
+                Err(Refused::BadArgument)
             }
         }
     }
@@ -478,6 +552,7 @@ impl Session {
                 out.copy_from_slice(bytes.as_slice());
                 Ok(())
             }
+            Session::Declaring(_) => Err(Refused::BadArgument),
         }
     }
 }

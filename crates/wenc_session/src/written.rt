@@ -1,15 +1,21 @@
 //! Types, of trees and of packed lists, and core instances of such lists, written into a builder.
 ghost use Rattle.std.specs.Option.{option_copied};
-ghost use Rattle.std.specs.Prelude.{◌≡◌, Err, List, true};
+ghost use Rattle.std.specs.Prelude.{◌≡◌, Err, List, OnOk, false, true};
+ghost use Rattle.wenc_base.specs.Holder.{is_finished};
 ghost use Rattle.wenc_builder.specs.Builder.{builder_is_finished, item_given_up};
 ghost use Rattle.wenc_builder.specs.Enters.{Enters};
 ghost use Rattle.wenc_builder.specs.Entry.{Entry, canonical_entry, core_instance_entry, core_type_entry, instance_entry, type_entry};
 ghost use Rattle.wenc_builder.specs.Holds.{Holds};
+ghost use Rattle.wenc_session.specs.Declaring.{state_of};
 ghost use Rattle.wenc_session.specs.Described.{described_view};
+ghost use Rattle.wenc_session.specs.declared.declaring.Declaring.TheVariants as declaring;
 ghost use Rattle.wenc_session.specs.Packed.{core_instantiating, exporting, inline_exporting, instantiating, lifting, lowering};
+ghost use Rattle.wenc_types.specs.ComponentTypes.{ComponentDeclaration, ComponentType as ComponentTypes, InstanceDeclaration, InstanceType as InstanceTypes, components_of, instances_of};
 ghost use Rattle.wenc_types.specs.CoreTypeTrees.{core_type_view};
+ghost use Rattle.wenc_types.specs.Declarations.{ComponentDeclares, InstanceDeclares, TypeState};
 ghost use Rattle.wenc_types.specs.TypeTrees.{type_view};
 
+use crate::declaring::Declaring;
 use crate::described::Described;
 use crate::packed::{Exports, InlineItems, Items, Packed, Unnamed};
 use std::alloc::Global;
@@ -64,6 +70,29 @@ pub(crate) fn write_described(
     match ty.tree(alloc) {
         Ok(tree) => write_type(builder, debug_name, &tree),
         Err(failed) => Err(Fault::Memory(failed)),
+    }
+}
+
+/// Adds the type that is declared, with a debug name or none, and answers its index.
+pub(crate) fn write_type_of(
+    builder: &mut ComponentBuilder,
+    debug_name: Option<&str>,
+    ty: &Declaring,
+) -> Result<u32, Fault>
+    ensures component { (t : TypeState) (ds : List ComponentDeclaration)
+        → ty.now ≡ declaring.Component t → ComponentDeclares t ds
+        → Enters builder.old builder.new result
+        (type_entry (option_copied debug_name.entry) (ComponentTypes (components_of ds))) }
+    ensures instance { (t : TypeState) (ds : List InstanceDeclaration)
+        → ty.now ≡ declaring.Instance t → InstanceDeclares t ds
+        → Enters builder.old builder.new result
+        (type_entry (option_copied debug_name.entry) (InstanceTypes (instances_of ds))) }
+    ensures unfinished { is_finished (state_of ty.now).held ≡ false
+        → OnOk result ⊥ × (builder.new ≡ builder.old) }
+{
+    match ty {
+        Declaring::Component(ty) => builder.type_component(debug_name, ty),
+        Declaring::Instance(ty) => builder.type_instance(debug_name, ty),
     }
 }
 

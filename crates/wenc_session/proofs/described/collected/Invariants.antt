@@ -1,5 +1,5 @@
 use Rattle.std.proofs.Common.{◌≡◌, ◌++◌, length, map}
-use Rattle.wenc_session.proofs.described.kept.Given as goal
+use Rattle.wenc_session.proofs.described.collected.Given as goal
 
 abbrev pub invariant-loop-name : goal.invariant-loop-name
 invariant-loop-name g l = map g.K.Kept.seen l.all.items ++ map g.K.Kept.of l.left ≡ map g.K.Kept.of l.fn.list

@@ -1,0 +1,75 @@
+-- Types of components and of instances, while C declares what they have.
+use Rattle.std.specs.Prelude.{◌≡◌, ℕ, List, Option, Some, None, Result, IfOk}
+use Rattle.std.specs.Prelude.{nat_eq, if◌then◌else◌}
+use Rattle.wenc_base.specs.declared.fault.Fault.{Fault}
+use Rattle.wenc_builder.specs.Entry.{Entry}
+use Rattle.wenc_builder.specs.Item.{Item, AliasItem, ImportItem, TypeItem}
+use Rattle.wenc_builder.specs.declared.builder.space.Space.{Space}
+use Rattle.wenc_builder.specs.declared.builder.space.Space.TheVariants as spaces
+use Rattle.wenc_session.specs.declared.declaring.Declaring.{Declaring}
+use Rattle.wenc_session.specs.declared.declaring.Declaring.TheVariants as declaring
+use Rattle.wenc_types.specs.ComponentTypes.{Aliased, ComponentDeclaration, Declared, Imported}
+use Rattle.wenc_types.specs.ComponentTypes.{Typed}
+use Rattle.wenc_types.specs.Declarations.{AddsToComponent, AddsToInstance, TypeState}
+use Rattle.wenc_types.specs.Declarations.{component_sort, indexed_outcome, instance_sort}
+use Rattle.wenc_types.specs.Declarations.{no_declarations}
+use Rattle.wenc_types.specs.declared.counts.Counts.{Counts}
+use Rattle.wenc_types.specs.declared.counts.Sort.{Sort}
+use Rattle.wenc_types.specs.declared.counts.Sort.TheVariants as sorts
+
+-- what it has so far
+abbrev pub state_of : Declaring → TypeState
+state_of (declaring.Component t) = t
+state_of (declaring.Instance t) = t
+
+-- such a type before it declares anything, by the number of its kind
+abbrev pub new_type_of : ℕ → Option Declaring
+new_type_of kind =
+    if nat_eq kind 4 then Some (declaring.Component no_declarations)
+    else (if nat_eq kind 5 then Some (declaring.Instance no_declarations) else None)
+
+-- ---- what can be declared
+
+-- an item that a component type declares: a type or an alias, without a debug name, or an import
+abbrev pub declared_item : Item → Option (List ℕ) → Option ComponentDeclaration
+declared_item (TypeItem ty) None = Some (Declared (Typed ty))
+declared_item (AliasItem to) None = Some (Declared (Aliased to))
+declared_item (ImportItem import) name = Some (Imported import.name import.what)
+declared_item other name = None
+
+-- that item of such a type; that of an instance has no imports
+abbrev pub declared_in : Declaring → Option ComponentDeclaration → Option ComponentDeclaration
+declared_in (declaring.Component t) d = d
+declared_in (declaring.Instance t) (Some (Declared d)) = Some (Declared d)
+declared_in (declaring.Instance t) other = None
+
+abbrev pub declaration_of : Declaring → Entry → Option ComponentDeclaration
+declaration_of t x = declared_in t (declared_item x.item x.name)
+
+-- ---- indices
+
+-- the next index of this sort; 0 of what has none
+abbrev pub next_of : Counts → Option Sort → ℕ
+next_of n None = 0
+next_of n (Some sorts.CoreType) = n.core_types
+next_of n (Some sorts.«Type») = n.types
+next_of n (Some sorts.Instance) = n.instances
+
+-- how many there are in a space, of those that are counted
+abbrev pub counted_in : Counts → Space → Option ℕ
+counted_in n spaces.CoreTypes = Some n.core_types
+counted_in n spaces.Types = Some n.types
+counted_in n spaces.Instances = Some n.instances
+counted_in n other = None
+
+-- ---- what a call does
+
+-- This was declared, and the answer is its index; or it was refused for a cause.
+abbrev pub DeclaresTo : Declaring → Declaring → Result ℕ Fault → ComponentDeclaration → Type 0
+DeclaresTo (declaring.Component t) (declaring.Component t') result d =
+    AddsToComponent t t' (indexed_outcome result) d
+    × IfOk result (λ i. i ≡ next_of t.counts (component_sort d))
+DeclaresTo (declaring.Instance t) (declaring.Instance t') result (Declared d) =
+    AddsToInstance t t' (indexed_outcome result) d
+    × IfOk result (λ i. i ≡ next_of t.counts (instance_sort d))
+DeclaresTo old new result other = ⊥

@@ -1,0 +1,306 @@
+//! Types of components and of instances, while C declares what they have.
+ghost use Rattle.std.specs.Prelude.{◌≡◌, Err, IfOk, List, OnOk, Some, false, true};
+ghost use Rattle.wenc_base.specs.Encode.{Serves};
+ghost use Rattle.wenc_base.specs.Holder.{is_finished};
+ghost use Rattle.wenc_parts.specs.Aliases.{alias_view};
+ghost use Rattle.wenc_parts.specs.Imports.{extern_name_view};
+ghost use Rattle.wenc_session.specs.Declaring.{DeclaresTo, counted_in, declared_in, new_type_of, next_of, state_of};
+ghost use Rattle.wenc_session.specs.Described.{described_view};
+ghost use Rattle.wenc_session.specs.Sessions.{DeclaresIfTo};
+ghost use Rattle.wenc_session.specs.Statuses.{Among, of_a_call, status_of};
+ghost use Rattle.wenc_session.specs.declared.declaring.Declaring.TheVariants as declaring;
+ghost use Rattle.wenc_types.specs.ComponentTypes.{Aliased, ComponentDeclaration, ComponentType as ComponentTypes, Declared, Exported, Imported, InstanceDeclaration, InstanceType as InstanceTypes, Typed};
+ghost use Rattle.wenc_types.specs.ComponentTypes.{components_of, instance_declaration, instances_of};
+ghost use Rattle.wenc_types.specs.Declarations.{AddsDeclaration, ComponentDeclares, InstanceDeclares, TypeState, indexed_outcome, type_given_up};
+ghost use Rattle.wenc_types.specs.TypeTrees.{type_view};
+ghost use Rattle.wenc_types.specs.declared.counts.Sort.TheVariants as sorts;
+
+use crate::described::Described;
+use crate::refused::Refused;
+use crate::session::by_builder;
+use std::alloc::Global;
+use wenc_base::Fault;
+use wenc_builder::Space;
+use wenc_parts::{Alias, ComponentExternName, ComponentTypeRef};
+use wenc_types::counts::{Sort, sort_of_alias, sort_of_kind};
+use wenc_types::{ComponentType, Declarations, DeclaringKind, InstanceType, TypeTree};
+
+/// A type, while C declares what it has.
+#[derive(Drop)]
+pub enum Declaring {
+    /// A type of components.
+    Component(ComponentType),
+    /// A type of instances.
+    Instance(InstanceType),
+}
+
+/// How many declarations of this sort there are: the index of the next one. 0 of what has none.
+fn next_of<K: DeclaringKind>(ty: &Declarations<K, Global>, sort: Option<Sort>) -> u32
+    ensures { result ≡ next_of ty.now.counts sort }
+{
+    match sort {
+        None => 0,
+        Some(Sort::CoreType) => ty.core_type_count(),
+        Some(Sort::Type) => ty.type_count(),
+        Some(Sort::Instance) => ty.instance_count(),
+    }
+}
+
+/// Gives up the type that was being written when this fault was met.
+fn give_up<K: DeclaringKind>(ty: &mut Declarations<K, Global>, fault: Fault) -> Result<u32, Fault>
+    ensures { (result ≡ Err fault) × (ty.new ≡ type_given_up ty.old) }
+{
+    ty.discard_unfinished();
+    Err(fault)
+}
+
+/// Declares a type, and answers its index. What is refused is given up.
+fn declare_type<K: DeclaringKind>(
+    to: &mut Declarations<K, Global>,
+    ty: &TypeTree,
+) -> Result<u32, Fault>
+    ensures declared { (d : K.Declaration)
+        → Serves (instance_declaration (Typed (type_view ty.now))) (K.form d)
+        → K.sort d ≡ Some sorts.«Type»
+        → AddsDeclaration K.form K.sort to.old to.new (indexed_outcome result) d }
+    ensures index { IfOk result (λ i. i ≡ to.old.counts.types) }
+{
+    let index = to.type_count();
+    match to.ty() {
+        Ok(encoder) => match encoder.tree(ty) {
+            Ok(()) => Ok(index),
+            Err(fault) => give_up(to, fault),
+        },
+        Err(fault) => Err(fault),
+    }
+}
+
+/// Declares a type of components, and answers its index. What is refused is given up.
+fn declare_component<K: DeclaringKind>(
+    to: &mut Declarations<K, Global>,
+    ty: &ComponentType,
+) -> Result<u32, Fault>
+    requires { is_finished ty.now.held ≡ true }
+    ensures declared { (ds : List ComponentDeclaration) → ComponentDeclares ty.now ds → (d : K.Declaration)
+        → Serves (instance_declaration (Typed (ComponentTypes (components_of ds)))) (K.form d)
+        → K.sort d ≡ Some sorts.«Type»
+        → AddsDeclaration K.form K.sort to.old to.new (indexed_outcome result) d }
+    ensures index { IfOk result (λ i. i ≡ to.old.counts.types) }
+{
+    let index = to.type_count();
+    match to.ty() {
+        Ok(encoder) => match encoder.component(ty) {
+            Ok(()) => Ok(index),
+            Err(fault) => give_up(to, fault),
+        },
+        Err(fault) => Err(fault),
+    }
+}
+
+/// Declares a type of instances, and answers its index. What is refused is given up.
+fn declare_instance<K: DeclaringKind>(
+    to: &mut Declarations<K, Global>,
+    ty: &InstanceType,
+) -> Result<u32, Fault>
+    requires { is_finished ty.now.held ≡ true }
+    ensures declared { (ds : List InstanceDeclaration) → InstanceDeclares ty.now ds → (d : K.Declaration)
+        → Serves (instance_declaration (Typed (InstanceTypes (instances_of ds)))) (K.form d)
+        → K.sort d ≡ Some sorts.«Type»
+        → AddsDeclaration K.form K.sort to.old to.new (indexed_outcome result) d }
+    ensures index { IfOk result (λ i. i ≡ to.old.counts.types) }
+{
+    let index = to.type_count();
+    match to.ty() {
+        Ok(encoder) => match encoder.instance(ty) {
+            Ok(()) => Ok(index),
+            Err(fault) => give_up(to, fault),
+        },
+        Err(fault) => Err(fault),
+    }
+}
+
+impl Declaring {
+    /// A type that declares nothing so far: of components (4) or of instances (5), by the number of
+    /// the kind.
+    pub fn new(alloc: Global, kind: u32) -> Option<Declaring>
+        ensures { result ≡ new_type_of kind }
+    {
+        match kind {
+            4 => Some(Declaring::Component(ComponentType::new(alloc))),
+            5 => Some(Declaring::Instance(InstanceType::new(alloc))),
+            _ => None,
+        }
+    }
+
+    /// Declares a type.
+    pub fn ty(&mut self, alloc: Global, ty: Described<'_>) -> Result<u32, Fault>
+        ensures { DeclaresTo self.old self.new result (Declared (Typed (described_view ty.entry))) }
+    {
+        if !self.is_finished() {
+            return Err(Fault::Unfinished);
+        }
+        match ty.tree(alloc) {
+            Ok(tree) => match self {
+                Declaring::Component(to) => declare_type(to, &tree),
+                Declaring::Instance(to) => declare_type(to, &tree),
+            },
+            Err(failed) => Err(Fault::Memory(failed)),
+        }
+    }
+
+    /// Declares the type that another declares, which is left as it is.
+    pub fn type_of(&mut self, types: &Declaring) -> Result<u32, Fault>
+        ensures component { (t : TypeState) (ds : List ComponentDeclaration)
+            → types.now ≡ declaring.Component t → ComponentDeclares t ds
+            → DeclaresTo self.old self.new result
+            (Declared (Typed (ComponentTypes (components_of ds)))) }
+        ensures instance { (t : TypeState) (ds : List InstanceDeclaration)
+            → types.now ≡ declaring.Instance t → InstanceDeclares t ds
+            → DeclaresTo self.old self.new result
+            (Declared (Typed (InstanceTypes (instances_of ds)))) }
+        ensures unfinished { is_finished (state_of types.now).held ≡ false
+            → OnOk result ⊥ × (self.new ≡ self.old) }
+    {
+        match types {
+            Declaring::Component(ty) => self.component(ty),
+            Declaring::Instance(ty) => self.instance(ty),
+        }
+    }
+
+    /// Declares a type of components.
+    fn component(&mut self, ty: &ComponentType) -> Result<u32, Fault>
+        ensures declared { (ds : List ComponentDeclaration) → ComponentDeclares ty.now ds
+            → DeclaresTo self.old self.new result (Declared (Typed (ComponentTypes (components_of ds)))) }
+        ensures unfinished { is_finished ty.now.held ≡ false
+            → OnOk result ⊥ × (self.new ≡ self.old) }
+    {
+        if !ty.is_finished() {
+            return Err(Fault::Unfinished);
+        }
+        match self {
+            Declaring::Component(to) => declare_component(to, ty),
+            Declaring::Instance(to) => declare_component(to, ty),
+        }
+    }
+
+    /// Declares a type of instances.
+    fn instance(&mut self, ty: &InstanceType) -> Result<u32, Fault>
+        ensures declared { (ds : List InstanceDeclaration) → InstanceDeclares ty.now ds
+            → DeclaresTo self.old self.new result (Declared (Typed (InstanceTypes (instances_of ds)))) }
+        ensures unfinished { is_finished ty.now.held ≡ false
+            → OnOk result ⊥ × (self.new ≡ self.old) }
+    {
+        if !ty.is_finished() {
+            return Err(Fault::Unfinished);
+        }
+        match self {
+            Declaring::Component(to) => declare_instance(to, ty),
+            Declaring::Instance(to) => declare_instance(to, ty),
+        }
+    }
+
+    /// Whether no type is being written.
+    fn is_finished(&self) -> bool
+        ensures { result ≡ is_finished (state_of self.now).held }
+    {
+        match self {
+            Declaring::Component(ty) => ty.is_finished(),
+            Declaring::Instance(ty) => ty.is_finished(),
+        }
+    }
+
+    /// Declares an alias.
+    pub fn alias(&mut self, alias: Alias<'_>) -> Result<u32, Fault>
+        ensures { DeclaresTo self.old self.new result (Declared (Aliased (alias_view alias.entry))) }
+    {
+        let sort = sort_of_alias(&alias);
+        match self {
+            Declaring::Component(to) => {
+                let index = next_of(to, sort);
+                to.alias(alias)?;
+                Ok(index)
+            }
+            Declaring::Instance(to) => {
+                let index = next_of(to, sort);
+                to.alias(alias)?;
+                Ok(index)
+            }
+        }
+    }
+
+    /// Declares an import. A type of instances has none.
+    pub fn import(
+        &mut self,
+        name: ComponentExternName<'_>,
+        ty: ComponentTypeRef,
+    ) -> Result<u32, Refused>
+        ensures declared { DeclaresIfTo self.old self.new result
+            (declared_in self.old (Some (Imported (extern_name_view name.entry) ty))) }
+        ensures among { Among of_a_call (status_of result) }
+    {
+        match self {
+            Declaring::Component(to) => by_builder(import_into(to, name, ty)),
+            Declaring::Instance(_) => Err(Refused::BadArgument),
+        }
+    }
+
+    /// Declares an export.
+    pub fn export(
+        &mut self,
+        name: ComponentExternName<'_>,
+        ty: ComponentTypeRef,
+    ) -> Result<u32, Fault>
+        ensures { DeclaresTo self.old self.new result
+            (Declared (Exported (extern_name_view name.entry) ty)) }
+    {
+        let sort = sort_of_kind(ty.kind());
+        match self {
+            Declaring::Component(to) => {
+                let index = next_of(to, sort);
+                to.export(name, ty)?;
+                Ok(index)
+            }
+            Declaring::Instance(to) => {
+                let index = next_of(to, sort);
+                to.export(name, ty)?;
+                Ok(index)
+            }
+        }
+    }
+
+    /// The number of declarations in this space, where they are counted.
+    pub fn count(&self, space: Space) -> Option<u32>
+        ensures { result ≡ counted_in (state_of self.now).counts space }
+    {
+        match self {
+            Declaring::Component(ty) => count_in(ty, space),
+            Declaring::Instance(ty) => count_in(ty, space),
+        }
+    }
+}
+
+/// The number of declarations in this space, where they are counted.
+fn count_in<K: DeclaringKind>(ty: &Declarations<K, Global>, space: Space) -> Option<u32>
+    ensures { result ≡ counted_in ty.now.counts space }
+{
+    match space {
+        Space::CoreTypes => Some(ty.core_type_count()),
+        Space::Types => Some(ty.type_count()),
+        Space::Instances => Some(ty.instance_count()),
+        _ => None,
+    }
+}
+
+/// Declares an import, and answers its index.
+fn import_into(
+    to: &mut ComponentType,
+    name: ComponentExternName<'_>,
+    ty: ComponentTypeRef,
+) -> Result<u32, Fault>
+    ensures { DeclaresTo (declaring.Component to.old) (declaring.Component to.new) result
+        (Imported (extern_name_view name.entry) ty) }
+{
+    let index = next_of(to, sort_of_kind(ty.kind()));
+    to.import(name, ty)?;
+    Ok(index)
+}
