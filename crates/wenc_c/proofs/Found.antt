@@ -12,6 +12,8 @@ found_by : (old new : Option Session) (i : ℕ) (name : Option (List ℕ)) (foun
 found_by old new i name (Ok x) a = (x, refl)
 found_by (Some (sessions.Building b)) (Some (sessions.Building c)) i name (Err flaw) a = absurd a.1
 found_by (Some (sessions.Building b)) (Some (sessions.Finished bytes)) i name (Err flaw) a = absurd a
+found_by (Some (sessions.Building b)) (Some (sessions.Declaring t)) i name (Err flaw) a = absurd a
+found_by (Some (sessions.Declaring d)) (Some t) i name (Err flaw) a = absurd cc
 found_by (Some (sessions.Finished bytes)) (Some t) i name (Err flaw) a = absurd cc
 found_by (Some s) None i name (Err flaw) a = absurd a
 found_by None new i name (Err flaw) a = absurd cc

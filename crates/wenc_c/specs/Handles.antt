@@ -1,11 +1,17 @@
 -- What a call does by a handle: `None` is one that owns nothing.
-use Rattle.std.specs.Prelude.{◌≡◌, ℕ, List, Option, Some, None, Result, Err, true, false, Bool}
-use Rattle.std.specs.Str.{IsUtf8}
+use Rattle.std.specs.Prelude.{◌≡◌, ℕ, List, Option, Some, None, Result, Err}
+use Rattle.wenc_base.specs.Readers.{Flaw}
+use Rattle.wenc_base.specs.declared.fault.Fault.{Fault as Faults}
+use Rattle.wenc_builder.specs.Builder.{State}
 use Rattle.wenc_builder.specs.Entry.{Entry}
+use Rattle.wenc_builder.specs.Item.{Item}
 use Rattle.wenc_builder.specs.Names.{AddsNames}
 use Rattle.wenc_builder.specs.declared.builder.space.Space.{Space}
+use Rattle.wenc_parts.specs.Imports.{ExternName}
+use Rattle.wenc_parts.specs.declared.imports.ComponentTypeRef.{ComponentTypeRef}
+use Rattle.wenc_session.specs.Reads.{AddsReadTo}
 use Rattle.wenc_session.specs.Sessions.{Does, AddsTo, AddsIfTo, AddsWithoutIndexTo, Nests, Counts}
-use Rattle.wenc_session.specs.Sessions.{Finishes, Copies, IsEmpty, IsSettled}
+use Rattle.wenc_session.specs.Sessions.{AddsType, ExportsTo, Finishes, Copies, IsEmpty, IsSettled}
 use Rattle.wenc_session.specs.declared.refused.Refused.{Refused as Refusals}
 use Rattle.wenc_session.specs.declared.refused.Refused.TheVariants.{NoBuilder}
 use Rattle.wenc_session.specs.declared.session.Session.{Session}

@@ -61,7 +61,7 @@ pub extern "C" fn wenc_finish(alloc: Global, builder: &mut Handle, len: &mut usi
     ensures finished { FinishesAt builder.old.session builder.new.session
         (answer_of result len.new) }
     ensures kept { ¬ (result ≡ 0) → len.new ≡ len.old }
-    ensures statuses { Among (9 ∷ 0 ∷ 4 ∷ []) result }
+    ensures statuses { Among (9 ∷ 0 ∷ 4 ∷ 7 ∷ []) result }
 {
     let mut session = given!(builder.take(alloc), or NoBuilder);
     let answer = session.finish(alloc);
