@@ -15,6 +15,7 @@
 #define TEXT(text) (const uint8_t *)(text), sizeof(text) - 1
 /* A debug name. */
 #define NAMED true, TEXT("a debug name that is longer than a first growth")
+#define UNNAMED false, TEXT("")
 /* Ends the program where this isn't so. */
 #define REQUIRE(what) require((what), #what, __LINE__)
 
@@ -74,11 +75,25 @@ static size_t held(void) { return taken - given; }
 
 static const uint8_t bytes[200];
 
+static const wenc_part parts[] = {{1, WENC_REF_PRIMITIVE, WENC_S32}, {4, WENC_REF_VALUE, 0}};
+
+/* The calls that declare a type by a handle, add it, and free the handle. */
+static uint32_t declare(wenc_builder *to) {
+  wenc_builder types = {NULL};
+  uint32_t index, status = wenc_types_new(&types, WENC_INSTANCE);
+  if (status == WENC_DONE)
+    status = wenc_type_record(&types, UNNAMED, TEXT("xyyyy"), parts, 2, &index);
+  if (status == WENC_DONE)
+    status = wenc_type_export(&types, TEXT("an export"), WENC_REF_TYPE, 0, &index);
+  if (status == WENC_DONE) status = wenc_type(to, NAMED, &types, &index);
+  wenc_free(&types);
+  return status;
+}
+
 /* The call with this number, of CALLS. */
-#define CALLS 16
+#define CALLS 17
 
 static uint32_t call(wenc_builder *to, int number) {
-  static const wenc_part parts[] = {{1, WENC_REF_PRIMITIVE, WENC_S32}, {4, WENC_REF_VALUE, 0}};
   static const wenc_part exports[] = {{5, WENC_CORE_FUNC, 0}};
   static const uint32_t args[] = {0, 0, 0, 0, 0, 0, 0, 0};
   static const char type[] = "\x42\x02\x00\x60\x00\x00\x01\x6b\x73";
@@ -100,6 +115,7 @@ static uint32_t call(wenc_builder *to, int number) {
     case 12: return wenc_item(to, WENC_SECTION_TYPE, NAMED, TEXT(type), &index);
     case 13: return wenc_item(to, WENC_SECTION_IMPORT, NAMED, TEXT("\x00\x01\x66\x01\x00"), &index);
     case 14: return wenc_custom_section(to, TEXT("custom"), bytes, sizeof bytes);
+    case 15: return declare(to);
     default: return wenc_append_names(to);
   }
 }

@@ -20,11 +20,11 @@
  *
  * What a caller owes, since nothing tests it:
  *
- *  - A handle is one that wenc_new filled, or {NULL}. Each call of a handle takes either. On {NULL}
- *    wenc_free does nothing, and all others but wenc_new answer WENC_NO_BUILDER, or WENC_MALFORMED
- *    or WENC_BAD_ARGUMENT where they refuse another argument first. A copy of a handle is the same
- *    builder, and once one of them was freed or given up the others are no handles.
- *  - The two handles of wenc_component and wenc_component_ref are of two builders.
+ *  - A handle is one that wenc_new or wenc_types_new filled, or {NULL}. Each call of a handle takes
+ *    any. On {NULL} wenc_free does nothing, and all others but these two answer WENC_NO_BUILDER, or
+ *    WENC_MALFORMED or WENC_BAD_ARGUMENT where they refuse another argument first. A copy of a handle
+ *    is the same builder, and once one of them was freed or given up the others are no handles.
+ *  - The two handles of wenc_component, wenc_component_ref and wenc_type are of two builders.
  *  - A builder is used by one thread at a time. It may be handed to another thread.
  *  - No pointer is NULL, not that of an empty text or list either ("" serves). Each points to as
  *    much as its number says, and what a call writes to overlaps nothing else that it is given.
@@ -44,7 +44,8 @@
 extern "C" {
 #endif
 
-/* A builder, which lies on the heap, or none. Begin with {NULL}. */
+/* A builder, or a type that is declared (wenc_types_new), which lies on the heap, or none. Begin with
+ * {NULL}. */
 typedef struct {
   void *at;
 } wenc_builder;
@@ -67,8 +68,8 @@ enum wenc_status {
   /* Types of components and instances stand more than 100 deep in one another. */
   WENC_TOO_DEEP = 6,
   /* A number that stands for nothing; names that don't fit the parts that they are for; room for
-   * another number of bytes or counts than there are; or wenc_new on a handle that has a
-   * builder. */
+   * another number of bytes or counts than there are; wenc_new or wenc_types_new on a handle that
+   * has a builder; or what a type can't declare. */
   WENC_BAD_ARGUMENT = 7,
   /* The component is finished, and takes no more calls but wenc_finish, wenc_bytes, wenc_free. */
   WENC_FINISHED = 8,
@@ -277,7 +278,7 @@ void wenc_free(wenc_builder *builder);
 
 /* Finishes the component, and puts the number of its bytes into `*len`. It takes no memory. Made
  * again it says that number again.
- * Answers 0, 9. */
+ * Answers 0, 7, 9. */
 enum wenc_status wenc_finish(wenc_builder *builder, size_t *len);
 
 /* Copies the finished component to `bytes`, where `len` is the number that wenc_finish said: else
@@ -348,13 +349,13 @@ enum wenc_status wenc_alias_outer(wenc_builder *builder, bool named, const uint8
                                   uint32_t item, uint32_t *index);
 
 /* Adds the core module with these bytes. Nothing checks that they are a module's.
- * Answers 0, 1, 2, 3, 5, 8, 9. */
+ * Answers 0, 1, 2, 3, 5, 7, 8, 9. */
 enum wenc_status wenc_core_module(wenc_builder *builder, bool named, const uint8_t *debug_name,
                                   size_t debug_name_len, const uint8_t *bytes, size_t len,
                                   uint32_t *index);
 
 /* Adds the component with these bytes. Nothing checks that they are a component's.
- * Answers 0, 1, 2, 3, 5, 8, 9. */
+ * Answers 0, 1, 2, 3, 5, 7, 8, 9. */
 enum wenc_status wenc_component_bytes(wenc_builder *builder, bool named, const uint8_t *debug_name,
                                       size_t debug_name_len, const uint8_t *bytes, size_t len,
                                       uint32_t *index);
@@ -362,19 +363,19 @@ enum wenc_status wenc_component_bytes(wenc_builder *builder, bool named, const u
 /* Adds what another builder holds as a nested component, and frees that builder: its handle is
  * {NULL} then. Where the call is refused, both are as they were: also where either is finished or
  * {NULL}.
- * Answers 0, 1, 2, 3, 5, 8, 9. */
+ * Answers 0, 1, 2, 3, 5, 7, 8, 9. */
 enum wenc_status wenc_component(wenc_builder *builder, bool named, const uint8_t *debug_name,
                                 size_t debug_name_len, wenc_builder *nested, uint32_t *index);
 
 /* Adds what another builder holds as a nested component, and leaves that builder as it is.
- * Answers 0, 1, 2, 3, 5, 8, 9. */
+ * Answers 0, 1, 2, 3, 5, 7, 8, 9. */
 enum wenc_status wenc_component_ref(wenc_builder *builder, bool named, const uint8_t *debug_name,
                                     size_t debug_name_len, wenc_builder *nested, uint32_t *index);
 
 /* Has a function called, with the values that have these indices, when the component is
  * instantiated. `results` is the number of values that it answers; `*index` is that of the first
  * of them.
- * Answers 0, 1, 2, 3, 8, 9. */
+ * Answers 0, 1, 2, 3, 7, 8, 9. */
 enum wenc_status wenc_start(wenc_builder *builder, uint32_t function, const uint32_t *args,
                             size_t args_len, uint32_t results, uint32_t *index);
 
@@ -431,7 +432,7 @@ enum wenc_status wenc_export_items(wenc_builder *builder, bool named, const uint
 
 /* Adds a type of resources, which numbers of 32 bits stand for, with the index of the core function
  * that is called when one is dropped, or none.
- * Answers 0, 1, 2, 3, 5, 8, 9. */
+ * Answers 0, 1, 2, 3, 5, 7, 8, 9. */
 enum wenc_status wenc_type_resource(wenc_builder *builder, bool named, const uint8_t *debug_name,
                                     size_t debug_name_len, bool has_dtor, uint32_t dtor,
                                     uint32_t *index);
@@ -506,12 +507,12 @@ enum wenc_status wenc_type_result(wenc_builder *builder, bool named, const uint8
                                   enum wenc_ref err_ref, uint32_t err_of, uint32_t *index);
 
 /* Adds the type of handles that own a resource of the type with the index `resource`.
- * Answers 0, 1, 2, 3, 5, 8, 9. */
+ * Answers 0, 1, 2, 3, 5, 7, 8, 9. */
 enum wenc_status wenc_type_own(wenc_builder *builder, bool named, const uint8_t *debug_name,
                                size_t debug_name_len, uint32_t resource, uint32_t *index);
 
 /* Adds the type of handles that borrow a resource of the type with the index `resource`.
- * Answers 0, 1, 2, 3, 5, 8, 9. */
+ * Answers 0, 1, 2, 3, 5, 7, 8, 9. */
 enum wenc_status wenc_type_borrow(wenc_builder *builder, bool named, const uint8_t *debug_name,
                                   size_t debug_name_len, uint32_t resource, uint32_t *index);
 
@@ -550,25 +551,51 @@ enum wenc_status wenc_item(wenc_builder *builder, enum wenc_section section, boo
                            const uint8_t *debug_name, size_t debug_name_len, const uint8_t *text,
                            size_t text_len, uint32_t *index);
 
+/* ---- types of components and of instances
+ *
+ * A handle of wenc_types_new is such a type. On it wenc_import (of a component's), the calls for
+ * aliases, those whose names begin with wenc_type, and wenc_type_export declare what the type has,
+ * without a debug name; all other calls but wenc_count and wenc_free refuse it as a bad argument.
+ * Indices in it are its own: `*index` is that of the type, core type or instance that was declared,
+ * and 0 of anything else, which isn't counted. */
+
+/* Begins a type that declares nothing: `kind` is WENC_COMPONENT or WENC_INSTANCE. The handle is
+ * {NULL} before: else WENC_BAD_ARGUMENT. It owns the type then, until wenc_free.
+ * Answers 0, 1, 7. */
+enum wenc_status wenc_types_new(wenc_builder *types, enum wenc_kind kind);
+
+/* Adds the type that `types` declares, to a builder or to another type. `types` stays as it is, and
+ * may declare more. WENC_BAD_ARGUMENT where it is a builder.
+ * Answers 0, 1, 2, 3, 5, 7, 8, 9. */
+enum wenc_status wenc_type(wenc_builder *builder, bool named, const uint8_t *debug_name,
+                           size_t debug_name_len, wenc_builder *types, uint32_t *index);
+
+/* Declares that what has the type exports an item under a plain name: `ref` is one of wenc_ref, with
+ * its number. What a component that is built exports, wenc_export adds.
+ * Answers 0, 1, 2, 3, 5, 7, 8, 9. */
+enum wenc_status wenc_type_export(wenc_builder *types, const uint8_t *name, size_t name_len,
+                                  enum wenc_ref ref, uint32_t of, uint32_t *index);
+
 /* ---- what has no index
  *
  * These are refused as the calls above. */
 
 /* Adds a custom section with this name and this data.
- * Answers 0, 1, 2, 3, 5, 8, 9. */
+ * Answers 0, 1, 2, 3, 5, 7, 8, 9. */
 enum wenc_status wenc_custom_section(wenc_builder *builder, const uint8_t *name, size_t name_len,
                                      const uint8_t *data, size_t data_len);
 
 /* Adds a custom section with these bytes after its id. Nothing checks that they are a
  * section's.
- * Answers 0, 1, 2, 3, 8, 9. */
+ * Answers 0, 1, 2, 3, 7, 8, 9. */
 enum wenc_status wenc_raw_custom_section(wenc_builder *builder, const uint8_t *bytes, size_t len);
 
 /* Adds a section of the debug names so far. Without names it adds nothing.
- * Answers 0, 1, 2, 3, 8, 9. */
+ * Answers 0, 1, 2, 3, 7, 8, 9. */
 enum wenc_status wenc_append_names(wenc_builder *builder);
 
-/* Puts the number of items in an index space (wenc_space) into `*count`.
+/* Puts the number of items in an index space (wenc_space) into `*count`: of a type those of core
+ * types, types and instances.
  * Answers 0, 7, 8, 9. */
 enum wenc_status wenc_count(wenc_builder *builder, enum wenc_space space, uint32_t *count);
 

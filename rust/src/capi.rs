@@ -8,8 +8,8 @@ use crate::proved::handle::Handle;
 use crate::proved::rt_std::alloc::Global;
 use crate::proved::wenc_c::lists::Row;
 use crate::proved::wenc_c::{
-    aliases, builtins, by_text, canonicals, defined, instances, lifecycle, lists, named,
-    standalone, types,
+    aliases, builtins, by_text, canonicals, declarations, defined, instances, lifecycle, lists,
+    named, standalone, types,
 };
 use crate::proved::wenc_session::{Part, Session};
 use alloc::boxed::Box;
@@ -208,6 +208,12 @@ calls! { types:
         *builder, debug_name, is_async: bool, names[names_len]: u8, params[params_len]: Part,
         reference: u32, of: u32, &mut index: u32
     );
+}
+
+calls! { declarations:
+    wenc_types_new(*types, kind: u32);
+    wenc_type(*builder, debug_name, *types, &mut index: u32);
+    wenc_type_export(*types, name[name_len]: u8, reference: u32, of: u32, &mut index: u32);
 }
 
 calls! { defined:
