@@ -1,5 +1,6 @@
 /* Declares the type of an instance and that of a component, by handles of their own, and hands in
- * what these refuse. It prints the component that has them. */
+ * what these refuse; then adds the functions that have options or slots. It prints the component
+ * that has all these. */
 #include "wenc.h"
 
 #include <stdio.h>
@@ -81,6 +82,33 @@ static void count(wenc_builder *types, enum wenc_space space, uint32_t wanted) {
   REQUIRE(wenc_count(types, space, &number) == WENC_DONE && number == wanted);
 }
 
+/* Functions that the component model provides with options, and of slots. */
+static void add_functions(wenc_builder *builder) {
+  static const wenc_part options[] = {{0, WENC_OPTION_UTF8, 0}, {0, WENC_OPTION_MEMORY, 2}};
+  static const wenc_part named[] = {{1, WENC_OPTION_UTF8, 0}};
+  static const wenc_part unknown[] = {{0, 10, 0}};
+  uint32_t index = 7;
+  ADDS(wenc_builtin_with(builder, WENC_STREAM_READ, 0, ALL(options), &index), 0);
+  ADDS(wenc_builtin_with(builder, WENC_STREAM_WRITE, 1, options, 1, &index), 1);
+  ADDS(wenc_builtin_with(builder, WENC_FUTURE_READ, 200, ALL(options), &index), 2);
+  ADDS(wenc_builtin_with(builder, WENC_FUTURE_WRITE, 3, options, 0, &index), 3);
+  ADDS(wenc_builtin_with(builder, WENC_ERROR_CONTEXT_NEW, 9, ALL(options), &index), 4);
+  ADDS(wenc_builtin_with(builder, WENC_ERROR_CONTEXT_DEBUG_MESSAGE, 9, ALL(options), &index), 5);
+  ADDS(wenc_task_return(builder, WENC_REF_PRIMITIVE, WENC_STRING, ALL(options), &index), 6);
+  ADDS(wenc_task_return(builder, WENC_REF_NONE, 0, options, 0, &index), 7);
+  ADDS(wenc_context(builder, WENC_CONTEXT_GET, WENC_CORE_I32, 0, &index), 8);
+  ADDS(wenc_context(builder, WENC_CONTEXT_SET, WENC_CORE_I64, 200, &index), 9);
+  REQUIRE(wenc_builtin_with(builder, WENC_STREAM_READ, 0, ALL(named), &index) == WENC_BAD_ARGUMENT);
+  REQUIRE(wenc_builtin_with(builder, WENC_STREAM_READ, 0, ALL(unknown), &index) ==
+          WENC_BAD_ARGUMENT);
+  REQUIRE(wenc_builtin_with(builder, (enum wenc_function_with)WENC_STREAM_NEW, 0, options, 0,
+                            &index) == WENC_BAD_ARGUMENT);
+  REQUIRE(wenc_task_return(builder, WENC_REF_FUNC, 0, options, 0, &index) == WENC_BAD_ARGUMENT);
+  REQUIRE(wenc_context(builder, WENC_CONTEXT_GET, (enum wenc_core_type)0x70, 0, &index) ==
+          WENC_BAD_ARGUMENT);
+  REQUIRE(index == 7);
+}
+
 int main(void) {
   wenc_builder builder = {NULL}, interface = {NULL}, world = {NULL};
   size_t len, i;
@@ -96,6 +124,7 @@ int main(void) {
   ADDS(wenc_type(&builder, NAMED("interface"), &interface, &index), 1);
   ADDS(wenc_type(&builder, UNNAMED, &world, &index), 2);
   ADDS(wenc_import(&builder, TEXT("host"), WENC_REF_INSTANCE, 1, &index), 0);
+  add_functions(&builder);
   wenc_free(&interface);
   wenc_free(&world);
   REQUIRE(interface.at == NULL && world.at == NULL);

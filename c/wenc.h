@@ -201,6 +201,32 @@ enum wenc_function {
   WENC_THREAD_AVAILABLE_PARALLELISM = 0x42
 };
 
+/* Functions that the component model provides with options: those of wenc_builtin_with. */
+enum wenc_function_with {
+  WENC_STREAM_READ = 0x0f,
+  WENC_STREAM_WRITE = 0x10,
+  WENC_FUTURE_READ = 0x16,
+  WENC_FUTURE_WRITE = 0x17,
+  /* These two take no index. */
+  WENC_ERROR_CONTEXT_NEW = 0x1c,
+  WENC_ERROR_CONTEXT_DEBUG_MESSAGE = 0x1d
+};
+
+/* Functions that read and write a slot: those of wenc_context. */
+enum wenc_context_function {
+  WENC_CONTEXT_GET = 0x0a,
+  WENC_CONTEXT_SET = 0x0b
+};
+
+/* Core types of numbers and vectors, by their bytes in the binary format. */
+enum wenc_core_type {
+  WENC_CORE_I32 = 0x7f,
+  WENC_CORE_I64 = 0x7e,
+  WENC_CORE_F32 = 0x7d,
+  WENC_CORE_F64 = 0x7c,
+  WENC_CORE_V128 = 0x7b
+};
+
 /* Options of functions that are lifted or lowered, by their bytes in the binary format. What stands
  * before one says what the number is that goes with it. */
 enum wenc_option {
@@ -387,6 +413,26 @@ enum wenc_status wenc_start(wenc_builder *builder, uint32_t function, const uint
  * Answers 0, 1, 2, 3, 7, 8, 9. */
 enum wenc_status wenc_builtin(wenc_builder *builder, enum wenc_function function, uint32_t first,
                               uint32_t second, uint32_t *index);
+
+/* Adds the function that the component model provides with this opcode (wenc_function_with): `first`
+ * is the index of a type, where it takes one, and the parts are options, as of wenc_lift. Its debug
+ * name is its own.
+ * Answers 0, 1, 2, 3, 7, 8, 9. */
+enum wenc_status wenc_builtin_with(wenc_builder *builder, enum wenc_function_with function,
+                                   uint32_t first, const wenc_part *options, size_t options_len,
+                                   uint32_t *index);
+
+/* Adds task.return, by what is answered, as a field of a record, or nothing (WENC_REF_NONE), and by
+ * options, as of wenc_lift. Its debug name is its own.
+ * Answers 0, 1, 2, 3, 7, 8, 9. */
+enum wenc_status wenc_task_return(wenc_builder *builder, enum wenc_ref ref, uint32_t of,
+                                  const wenc_part *options, size_t options_len, uint32_t *index);
+
+/* Adds context.get or context.set, of a slot with this type and this number. Its debug name is its
+ * own.
+ * Answers 0, 1, 2, 3, 7, 8, 9. */
+enum wenc_status wenc_context(wenc_builder *builder, enum wenc_context_function function,
+                              enum wenc_core_type ty, uint32_t slot, uint32_t *index);
 
 /* Lifts the core function with the index `function` to a function of the type with the index `ty`:
  * the sort of each part is one of wenc_option, its number what the option says.

@@ -163,6 +163,13 @@ calls! { standalone:
 
 calls! { builtins:
     wenc_builtin(*builder, function: u32, first: u32, second: u32, &mut index: u32);
+    wenc_builtin_with(
+        *builder, function: u32, first: u32, options[options_len]: Part, &mut index: u32
+    );
+    wenc_task_return(
+        *builder, reference: u32, of: u32, options[options_len]: Part, &mut index: u32
+    );
+    wenc_context(*builder, function: u32, ty: u32, slot: u32, &mut index: u32);
 }
 
 calls! { canonicals:

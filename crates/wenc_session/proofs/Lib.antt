@@ -1,6 +1,7 @@
 pub mod Answers
 pub mod Declared
 pub mod Grown
+pub mod IfThere
 pub mod OneRead
 pub mod Runs
 pub mod Settled

@@ -30,15 +30,15 @@ answered_among did (Ok r) a = inl refl
 answered_among did (Err (Fault fault)) a = fault_among fault
 answered_among did (Err other) a = absurd a
 
-pub if_among : (old new : State) (answer : Result ℕ Refusals) (x : Option Entry) → AddsIf old new answer x → Among (7 ∷ of_a_call) (status_of answer)
-if_among old new answer (Some x) a = inr (answered_among (λ (result : _). Enters old new result x) answer a)
-if_among old new answer None a = rw a.0 (inl refl)
-
 closed_among : {R : Type 0} (answer : Result R Refusals) → answer ≡ Err Finished → Among of_a_call (status_of answer)
 closed_among answer e = rw e finished_among
 
 other_among : {R : Type 0} (answer : Result R Refusals) → answer ≡ Err BadArgument → Among of_a_call (status_of answer)
 other_among answer e = rw e (inr (inr (inr (inr (inr (inr (inl refl)))))))
+
+pub if_among : (old new : State) (answer : Result ℕ Refusals) (x : Option Entry) → AddsIf old new answer x → Among of_a_call (status_of answer)
+if_among old new answer (Some x) a = answered_among (λ (result : _). Enters old new result x) answer a
+if_among old new answer None a = other_among answer a.0
 
 unread_among : {R : Type 0} (finished : _) (flaw : Flaw) (answer : Result R Refusals) → IsUnread finished flaw answer → Among (5 ∷ 6 ∷ of_a_call) (status_of answer)
 unread_among finished flaw (Ok r) a = absurd a

@@ -3,6 +3,8 @@ use Rattle.std.specs.Prelude.{ℕ, Option, Some, None, option_map, nat_eq, if◌
 use Rattle.std.specs.Prelude.{false}
 use Rattle.wenc_base.specs.declared.exports.ExportKind.{ExportKind}
 use Rattle.wenc_base.specs.declared.exports.ExportKind.TheVariants as core_kinds
+use Rattle.wenc_base.specs.declared.types.ValType.{ValType}
+use Rattle.wenc_base.specs.declared.types.ValType.TheVariants as core_values
 use Rattle.wenc_builder.specs.declared.builder.space.Space.{Space}
 use Rattle.wenc_builder.specs.declared.builder.space.Space.TheVariants as spaces
 use Rattle.wenc_canon.specs.declared.canonicals.CanonicalOption.{CanonicalOption}
@@ -70,6 +72,15 @@ answer_type_of sort n = if nat_eq sort 0 then Some None else option_map Some (va
 -- nothing, which has the sort 0
 abbrev pub nothing_of : ℕ → ℕ → Option (Unit {0})
 nothing_of sort n = if nat_eq sort 0 then Some tt else None
+
+-- a core type that is a number or a vector, by its byte in the binary format
+abbrev pub core_value_of : ℕ → Option ValType
+core_value_of n =
+    if nat_eq n 0x7f then Some core_values.I32
+    else (if nat_eq n 0x7e then Some core_values.I64
+    else (if nat_eq n 0x7d then Some core_values.F32
+    else (if nat_eq n 0x7c then Some core_values.F64
+    else (if nat_eq n 0x7b then Some core_values.V128 else None))))
 
 -- whether it holds
 abbrev pub flag_of : ℕ → Option Bool

@@ -6,6 +6,7 @@ ghost use Rattle.wenc_types.specs.TypeTrees.{type_view};
 use crate::packed::{Packed, Sort};
 use std::alloc::{AllocError, Global};
 use wenc_base::ValType;
+use wenc_canon::CanonicalOption;
 use wenc_parts::ComponentValType;
 use wenc_types::{CaseTree, DefinedTree, TypeTree};
 
@@ -73,7 +74,7 @@ impl<'a> Described<'a> {
 }
 
 /// What a tree has of a part of a packed list.
-trait Kept<T>: Drop {
+pub(crate) trait Kept<T>: Drop {
     /// What it is as pure data.
     ghost Seen: { Type 0 };
 
@@ -139,6 +140,22 @@ impl Kept<ComponentValType> for ComponentValType {
     }
 }
 
+/// An option of a canonical function.
+impl Kept<CanonicalOption> for CanonicalOption {
+    ghost use Rattle.wenc_canon.specs.declared.canonicals.CanonicalOption.{CanonicalOption as Options};
+    ghost use Rattle.wenc_session.specs.Packed.{second};
+
+    ghost Seen = { Options };
+
+    ghost seen = { λ o. o };
+
+    ghost of = { second };
+
+    fn keep(_alloc: Global, _name: &str, item: CanonicalOption) -> Result<Self, AllocError> {
+        Ok(item)
+    }
+}
+
 /// A name.
 impl Kept<()> for String {
     ghost use Rattle.std.specs.String.{string_bytes};
@@ -156,7 +173,10 @@ impl Kept<()> for String {
 }
 
 /// What a tree has of a packed list.
-fn collected<T: Sort, K: Kept<T>>(alloc: Global, list: Packed<'_, T>) -> Result<Vec<K>, AllocError>
+pub(crate) fn collected<T: Sort, K: Kept<T>>(
+    alloc: Global,
+    list: Packed<'_, T>,
+) -> Result<Vec<K>, AllocError>
     ensures { IfOk result (λ ks. map K.seen ks.items ≡ map K.of list.entry) }
 {
     let mut all = Vec::new(alloc);

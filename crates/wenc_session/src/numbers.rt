@@ -1,10 +1,10 @@
 //! What the numbers of C stand for (`c/wenc.h` names them).
 ghost use Rattle.std.specs.Prelude.{◌≡◌};
-ghost use Rattle.wenc_session.specs.Numbers.{answer_type_of, core_item_of, core_kind_of, flag_of, given_type_of, kind_of};
+ghost use Rattle.wenc_session.specs.Numbers.{answer_type_of, core_item_of, core_kind_of, core_value_of, flag_of, given_type_of, kind_of};
 ghost use Rattle.wenc_session.specs.Numbers.{module_arg_of, named_item_of, nothing_of, option_of, outer_kind_of, primitive_of, space_of};
 ghost use Rattle.wenc_session.specs.Numbers.{type_ref_of, value_of};
 
-use wenc_base::ExportKind;
+use wenc_base::{ExportKind, ValType};
 use wenc_builder::Space;
 use wenc_canon::CanonicalOption;
 use wenc_parts::{
@@ -105,6 +105,20 @@ pub fn nothing(sort: u32, number: u32) -> Option<()>
 {
     match sort {
         0 => Some(()),
+        _ => None,
+    }
+}
+
+/// A core type that is a number or a vector, by its byte in the binary format.
+pub fn core_value(number: u32) -> Option<ValType>
+    ensures { result ≡ core_value_of number }
+{
+    match number {
+        0x7f => Some(ValType::I32),
+        0x7e => Some(ValType::I64),
+        0x7d => Some(ValType::F32),
+        0x7c => Some(ValType::F64),
+        0x7b => Some(ValType::V128),
         _ => None,
     }
 }

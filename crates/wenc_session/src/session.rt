@@ -1,15 +1,16 @@
 //! What a handle owns: a builder, and then the component that it finished; or a type.
 ghost use Rattle.std.specs.Option.{option_copied};
-ghost use Rattle.std.specs.Prelude.{◌≡◌, ◌∷◌, [], IfErr, IfOk, None};
+ghost use Rattle.std.specs.Prelude.{◌≡◌, ◌∷◌, [], IfErr, IfOk, map, None};
 ghost use Rattle.wenc_base.specs.Fault.{IsMemory};
 ghost use Rattle.wenc_builder.specs.Builder.{count_in};
 ghost use Rattle.wenc_builder.specs.Enters.{Enters, EntersWithoutIndex};
 ghost use Rattle.wenc_builder.specs.Entry.{import_entry, export_entry, alias_entry, module_entry, component_entry};
-ghost use Rattle.wenc_builder.specs.Entry.{canonical_entry, start_entry, custom_entry, raw_entry, core_instance_entry, instance_entry, type_entry};
+ghost use Rattle.wenc_builder.specs.Entry.{builtin_entry, canonical_entry, start_entry, custom_entry, raw_entry, core_instance_entry, instance_entry, type_entry};
 ghost use Rattle.wenc_builder.specs.Names.{AddsNames};
-ghost use Rattle.wenc_session.specs.Builtins.{builtin_of};
+ghost use Rattle.wenc_canon.specs.Canonicals.{TaskReturn};
+ghost use Rattle.wenc_session.specs.Builtins.{builtin_of, builtin_with, context_of};
 ghost use Rattle.wenc_session.specs.Described.{described_view};
-ghost use Rattle.wenc_session.specs.Packed.{core_instantiating, exporting, inline_exporting, instantiating, lifting, lowering};
+ghost use Rattle.wenc_session.specs.Packed.{core_instantiating, exporting, inline_exporting, instantiating, lifting, lowering, second};
 ghost use Rattle.wenc_session.specs.Reads.{AddsReadTo, read_custom, read_one};
 ghost use Rattle.wenc_session.specs.Sessions.{AddsIfTo, AddsTo, AddsType, AddsWithoutIndexTo, Copies, Counts, Does, ExportsTo, Finishes, IsEmpty};
 ghost use Rattle.wenc_session.specs.Sessions.{IsFaultThat, Nests, of_builder};
@@ -18,7 +19,7 @@ ghost use Rattle.wenc_parts.specs.Aliases.{alias_view};
 ghost use Rattle.wenc_parts.specs.Imports.{extern_name_view};
 
 use crate::adding::{add, add_custom};
-use crate::builtins::add_builtin;
+use crate::builtins::{add_builtin, add_context, add_task_return, add_with_options};
 use crate::declaring::Declaring;
 use crate::described::Described;
 use crate::packed::Packed;
@@ -32,7 +33,9 @@ use std::mem::replace;
 use wenc_base::{CustomSection, ExportKind, Fault};
 use wenc_builder::{ComponentBuilder, Space};
 use wenc_canon::CanonicalOption;
-use wenc_parts::{Alias, ComponentExportKind, ComponentExternName, ComponentTypeRef, ModuleArg};
+use wenc_parts::{
+    Alias, ComponentExportKind, ComponentExternName, ComponentTypeRef, ComponentValType, ModuleArg,
+};
 
 /// A component, while it is built and when it is finished, or a type while it is declared. Each call
 /// is the builder's: a finished component refuses it, and so does a type that can't declare what is
@@ -150,10 +153,61 @@ impl Session {
     /// Adds the function that the component model provides with this opcode, by up to two numbers.
     pub fn builtin(&mut self, opcode: u32, first: u32, second: u32) -> Result<u32, Refused>
         ensures added { AddsIfTo self.old self.new result (builtin_of opcode first second) }
-        ensures among { Among (7 ∷ of_a_call) (status_of result) }
+        ensures among { Among of_a_call (status_of result) }
     {
         match self {
             Session::Building(builder) => add_builtin(builder, opcode, first, second),
+            Session::Finished(_) => Err(Refused::Finished),
+            Session::Declaring(_) => Err(Refused::BadArgument),
+        }
+    }
+
+    /// Adds a function that the component model provides, of those with options.
+    pub fn builtin_with(
+        &mut self,
+        alloc: Global,
+        opcode: u32,
+        first: u32,
+        options: Packed<'_, CanonicalOption>,
+    ) -> Result<u32, Refused>
+        ensures added { AddsIfTo self.old self.new result
+            (builtin_with opcode first (map second options.entry)) }
+        ensures among { Among of_a_call (status_of result) }
+    {
+        match self {
+            Session::Building(builder) => add_with_options(builder, alloc, opcode, first, options),
+            Session::Finished(_) => Err(Refused::Finished),
+            Session::Declaring(_) => Err(Refused::BadArgument),
+        }
+    }
+
+    /// Adds the function that gives the caller a result.
+    pub fn task_return(
+        &mut self,
+        alloc: Global,
+        answer: Option<ComponentValType>,
+        options: Packed<'_, CanonicalOption>,
+    ) -> Result<u32, Refused>
+        ensures added { AddsTo self.old self.new result
+            (builtin_entry TaskReturn (answer, map second options.entry)) }
+        ensures among { Among of_a_call (status_of result) }
+    {
+        match self {
+            Session::Building(builder) => by_builder(add_task_return(
+                builder, alloc, answer, options,
+            )),
+            Session::Finished(_) => Err(Refused::Finished),
+            Session::Declaring(_) => Err(Refused::BadArgument),
+        }
+    }
+
+    /// Adds a function that reads or writes a slot.
+    pub fn context(&mut self, opcode: u32, ty: u32, slot: u32) -> Result<u32, Refused>
+        ensures added { AddsIfTo self.old self.new result (context_of opcode ty slot) }
+        ensures among { Among of_a_call (status_of result) }
+    {
+        match self {
+            Session::Building(builder) => add_context(builder, opcode, ty, slot),
             Session::Finished(_) => Err(Refused::Finished),
             Session::Declaring(_) => Err(Refused::BadArgument),
         }
