@@ -1,5 +1,6 @@
 //! The laws: a call of one does nothing.
 
+use std::alloc::Global;
 use wasm_encoder::laws::{
     an_added_function_is_one_more, an_item_becomes_its_command, counts_never_fall, delimited,
     encoded_types_are_entries, held_items_tell_bytes, indices_are_no_primitives,
@@ -29,7 +30,7 @@ fn laws(_rt: HostRuntime) {
     an_item_becomes_its_command();
     counts_never_fall();
     one_item_counts_once();
-    named_indices_ascend();
+    named_indices_ascend::<Global>();
     indices_are_no_primitives();
     nested_runs();
     encoded_types_are_entries();

@@ -1,12 +1,12 @@
 -- From a run to the indices of its items.
-use Rattle.std.proofs.Common.{◌≡◌, ℕ, List, [], ◌∷◌, ◌++◌, length, Option, Some, None, Result, Ok, Err, refl, sym, subst, ◌∙◌, append_assoc, append-nil, arith}
+use Rattle.std.proofs.Common.{◌≡◌, ℕ, List, [], ◌∷◌, ◌++◌, length, Option, Some, None, option_to_list, Result, Ok, Err, refl, sym, subst, ◌∙◌, append_assoc, append-nil, arith}
 use Rattle.std.proofs.lemmas.Option.{same_Some}
 use Rattle.wenc_base.specs.declared.fault.Fault.{Fault}
 use Rattle.wenc_builder.specs.Entry.{Entry, items}
 use Rattle.wenc_builder.specs.Names.{names_entry}
 use Rattle.wenc_builder.specs.Space.{Indices, defines, next_index, index_at, index_of}
 use Rattle.wasm_encoder.specs.Command.{CommandTree, AppendNames}
-use Rattle.wasm_encoder.specs.Cause.{one_or_none, added, index_added}
+use Rattle.wasm_encoder.specs.Cause.{added, index_added}
 use Rattle.wasm_encoder.specs.Ran.{entries_after, RanFrom}
 use Rattle.facts.specs.Indexed.{IsIndexedAt}
 
@@ -25,11 +25,11 @@ at_defined xs None i e = absurd cc
 at_defined xs (Some d) i e = (d, refl, same_Some i _ e)
 
 -- a command adds one entry, or none
-one_added : (es : List Entry) (c : CommandTree) → (o : Option Entry) × (added es c ≡ one_or_none o)
+one_added : (es : List Entry) (c : CommandTree) → (o : Option Entry) × (added es c ≡ option_to_list o)
 one_added es AppendNames = (names_entry es, refl)
 one_added es other = (Some _, refl)
 
-indexed_by : (c : CommandTree) (es all more : List Entry) (o : Option Entry) (i : ℕ) → added es c ≡ one_or_none o → all ≡ (es ++ one_or_none o) ++ more → Some i ≡ index_added es (one_or_none o) → IsIndexedAt c all i
+indexed_by : (c : CommandTree) (es all more : List Entry) (o : Option Entry) (i : ℕ) → added es c ≡ option_to_list o → all ≡ (es ++ option_to_list o) ++ more → Some i ≡ index_added es (option_to_list o) → IsIndexedAt c all i
 indexed_by c es all more None i a s e = absurd cc
 indexed_by c es all more (Some x) i a s e =
     let k = at_defined es (defines x.item) i e in

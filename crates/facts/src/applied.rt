@@ -170,7 +170,7 @@ pub fn told_of_a_run<A: Allocator + Copy, B: Allocator>(
         → AllByRecursion IsOk b.answers.items → b.bytes.items ≡ whole (items_of (led [] inner))) }
 {
     neighbours_differ();
-    named_indices_ascend();
+    named_indices_ascend::<B>();
     nested_runs();
     match build(alloc, commands) {
         Ok(built) => Ok(built),

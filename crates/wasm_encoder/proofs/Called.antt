@@ -1,5 +1,5 @@
 -- A call of a builder is a command's answer.
-use Rattle.std.proofs.Common.{◌≡◌, ℕ, List, [], ◌∷◌, ◌++◌, Result, Ok, Err, Option, Some, None, refl, sym, subst, append-nil}
+use Rattle.std.proofs.Common.{◌≡◌, ℕ, List, [], ◌∷◌, ◌++◌, Result, Ok, Err, Option, Some, None, option_to_list, refl, sym, subst, append-nil}
 use Rattle.std.proofs.lemmas.Option.{same_Some}
 use Rattle.std.specs.Option.{MatchOption}
 use Rattle.std.specs.Result.{MatchResult}
@@ -17,8 +17,8 @@ use Rattle.wenc_builder.specs.Names.{named_entry, names_entry, AddsNames}
 use Rattle.wenc_builder.specs.Space.{index_of}
 use Rattle.wenc_sections.specs.Names.{Subsection}
 use Rattle.wenc_builder.specs.laws.Answered.{answered, answered_with, entry_never_unfinished}
-use Rattle.wasm_encoder.specs.Command.{CommandTree, AppendNames}
-use Rattle.wasm_encoder.specs.Cause.{one_or_none, added, index_added, added_cause, cause}
+use Rattle.wasm_encoder.specs.Command.{CommandTree, Add, AppendNames}
+use Rattle.wasm_encoder.specs.Cause.{added, index_added, added_cause, cause}
 use Rattle.wasm_encoder.specs.Ran.{IsRefusal}
 use Rattle.wasm_encoder.specs.inside.Steps.{Answers, indexed, without_index}
 
@@ -66,6 +66,10 @@ entered old new r c x adds caused e = due old new (indexed r) c (λ es h. (x ∷
     is_due (Ok i) es a = a
     is_due (Err fault) es a = (a.0, refusal es x fault a.1)
 
+-- a call that adds this entry alone
+pub entered_alone : (old new : State) (r : Result ℕ Fault) (x : Entry) → Enters old new r x → Answers old new (indexed r) (Add x)
+entered_alone old new r x e = entered old new r (Add x) x (λ es. refl) (λ es. itself_among) e
+
 -- the section of names has no index
 names_nowhere : (xs : List Item) (names : List Subsection) (x : Entry) → named_entry names ≡ Some x → index_of xs x.item ≡ None
 names_nowhere xs [] x e = absurd cc
@@ -73,10 +77,10 @@ names_nowhere xs (n ∷ names) x e = subst (λ (y : Entry). index_of xs y.item �
 
 -- the call that adds the names so far
 pub names_entered : (old new : State) (r : Result (Unit {0}) Fault) → AddsNames old new r → Answers old new (without_index r) AppendNames
-names_entered old new r a = due old new (without_index r) AppendNames (λ es h. (one_or_none (names_entry es), added_cause es (one_or_none (names_entry es)), refl, itself_among, is_due r es (names_entry es) h (names_nowhere (items es) _) (a.held es h)))
+names_entered old new r a = due old new (without_index r) AppendNames (λ es h. (option_to_list (names_entry es), added_cause es (option_to_list (names_entry es)), refl, itself_among, is_due r es (names_entry es) h (names_nowhere (items es) _) (a.held es h)))
   where
     is_due : (r : Result (Unit {0}) Fault) (es : List Entry) (o : Option Entry) → Holds old es → ((x : Entry) → o ≡ Some x → index_of (items es) x.item ≡ None)
-        → MatchOption o ((r ≡ Ok tt) × (new ≡ old)) (λ x. EntersWithoutIndex old new r x) → IsDueTo es (one_or_none o) (added_cause es (one_or_none o)) new (without_index r)
+        → MatchOption o ((r ≡ Ok tt) × (new ≡ old)) (λ x. EntersWithoutIndex old new r x) → IsDueTo es (option_to_list o) (added_cause es (option_to_list o)) new (without_index r)
     is_due (Ok u) es None h none m = (rw (m.1, append-nil es) h, refl, λ fault c. c)
     is_due (Err fault) es None h none m = absurd cc
     is_due (Ok u) es (Some x) h none m = let k = answered_with old new (Ok u) x (λ _ _. Unit {0}) (λ _ _. Unit {0}) es m h in (k.0, sym (none x refl), k.2)

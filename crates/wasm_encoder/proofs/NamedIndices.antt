@@ -1,5 +1,5 @@
 -- The indices in a list of names.
-use Rattle.std.proofs.Common.{◌≡◌, ℕ, zero, suc, ◌+◌, ◌<◌, ◌≤◌, List, [], ◌∷◌, ◌++◌, map, Option, Some, None, Result, Ok, Err, refl, subst, ◌⊎◌, inl, inr, arith}
+use Rattle.std.proofs.Common.{◌≡◌, ℕ, zero, suc, ◌+◌, ◌<◌, ◌≤◌, List, [], ◌∷◌, ◌++◌, map, Option, Some, None, option_to_list, Result, Ok, Err, refl, subst, ◌⊎◌, inl, inr, arith}
 use Rattle.std.proofs.lemmas.Bool.Decides.{eqb_tells}
 use Rattle.std.proofs.lemmas.Option.{same_Some}
 use Rattle.std.specs.List.{AllByRecursion}
@@ -12,10 +12,12 @@ use Rattle.wenc_builder.specs.Names.{named_entry}
 use Rattle.wenc_builder.specs.Space.{Indices, defines, number_in, defined_in, next_index}
 use Rattle.wenc_sections.specs.Names.{Subsection}
 use Rattle.wenc_sections.specs.Start.{Start}
-use Rattle.wasm_encoder.specs.Cause.{one_or_none, added}
-use Rattle.wasm_encoder.specs.Command.{CommandTree, Start as StartCommand, AppendNames}
-use Rattle.wasm_encoder.specs.Nameless.{StartIsNameless}
+use Rattle.wasm_encoder.specs.Cause.{added}
+use Rattle.wasm_encoder.specs.Command.{CommandTree, Add, Nest, AppendNames, command_view}
+use Rattle.wasm_encoder.specs.Nameless.{StartIsNameless, AddsNameless}
 use Rattle.wasm_encoder.specs.Ran.{RanFrom, Ran}
+use Rattle.wasm_encoder.specs.declared.command.Command.{Command}
+use Rattle.wasm_encoder.specs.declared.command.Command as commands
 
 -- ---- numbers that ascend
 
@@ -103,25 +105,37 @@ below es k h = below_from k 0 (next_index (items es) k) es (omega arith) h
 
 -- ---- what commands lead to
 
-names_nameless : (ss : List Subsection) → AllByRecursion StartIsNameless (one_or_none (named_entry ss))
+names_nameless : (ss : List Subsection) → AllByRecursion StartIsNameless (option_to_list (named_entry ss))
 names_nameless [] = tt
 names_nameless (s ∷ ss) = ((λ start e. refl), tt)
 
-added_nameless : (es : List Entry) (c : CommandTree) → AllByRecursion StartIsNameless (added es c)
-added_nameless es AppendNames = names_nameless _
-added_nameless es (StartCommand function arguments results) = ((λ start e. refl), tt)
-added_nameless es other = ((λ start e. absurd cc), tt)
+added_nameless : (es : List Entry) (c : CommandTree) → AddsNameless c → AllByRecursion StartIsNameless (added es c)
+added_nameless es (Add x) h = (h, tt)
+added_nameless es (Nest name inner) h = ((λ start e. absurd cc), tt)
+added_nameless es AppendNames h = names_nameless _
 
 both_nameless : (es xs : List Entry) → AllByRecursion StartIsNameless es → AllByRecursion StartIsNameless xs → AllByRecursion StartIsNameless (es ++ xs)
 both_nameless [] xs front behind = behind
 both_nameless (e ∷ es) xs front behind = (front.0, both_nameless es xs front.1 behind)
 
-nameless_from : (es : List Entry) (cs : List CommandTree) (answers : List (Result (Option ℕ) Fault)) (all : List Entry) → AllByRecursion StartIsNameless es → RanFrom es cs answers all → AllByRecursion StartIsNameless all
-nameless_from es [] [] all h r = subst (AllByRecursion StartIsNameless) r h
-nameless_from es [] (a ∷ answers) all h r = absurd r
-nameless_from es (c ∷ cs) [] all h r = absurd r
-nameless_from es (c ∷ cs) (Ok a ∷ answers) all h r = nameless_from (es ++ added es c) cs answers all (both_nameless es (added es c) h (added_nameless es c)) r.1
-nameless_from es (c ∷ cs) (Err fault ∷ answers) all h r = nameless_from es cs answers all h r.1
+nameless_from : (es : List Entry) (cs : List CommandTree) (answers : List (Result (Option ℕ) Fault)) (all : List Entry) → AllByRecursion StartIsNameless es → AllByRecursion AddsNameless cs → RanFrom es cs answers all
+    → AllByRecursion StartIsNameless all
+nameless_from es [] [] all h adds r = subst (AllByRecursion StartIsNameless) r h
+nameless_from es [] (a ∷ answers) all h adds r = absurd r
+nameless_from es (c ∷ cs) [] all h adds r = absurd r
+nameless_from es (c ∷ cs) (Ok a ∷ answers) all h adds r = nameless_from (es ++ added es c) cs answers all (both_nameless es (added es c) h (added_nameless es c adds.0)) adds.1 r.1
+nameless_from es (c ∷ cs) (Err fault ∷ answers) all h adds r = nameless_from es cs answers all h adds.1 r.1
 
-pub led_nameless : (cs : List CommandTree) (answers : List (Result (Option ℕ) Fault)) (all : List Entry) → Ran cs answers all → AllByRecursion StartIsNameless all
-led_nameless cs answers all r = nameless_from [] cs answers all tt r
+pub led_nameless : (cs : List CommandTree) (answers : List (Result (Option ℕ) Fault)) (all : List Entry) → AllByRecursion AddsNameless cs → Ran cs answers all → AllByRecursion StartIsNameless all
+led_nameless cs answers all adds r = nameless_from [] cs answers all tt adds r
+
+-- and so does each command of the code
+viewed : {A : Type 0} (c : Command A) → AddsNameless (command_view c)
+viewed (commands.Component' n shape inner) = tt
+viewed (commands.Start function args results) = λ start e. refl
+viewed commands.AppendNames = tt
+viewed other = λ start e. absurd cc
+
+pub all_viewed : {A : Type 0} (cs : List (Command A)) → AllByRecursion AddsNameless (map command_view cs)
+all_viewed [] = tt
+all_viewed (c ∷ cs) = (viewed c, all_viewed cs)

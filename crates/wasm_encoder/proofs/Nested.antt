@@ -10,7 +10,8 @@ use Rattle.wenc_builder.specs.Entry.{Entry, items, component_entry}
 use Rattle.wenc_builder.specs.Enters.{Enters}
 use Rattle.wenc_builder.specs.Holds.{Holds}
 use Rattle.wenc_builder.specs.Sections.{whole}
-use Rattle.wasm_encoder.specs.Command.{CommandTree, Component, Commands, no_more, then, command_view, row_view, commands_view, debug_name_view}
+use Rattle.wenc_parts.specs.Imports.{string_option}
+use Rattle.wasm_encoder.specs.Command.{CommandTree, Nest, Commands, no_more, then, command_view, row_view, commands_view}
 use Rattle.wasm_encoder.specs.Cause.{added, led, cause, first_cause}
 use Rattle.wasm_encoder.specs.Ran.{IsRefusal}
 use Rattle.wasm_encoder.specs.inside.Steps.{Answers, StepsStop, indexed}
@@ -28,10 +29,10 @@ abbrev row_of : {A : Type 0} → Command A → (n : Count) × Row_of-Command A n
 row_of (commands.Component' n shape row) = (_, row)
 row_of _ = (_, end_of-Command)
 
-pub component_view : {A : Type 0} (n : Option (String A)) (inner : Vec (Command A) A) → command_view (commands.Component n inner) ≡ Component (debug_name_view n) (commands_view inner.items)
+pub component_view : {A : Type 0} (n : Option (String A)) (inner : Vec (Command A) A) → command_view (commands.Component n inner) ≡ Nest (string_option n) (commands_view inner.items)
 component_view {A} n inner =
     let row = row_of (commands.Component n inner) in
-    ap (λ (cs : Commands). Component (debug_name_view n) cs) (listed_row row.0 row.1 ∙ ap commands_view (items_hidden-the_row-Command-0 A inner))
+    ap (λ (cs : Commands). Nest (string_option n) cs) (listed_row row.0 row.1 ∙ ap commands_view (items_hidden-the_row-Command-0 A inner))
 
 -- ---- its commands
 
@@ -66,13 +67,13 @@ inner_all all s r = (rw r.leads r.held, r.clears (λ fault c. c))
 -- ---- the command
 
 -- its commands were refused
-pub refused_inside : (name : Option (List ℕ)) (inner : Commands) (fault : Fault) (s : State) → IsRefusal (first_cause [] inner) fault → Answers s s (Err fault) (Component name inner)
-refused_inside name inner fault s r = record { held = λ es h. (h, refusal_as (first_cause [] inner) (cause es (Component name inner)) (λ f c. inl c) fault r) }
+pub refused_inside : (name : Option (List ℕ)) (inner : Commands) (fault : Fault) (s : State) → IsRefusal (first_cause [] inner) fault → Answers s s (Err fault) (Nest name inner)
+refused_inside name inner fault s r = record { held = λ es h. (h, refusal_as (first_cause [] inner) (cause es (Nest name inner)) (λ f c. inl c) fault r) }
 
 -- they were accepted, and what they led to was handed in
 pub entered_inside : (name : Option (List ℕ)) (inner : Commands) (old new : State) (r : Result ℕ Fault) → NoCause (first_cause [] inner)
-    → Enters old new r (component_entry name (whole (items (led [] inner)))) → Answers old new (indexed r) (Component name inner)
-entered_inside name inner old new r none e = entered old new r (Component name inner) (component_entry name (whole (items (led [] inner)))) (λ es. refl) caused e
+    → Enters old new r (component_entry name (whole (items (led [] inner)))) → Answers old new (indexed r) (Nest name inner)
+entered_inside name inner old new r none e = entered old new r (Nest name inner) (component_entry name (whole (items (led [] inner)))) (λ es. refl) caused e
   where
-    caused : (es : List Entry) → IsAmong (EntryCause es (component_entry name (whole (items (led [] inner))))) (cause es (Component name inner))
+    caused : (es : List Entry) → IsAmong (EntryCause es (component_entry name (whole (items (led [] inner))))) (cause es (Nest name inner))
     caused es = (λ fault c. inr (none, c), λ free fault x. elim x [ inl c ↦ none fault c | inr p ↦ free fault p.1 ])

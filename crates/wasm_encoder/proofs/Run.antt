@@ -6,7 +6,8 @@ use Rattle.wenc_builder.specs.Builder.{State}
 use Rattle.wenc_builder.specs.Entry.{Entry}
 use Rattle.wenc_builder.specs.Holds.{Holds}
 use Rattle.wasm_encoder.specs.Command.{CommandTree, command_view}
-use Rattle.wasm_encoder.specs.Ran.{IsDue, entries_after, RanFrom, Ran, IsStopped}
+use Rattle.wasm_encoder.specs.Cause.{cause}
+use Rattle.wasm_encoder.specs.Ran.{IsRefusal, IsDue, entries_after, RanFrom, Ran, IsStopped}
 use Rattle.wasm_encoder.specs.inside.Steps.{Answers, StepsStop}
 use Rattle.wasm_encoder.specs.declared.command.Command.{Command}
 
@@ -69,14 +70,14 @@ pub ran_stopped : (commands left : List CommandTree) (c : CommandTree) (answers 
     → RanSo commands (c ∷ left) answers s → StepsStop s fault c → IsStopped commands fault
 ran_stopped commands left c answers fault s r stop = record {
   front = r.done;
-  next = c;
+  next = stop.entry;
   rest = left;
-  split = r.split;
+  split = r.split ∙ ap (λ (k : CommandTree). r.done ++ k ∷ left) stop.adds;
   answers = answers;
   so_far = r.so_far;
   ran = r.ran;
   typed = stop.typed;
-  refused = stop.refused r.so_far r.held;
+  refused = subst (λ (k : CommandTree). IsRefusal (cause r.so_far k) fault) stop.adds (stop.refused r.so_far r.held);
 }
 
 pub next_is : {A : Type 0} (commands : List (Command A)) (i : ℕ) (c d : Command A) → i < length commands → c ≡ get_or commands i d → drop i commands ≡ c ∷ drop (i + 1) commands

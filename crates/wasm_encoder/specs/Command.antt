@@ -1,41 +1,32 @@
 -- Commands as pure data.
-use Rattle.std.specs.Prelude.{ℕ, List, [], ◌∷◌, Option, Some, None, String}
+use Rattle.std.specs.Prelude.{ℕ, List, [], ◌∷◌, Option}
 use Rattle.std.specs.String.{string_bytes}
+use Rattle.wenc_builder.specs.Entry.{Entry, module_entry, core_instance_entry, core_type_entry}
+use Rattle.wenc_builder.specs.Entry.{component_entry, instance_entry, alias_entry, type_entry}
+use Rattle.wenc_builder.specs.Entry.{canonical_tree_entry, start_entry, import_entry, export_entry}
+use Rattle.wenc_builder.specs.Entry.{custom_entry, raw_entry}
 use Rattle.wenc_canon.specs.CanonTrees.{canon_view}
-use Rattle.wenc_canon.specs.Canonicals.{Canonical}
-use Rattle.wenc_parts.specs.Aliases.{AliasOf, alias_tree_view}
-use Rattle.wenc_parts.specs.Imports.{name_tree_view}
-use Rattle.wenc_sections.specs.Exports as exports
-use Rattle.wenc_sections.specs.Imports as imports
+use Rattle.wenc_parts.specs.Aliases.{alias_tree_view}
+use Rattle.wenc_parts.specs.Imports.{name_tree_view, string_option}
 use Rattle.wenc_sections.specs.InstanceTrees.{core_instance_tree_view, instance_tree_view}
-use Rattle.wenc_sections.specs.Instances as instances
-use Rattle.wenc_types.specs.ComponentTypes.{DefType}
-use Rattle.wenc_types.specs.CoreTypes as core_types
 use Rattle.wenc_types.specs.CoreTypeTrees.{core_type_view}
 use Rattle.wenc_types.specs.TypeTrees.{type_view}
 use Rattle.wasm_encoder.specs.declared.command.Command.{Command, Row_of-Command, end_of-Command}
-use Rattle.wasm_encoder.specs.declared.command.Command.{more_of-Command}
+use Rattle.wasm_encoder.specs.declared.command.Command.{more_of-Command, CoreModule, CoreInstance}
+use Rattle.wasm_encoder.specs.declared.command.Command.{CoreType, Component', ComponentRaw}
+use Rattle.wasm_encoder.specs.declared.command.Command.{Instance, Alias, «Type», Canon, Start}
+use Rattle.wasm_encoder.specs.declared.command.Command.{Import, Export, Custom, RawCustom}
 use Rattle.wasm_encoder.specs.declared.command.Command as commands
 
 mutual
   -- a call of a builder
   pub data CommandTree : Type 0 where
-    CoreModule : (debug_name : Option (List ℕ)) (bytes : List ℕ) → CommandTree
-    CoreInstance : (debug_name : Option (List ℕ)) (instance : instances.CoreInstance) → CommandTree
-    CoreType : (debug_name : Option (List ℕ)) (ty : core_types.CoreType) → CommandTree
-    -- a nested component, by the calls that build it
-    Component : (debug_name : Option (List ℕ)) (inner : Commands) → CommandTree
-    ComponentRaw : (debug_name : Option (List ℕ)) (bytes : List ℕ) → CommandTree
-    Instance : (debug_name : Option (List ℕ)) (instance : instances.Instance) → CommandTree
-    Alias : (debug_name : Option (List ℕ)) (to : AliasOf) → CommandTree
-    «Type» : (debug_name : Option (List ℕ)) (ty : DefType) → CommandTree
-    Canon : (debug_name : Option (List ℕ)) (function : Canonical) → CommandTree
-    Start : (function : ℕ) (arguments : List ℕ) (results : ℕ) → CommandTree
-    Import : (import : imports.Import) → CommandTree
-    Export : (export : exports.Export) → CommandTree
+    -- one that adds this entry
+    Add : (entry : Entry) → CommandTree
+    -- one that adds a nested component, by the calls that build it
+    Nest : (debug_name : Option (List ℕ)) (inner : Commands) → CommandTree
+    -- one that adds the debug names so far
     AppendNames : CommandTree
-    Custom : (label bytes : List ℕ) → CommandTree
-    RawCustom : (bytes : List ℕ) → CommandTree
 
   -- a list of them
   pub data Commands : Type 0 where
@@ -48,30 +39,24 @@ commands_listed (then c cs) = c ∷ commands_listed cs
 
 -- ---- the code's commands as pure ones
 
-abbrev pub debug_name_view : {A : Type 0} → Option (String A) → Option (List ℕ)
-debug_name_view None = None
-debug_name_view (Some name) = Some (string_bytes name)
-
 abbrev mutual
   pub command_view : {A : Type 0} → Command A → CommandTree
-  command_view (commands.CoreModule n bytes) = CoreModule (debug_name_view n) bytes.items
-  command_view (commands.CoreInstance n instance) =
-      CoreInstance (debug_name_view n) (core_instance_tree_view instance)
-  command_view (commands.CoreType n ty) = CoreType (debug_name_view n) (core_type_view ty)
-  command_view (commands.Component' n shape inner) = Component (debug_name_view n) (row_view inner)
-  command_view (commands.ComponentRaw n bytes) = ComponentRaw (debug_name_view n) bytes.items
-  command_view (commands.Instance n instance) =
-      Instance (debug_name_view n) (instance_tree_view instance)
-  command_view (commands.Alias n alias) = Alias (debug_name_view n) (alias_tree_view alias)
-  command_view (commands.«Type» n ty) = «Type» (debug_name_view n) (type_view ty)
-  command_view (commands.Canon n canon) = Canon (debug_name_view n) (canon_view canon)
-  command_view (commands.Start function args results) = Start function args.items results
-  command_view (commands.Import name ty) = Import (record { name = name_tree_view name; what = ty })
-  command_view (commands.Export name kind index ty) =
-      Export (record { name = name_tree_view name; kind = kind; index = index; what = ty })
+  command_view (CoreModule n bytes) = Add (module_entry (string_option n) bytes.items)
+  command_view (CoreInstance n i) =
+      Add (core_instance_entry (string_option n) (core_instance_tree_view i))
+  command_view (CoreType n ty) = Add (core_type_entry (string_option n) (core_type_view ty))
+  command_view (Component' n shape inner) = Nest (string_option n) (row_view inner)
+  command_view (ComponentRaw n bytes) = Add (component_entry (string_option n) bytes.items)
+  command_view (Instance n i) = Add (instance_entry (string_option n) (instance_tree_view i))
+  command_view (Alias n alias) = Add (alias_entry (string_option n) (alias_tree_view alias))
+  command_view («Type» n ty) = Add (type_entry (string_option n) (type_view ty))
+  command_view (Canon n canon) = Add (canonical_tree_entry (string_option n) (canon_view canon))
+  command_view (Start function args results) = Add (start_entry function args.items results)
+  command_view (Import name ty) = Add (import_entry (name_tree_view name) ty)
+  command_view (Export name kind index ty) = Add (export_entry (name_tree_view name) kind index ty)
   command_view commands.AppendNames = AppendNames
-  command_view (commands.Custom name bytes) = Custom (string_bytes name) bytes.items
-  command_view (commands.RawCustom bytes) = RawCustom bytes.items
+  command_view (Custom name bytes) = Add (custom_entry (string_bytes name) bytes.items)
+  command_view (RawCustom bytes) = Add (raw_entry bytes.items)
 
   -- those of a nested component
   pub row_view : {A : Type 0} {m : _} → Row_of-Command A m → Commands

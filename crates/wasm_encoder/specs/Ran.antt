@@ -4,7 +4,8 @@ use Rattle.wenc_base.specs.Fault.{IsWarranted, NoCause}
 use Rattle.wenc_base.specs.declared.fault.Fault.{Fault}
 use Rattle.wenc_base.specs.declared.fault.Fault.TheVariants.{Unfinished}
 use Rattle.wenc_builder.specs.Entry.{Entry}
-use Rattle.wasm_encoder.specs.Command.{CommandTree, CoreType, «Type»}
+use Rattle.wenc_builder.specs.Item.{Item, CoreTypeItem, TypeItem}
+use Rattle.wasm_encoder.specs.Command.{CommandTree, Add}
 use Rattle.wasm_encoder.specs.Cause.{added, answer_of, cause}
 
 -- A command may be refused with this fault: for want of memory, or with this cause; never as
@@ -27,9 +28,8 @@ entries_after es c (Err fault) = es
 abbrev pub RanFrom : List Entry → List CommandTree → List (Result (Option ℕ) Fault) → List Entry
     → Type 0
 RanFrom es [] [] all = es ≡ all
-RanFrom es [] (a ∷ answers) all = ⊥
-RanFrom es (c ∷ cs) [] all = ⊥
 RanFrom es (c ∷ cs) (a ∷ answers) all = IsDue es c a × RanFrom (entries_after es c a) cs answers all
+RanFrom es commands answers all = ⊥
 
 -- one answer for each command, from no entries on
 abbrev pub Ran : List CommandTree → List (Result (Option ℕ) Fault) → List Entry → Type 0
@@ -37,20 +37,20 @@ Ran commands answers all = RanFrom [] commands answers all
 
 -- ---- what stops a run
 
--- a command that has a type written by an encoder
-abbrev pub IsTyped : CommandTree → Type 0
-IsTyped (CoreType name ty) = Unit {0}
-IsTyped («Type» name ty) = Unit {0}
-IsTyped c = ⊥
+-- a type, which an encoder writes
+abbrev pub IsTyped : Item → Type 0
+IsTyped (CoreTypeItem ty) = Unit {0}
+IsTyped (TypeItem ty) = Unit {0}
+IsTyped item = ⊥
 
 -- A front of the commands ran, and the next one has a type written and may be refused so.
 pub record IsStopped (commands : List CommandTree) (fault : Fault) : Type 0 where
   pub front : List CommandTree
-  pub next : CommandTree
+  pub next : Entry
   pub rest : List CommandTree
-  pub split : commands ≡ front ++ next ∷ rest
+  pub split : commands ≡ front ++ Add next ∷ rest
   pub answers : List (Result (Option ℕ) Fault)
   pub so_far : List Entry
   pub ran : Ran front answers so_far
-  pub typed : IsTyped next
-  pub refused : IsRefusal (cause so_far next) fault
+  pub typed : IsTyped next.item
+  pub refused : IsRefusal (cause so_far (Add next)) fault

@@ -6,13 +6,13 @@ ghost use Rattle.wenc_base.specs.Piece.{Spelling};
 ghost use Rattle.wenc_builder.specs.Item.{Item};
 ghost use Rattle.wenc_builder.specs.Sections.{Section, runs, Reading, whole};
 ghost use Rattle.wenc_builder.specs.Enters.{EntersWithoutIndex};
-ghost use Rattle.wenc_builder.specs.Entry.{Entry, items, custom_entry};
+ghost use Rattle.wenc_builder.specs.Entry.{Entry, items, core_type_entry, type_entry, custom_entry};
 ghost use Rattle.wenc_builder.specs.Holds.{Holds};
+ghost use Rattle.wenc_parts.specs.Imports.{string_option};
 ghost use Rattle.wenc_types.specs.CoreTypeTrees.{core_type_view};
 ghost use Rattle.wenc_types.specs.TypeTrees.{type_view};
 ghost use Rattle.wasm_encoder.specs.Cause.{led, first_cause};
-ghost use Rattle.wasm_encoder.specs.Command.{CoreType, «Type»};
-ghost use Rattle.wasm_encoder.specs.Command.{command_view, commands_view, debug_name_view};
+ghost use Rattle.wasm_encoder.specs.Command.{Add, command_view, commands_view};
 ghost use Rattle.wasm_encoder.specs.Ran.{Ran, IsRefusal, IsStopped};
 ghost use Rattle.wenc_builder.specs.Raw.{HasNoRaw, IsEncodable};
 ghost use Rattle.wasm_encoder.specs.inside.Steps.{StepsRun, indexed as indexed_of, without_index as without_index_of};
@@ -237,7 +237,7 @@ fn core_type_of<A: Allocator, B: Allocator>(
     ty: &CoreTypeTree<A>,
 ) -> Result<Result<Option<u32>, Fault>, Fault>
     ensures { StepsRun builder.old builder.new result
-        (CoreType (option_copied debug_name.entry) (core_type_view ty.now)) }
+        (Add (core_type_entry (option_copied debug_name.entry) (core_type_view ty.now))) }
 {
     match builder.core_type(debug_name) {
         Ok((index, encoder)) => match encoder.tree(ty) {
@@ -255,7 +255,7 @@ fn type_of<A: Allocator, B: Allocator>(
     ty: &TypeTree<A>,
 ) -> Result<Result<Option<u32>, Fault>, Fault>
     ensures { StepsRun builder.old builder.new result
-        («Type» (option_copied debug_name.entry) (type_view ty.now)) }
+        (Add (type_entry (option_copied debug_name.entry) (type_view ty.now))) }
 {
     match builder.ty(debug_name) {
         Ok((index, encoder)) => match encoder.tree(ty) {
@@ -298,7 +298,7 @@ fn without_index(answer: Result<(), Fault>) -> Result<Result<Option<u32>, Fault>
 }
 
 fn as_deref<A: Allocator>(name: &Option<String<A>>) -> Option<&str>
-    ensures { option_copied result ≡ debug_name_view name.now }
+    ensures { option_copied result ≡ string_option name.now }
 {
     match name {
         None => None,

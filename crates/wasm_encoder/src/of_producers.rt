@@ -5,7 +5,8 @@ ghost use Rattle.wenc_base.specs.Forms.{list};
 ghost use Rattle.wenc_base.specs.Holder.{Contains, EncodeCause, held_text, is_finished};
 ghost use Rattle.wenc_base.specs.Producers.{Producers, producers_field, producers_label};
 ghost use Rattle.wenc_base.specs.declared.fault.Fault.TheVariants.{Unfinished};
-ghost use Rattle.wasm_encoder.specs.Command.{Custom, command_view};
+ghost use Rattle.wenc_builder.specs.Entry.{custom_entry};
+ghost use Rattle.wasm_encoder.specs.Command.{Add, command_view};
 
 use crate::command::Command;
 use std::alloc::Allocator;
@@ -20,9 +21,9 @@ pub fn producers_command<A: Allocator + Copy, B: Allocator>(
 ) -> Result<Command<A>, Fault>
     ensures fields { (fields : List Producers) → Contains producers_field producers.now fields
         → IfOk result (λ command. command_view command
-        ≡ Custom producers_label (list producers_field fields).text) }
+        ≡ Add (custom_entry producers_label (list producers_field fields).text)) }
     ensures bytes { IfOk result (λ command. command_view command
-        ≡ Custom producers_label (held_text producers.now)) }
+        ≡ Add (custom_entry producers_label (held_text producers.now))) }
     ensures refused { IfErr result (IsWarranted (EncodeCause producers.now)) }
     ensures unfinished { is_finished producers.now ≡ false → result ≡ Err Unfinished }
 {

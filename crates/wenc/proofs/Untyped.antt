@@ -6,7 +6,8 @@ use Rattle.wenc_base.specs.Fault.{IsMemory}
 use Rattle.wenc_base.specs.declared.fault.Fault.{Fault}
 use Rattle.wenc_parts.specs.declared.exports.ComponentExportKind.{ComponentExportKind}
 use Rattle.wenc_canon.specs.Canonicals.{Canonical}
-use Rattle.wasm_encoder.specs.Command.{CommandTree, CoreModule, Canon}
+use Rattle.wenc_builder.specs.Entry.{Entry, module_entry, canonical_tree_entry}
+use Rattle.wasm_encoder.specs.Command.{CommandTree, Add}
 use Rattle.wasm_encoder.specs.Ran.{IsTyped, IsStopped}
 use Rattle.std.specs.Result.{IsErr, IsErrAnd}
 use Rattle.wenc.specs.Fields.{number_word, numbers, hex, kind}
@@ -18,14 +19,19 @@ use Rattle.wenc.specs.declared.failure.Failure.{Failure}
 use Rattle.wenc.specs.declared.failure.Failure.TheVariants as failures
 use Rattle.wenc.specs.declared.program.Printout.{Printout}
 
--- a command, where there is one, that has no type written
+-- a command that has no type written
+abbrev IsUntyped : CommandTree → Type 0
+IsUntyped (Add x) = IsTyped x.item → ⊥
+IsUntyped c = Unit {0}
+
+-- one, where there is one
 abbrev Untyped : Option CommandTree → Type 0
 Untyped None = Unit {0}
-Untyped (Some c) = IsTyped c → ⊥
+Untyped (Some c) = IsUntyped c
 
 abbrev AllUntyped : List CommandTree → Type 0
 AllUntyped [] = Unit {0}
-AllUntyped (c ∷ cs) = (IsTyped c → ⊥) × AllUntyped cs
+AllUntyped (c ∷ cs) = IsUntyped c × AllUntyped cs
 
 -- no command that lines say has a type written
 abbrev SaysUntyped : Result (List CommandTree) ℕ → Type 0
@@ -66,7 +72,7 @@ alias_untyped other = tt
 module_untyped : (words : List (List ℕ)) → Untyped (core_module_command words)
 module_untyped (bytes ∷ []) = of (hex bytes)
   where
-    of : (bytes : Option (List ℕ)) → Untyped (option_map (CoreModule None) bytes)
+    of : (bytes : Option (List ℕ)) → Untyped (option_map (λ code. Add (module_entry None code)) bytes)
     of None = tt
     of (Some bytes) = λ typed. typed
 module_untyped other = tt
@@ -82,10 +88,10 @@ start_untyped (function ∷ results ∷ arguments) = of (number_word function) (
 start_untyped other = tt
 
 names_untyped : (words : List (List ℕ)) → Untyped (append_names_command words)
-names_untyped [] = λ typed. typed
+names_untyped [] = tt
 names_untyped other = tt
 
-canon_untyped : (function : Option Canonical) → Untyped (option_map (Canon None) function)
+canon_untyped : (function : Option Canonical) → Untyped (option_map (λ function. Add (canonical_tree_entry None function)) function)
 canon_untyped None = tt
 canon_untyped (Some function) = λ typed. typed
 
@@ -97,7 +103,7 @@ by_word : (a b c d e f : Bool) (verb : List ℕ) (words : List (List ℕ)) → U
     else if d then core_module_command words
     else if e then start_command words
     else if f then append_names_command words
-    else option_map (Canon None) (builtin_said verb words))
+    else option_map (λ function. Add (canonical_tree_entry None function)) (builtin_said verb words))
 by_word true b c d e f verb words = import_untyped words
 by_word false true c d e f verb words = export_untyped words
 by_word false false true d e f verb words = alias_untyped words
@@ -128,7 +134,7 @@ commands_untyped n [] = tt
 commands_untyped n ([] ∷ lines) = commands_untyped (n + 1) lines
 commands_untyped n ((b ∷ line) ∷ lines) = with_line_untyped n (line_command (b ∷ line)) (commands_from (n + 1) lines) (line_untyped (b ∷ line)) (commands_untyped (n + 1) lines)
 
-next_untyped : (front : List CommandTree) (next : CommandTree) (rest : List CommandTree) → AllUntyped (front ++ next ∷ rest) → IsTyped next → ⊥
+next_untyped : (front : List CommandTree) (next : Entry) (rest : List CommandTree) → AllUntyped (front ++ Add next ∷ rest) → IsTyped next.item → ⊥
 next_untyped [] next rest all = all.0
 next_untyped (c ∷ front) next rest all = next_untyped front next rest all.1
 

@@ -4,9 +4,9 @@ use Rattle.std.specs.Prelude.{None, option_map, Result, Ok, Err, codes}
 use Rattle.std.specs.Str.{is_utf8, bytes_eq}
 use Rattle.wenc_parts.specs.declared.exports.ComponentExportKind.{ComponentExportKind}
 use Rattle.wenc_parts.specs.Imports.{plain_name}
-use Rattle.wenc_parts.specs.Aliases.{InstanceExport}
-use Rattle.wasm_encoder.specs.Command.{CommandTree, CoreModule, Alias, Canon, Start, Import, Export}
-use Rattle.wasm_encoder.specs.Command.{AppendNames}
+use Rattle.wenc_builder.specs.Entry.{import_entry, export_entry, alias_export_entry, module_entry}
+use Rattle.wenc_builder.specs.Entry.{start_entry, canonical_tree_entry}
+use Rattle.wasm_encoder.specs.Command.{CommandTree, Add, AppendNames}
 use Rattle.wenc.specs.Fields.{number_word, numbers, hex, kind, reference_word}
 use Rattle.wenc.specs.Builtins.{builtin_said}
 use Rattle.wenc.specs.Parts.{parted}
@@ -17,8 +17,7 @@ use Rattle.wenc.specs.Parts.{parted}
 abbrev pub import_of : List ℕ → Option ComponentExportKind → Option ℕ → Option CommandTree
 import_of name None i = None
 import_of name (Some k) None = None
-import_of name (Some k) (Some i) =
-    Some (Import (record { name = plain_name name; what = reference_word k i }))
+import_of name (Some k) (Some i) = Some (Add (import_entry (plain_name name) (reference_word k i)))
 
 abbrev pub import_command : List (List ℕ) → Option CommandTree
 import_command (name ∷ k ∷ i ∷ []) = import_of name (kind k) (number_word i)
@@ -28,8 +27,7 @@ import_command other = None
 abbrev pub export_of : List ℕ → Option ComponentExportKind → Option ℕ → Option CommandTree
 export_of name None i = None
 export_of name (Some k) None = None
-export_of name (Some k) (Some i) =
-    Some (Export (record { name = plain_name name; kind = k; index = i; what = None }))
+export_of name (Some k) (Some i) = Some (Add (export_entry (plain_name name) k i None))
 
 abbrev pub export_command : List (List ℕ) → Option CommandTree
 export_command (name ∷ k ∷ i ∷ []) = export_of name (kind k) (number_word i)
@@ -39,7 +37,7 @@ export_command other = None
 abbrev pub alias_said : Option ℕ → Option ComponentExportKind → List ℕ → Option CommandTree
 alias_said None k name = None
 alias_said (Some i) None name = None
-alias_said (Some i) (Some k) name = Some (Alias (Some name) (InstanceExport i k name))
+alias_said (Some i) (Some k) name = Some (Add (alias_export_entry i name k))
 
 abbrev pub alias_command : List (List ℕ) → Option CommandTree
 alias_command (i ∷ k ∷ name ∷ []) = alias_said (number_word i) (kind k) name
@@ -47,7 +45,7 @@ alias_command other = None
 
 -- core-module HEX
 abbrev pub core_module_command : List (List ℕ) → Option CommandTree
-core_module_command (bytes ∷ []) = option_map (CoreModule None) (hex bytes)
+core_module_command (bytes ∷ []) = option_map (λ code. Add (module_entry None code)) (hex bytes)
 core_module_command other = None
 
 -- start F R A..
@@ -55,7 +53,7 @@ abbrev pub start_of : Option ℕ → Option ℕ → Option (List ℕ) → Option
 start_of None results arguments = None
 start_of (Some f) None arguments = None
 start_of (Some f) (Some r) None = None
-start_of (Some f) (Some r) (Some values) = Some (Start f values r)
+start_of (Some f) (Some r) (Some values) = Some (Add (start_entry f values r))
 
 abbrev pub start_command : List (List ℕ) → Option CommandTree
 start_command (function ∷ results ∷ arguments) =
@@ -76,7 +74,7 @@ command_by verb words =
     else if bytes_eq verb (codes "core-module") then core_module_command words
     else if bytes_eq verb (codes "start") then start_command words
     else if bytes_eq verb (codes "append-names") then append_names_command words
-    else option_map (Canon None) (builtin_said verb words)
+    else option_map (λ function. Add (canonical_tree_entry None function)) (builtin_said verb words)
 
 abbrev pub command_of : List (List ℕ) → Option CommandTree
 command_of [] = None

@@ -1,10 +1,10 @@
 -- What running one command does to a builder.
-use Rattle.std.specs.Prelude.{ℕ, List, Result, Ok, Err, MatchResult, Option, Some, None}
+use Rattle.std.specs.Prelude.{◌≡◌, ℕ, List, Result, Ok, Err, MatchResult, Option, Some, None}
 use Rattle.wenc_base.specs.declared.fault.Fault.{Fault}
 use Rattle.wenc_builder.specs.Builder.{State}
 use Rattle.wenc_builder.specs.Entry.{Entry}
 use Rattle.wenc_builder.specs.Holds.{Holds}
-use Rattle.wasm_encoder.specs.Command.{CommandTree}
+use Rattle.wasm_encoder.specs.Command.{CommandTree, Add}
 use Rattle.wasm_encoder.specs.Cause.{cause}
 use Rattle.wasm_encoder.specs.Ran.{IsRefusal, IsDue, entries_after, IsTyped}
 
@@ -16,7 +16,9 @@ pub record Answers (old new : State) (answer : Result (Option ℕ) Fault)
 
 -- A command's type was refused by its encoder, so that the builder is unfinished.
 pub record StepsStop (old : State) (fault : Fault) (c : CommandTree) : Type 0 where
-  pub typed : IsTyped c
+  pub entry : Entry
+  pub adds : c ≡ Add entry
+  pub typed : IsTyped entry.item
   pub refused : (es : List Entry) → Holds old es → IsRefusal (cause es c) fault
 
 -- what running a command does

@@ -17,11 +17,14 @@ ghost use Rattle.wenc_parts.specs.Types.{value_type, primitive};
 ghost use Rattle.wenc_parts.specs.declared.types.ComponentValType.TheVariants as value_types;
 ghost use Rattle.wenc_parts.specs.declared.types.PrimitiveValType.{PrimitiveValType};
 ghost use Rattle.wasm_encoder.specs.Cause.{added, led, first_cause};
-ghost use Rattle.wasm_encoder.specs.Command.{CommandTree, Commands, commands_listed};
+ghost use Rattle.wasm_encoder.specs.Command.{CommandTree, Commands, command_view, commands_listed};
 ghost use Rattle.wasm_encoder.specs.ItemCommands.{command_of};
-ghost use Rattle.wasm_encoder.specs.Nameless.{StartIsNameless};
+ghost use Rattle.wasm_encoder.specs.Nameless.{StartIsNameless, AddsNameless};
 ghost use Rattle.wasm_encoder.specs.Ran.{Ran};
 ghost use Rattle.wasm_encoder.specs.WrittenTypes.{AreEntered};
+ghost use Rattle.wasm_encoder.specs.declared.command.Command.{Command};
+
+use std::alloc::Allocator;
 
 /// No two neighbours among the sections into which items are cut collect items of one kind.
 pub fn neighbours_differ()
@@ -78,14 +81,18 @@ pub fn counts_never_fall()
 {}
 
 /// The indices in a space's list of names ascend, and each is below the space's count, where no
-/// start has a name. So it is with all that commands lead to.
-pub fn named_indices_ascend()
+/// start has a name. So it is with all that commands lead to, where none adds a start with a name,
+/// and no command of the code does.
+pub fn named_indices_ascend<A: Allocator>()
     ensures ascending { (es : List Entry) (k : ℕ) → AllByRecursion StartIsNameless es
         → IsStrictlyIncreasing (map (λ n. n.index) (names es k)) }
     ensures below { (es : List Entry) (k : ℕ) → AllByRecursion StartIsNameless es
         → AllByRecursion (λ n. n.index < next_index (items_of es) k) (names es k) }
     ensures led_to { (commands : List CommandTree) (answers : List (Result (Option ℕ) Fault))
-        (es : List Entry) → Ran commands answers es → AllByRecursion StartIsNameless es }
+        (es : List Entry) → AllByRecursion AddsNameless commands → Ran commands answers es
+        → AllByRecursion StartIsNameless es }
+    ensures viewed { (commands : List (Command A))
+        → AllByRecursion AddsNameless (map command_view commands) }
 {}
 
 /// An index as a value type never has a primitive type's text, and doesn't begin with one.

@@ -13,7 +13,7 @@ returns-in-Ok-clause-apart g c es ran raw mode front behind id xs ys read =
 pub returns-in-Ok-clause-ascending : goal.returns-in-Ok-clause-ascending
 returns-in-Ok-clause-ascending g c es ran k =
     c.named_indices_ascend.ensures.ascending es k
-    (c.named_indices_ascend.ensures.led_to (map command_view c.args.commands.now) c.in-Ok.built.answers.items es ran)
+    (c.named_indices_ascend.ensures.led_to (map command_view c.args.commands.now) c.in-Ok.built.answers.items es (c.named_indices_ascend.ensures.viewed c.args.commands.now) ran)
 
 pub returns-in-Ok-clause-nested : goal.returns-in-Ok-clause-nested
 returns-in-Ok-clause-nested g c inner same ok =

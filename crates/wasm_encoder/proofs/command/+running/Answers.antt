@@ -1,21 +1,20 @@
 use denote.Param.Weighed.{at_most}
-use Rattle.std.proofs.Common.{◌≡◌, ◌+◌, ◌<◌, length, get_or, [], ◌∷◌, Err, drop, arith, refl, sym, subst}
+use Rattle.std.proofs.Common.{◌≡◌, ◌+◌, ◌<◌, length, get_or, [], ◌∷◌, Err, drop, arith, sym, subst}
 use Rattle.std.proofs.lemmas.List.{drop_all}
 use Rattle.wenc_base.specs.Fault.{NoCause}
-use Rattle.wenc_base.specs.laws.Serves.{itself_among}
 use Rattle.wenc_builder.specs.Entry.{items, module_entry, core_instance_entry, component_entry, instance_entry, alias_entry, canonical_tree_entry, start_entry, import_entry, export_entry}
 use Rattle.wenc_builder.specs.Enters.{Enters}
 use Rattle.wenc_builder.specs.Holds.{Holds}
 use Rattle.wenc_builder.specs.Sections.{whole}
 use Rattle.wenc_canon.specs.CanonTrees.{canon_view}
 use Rattle.wenc_parts.specs.Aliases.{alias_tree_view}
-use Rattle.wenc_parts.specs.Imports.{name_tree_view}
+use Rattle.wenc_parts.specs.Imports.{name_tree_view, string_option}
 use Rattle.wenc_sections.specs.InstanceTrees.{core_instance_tree_view, instance_tree_view}
-use Rattle.wasm_encoder.specs.Command.{CommandTree, CoreModule, CoreInstance, ComponentRaw, Instance, Alias, Canon, Start, Import, Export, command_view, commands_view, debug_name_view}
+use Rattle.wasm_encoder.specs.Command.{CommandTree, command_view, commands_view}
 use Rattle.wasm_encoder.specs.Cause.{led, first_cause}
 use Rattle.wasm_encoder.specs.Ran.{IsRefusal}
 use Rattle.wasm_encoder.specs.inside.Steps.{Answers, indexed}
-use Rattle.wasm_encoder.proofs.Called.{memory_alone, entered, names_entered}
+use Rattle.wasm_encoder.proofs.Called.{memory_alone, entered_alone, names_entered}
 use Rattle.wasm_encoder.proofs.command.Command.TheLaws.{the_size}
 use Rattle.wasm_encoder.proofs.Nested.{component_view, inner_more, inner_refused, inner_stopped, inner_all, refused_inside, entered_inside}
 use Rattle.wasm_encoder.proofs.Run.{next_is}
@@ -23,21 +22,21 @@ use Rattle.wasm_encoder.proofs.command.+running.Goals as goal
 
 pub run-returns-in-CoreModule : goal.run-returns-in-CoreModule
 run-returns-in-CoreModule g t c =
-    let n = debug_name_view c.in-CoreModule.debug_name in
+    let n = string_option c.in-CoreModule.debug_name in
     let v = c.in-CoreModule.bytes.items in
     let e : Enters c.args.builder.now c.core_module_raw.new.self c.core_module_raw.result (module_entry n v) = rw (← c.as_deref.ensures, ← c.deref.ensures.value) c.core_module_raw.ensures in
-    rw (c.indexed.ensures, c.in-CoreModule.is) (entered c.args.builder.now c.core_module_raw.new.self c.core_module_raw.result (CoreModule n v) (module_entry n v) (λ es. refl) (λ es. itself_among) e)
+    rw (c.indexed.ensures, c.in-CoreModule.is) (entered_alone c.args.builder.now c.core_module_raw.new.self c.core_module_raw.result (module_entry n v) e)
 
 pub run-returns-in-CoreInstance : goal.run-returns-in-CoreInstance
 run-returns-in-CoreInstance g t c =
-    let n = debug_name_view c.in-CoreInstance.debug_name in
+    let n = string_option c.in-CoreInstance.debug_name in
     let v = core_instance_tree_view c.in-CoreInstance.instance in
     let e : Enters c.args.builder.now c.core_instance_tree.new.self c.core_instance_tree.result (core_instance_entry n v) = rw (← c.as_deref-in-CoreInstance.ensures) c.core_instance_tree.ensures in
-    rw (c.indexed-in-CoreInstance.ensures, c.in-CoreInstance.is) (entered c.args.builder.now c.core_instance_tree.new.self c.core_instance_tree.result (CoreInstance n v) (core_instance_entry n v) (λ es. refl) (λ es. itself_among) e)
+    rw (c.indexed-in-CoreInstance.ensures, c.in-CoreInstance.is) (entered_alone c.args.builder.now c.core_instance_tree.new.self c.core_instance_tree.result (core_instance_entry n v) e)
 
 pub run-returns-in-Ok : goal.run-returns-in-Ok
 run-returns-in-Ok g t c =
-    let n = debug_name_view c.in-Component.debug_name in
+    let n = string_option c.in-Component.debug_name in
     let inner = commands_view c.in-Component.commands.items in
     let accepted : Holds c.in-Ok.inner (led [] inner) × NoCause (first_cause [] inner) = c.in-Ok.ensures.accepted in
     let e : Enters c.args.builder.now c.component.new.self c.component.result (component_entry n (whole (items (led [] inner)))) = rw (← c.as_deref-in-Ok.ensures) (c.component.ensures.entered (led [] inner) accepted.0) in
@@ -46,7 +45,7 @@ run-returns-in-Ok g t c =
 
 pub run-returns-in-Err : goal.run-returns-in-Err
 run-returns-in-Err g t c =
-    let n = debug_name_view c.in-Component.debug_name in
+    let n = string_option c.in-Component.debug_name in
     let inner = commands_view c.in-Component.commands.items in
     let refused : IsRefusal (first_cause [] inner) c.in-Err.fault = c.in-Err.ensures.refused in
     let P : CommandTree → Type 0 = λ v. Answers c.args.builder.now c.args.builder.now (Err c.in-Err.fault) v in
@@ -54,44 +53,44 @@ run-returns-in-Err g t c =
 
 pub run-returns-in-ComponentRaw : goal.run-returns-in-ComponentRaw
 run-returns-in-ComponentRaw g t c =
-    let n = debug_name_view c.in-ComponentRaw.debug_name in
+    let n = string_option c.in-ComponentRaw.debug_name in
     let v = c.in-ComponentRaw.bytes.items in
     let e : Enters c.args.builder.now c.component_raw.new.self c.component_raw.result (component_entry n v) = rw (← c.as_deref-in-ComponentRaw.ensures, ← c.deref-in-ComponentRaw.ensures.value) c.component_raw.ensures in
-    rw (c.indexed-in-ComponentRaw.ensures, c.in-ComponentRaw.is) (entered c.args.builder.now c.component_raw.new.self c.component_raw.result (ComponentRaw n v) (component_entry n v) (λ es. refl) (λ es. itself_among) e)
+    rw (c.indexed-in-ComponentRaw.ensures, c.in-ComponentRaw.is) (entered_alone c.args.builder.now c.component_raw.new.self c.component_raw.result (component_entry n v) e)
 
 pub run-returns-in-Instance : goal.run-returns-in-Instance
 run-returns-in-Instance g t c =
-    let n = debug_name_view c.in-Instance.debug_name in
+    let n = string_option c.in-Instance.debug_name in
     let v = instance_tree_view c.in-Instance.instance in
     let e : Enters c.args.builder.now c.instance_tree.new.self c.instance_tree.result (instance_entry n v) = rw (← c.as_deref-in-Instance.ensures) c.instance_tree.ensures in
-    rw (c.indexed-in-Instance.ensures, c.in-Instance.is) (entered c.args.builder.now c.instance_tree.new.self c.instance_tree.result (Instance n v) (instance_entry n v) (λ es. refl) (λ es. itself_among) e)
+    rw (c.indexed-in-Instance.ensures, c.in-Instance.is) (entered_alone c.args.builder.now c.instance_tree.new.self c.instance_tree.result (instance_entry n v) e)
 
 pub run-returns-in-Alias : goal.run-returns-in-Alias
 run-returns-in-Alias g t c =
-    let n = debug_name_view c.in-Alias.debug_name in
+    let n = string_option c.in-Alias.debug_name in
     let v = alias_tree_view c.in-Alias.alias in
     let e : Enters c.args.builder.now c.alias.new.self c.alias.result (alias_entry n v) = rw (← c.as_alias.ensures, ← c.as_deref-in-Alias.ensures) c.alias.ensures in
-    rw (c.indexed-in-Alias.ensures, c.in-Alias.is) (entered c.args.builder.now c.alias.new.self c.alias.result (Alias n v) (alias_entry n v) (λ es. refl) (λ es. itself_among) e)
+    rw (c.indexed-in-Alias.ensures, c.in-Alias.is) (entered_alone c.args.builder.now c.alias.new.self c.alias.result (alias_entry n v) e)
 
 pub run-returns-in-Canon : goal.run-returns-in-Canon
 run-returns-in-Canon g t c =
-    let n = debug_name_view c.in-Canon.debug_name in
+    let n = string_option c.in-Canon.debug_name in
     let v = canon_view c.in-Canon.canon in
     let e : Enters c.args.builder.now c.canonical_tree.new.self c.canonical_tree.result (canonical_tree_entry n v) = rw (← c.as_deref-in-Canon.ensures) c.canonical_tree.ensures in
-    rw (c.indexed-in-Canon.ensures, c.in-Canon.is) (entered c.args.builder.now c.canonical_tree.new.self c.canonical_tree.result (Canon n v) (canonical_tree_entry n v) (λ es. refl) (λ es. itself_among) e)
+    rw (c.indexed-in-Canon.ensures, c.in-Canon.is) (entered_alone c.args.builder.now c.canonical_tree.new.self c.canonical_tree.result (canonical_tree_entry n v) e)
 
 pub run-returns-in-Start : goal.run-returns-in-Start
 run-returns-in-Start g t c =
     let s = c.in-Start in
     rw (c.indexed-in-Start.ensures, c.in-Start.is)
-    (entered c.args.builder.now c.start.new.self c.start.result (Start s.function s.args.items s.results) (start_entry s.function s.args.items s.results) (λ es. refl) (λ es. itself_among) c.start.ensures)
+    (entered_alone c.args.builder.now c.start.new.self c.start.result (start_entry s.function s.args.items s.results) c.start.ensures)
 
 pub run-returns-in-Import : goal.run-returns-in-Import
 run-returns-in-Import g t c =
     let n = name_tree_view c.in-Import.name in
     let ty = c.in-Import.ty in
     let e : Enters c.args.builder.now c.import.new.self c.import.result (import_entry n ty) = subst (λ m. Enters c.args.builder.now c.import.new.self c.import.result (import_entry m ty)) c.as_name.ensures c.import.ensures in
-    rw (c.indexed-in-Import.ensures, c.in-Import.is) (entered c.args.builder.now c.import.new.self c.import.result (Import (record { name = n; what = ty })) (import_entry n ty) (λ es. refl) (λ es. itself_among) e)
+    rw (c.indexed-in-Import.ensures, c.in-Import.is) (entered_alone c.args.builder.now c.import.new.self c.import.result (import_entry n ty) e)
 
 pub run-returns-in-Export : goal.run-returns-in-Export
 run-returns-in-Export g t c =
@@ -99,7 +98,7 @@ run-returns-in-Export g t c =
     let n = name_tree_view x.name in
     let e : Enters c.args.builder.now c.export.new.self c.export.result (export_entry n x.kind x.index x.ty) = subst (λ m. Enters c.args.builder.now c.export.new.self c.export.result (export_entry m x.kind x.index x.ty)) c.as_name-in-Export.ensures c.export.ensures in
     rw (c.indexed-in-Export.ensures, c.in-Export.is)
-    (entered c.args.builder.now c.export.new.self c.export.result (Export (record { name = n; kind = x.kind; index = x.index; what = x.ty })) (export_entry n x.kind x.index x.ty) (λ es. refl) (λ es. itself_among) e)
+    (entered_alone c.args.builder.now c.export.new.self c.export.result (export_entry n x.kind x.index x.ty) e)
 
 pub run-returns-in-AppendNames : goal.run-returns-in-AppendNames
 run-returns-in-AppendNames g t c = rw (c.without_index.ensures, c.in-AppendNames.is) (names_entered c.args.builder.now c.append_names.new.self c.append_names.result c.append_names.ensures)

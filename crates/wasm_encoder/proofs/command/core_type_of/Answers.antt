@@ -5,8 +5,8 @@ use Rattle.wenc_builder.specs.Builder.{draft_in}
 use Rattle.wenc_parts.specs.declared.component.ComponentSectionId.TheVariants as ids
 use Rattle.wenc_builder.specs.declared.builder.space.Space.TheVariants as spaces
 use Rattle.wenc_types.specs.CoreTypeTrees.{core_type_view}
-use Rattle.wasm_encoder.specs.Command.{CoreType}
-use Rattle.wasm_encoder.proofs.Typed.{writes_core_type, type_accepted, opening_refused, type_refused}
+use Rattle.wenc_builder.specs.laws.Typed.{core_type_is_written}
+use Rattle.wasm_encoder.proofs.Typed.{type_accepted, opening_refused, type_refused}
 use Rattle.wasm_encoder.proofs.command.core_type_of.Goals as goal
 
 pub returns-in-Ok-tree : goal.returns-in-Ok-tree
@@ -14,16 +14,16 @@ returns-in-Ok-tree g c =
     let n = option_copied c.args.debug_name in
     let t = core_type_view c.args.ty.now in
     let e = c.in-Ok.ensures.begun in
-    type_accepted c.args.builder.now _ _ _ c.in-Ok.index (CoreType n t) (core_type_entry n t) (draft_in ids.CoreType spaces.CoreTypes n []) (writes_core_type n t) e.begun e.indexed e.free c.in-Ok-tree.ensures.ok c.in-Ok-tree.ensures.fits c.in-Ok-tree.ensures.free (search rules)
+    type_accepted c.args.builder.now _ _ _ c.in-Ok.index (core_type_entry n t) (draft_in ids.CoreType spaces.CoreTypes n []) (core_type_is_written n t) e.begun e.indexed e.free c.in-Ok-tree.ensures.ok c.in-Ok-tree.ensures.fits c.in-Ok-tree.ensures.free (search rules)
 
 pub returns-in-Err-tree : goal.returns-in-Err-tree
 returns-in-Err-tree g c =
     let n = option_copied c.args.debug_name in
     let t = core_type_view c.args.ty.now in
-    type_refused c.args.builder.now _ c.in-Err-tree.fault (CoreType n t) (core_type_entry n t) (draft_in ids.CoreType spaces.CoreTypes n []) (writes_core_type n t) c.in-Ok.ensures.begun.begun c.in-Err-tree.ensures.warranted
+    type_refused c.args.builder.now _ c.in-Err-tree.fault (core_type_entry n t) (draft_in ids.CoreType spaces.CoreTypes n []) tt (core_type_is_written n t) c.in-Ok.ensures.begun.begun c.in-Err-tree.ensures.warranted
 
 pub returns-in-Err : goal.returns-in-Err
 returns-in-Err g c =
     let n = option_copied c.args.debug_name in
     let t = core_type_view c.args.ty.now in
-    opening_refused c.args.builder.now _ c.in-Err.fault (CoreType n t) (core_type_entry n t) (draft_in ids.CoreType spaces.CoreTypes n []) (writes_core_type n t) (search rules) c.in-Err.ensures.begun.warranted
+    opening_refused c.args.builder.now _ c.in-Err.fault (core_type_entry n t) (draft_in ids.CoreType spaces.CoreTypes n []) (core_type_is_written n t) (search rules) c.in-Err.ensures.begun.warranted

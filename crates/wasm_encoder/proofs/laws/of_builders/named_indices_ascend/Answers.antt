@@ -1,11 +1,14 @@
-use Rattle.wasm_encoder.proofs.NamedIndices.{ascending, below, led_nameless}
+use Rattle.wasm_encoder.proofs.NamedIndices.{ascending, below, led_nameless, all_viewed}
 use Rattle.wasm_encoder.proofs.laws.of_builders.named_indices_ascend.Goals as goal
 
 pub returns-clause-ascending : goal.returns-clause-ascending
-returns-clause-ascending c = ascending
+returns-clause-ascending g c = ascending
 
 pub returns-clause-below : goal.returns-clause-below
-returns-clause-below c = below
+returns-clause-below g c = below
 
 pub returns-clause-led_to : goal.returns-clause-led_to
-returns-clause-led_to c = led_nameless
+returns-clause-led_to g c = led_nameless
+
+pub returns-clause-viewed : goal.returns-clause-viewed
+returns-clause-viewed g c = all_viewed
