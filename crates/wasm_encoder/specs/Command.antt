@@ -1,10 +1,10 @@
 -- Commands as pure data.
-use Rattle.std.specs.Prelude.{ℕ, List, [], ◌∷◌, Option}
+use Rattle.std.specs.Prelude.{ℕ, List, [], ◌∷◌, None, Option}
 use Rattle.std.specs.String.{string_bytes}
-use Rattle.wenc_builder.specs.Entry.{Entry, module_entry, core_instance_entry, core_type_entry}
-use Rattle.wenc_builder.specs.Entry.{component_entry, instance_entry, alias_entry, type_entry}
-use Rattle.wenc_builder.specs.Entry.{canonical_tree_entry, start_entry, import_entry, export_entry}
-use Rattle.wenc_builder.specs.Entry.{custom_entry, raw_entry}
+use Rattle.wenc_builder.specs.Entry.{Entry, entry, canonical_tree_entry, custom_entry}
+use Rattle.wenc_builder.specs.Entry.{export_entry, import_entry, start_entry}
+use Rattle.wenc_builder.specs.Item.{ModuleItem, CoreInstanceItem, CoreTypeItem, ComponentItem}
+use Rattle.wenc_builder.specs.Item.{InstanceItem, AliasItem, TypeItem, RawItem}
 use Rattle.wenc_canon.specs.CanonTrees.{canon_view}
 use Rattle.wenc_parts.specs.Aliases.{alias_tree_view}
 use Rattle.wenc_parts.specs.Imports.{name_tree_view, string_option}
@@ -41,22 +41,23 @@ commands_listed (then c cs) = c ∷ commands_listed cs
 
 abbrev mutual
   pub command_view : {A : Type 0} → Command A → CommandTree
-  command_view (CoreModule n bytes) = Add (module_entry (string_option n) bytes.items)
+  command_view (CoreModule n bytes) = Add (entry (ModuleItem bytes.items) (string_option n))
   command_view (CoreInstance n i) =
-      Add (core_instance_entry (string_option n) (core_instance_tree_view i))
-  command_view (CoreType n ty) = Add (core_type_entry (string_option n) (core_type_view ty))
+      Add (entry (CoreInstanceItem (core_instance_tree_view i)) (string_option n))
+  command_view (CoreType n ty) = Add (entry (CoreTypeItem (core_type_view ty)) (string_option n))
   command_view (Component' n shape inner) = Nest (string_option n) (row_view inner)
-  command_view (ComponentRaw n bytes) = Add (component_entry (string_option n) bytes.items)
-  command_view (Instance n i) = Add (instance_entry (string_option n) (instance_tree_view i))
-  command_view (Alias n alias) = Add (alias_entry (string_option n) (alias_tree_view alias))
-  command_view («Type» n ty) = Add (type_entry (string_option n) (type_view ty))
+  command_view (ComponentRaw n bytes) = Add (entry (ComponentItem bytes.items) (string_option n))
+  command_view (Instance n i) =
+      Add (entry (InstanceItem (instance_tree_view i)) (string_option n))
+  command_view (Alias n alias) = Add (entry (AliasItem (alias_tree_view alias)) (string_option n))
+  command_view («Type» n ty) = Add (entry (TypeItem (type_view ty)) (string_option n))
   command_view (Canon n canon) = Add (canonical_tree_entry (string_option n) (canon_view canon))
   command_view (Start function args results) = Add (start_entry function args.items results)
   command_view (Import name ty) = Add (import_entry (name_tree_view name) ty)
   command_view (Export name kind index ty) = Add (export_entry (name_tree_view name) kind index ty)
   command_view commands.AppendNames = AppendNames
   command_view (Custom name bytes) = Add (custom_entry (string_bytes name) bytes.items)
-  command_view (RawCustom bytes) = Add (raw_entry bytes.items)
+  command_view (RawCustom bytes) = Add (entry (RawItem bytes.items) None)
 
   -- those of a nested component
   pub row_view : {A : Type 0} {m : _} → Row_of-Command A m → Commands
