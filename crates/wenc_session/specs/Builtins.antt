@@ -31,7 +31,8 @@ values_of_slot (CoreType ∷ Slot ∷ []) (Some ty) slot = Some (ty, slot)
 values_of_slot others ty slot = None
 
 -- the entry of the one of these functions that has this opcode, with such values
-abbrev pub builtin_among : ((fs : List Field) → Option (Values fs)) → List Builtin → ℕ → Option Entry
+abbrev pub builtin_among : ((fs : List Field) → Option (Values fs)) → List Builtin → ℕ
+    → Option Entry
 builtin_among values [] opcode = None
 builtin_among values (i ∷ is) opcode =
     if nat_eq (row i).opcode opcode then option_map (builtin_entry i) (values (row i).fields)

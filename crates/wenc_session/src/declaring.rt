@@ -81,7 +81,8 @@ fn declare_component<K: DeclaringKind>(
     ty: &ComponentType,
 ) -> Result<u32, Fault>
     requires { is_finished ty.now.held ≡ true }
-    ensures declared { (ds : List ComponentDeclaration) → ComponentDeclares ty.now ds → (d : K.Declaration)
+    ensures declared { (ds : List ComponentDeclaration) → ComponentDeclares ty.now ds
+        → (d : K.Declaration)
         → Serves (instance_declaration (Typed (ComponentTypes (components_of ds)))) (K.form d)
         → K.sort d ≡ Some sorts.«Type»
         → AddsDeclaration K.form K.sort to.old to.new (indexed_outcome result) d }
@@ -103,7 +104,8 @@ fn declare_instance<K: DeclaringKind>(
     ty: &InstanceType,
 ) -> Result<u32, Fault>
     requires { is_finished ty.now.held ≡ true }
-    ensures declared { (ds : List InstanceDeclaration) → InstanceDeclares ty.now ds → (d : K.Declaration)
+    ensures declared { (ds : List InstanceDeclaration) → InstanceDeclares ty.now ds
+        → (d : K.Declaration)
         → Serves (instance_declaration (Typed (InstanceTypes (instances_of ds)))) (K.form d)
         → K.sort d ≡ Some sorts.«Type»
         → AddsDeclaration K.form K.sort to.old to.new (indexed_outcome result) d }
@@ -170,7 +172,8 @@ impl Declaring {
     /// Declares a type of components.
     fn component(&mut self, ty: &ComponentType) -> Result<u32, Fault>
         ensures declared { (ds : List ComponentDeclaration) → ComponentDeclares ty.now ds
-            → DeclaresTo self.old self.new result (Declared (Typed (ComponentTypes (components_of ds)))) }
+            → DeclaresTo self.old self.new result
+            (Declared (Typed (ComponentTypes (components_of ds)))) }
         ensures unfinished { is_finished ty.now.held ≡ false
             → OnOk result ⊥ × (self.new ≡ self.old) }
     {
@@ -186,7 +189,8 @@ impl Declaring {
     /// Declares a type of instances.
     fn instance(&mut self, ty: &InstanceType) -> Result<u32, Fault>
         ensures declared { (ds : List InstanceDeclaration) → InstanceDeclares ty.now ds
-            → DeclaresTo self.old self.new result (Declared (Typed (InstanceTypes (instances_of ds)))) }
+            → DeclaresTo self.old self.new result
+            (Declared (Typed (InstanceTypes (instances_of ds)))) }
         ensures unfinished { is_finished ty.now.held ≡ false
             → OnOk result ⊥ × (self.new ≡ self.old) }
     {
@@ -211,7 +215,8 @@ impl Declaring {
 
     /// Declares an alias.
     pub fn alias(&mut self, alias: Alias<'_>) -> Result<u32, Fault>
-        ensures { DeclaresTo self.old self.new result (Declared (Aliased (alias_view alias.entry))) }
+        ensures { DeclaresTo self.old self.new result
+            (Declared (Aliased (alias_view alias.entry))) }
     {
         let sort = sort_of_alias(&alias);
         match self {

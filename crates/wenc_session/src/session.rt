@@ -427,7 +427,8 @@ impl Session {
 
     /// Adds another component, which is left as it is.
     pub fn component(&mut self, debug_name: Option<&str>, nested: &Session) -> Result<u32, Refused>
-        ensures nested { Nests (option_copied debug_name.entry) nested.now self.old self.new result }
+        ensures nested { Nests (option_copied debug_name.entry) nested.now self.old self.new
+            result }
         ensures among { Among of_a_call (status_of result) }
     {
         match nested {

@@ -152,7 +152,8 @@ pub(crate) fn write_instance(
     args: Packed<'_, (ComponentExportKind, u32)>,
 ) -> Result<u32, Fault>
     ensures { Enters builder.old builder.new result
-        (instance_entry (option_copied debug_name.entry) (instantiating component_index args.entry)) }
+        (instance_entry (option_copied debug_name.entry)
+        (instantiating component_index args.entry)) }
 {
     builder.instantiate(debug_name, component_index, Items(args))
 }
