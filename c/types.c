@@ -1,6 +1,6 @@
 /* Declares the type of an instance and that of a component, by handles of their own, and hands in
- * what these refuse; then adds the functions that have options or slots. It prints the component
- * that has all these. */
+ * what these refuse; then adds the functions that have options or slots, and two items by their
+ * texts. It prints the component that has all these. */
 #include "wenc.h"
 
 #include <stdio.h>
@@ -109,6 +109,14 @@ static void add_functions(wenc_builder *builder) {
   REQUIRE(index == 7);
 }
 
+/* A core instance that exports a function, and a function that is lifted, with a padded index. */
+static void add_by_texts(wenc_builder *builder) {
+  static const uint8_t exports[] = {0x01, 0x01, 0x01, 'f', 0x00, 0x09};
+  static const uint8_t lifted[] = {0x00, 0x00, 0x89, 0x00, 0x01, 0x00, 0x01};
+  ADDS(wenc_item(builder, WENC_SECTION_CORE_INSTANCE, UNNAMED, ALL(exports), &index), 0);
+  ADDS(wenc_item(builder, WENC_SECTION_CANON, NAMED("lifted"), ALL(lifted), &index), 0);
+}
+
 int main(void) {
   wenc_builder builder = {NULL}, interface = {NULL}, world = {NULL};
   size_t len, i;
@@ -125,6 +133,7 @@ int main(void) {
   ADDS(wenc_type(&builder, UNNAMED, &world, &index), 2);
   ADDS(wenc_import(&builder, TEXT("host"), WENC_REF_INSTANCE, 1, &index), 0);
   add_functions(&builder);
+  add_by_texts(&builder);
   wenc_free(&interface);
   wenc_free(&world);
   REQUIRE(interface.at == NULL && world.at == NULL);
