@@ -599,9 +599,10 @@ enum wenc_status wenc_item(wenc_builder *builder, enum wenc_section section, boo
 
 /* ---- types of components and of instances
  *
- * A handle of wenc_types_new is such a type. On it wenc_import (of a component's), the calls for
- * aliases, those whose names begin with wenc_type, and wenc_type_export declare what the type has,
- * without a debug name; all other calls but wenc_count and wenc_free refuse it as a bad argument.
+ * A handle of wenc_types_new is such a type. On it wenc_import and wenc_import_named (of a
+ * component's), the calls for aliases, wenc_type and those whose names begin with wenc_type_ declare
+ * what the type has, without a debug name; all other calls but wenc_count and wenc_free refuse it as
+ * a bad argument.
  * Indices in it are its own: `*index` is that of the type, core type or instance that was declared,
  * and 0 of anything else, which isn't counted. */
 
