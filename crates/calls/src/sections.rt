@@ -5,11 +5,11 @@ use std::alloc::Global;
 use std::process::Abort;
 use wenc_base::{ExportKind, Module, NameMap};
 use wenc_parts::{
-    Alias, ComponentExportKind, ComponentOuterAliasKind, ComponentSection, ComponentTypeRef,
-    ModuleArg,
+    Alias, Component, ComponentExportKind, ComponentOuterAliasKind, ComponentSection,
+    ComponentTypeRef, ModuleArg,
 };
 use wenc_sections::{
-    Component, ComponentAliasSection, ComponentExportSection, ComponentImportSection,
+    ComponentAliasSection, ComponentExportSection, ComponentImportSection,
     ComponentInstanceSection, ComponentNameSection, ComponentStartSection, ComponentTypeSection,
     CoreInstanceTree, CoreTypeSection, InstanceSection, InstanceTree, ModuleSection, NamesOf,
     NestedComponentSection, Sort,

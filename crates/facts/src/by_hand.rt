@@ -7,18 +7,16 @@ ghost use Rattle.wenc_parts.specs.declared.imports.ComponentTypeRef.{ComponentTy
 ghost use Rattle.wenc_parts.specs.declared.imports.TypeBounds.{TypeBounds};
 ghost use Rattle.wenc_parts.specs.Aliases.{Outer, alias};
 ghost use Rattle.wenc_parts.specs.Imports.{plain_name};
-ghost use Rattle.wenc_sections.specs.Component.{preamble};
+ghost use Rattle.wenc_parts.specs.Component.{preamble};
 ghost use Rattle.wenc_sections.specs.Imports.{import_item};
 ghost use Rattle.wenc_sections.specs.Exports.{export_item};
 
 use std::alloc::Allocator;
 use wenc_base::Fault;
 use wenc_parts::{
-    Alias, ComponentExportKind, ComponentOuterAliasKind, ComponentTypeRef, TypeBounds,
+    Alias, Component, ComponentExportKind, ComponentOuterAliasKind, ComponentTypeRef, TypeBounds,
 };
-use wenc_sections::{
-    Component, ComponentAliasSection, ComponentExportSection, ComponentImportSection,
-};
+use wenc_sections::{ComponentAliasSection, ComponentExportSection, ComponentImportSection};
 
 /// A type of resources is imported.
 fn imported<A: Allocator>(alloc: A) -> Result<ComponentImportSection<A>, Fault>

@@ -5,7 +5,7 @@ ghost use Rattle.wenc_base.specs.Piece.{Spelling};
 ghost use Rattle.wenc_parts.specs.declared.imports.ComponentTypeRef.{ComponentTypeRef};
 ghost use Rattle.wenc_parts.specs.declared.imports.TypeBounds.{TypeBounds};
 ghost use Rattle.wenc_parts.specs.Imports.{plain_name};
-ghost use Rattle.wenc_sections.specs.Component.{preamble};
+ghost use Rattle.wenc_parts.specs.Component.{preamble};
 ghost use Rattle.wenc_sections.specs.Imports.{Import, import_item};
 
 use std::alloc::Allocator;

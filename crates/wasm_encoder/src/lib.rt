@@ -27,12 +27,12 @@ pub use wenc_builder::{ComponentBuilder, Space};
 pub use wenc_canon::{AddsBuiltin, AddsSlot, CanonTree, CanonicalFunctionSection, CanonicalOption};
 pub use wenc_list::{ItemTree, ListFault, ListedSection, Listing, Unread, first_unread, list};
 pub use wenc_parts::{
-    Alias, AliasTree, ComponentExportKind, ComponentExternName, ComponentOuterAliasKind,
+    Alias, AliasTree, Component, ComponentExportKind, ComponentExternName, ComponentOuterAliasKind,
     ComponentSection, ComponentSectionId, ComponentTypeRef, ComponentValType, ModuleArg,
     NameOptions, NameTree, PrimitiveValType, TypeBounds,
 };
 pub use wenc_sections::{
-    Component, ComponentAliasSection, ComponentExportSection, ComponentImportSection,
+    ComponentAliasSection, ComponentExportSection, ComponentImportSection,
     ComponentInstanceSection, ComponentNameSection, ComponentStartSection, ComponentTypeSection,
     CoreInstanceTree, CoreTypeSection, InstanceSection, InstanceTree, ModuleSection,
     NestedComponentSection,

@@ -6,7 +6,7 @@ use Rattle.wenc_base.specs.Piece.{Spelling, Payload, Form, ◌▸◌, only_where
 use Rattle.wenc_base.specs.Forms.{counted}
 use Rattle.wenc_parts.specs.declared.component.ComponentSectionId.TheVariants as ids
 use Rattle.wenc_parts.specs.SectionIds.{section_number}
-pub use Rattle.wenc_sections.specs.Component.{preamble}
+pub use Rattle.wenc_parts.specs.Component.{preamble}
 use Rattle.wenc_builder.specs.Item.{Item, collected, item}
 
 -- neighbours of one collected kind, with their section's id; or an item that is a section of its

@@ -13,8 +13,8 @@ use crate::fault::ListFault;
 use crate::item::ItemTree;
 use crate::sections::{are_bytes, content, frame};
 use std::alloc::{Allocator, Global};
+use wenc_parts::Component;
 use wenc_read::{NestedRefusal, Refusal};
-use wenc_sections::Component;
 
 /// A section that was read (component model, binary format, "Component Definitions").
 #[derive(Drop)]

@@ -1,4 +1,5 @@
 pub mod SectionIds
+pub mod Component
 pub mod Types
 pub mod Exports
 pub mod Imports

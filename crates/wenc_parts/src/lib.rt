@@ -12,7 +12,7 @@ pub mod instances;
 pub mod types;
 
 pub use aliases::{Alias, AliasTree, ComponentOuterAliasKind};
-pub use component::{ComponentSection, ComponentSectionId};
+pub use component::{Component, ComponentSection, ComponentSectionId};
 pub use exports::ComponentExportKind;
 pub use imports::{ComponentExternName, ComponentTypeRef, NameOptions, NameTree, TypeBounds};
 pub use instances::ModuleArg;

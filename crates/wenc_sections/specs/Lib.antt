@@ -1,4 +1,3 @@
-pub mod Component
 pub mod Imports
 pub mod Exports
 pub mod Instances

@@ -1,10 +1,9 @@
 //! The section that is a component of its own.
 ghost use Rattle.wenc_base.specs.laws.Serves.{serves_itself};
 
-use crate::component::Component;
 use std::alloc::{Allocator, Global};
 use wenc_base::{Delimited, Encode, Fault};
-use wenc_parts::{ComponentSection, ComponentSectionId};
+use wenc_parts::{Component, ComponentSection, ComponentSectionId};
 
 /// A section that is a component of its own (component model, binary format, "Component
 /// Definitions"). It is refused where that has too many bytes (`TooLarge`).

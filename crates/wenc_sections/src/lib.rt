@@ -6,7 +6,6 @@
 #![tactic(auto)]
 
 pub mod aliases;
-pub mod component;
 pub mod components;
 pub mod counted;
 pub mod exports;
@@ -19,7 +18,6 @@ pub mod start;
 pub mod types;
 
 pub use aliases::ComponentAliasSection;
-pub use component::Component;
 pub use components::NestedComponentSection;
 pub use counted::{Counted, EncoderKind};
 pub use exports::ComponentExportSection;

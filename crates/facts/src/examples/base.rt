@@ -2,7 +2,7 @@
 ghost use Rattle.std.specs.Prelude.{◌≡◌, ◌++◌, ◌∷◌, [], IfOk, codes};
 ghost use Rattle.wenc_base.specs.Custom.{custom as custom_form};
 ghost use Rattle.wenc_base.specs.Modules.{module_preamble};
-ghost use Rattle.wenc_sections.specs.Component.{preamble};
+ghost use Rattle.wenc_parts.specs.Component.{preamble};
 
 use std::alloc::Allocator;
 use wasm_encoder::{

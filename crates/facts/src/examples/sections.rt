@@ -9,7 +9,7 @@ ghost use Rattle.wenc_parts.specs.declared.aliases.ComponentOuterAliasKind.{Comp
 ghost use Rattle.wenc_parts.specs.declared.exports.ComponentExportKind.{ComponentExportKind};
 ghost use Rattle.wenc_parts.specs.declared.imports.ComponentTypeRef.{ComponentTypeRef};
 ghost use Rattle.wenc_parts.specs.declared.imports.TypeBounds.{TypeBounds};
-ghost use Rattle.wenc_sections.specs.Component.{preamble};
+ghost use Rattle.wenc_parts.specs.Component.{preamble};
 ghost use Rattle.wenc_sections.specs.Exports.{export_item};
 ghost use Rattle.wenc_sections.specs.Imports.{import_item};
 ghost use Rattle.wenc_sections.specs.Start.{started, start as start_form};

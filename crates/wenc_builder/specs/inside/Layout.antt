@@ -13,7 +13,7 @@ use Rattle.wenc_base.specs.Piece.{Piece, refused_for}
 use Rattle.wenc_base.specs.declared.fault.Fault.TheVariants.{Unfinished}
 use Rattle.wenc_parts.specs.declared.component.ComponentSectionId.TheVariants as ids
 use Rattle.wenc_parts.specs.SectionIds.{section_number}
-use Rattle.wenc_sections.specs.Component.{preamble}
+use Rattle.wenc_parts.specs.Component.{preamble}
 use Rattle.wenc_builder.specs.Space.{space_number}
 use Rattle.wenc_builder.specs.Builder.{OpenSection, SectionsState, sections_text, entered}
 use Rattle.wenc_builder.specs.Builder.{stood_alone}

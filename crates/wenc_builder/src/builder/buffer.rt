@@ -17,7 +17,7 @@ use super::kind::Kind;
 use std::alloc::{Allocator, Global};
 use std::marker::Model;
 use wenc_base::{Encode, Fault, Holder, Short, Verbatim, extend_in_room};
-use wenc_sections::Component;
+use wenc_parts::Component;
 
 /// All sections of a component in one holder: it keeps the closed bytes and a gap, and its members
 /// are the items of the open section.

@@ -7,9 +7,9 @@ use crate::proved::rt_std::borrow::CowStr;
 use crate::proved::rt_std::vec::Vec;
 use crate::proved::tests::refusing::Refusing;
 use crate::proved::wasm_encoder::{
-    AddsBuiltin, Alias, CanonicalOption, ComponentBuilder, ComponentExportKind, ComponentExternName,
-    ComponentOuterAliasKind, ComponentTypeRef, CustomSection, ExportKind, Fault, Module, ModuleArg,
-    ProducersField, ProducersSection,
+    AddsBuiltin, Alias, CanonicalOption, ComponentBuilder, ComponentExportKind,
+    ComponentExternName, ComponentOuterAliasKind, ComponentTypeRef, CustomSection, ExportKind,
+    Fault, Module, ModuleArg, ProducersField, ProducersSection,
 };
 
 /// It has more bytes than there is room for without a growth.

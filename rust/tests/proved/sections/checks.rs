@@ -5,8 +5,7 @@ use crate::proved::rt_std::string::String;
 use crate::proved::rt_std::vec::Vec;
 use crate::proved::tests::hex::digits;
 use crate::proved::wenc_base::{Encode, Fault};
-use crate::proved::wenc_parts::ComponentSection;
-use crate::proved::wenc_sections::Component;
+use crate::proved::wenc_parts::{Component, ComponentSection};
 use std::vec;
 
 /// The bytes are this lead and these, in hexadecimal.

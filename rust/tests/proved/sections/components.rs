@@ -1,10 +1,11 @@
 //! Components and modules, section by section.
 
 use super::checks::are;
-use crate::proved::strangers::own::{Large, Own};
 use crate::proved::rt_std::alloc::Global;
+use crate::proved::strangers::own::{Large, Own};
 use crate::proved::wenc_base::{Fault, Module, RawCustomSection};
-use crate::proved::wenc_sections::{Component, ComponentAliasSection};
+use crate::proved::wenc_parts::Component;
+use crate::proved::wenc_sections::ComponentAliasSection;
 
 const COMPONENT: [u8; 8] = [0, 0x61, 0x73, 0x6d, 0x0d, 0, 1, 0];
 

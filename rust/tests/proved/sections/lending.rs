@@ -4,7 +4,8 @@ use super::checks::bytes;
 use crate::proved::rt_std::alloc::{Allocator, Global};
 use crate::proved::rt_std::vec::Vec;
 use crate::proved::wenc_base::{ByRef, Encode, Fault};
-use crate::proved::wenc_sections::{Component, Counted, EncoderKind};
+use crate::proved::wenc_parts::Component;
+use crate::proved::wenc_sections::{Counted, EncoderKind};
 use crate::proved::wenc_types::{Declarations, DeclaredKind};
 
 /// How many items or declarations there are, and the core types, types and instances that are

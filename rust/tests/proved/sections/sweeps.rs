@@ -6,7 +6,7 @@ use crate::proved::tests::refusing::Refusing;
 use crate::proved::tests::sweeping::TEXT;
 use crate::proved::tests::sweeping::members::{Adds, Members, sweep_add, sweep_clones, sweep_new};
 use crate::proved::wenc_base::{Fault, RawCustomSection};
-use crate::proved::wenc_sections::Component;
+use crate::proved::wenc_parts::Component;
 
 /// A component.
 struct Sections<'a>(Component<&'a Refusing>);

@@ -4,8 +4,7 @@ use super::checks::is_refused;
 use super::lending::{Counts, Lending, Makes, state};
 use crate::proved::rt_std::alloc::Global;
 use crate::proved::rt_std::vec::Vec;
-use crate::proved::wenc_parts::ComponentSection;
-use crate::proved::wenc_sections::Component;
+use crate::proved::wenc_parts::{Component, ComponentSection};
 use std::vec;
 
 /// A type is being written, and this is counted. Nothing is made of what it is in, and each of
