@@ -108,6 +108,11 @@ fn built(rt: HostRuntime) {
     are(&rt, alloc, built.bytes.as_slice(), SECTIONS);
     assert!(rt; built.answers.get(3) == Some(&Ok(Some(0))));
     assert!(rt; built.answers.get(4) == Some(&Ok(None)));
+}
+
+#[test]
+fn built_of_items(rt: HostRuntime) {
+    let alloc = rt.alloc();
     let built = ok(&rt, build(alloc, items(&rt, alloc).as_slice()));
     are(&rt, alloc, built.bytes.as_slice(), ITEMS);
     assert!(rt; built.answers.get(7) == Some(&Ok(Some(1))));
@@ -193,6 +198,11 @@ fn listed(rt: HostRuntime) {
     yes(&rt, has(&listing, 8, 9, 1, Some((Space::Values, 1))));
     yes(&rt, has(&listing, 11, 0, 1, None));
     yes(&rt, import(&listing, 9) == Some("f"));
+}
+
+#[test]
+fn listing_faults(rt: HostRuntime) {
+    let alloc = rt.alloc();
     let fault = list(alloc, b"\x00asm\x01\x00\x00\x00").err();
     yes(&rt, fault == Some(ListFault::NotAComponent { place: 0 }));
     let text = ok(

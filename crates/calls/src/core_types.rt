@@ -18,8 +18,18 @@ fn read_and_written(rt: HostRuntime) {
     again::<StorageType>(&rt, alloc, "77");
     again::<FieldType>(&rt, alloc, "7801");
     again::<CompositeType>(&rt, alloc, "60027f7e017d");
+}
+
+#[test]
+fn read_groups(rt: HostRuntime) {
+    let alloc = rt.alloc();
     again::<SubType>(&rt, alloc, "5001005f017801");
     again::<GroupTree>(&rt, alloc, "4e02600000500180015e7700");
+}
+
+#[test]
+fn read_entities(rt: HostRuntime) {
+    let alloc = rt.alloc();
     again::<TableType>(&rt, alloc, "7005018001");
     again::<MemoryType>(&rt, alloc, "030102");
     again::<GlobalType>(&rt, alloc, "7e01");
@@ -60,10 +70,20 @@ fn made(rt: HostRuntime) {
     is(&rt, alloc, &ty, "60017f017c");
     let ty = FuncType::from_lists(Vec::new(alloc), Vec::new(alloc));
     is(&rt, alloc, &ty, "600000");
+}
+
+#[test]
+fn made_of_fields(rt: HostRuntime) {
+    let alloc = rt.alloc();
     is(&rt, alloc, &AbstractHeapType::Any, "6e");
     is(&rt, alloc, &ArrayType(FIELD), "5e7801");
     let fields = ok(&rt, [FIELD].to_vec(alloc));
     is(&rt, alloc, &StructType { fields }, "5f017801");
+}
+
+#[test]
+fn made_of_types(rt: HostRuntime) {
+    let alloc = rt.alloc();
     let ty = open(&rt, alloc);
     is(&rt, alloc, &&ty, "500060017f017c");
     is(&rt, alloc, &Guarded(true, &ty), "00500060017f017c");

@@ -83,15 +83,27 @@ fn in_module<S: Section>(alloc: Global, section: &S) -> Vec<u8> {
 #[test]
 fn sections_and_modules(rt: HostRuntime) {
     let alloc = rt.alloc();
-    let (one, two) = producers(&rt, alloc);
+    let (one, _) = producers(&rt, alloc);
     let module = module(&rt, alloc, &one);
     are(&rt, alloc, module.as_slice(), MODULE);
     are(&rt, alloc, module.finish().as_slice(), MODULE);
     are(&rt, alloc, &<Module>::HEADER, "0061736d01000000");
+}
+
+#[test]
+fn raw_sections(rt: HostRuntime) {
+    let alloc = rt.alloc();
     section_is(&rt, alloc, &CUSTOM, "000301782a");
     section_is(&rt, alloc, &RawCustomSection(&[0xaa]), "00aa");
     section_is(&rt, alloc, &RAW, "ff01aa");
     section_is(&rt, alloc, &Own, "632a");
+}
+
+#[test]
+fn producers_section(rt: HostRuntime) {
+    let alloc = rt.alloc();
+    let (_, two) = producers(&rt, alloc);
+    yes(&rt, ComponentSection::id(&two) == 0);
     let wanted = "001b0970726f647563657273020373646b0101610131016c0101610131";
     section_is(&rt, alloc, &two, wanted);
     let mut data = Vec::new(alloc);
@@ -102,12 +114,16 @@ fn sections_and_modules(rt: HostRuntime) {
         data.as_slice(),
         "020373646b0101610131016c0101610131",
     );
+}
+
+#[test]
+fn ids(rt: HostRuntime) {
+    let alloc = rt.alloc();
     let bytes = in_module(alloc, &Own);
     are(&rt, alloc, bytes.as_slice(), "622a");
     yes(&rt, Section::id(&RAW) == 255);
     yes(&rt, Section::id(&CUSTOM) == 0);
     yes(&rt, ComponentSection::id(&RAW) == 255);
-    yes(&rt, ComponentSection::id(&two) == 0);
 }
 
 /// Three names. Of the copy the last one is taken back.

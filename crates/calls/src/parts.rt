@@ -20,6 +20,11 @@ fn parts(rt: HostRuntime) {
     again::<ComponentTypeRef>(&rt, alloc, "02c000");
     again::<ComponentValType>(&rt, alloc, "ffffffff0f");
     again::<ResultList>(&rt, alloc, "0073");
+}
+
+#[test]
+fn kinds_and_ids(rt: HostRuntime) {
+    let alloc = rt.alloc();
     is(&rt, alloc, &ComponentOuterAliasKind::CoreModule, "0011");
     is(&rt, alloc, &PrimitiveValType::ErrorContext, "64");
     let ty = ComponentValType::from(PrimitiveValType::Bool);
@@ -28,6 +33,11 @@ fn parts(rt: HostRuntime) {
     yes(&rt, u8::from(ComponentSectionId::Start) == 9);
     let reference = ComponentTypeRef::Instance(1);
     yes(&rt, reference.kind() == ComponentExportKind::Instance);
+}
+
+#[test]
+fn aliases(rt: HostRuntime) {
+    let alloc = rt.alloc();
     let name = owned(&rt, alloc, "m");
     let alias = Alias::InstanceExport {
         instance: 5,

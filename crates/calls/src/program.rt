@@ -39,6 +39,12 @@ fn runs(rt: HostRuntime) {
     yes(&rt, run(alloc, &[], &mut input, &mut out, &mut err) == 2);
     yes(&rt, out.as_slice() == PRINTED);
     yes(&rt, err.is_empty());
+}
+
+#[test]
+fn runs_of_list(rt: HostRuntime) {
+    let alloc = rt.alloc();
+    let mut err = Vec::new(alloc);
     let words = [owned(&rt, alloc, "list")];
     let mut out = Vec::new(alloc);
     let mut input = COMPONENT;
@@ -67,6 +73,11 @@ fn texts(rt: HostRuntime) {
         printout.bytes.as_slice(),
         "0061736d0d00010009070700ffffffff0f",
     );
+}
+
+#[test]
+fn listings(rt: HostRuntime) {
+    let alloc = rt.alloc();
     yes(
         &rt,
         ok(&rt, list_text(alloc, COMPONENT)).as_slice() == LISTED,
@@ -78,6 +89,11 @@ fn texts(rt: HostRuntime) {
         &rt,
         text.as_slice() == b"6 0\n0 0 0 0 0 0 0 0 0 0 0 0 0\n".as_slice(),
     );
+}
+
+#[test]
+fn answers_as_lines(rt: HostRuntime) {
+    let alloc = rt.alloc();
     let answers = [Ok(Some(4294967295)), Ok(None), Err(Fault::TooLarge)];
     let lines = ok(&rt, answer_lines(alloc, &answers));
     yes(
@@ -143,6 +159,11 @@ fn words(rt: HostRuntime) {
     is_said(&rt, ok(&rt, line(alloc)));
     is_said(&rt, ok(&rt, digits(alloc)));
     yes(&rt, ok(&rt, parse(alloc, alloc, SCRIPT)).len() == 2);
+}
+
+#[test]
+fn parts_of_words(rt: HostRuntime) {
+    let alloc = rt.alloc();
     let words = Words::of("stream.cancel-read 9 1");
     yes(&rt, third(words) == Some(1));
     yes(&rt, second(words) == Some(9));

@@ -45,6 +45,11 @@ fn names_and_refusals(rt: HostRuntime) {
         extern_name_of(alloc, b"\x02\x01a\x02\x00\x01i\x02\x00"),
     );
     made(&rt, alloc, name.as_name(), "020161020001690200");
+}
+
+#[test]
+fn refusals(rt: HostRuntime) {
+    let alloc = rt.alloc();
     yes(&rt, Refusal::from(AllocError) == Refusal::Memory);
     let nested = NestedRefusal::from(Refusal::Malformed);
     yes(&rt, nested == NestedRefusal::Flat(Refusal::Malformed));
@@ -59,6 +64,11 @@ fn types_and_lists(rt: HostRuntime) {
     again::<bool>(&rt, alloc, "01");
     again::<String>(&rt, alloc, "0166");
     again::<Option<u32>>(&rt, alloc, "0105");
+}
+
+#[test]
+fn types_and_aliases(rt: HostRuntime) {
+    let alloc = rt.alloc();
     let (ty, rest) = ok(
         &rt,
         type_of(alloc, 1, b"\x42\x01\x04\x00\x01t\x03\x00\x00\xee"),
@@ -68,6 +78,11 @@ fn types_and_lists(rt: HostRuntime) {
     let (alias, rest) = ok(&rt, AliasTree::decode(alloc, b"\x03\x02\x00\x01\x2a"));
     made(&rt, alloc, alias.as_alias(), "03020001");
     yes(&rt, rest == b"\x2a".as_slice());
+}
+
+#[test]
+fn names(rt: HostRuntime) {
+    let alloc = rt.alloc();
     let (name, _) = ok(&rt, NameTree::decode(alloc, b"\x01\x01f"));
     made(&rt, alloc, name.as_name(), "000166");
 }
@@ -96,6 +111,11 @@ fn modules_and_names(rt: HostRuntime) {
     yes(&rt, id == 1);
     yes(&rt, content == b"\x00".as_slice());
     yes(&rt, rest == b"\x0c".as_slice());
+}
+
+#[test]
+fn names_of_items(rt: HostRuntime) {
+    let alloc = rt.alloc();
     let (names, rest) = ok(&rt, names_of(alloc, b"\x01\x05\x01\x01\x02\x01g\x00"));
     yes(&rt, rest == b"\x00".as_slice());
     let named = match &names {

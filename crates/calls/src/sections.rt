@@ -70,11 +70,26 @@ fn counted_sections(rt: HostRuntime) {
     yes(&rt, section.len() == 2);
     yes(&rt, section.id() == 6);
     section_is(&rt, alloc, &section, "060a02010000016603020001");
+}
+
+#[test]
+fn imports_and_exports(rt: HostRuntime) {
+    let alloc = rt.alloc();
     section_is(&rt, alloc, &imports(alloc), "0a06010001660100");
     section_is(&rt, alloc, &exports(alloc), "0b0701000167010000");
+}
+
+#[test]
+fn core_instance_section(rt: HostRuntime) {
+    let alloc = rt.alloc();
     let section = core_instances(alloc);
     let wanted = "021202010103666f6f000000010103666f6f1200";
     section_is(&rt, alloc, &section, wanted);
+}
+
+#[test]
+fn instance_section(rt: HostRuntime) {
+    let alloc = rt.alloc();
     let section = instances(alloc);
     let wanted = "05130201010003666f6f010000010103666f6f0500";
     section_is(&rt, alloc, &section, wanted);

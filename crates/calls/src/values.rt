@@ -36,11 +36,21 @@ fn values(rt: HostRuntime) {
     is(&rt, alloc, &text, "0166");
     is(&rt, alloc, &&text, "0166");
     is(&rt, alloc, &b"\xaa".as_slice(), "01aa");
+}
+
+#[test]
+fn lists_and_tuples(rt: HostRuntime) {
+    let alloc = rt.alloc();
     is(&rt, alloc, &NUMBERS, "0301800103");
     is(&rt, alloc, &Some(5u32), "0105");
     is(&rt, alloc, &(1u32, "a"), "010161");
     is(&rt, alloc, &(128u32, "a", false), "8001016100");
     is(&rt, alloc, &Tagged(0x2a, &7u32), "2a07");
+}
+
+#[test]
+fn values_around_values(rt: HostRuntime) {
+    let alloc = rt.alloc();
     is(&rt, alloc, &ByRef(&128u32), "8001");
     is(&rt, alloc, &Verbatim(b"\x80\x00"), "8000");
     is(&rt, alloc, &WithSize(&"ab"), "03026162");
@@ -77,6 +87,11 @@ fn sizes_and_faults(rt: HostRuntime) {
     let sink = ok(&rt, extended(alloc));
     are(&rt, alloc, sink.as_slice(), "2a800301800103");
     yes(&rt, encoding_size(624485) == 3);
+}
+
+#[test]
+fn faults(rt: HostRuntime) {
+    let alloc = rt.alloc();
     assert!(rt; section_size(128, 4294967293) == Ok(4294967295));
     assert!(rt; failed(alloc) == Err(Fault::Memory(AllocError)));
     yes(&rt, Fault::Unfinished.number() == 4);

@@ -1,5 +1,5 @@
 use denote.Param.Weighed.{at_most}
-use Rattle.std.proofs.Common.{◌≡◌, ◌+◌, ◌<◌, length, get_or, [], ◌∷◌, Err, drop, arith, sym, subst}
+use Rattle.std.proofs.Common.{◌≡◌, ◌+◌, ◌<◌, length, get_or, [], ◌∷◌, Err, drop, arith, rules, sym, subst}
 use Rattle.std.proofs.lemmas.List.{drop_all}
 use Rattle.wenc_base.specs.Fault.{NoCause}
 use Rattle.wenc_builder.specs.Entry.{items, module_entry, core_instance_entry, component_entry, instance_entry, alias_entry, canonical_tree_entry, start_entry, import_entry, export_entry}
@@ -143,3 +143,9 @@ pub run_all-returns-clause-accepted : goal.run_all-returns-clause-accepted
 run_all-returns-clause-accepted g t c =
     let past : drop c.loop-command.command-index c.args.commands.now.items ≡ [] = drop_all c.loop-command.command-index c.args.commands.now.items (omega arith) in
     inner_all (commands_view c.args.commands.now.items) c.loop-command.builder (rw past at c.loop-command.invariant)
+
+pub run-returns-in-Type : goal.run-returns-in-Type
+run-returns-in-Type g t c = search rules
+
+pub run-returns-in-RawCustom : goal.run-returns-in-RawCustom
+run-returns-in-RawCustom g t c = search rules
