@@ -2,15 +2,19 @@
 ghost use Rattle.std.specs.Prelude.{◌≡◌, ◌++◌, IfOk};
 ghost use Rattle.wenc_canon.specs.Canonicals.{canonical, OfBuiltin, ResourceDrop};
 
-use crate::examples::sections::file;
 use std::alloc::Allocator;
 use wasm_encoder::{
-    AddsBuiltin, CanonicalFunctionSection, CanonicalOption, Component, Fault, Holder,
+    AddsBuiltin, CanonicalFunctionSection, CanonicalOption, Component, ComponentImportSection,
+    ComponentTypeRef, Fault, Holder, TypeBounds,
 };
 
 /// `CanonicalFunctionSection`.
 pub fn functions<A: Allocator + Copy>(alloc: A) -> Result<Vec<u8, A>, Fault> {
-    let imports = file(alloc)?;
+    let mut imports = ComponentImportSection::new(alloc);
+    imports.import(
+        "file".into(),
+        ComponentTypeRef::Type(TypeBounds::SubResource),
+    )?;
     let mut functions = CanonicalFunctionSection::new(alloc);
     functions.resource_drop(0)?;
     functions.task_return(None, [CanonicalOption::UTF16].into_iter())?;

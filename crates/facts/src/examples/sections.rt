@@ -2,7 +2,6 @@
 ghost use Rattle.std.specs.Prelude.{◌≡◌, ◌++◌, ◌∷◌, [], IfOk, OnOk, None, codes};
 ghost use Rattle.wenc_base.specs.Custom.{custom};
 ghost use Rattle.wenc_base.specs.Forms.{byte_list, counted};
-ghost use Rattle.wenc_base.specs.Holder.{Contains};
 ghost use Rattle.wenc_base.specs.Modules.{module_preamble};
 ghost use Rattle.wenc_parts.specs.Aliases.{alias as alias_form, alias_view, Outer};
 ghost use Rattle.wenc_parts.specs.Imports.{plain_name};
@@ -47,21 +46,6 @@ pub fn component<A: Allocator + Copy>(alloc: A) -> Result<Vec<u8, A>, Fault>
     Ok(bytes)
 }
 
-/// The import of a type of resources, with which several of these begin.
-pub fn file<A: Allocator>(alloc: A) -> Result<ComponentImportSection<A>, Fault>
-    ensures { IfOk result (λ imports. Contains import_item imports (record {
-      name = plain_name (codes "file");
-      what = ComponentTypeRef.«Type» TypeBounds.SubResource;
-    } ∷ [])) }
-{
-    let mut imports = ComponentImportSection::new(alloc);
-    imports.import(
-        "file".into(),
-        ComponentTypeRef::Type(TypeBounds::SubResource),
-    )?;
-    Ok(imports)
-}
-
 /// `Counted`: how many items there are, and a copy.
 pub fn counted<A: Allocator + Copy>(alloc: A) -> Result<(u32, ComponentExportSection<A>), Fault> {
     let mut exports = ComponentExportSection::new(alloc);
@@ -93,7 +77,11 @@ pub fn aliases<A: Allocator + Copy>(alloc: A) -> Result<Vec<u8, A>, Fault>
         } ∷ [])).text ++ 0x06 ∷ (counted alias_form
         (Outer ComponentOuterAliasKind.«Type» 0 0 ∷ [])).text) }
 {
-    let imports = file(alloc)?;
+    let mut imports = ComponentImportSection::new(alloc);
+    imports.import(
+        "file".into(),
+        ComponentTypeRef::Type(TypeBounds::SubResource),
+    )?;
     let mut aliases = ComponentAliasSection::new(alloc);
     aliases.alias(Alias::Outer {
         kind: ComponentOuterAliasKind::Type,
@@ -122,7 +110,11 @@ pub fn exports<A: Allocator + Copy>(alloc: A) -> Result<Vec<u8, A>, Fault>
           what = None;
         } ∷ [])).text) }
 {
-    let imports = file(alloc)?;
+    let mut imports = ComponentImportSection::new(alloc);
+    imports.import(
+        "file".into(),
+        ComponentTypeRef::Type(TypeBounds::SubResource),
+    )?;
     let mut exports = ComponentExportSection::new(alloc);
     exports.export("handle".into(), ComponentExportKind::Type, 0, None)?;
 
@@ -159,52 +151,43 @@ pub fn imports<A: Allocator + Copy>(alloc: A) -> Result<Vec<u8, A>, Fault>
     Ok(bytes)
 }
 
-/// `InstanceSection`, after what has the module and the function. Where many values live, each `?`
-/// is dear to the proof: so this example and the next one stand in parts.
+/// `InstanceSection`.
 pub fn core_instances<A: Allocator + Copy>(alloc: A) -> Result<Vec<u8, A>, Fault> {
+    let module = Module::new(alloc)?;
+    let mut functions = CanonicalFunctionSection::new(alloc);
+    functions.task_cancel()?;
     let mut instances = InstanceSection::new(alloc);
     instances.export_items([("cancel", ExportKind::Func, 0)].into_iter())?;
     instances.instantiate(0, [("env", ModuleArg::Instance(0))].into_iter())?;
 
-    let mut component = with_a_cancelling_module(alloc)?;
+    let mut component = Component::new(alloc)?;
+    component.section(&ModuleSection(&module))?;
+    component.section(&functions)?;
     component.section(&instances)?;
     let bytes = component.finish();
     Ok(bytes)
 }
 
-fn with_a_cancelling_module<A: Allocator + Copy>(alloc: A) -> Result<Component<A>, Fault> {
-    let module = Module::new(alloc)?;
-    let mut functions = CanonicalFunctionSection::new(alloc);
-    functions.task_cancel()?;
-
-    let mut component = Component::new(alloc)?;
-    component.section(&ModuleSection(&module))?;
-    component.section(&functions)?;
-    Ok(component)
-}
-
-/// `ComponentInstanceSection`, after what has the type and the component.
+/// `ComponentInstanceSection`.
 pub fn instances<A: Allocator + Copy>(alloc: A) -> Result<Vec<u8, A>, Fault> {
+    let mut imports = ComponentImportSection::new(alloc);
+    imports.import(
+        "file".into(),
+        ComponentTypeRef::Type(TypeBounds::SubResource),
+    )?;
+    let nested = Component::new(alloc)?;
     let mut instances = ComponentInstanceSection::new(alloc);
     let name: ComponentExternName = "file".into();
     instances.export_items([(name, ComponentExportKind::Type, 0)].into_iter())?;
     let files = ("files", ComponentExportKind::Instance, 0);
     instances.instantiate(0, [files].into_iter())?;
 
-    let mut component = with_a_file_and_a_component(alloc)?;
-    component.section(&instances)?;
-    let bytes = component.finish();
-    Ok(bytes)
-}
-
-fn with_a_file_and_a_component<A: Allocator + Copy>(alloc: A) -> Result<Component<A>, Fault> {
-    let imports = file(alloc)?;
-    let nested = Component::new(alloc)?;
-
     let mut component = Component::new(alloc)?;
     component.section(&imports)?;
     component.section(&NestedComponentSection(&nested))?;
-    Ok(component)
+    component.section(&instances)?;
+    let bytes = component.finish();
+    Ok(bytes)
 }
 
 /// `ModuleSection`.

@@ -59,18 +59,12 @@ pub fn core_types<A: Allocator + Copy>(alloc: A) -> Result<CoreTypeSection<A>, F
     let mut module_type = ModuleType::new(alloc);
     module_type.alias_outer_core_type(1, 0)?;
 
-    let mut types = core_function(alloc)?;
-    types.ty()?.module(&module_type)?;
-    Ok(types)
-}
-
-/// `ComponentCoreTypeEncoder`, its type of functions.
-fn core_function<A: Allocator>(alloc: A) -> Result<CoreTypeSection<A>, Fault> {
     let mut types = CoreTypeSection::new(alloc);
     types
         .ty()?
         .core()
         .function([].into_iter(), [ValType::F64].into_iter())?;
+    types.ty()?.module(&module_type)?;
     Ok(types)
 }
 
