@@ -9,12 +9,12 @@ use wenc_base::{
     CustomSection, ExportKind, Fault, Module, ProducersField, ProducersSection, SubType, ValType,
 };
 use wenc_builder::{ComponentBuilder, Space};
-use wenc_canon::{AddsBuiltin, AddsSlot, CanonTree, CanonicalOption};
+use wenc_canon::{AddsBuiltin, AddsSlot, CanonicalOption};
 use wenc_parts::{
     Alias, ComponentExportKind, ComponentExternName, ComponentOuterAliasKind, ComponentTypeRef,
     ComponentValType, ModuleArg, PrimitiveValType,
 };
-use wenc_sections::{CoreInstanceTree, InstanceTree};
+use wenc_sections::{CanonTree, CoreInstanceTree, InstanceTree};
 use wenc_types::{ComponentType, InstanceType};
 
 const OPTIONS: [CanonicalOption; 2] = [CanonicalOption::UTF8, CanonicalOption::Memory(0)];

@@ -2,11 +2,11 @@
 
 use crate::checks::{again, is, ok, yes};
 use wenc_base::{Fault, ValType};
-use wenc_canon::equality::are_equal;
 use wenc_canon::{
-    AddsBuiltin, AddsSlot, CanonTree, CanonicalFunctionSection, CanonicalOption, NotCancellable,
+    AddsBuiltin, AddsSlot, CanonicalFunctionSection, CanonicalOption, NotCancellable,
 };
 use wenc_parts::{ComponentValType, PrimitiveValType};
+use wenc_sections::CanonTree;
 
 const OPTIONS: [CanonicalOption; 2] = [CanonicalOption::UTF8, CanonicalOption::Memory(0)];
 
@@ -106,5 +106,5 @@ fn trees(rt: HostRuntime) {
     again::<CanonicalOption>(&rt, alloc, "0301");
     is(&rt, alloc, &NotCancellable, "00");
     yes(&rt, CANCEL.name() == "task.cancel");
-    yes(&rt, are_equal(&CANCEL, &CANCEL));
+    yes(&rt, CANCEL == CANCEL);
 }

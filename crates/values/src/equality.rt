@@ -3,7 +3,7 @@
 ghost use Rattle.std.specs.Prelude.{◌≡◌, ◌↔◌, IsTrue, nat_lt};
 ghost use Rattle.std.specs.Ordering.{nat_cmp};
 ghost use Rattle.wenc_base.specs.Composites.{func_type_view, structure_view, composite_view, sub_view, rec_type_view};
-ghost use Rattle.wenc_canon.specs.CanonTrees.{canon_view};
+ghost use Rattle.wenc_sections.specs.CanonTrees.{canon_view};
 ghost use Rattle.wenc_parts.specs.SectionIds.{section_number};
 ghost use Rattle.wenc_types.specs.CoreTypeTrees.{core_type_view, module_declaration_view};
 ghost use Rattle.wenc_types.specs.TypeTrees.{case_view, defined_view};
@@ -16,14 +16,14 @@ use wenc_base::{
     SubType, TableType, TagType, ValType,
 };
 use wenc_builder::Space;
-use wenc_canon::{CanonTree, CanonicalOption};
+use wenc_canon::CanonicalOption;
 use wenc_list::ListFault;
 use wenc_parts::{
     ComponentExportKind, ComponentOuterAliasKind, ComponentSectionId, ComponentTypeRef,
     ComponentValType, ModuleArg, PrimitiveValType, ResultList, TypeBounds,
 };
 use wenc_read::{NestedRefusal, Refusal};
-use wenc_sections::Sort;
+use wenc_sections::{CanonTree, Sort};
 use wenc_types::{CaseTree, CoreTypeTree, DefinedTree, FuncStage, ModuleDecl};
 
 pub fn kinds_of_core_exports(one: ExportKind, other: ExportKind) -> bool

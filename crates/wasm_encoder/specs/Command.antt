@@ -5,7 +5,7 @@ use Rattle.wenc_builder.specs.Entry.{Entry, entry, canonical_tree_entry, custom_
 use Rattle.wenc_builder.specs.Entry.{export_entry, import_entry, start_entry}
 use Rattle.wenc_builder.specs.Item.{ModuleItem, CoreInstanceItem, CoreTypeItem, ComponentItem}
 use Rattle.wenc_builder.specs.Item.{InstanceItem, AliasItem, TypeItem, RawItem}
-use Rattle.wenc_canon.specs.CanonTrees.{canon_view}
+use Rattle.wenc_sections.specs.CanonTrees.{canon_view}
 use Rattle.wenc_parts.specs.Aliases.{alias_tree_view}
 use Rattle.wenc_parts.specs.Imports.{name_tree_view, string_option}
 use Rattle.wenc_sections.specs.InstanceTrees.{core_instance_tree_view, instance_tree_view}

@@ -20,9 +20,8 @@ ghost use Rattle.wasm_encoder.specs.inside.Steps.{StepsRun, indexed as indexed_o
 use std::alloc::{Allocator, Global};
 use wenc_base::{CustomSection, Fault};
 use wenc_builder::ComponentBuilder;
-use wenc_canon::CanonTree;
 use wenc_parts::{AliasTree, ComponentExportKind, ComponentTypeRef, NameTree};
-use wenc_sections::{CoreInstanceTree, InstanceTree};
+use wenc_sections::{CanonTree, CoreInstanceTree, InstanceTree};
 use wenc_types::{CoreTypeTree, TypeTree};
 
 /// One call of a builder, as data (component model, binary format, "Component Definitions"). Each

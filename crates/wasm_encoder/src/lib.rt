@@ -24,7 +24,7 @@ pub use wenc_base::{
     TableType, TagType, ValType, encode_list, encoding_size, section_size,
 };
 pub use wenc_builder::{ComponentBuilder, Space};
-pub use wenc_canon::{AddsBuiltin, AddsSlot, CanonTree, CanonicalFunctionSection, CanonicalOption};
+pub use wenc_canon::{AddsBuiltin, AddsSlot, CanonicalFunctionSection, CanonicalOption};
 pub use wenc_list::{ItemTree, ListFault, ListedSection, Listing, Unread, first_unread, list};
 pub use wenc_parts::{
     Alias, AliasTree, Component, ComponentExportKind, ComponentExternName, ComponentOuterAliasKind,
@@ -32,7 +32,7 @@ pub use wenc_parts::{
     NameOptions, NameTree, PrimitiveValType, TypeBounds,
 };
 pub use wenc_sections::{
-    ComponentAliasSection, ComponentExportSection, ComponentImportSection,
+    CanonTree, ComponentAliasSection, ComponentExportSection, ComponentImportSection,
     ComponentInstanceSection, ComponentNameSection, ComponentStartSection, ComponentTypeSection,
     CoreInstanceTree, CoreTypeSection, InstanceSection, InstanceTree, ModuleSection,
     NestedComponentSection,

@@ -1,6 +1,6 @@
 //! Functions that the component model provides, by their words.
 ghost use Rattle.std.specs.Prelude.{◌≡◌, ◌∷◌, [], drop, option_map};
-ghost use Rattle.wenc_canon.specs.CanonTrees.{canon_view};
+ghost use Rattle.wenc_sections.specs.CanonTrees.{canon_view};
 ghost use Rattle.wenc_canon.specs.Canonicals.{Index, Flag, builtins};
 ghost use Rattle.wenc.specs.Builtins.{values_said, one_of, builtin_said};
 ghost use Rattle.wenc.specs.Words.{words_left};

@@ -9,7 +9,7 @@ ghost use Rattle.wenc_base.specs.Lender.{GivesUp};
 ghost use Rattle.wenc_base.specs.declared.fault.Fault.TheVariants.{Unfinished};
 ghost use Rattle.wenc_parts.specs.Imports.{extern_name_view};
 ghost use Rattle.wenc_parts.specs.Aliases.{alias_view};
-ghost use Rattle.wenc_canon.specs.CanonTrees.{canon_view};
+ghost use Rattle.wenc_sections.specs.CanonTrees.{canon_view};
 ghost use Rattle.wenc_builder.specs.Sections.{Section, runs, Reading, whole};
 ghost use Rattle.wenc_builder.specs.Entry.{Entry, items, module_entry, component_entry, canonical_entry, start_entry, custom_entry, raw_entry};
 ghost use Rattle.wenc_builder.specs.Entry.{import_entry, export_entry, alias_entry, alias_export_entry, core_alias_export_entry};
@@ -50,12 +50,12 @@ use std::marker::Model;
 use wenc_base::{
     CustomSection, Encode, ExportKind, Fault, Lender, Module, RawCustomSection, Tagged, WithSize,
 };
-use wenc_canon::{CanonTree, CanonicalOption};
+use wenc_canon::CanonicalOption;
 use wenc_parts::{
     Alias, ComponentExportKind, ComponentExternName, ComponentSectionId, ComponentTypeRef,
 };
-use wenc_sections::ComponentStartSection;
 use wenc_sections::names::NAMES_LABEL;
+use wenc_sections::{CanonTree, ComponentStartSection};
 
 /// Builds a component call by call: collects neighbours of one kind in one section, and hands out
 /// the index of each item. A refused call changes nothing, and the next one goes on as if it had

@@ -1,5 +1,4 @@
 pub mod Canonicals
-pub mod CanonTrees
 pub mod inside
 pub mod reading
 pub mod laws

@@ -1,4 +1,3 @@
 -- Why the laws of the forms hold: for proofs, here and in the crates above.
 pub mod Canonicals
-pub mod EqualTrees
 pub mod Rows

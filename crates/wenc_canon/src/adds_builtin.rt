@@ -28,10 +28,10 @@ pub trait AddsRow {
 
     /// Adds the builtin of this row, which has these fields, of which none is a slot.
     fn add_row<F: Fields>(&mut self, row: Row, fields: &F) -> Result<Self::Answer, Fault>
-        requires row { row_with row.opcode ≡ (row.name.now is row.opcode takes F.kinds) }
+        requires row { row_with row.1 ≡ (row.0.now is row.1 takes F.kinds) }
         requires no_slot { slots_text F.kinds (F.values fields.now) ≡ [] }
         ensures { adds self.old self.new result
-            (builtin_by row.opcode F.kinds (F.values fields.now)) };
+            (builtin_by row.1 F.kinds (F.values fields.now)) };
 
     /// Adds the builtin of this row, which has options after these fields, of which none is a slot.
     fn add_row_with<F: Fields, I: Iterator<Item = CanonicalOption> + Drop>(
@@ -40,23 +40,23 @@ pub trait AddsRow {
         fields: &F,
         options: I,
     ) -> Result<Self::Answer, Fault>
-        requires row { row_with row.opcode
-            ≡ (row.name.now is row.opcode takes and_options F.kinds) }
+        requires row { row_with row.1
+            ≡ (row.0.now is row.1 takes and_options F.kinds) }
         requires no_slot { slots_text F.kinds (F.values fields.now) ≡ [] }
         requires can { I.can_next options }
         requires ends { IsFinite (I.remaining options) }
         ensures { adds_with I.next_gives options self.old self.new result
-            (builtin_with row.opcode F.kinds (F.values fields.now)) };
+            (builtin_with row.1 F.kinds (F.values fields.now)) };
 }
 
 /// What the builtin of a row that has a slot of a task can be added to.
 pub trait AddsSlotRow: AddsRow {
     /// Adds the builtin of this row, which has a slot of this value type.
     fn add_slot_row(&mut self, row: Row, ty: ValType, slot: u32) -> Result<Self::Answer, Fault>
-        requires { row_with row.opcode
-            ≡ (row.name.now is row.opcode takes CoreType ∷ Slot ∷ []) }
+        requires { row_with row.1
+            ≡ (row.0.now is row.1 takes CoreType ∷ Slot ∷ []) }
         ensures { Self.adds self.old self.new result
-            (builtin_by row.opcode (CoreType ∷ Slot ∷ []) (ty, slot)) };
+            (builtin_by row.1 (CoreType ∷ Slot ∷ []) (ty, slot)) };
 }
 
 /// The functions that the component model provides: each call adds one (component model, binary

@@ -204,7 +204,7 @@ impl<A: Allocator> CanonicalFunctionSection<A> {
     {
         let lead = Tagged(rows::PLAIN, &core_func);
         self.functions
-            .add_listed(&Tagged(rows::LIFT.opcode, &lead), options, &ty)
+            .add_listed(&Tagged(rows::LIFT.1, &lead), options, &ty)
     }
 
     /// Lowers the component function with this index to a core function. Refused as the type says.
@@ -220,7 +220,7 @@ impl<A: Allocator> CanonicalFunctionSection<A> {
     {
         let lead = Tagged(rows::PLAIN, &func);
         self.functions
-            .add_listed(&Tagged(rows::LOWER.opcode, &lead), options, &())
+            .add_listed(&Tagged(rows::LOWER.1, &lead), options, &())
     }
 }
 
@@ -235,7 +235,7 @@ impl<A: Allocator> AddsRow for CanonicalFunctionSection<A> {
     ghost adds_with = { AddsWithOptions };
 
     fn add_row<F: Fields>(&mut self, row: Row, fields: &F) -> Result<(), Fault> {
-        self.functions.add_encoded(&Tagged(row.opcode, fields))
+        self.functions.add_encoded(&Tagged(row.1, fields))
     }
 
     fn add_row_with<F: Fields, I: Iterator<Item = CanonicalOption> + Drop>(
@@ -245,13 +245,13 @@ impl<A: Allocator> AddsRow for CanonicalFunctionSection<A> {
         options: I,
     ) -> Result<(), Fault> {
         self.functions
-            .add_listed(&Tagged(row.opcode, fields), options, &())
+            .add_listed(&Tagged(row.1, fields), options, &())
     }
 }
 
 impl<A: Allocator> AddsSlotRow for CanonicalFunctionSection<A> {
     fn add_slot_row(&mut self, row: Row, ty: ValType, slot: u32) -> Result<(), Fault> {
-        self.functions.add_encoded(&Tagged(row.opcode, &(ty, slot)))
+        self.functions.add_encoded(&Tagged(row.1, &(ty, slot)))
     }
 }
 

@@ -5,13 +5,10 @@
 #![tactic(auto)]
 
 pub mod adds_builtin;
-pub mod canon_tree;
 pub mod canonicals;
-pub mod equality;
 pub mod fields;
 pub mod rows;
 
 pub use adds_builtin::{AddsBuiltin, AddsRow, AddsSlot, AddsSlotRow};
-pub use canon_tree::CanonTree;
 pub use canonicals::{CanonicalFunctionSection, CanonicalOption};
 pub use fields::{Fields, NotCancellable};

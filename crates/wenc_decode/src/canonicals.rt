@@ -1,6 +1,6 @@
 //! Canonical functions, each by its opcode.
 ghost use Rattle.wenc_base.specs.Readers.{pick, nowhere};
-ghost use Rattle.wenc_canon.specs.CanonTrees.{canon_view};
+ghost use Rattle.wenc_sections.specs.CanonTrees.{canon_view};
 ghost use Rattle.wenc_canon.specs.reading.Canonicals.{read_lifted, read_lowered, rows};
 ghost use Rattle.wenc_decode.specs.inside.Canonicals.{read_zero, stream_rows, future_rows, error_context_rows, thread_rows, forward_rows};
 ghost use Rattle.wenc_read.specs.Gives.{Gives};
@@ -8,9 +8,10 @@ ghost use Rattle.wenc_read.specs.Gives.{Gives};
 use crate::decode::Decode;
 use std::alloc::Allocator;
 use wenc_base::ValType;
-use wenc_canon::{CanonTree, CanonicalOption};
+use wenc_canon::CanonicalOption;
 use wenc_parts::{ComponentValType, ResultList};
 use wenc_read::{Refusal, byte};
+use wenc_sections::CanonTree;
 
 impl<A: Allocator + Copy> Decode<A> for CanonicalOption {
     ghost use Rattle.wenc_canon.specs.declared.canonicals.CanonicalOption.{CanonicalOption as Value'};

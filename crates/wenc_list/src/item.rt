@@ -1,13 +1,12 @@
 //! What a section has: the trees that commands are made of.
 ghost use Rattle.std.specs.Prelude.{◌≡◌};
 ghost use Rattle.wenc_builder.specs.Space.{canonical_space};
-ghost use Rattle.wenc_canon.specs.CanonTrees.{canon_view};
+ghost use Rattle.wenc_sections.specs.CanonTrees.{canon_view};
 
 use std::alloc::{Allocator, Global};
 use wenc_builder::Space;
-use wenc_canon::CanonTree;
 use wenc_parts::{AliasTree, ComponentExportKind, ComponentTypeRef, NameTree};
-use wenc_sections::{CoreInstanceTree, InstanceTree};
+use wenc_sections::{CanonTree, CoreInstanceTree, InstanceTree};
 use wenc_types::{CoreTypeTree, TypeTree};
 
 /// An item of a component, as it was read (component model, binary format, "Component

@@ -8,11 +8,10 @@ ghost use Rattle.wenc_list.specs.Items.{item_view};
 
 use crate::item::ItemTree;
 use std::alloc::Allocator;
-use wenc_canon::CanonTree;
 use wenc_decode::{Decode, room_for, type_of};
 use wenc_parts::{AliasTree, ComponentExportKind, ComponentTypeRef, NameTree};
 use wenc_read::{NestedRefusal, Refusal};
-use wenc_sections::{CoreInstanceTree, InstanceTree};
+use wenc_sections::{CanonTree, CoreInstanceTree, InstanceTree};
 use wenc_types::{CoreTypeTree, TypeTree};
 
 /// How many types of components and instances may stand in one another.

@@ -2,7 +2,9 @@ pub mod Imports
 pub mod Exports
 pub mod Instances
 pub mod InstanceTrees
+pub mod CanonTrees
 pub mod Start
 pub mod Names
+pub mod inside
 pub mod reading
 pub mod laws

@@ -6,6 +6,7 @@
 #![tactic(auto)]
 
 pub mod aliases;
+pub mod canon_tree;
 pub mod components;
 pub mod counted;
 pub mod exports;
@@ -18,6 +19,7 @@ pub mod start;
 pub mod types;
 
 pub use aliases::ComponentAliasSection;
+pub use canon_tree::CanonTree;
 pub use components::NestedComponentSection;
 pub use counted::{Counted, EncoderKind};
 pub use exports::ComponentExportSection;

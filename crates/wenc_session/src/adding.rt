@@ -22,10 +22,9 @@ use crate::written::{write_core_type, write_type};
 use std::alloc::Global;
 use wenc_base::CustomSection;
 use wenc_builder::ComponentBuilder;
-use wenc_canon::CanonTree;
 use wenc_parts::AliasTree;
 use wenc_read::name_of;
-use wenc_sections::{CoreInstanceTree, InstanceTree};
+use wenc_sections::{CanonTree, CoreInstanceTree, InstanceTree};
 use wenc_types::CoreTypeTree;
 
 /// Adds an instance of a core module.

@@ -2,7 +2,7 @@
 ghost use Rattle.std.specs.Prelude.{◌≡◌, List, map, MatchOption, None, Some, false, true, ℕ};
 ghost use Rattle.wenc_builder.specs.Enters.{Enters};
 ghost use Rattle.wenc_builder.specs.Entry.{builtin_entry, canonical_tree_entry};
-ghost use Rattle.wenc_canon.specs.CanonTrees.{canon_view};
+ghost use Rattle.wenc_sections.specs.CanonTrees.{canon_view};
 ghost use Rattle.wenc_canon.specs.Canonicals.{TaskReturn};
 ghost use Rattle.wenc_canon.specs.declared.canonicals.CanonicalOption.{CanonicalOption as Options};
 ghost use Rattle.wenc_session.specs.Builtins.{builtin_of, builtin_with, context_of};
@@ -17,8 +17,71 @@ use crate::session::by_builder;
 use std::alloc::Global;
 use wenc_base::Fault;
 use wenc_builder::ComponentBuilder;
-use wenc_canon::{AddsBuiltin, AddsSlot, CanonTree, CanonicalOption};
+use wenc_canon::{AddsSlot, CanonicalOption};
 use wenc_parts::ComponentValType;
+use wenc_sections::CanonTree;
+
+/// The function with this opcode, by its indices, an index and a flag, or a flag.
+fn function_of(opcode: u32, first: u32, second: u32) -> Option<CanonTree>
+    ensures { MatchOption result (builtin_of opcode first second ≡ None)
+        (λ f. builtin_of opcode first second ≡ Some (canonical_tree_entry None (canon_view f))) }
+{
+    let ty = first;
+    let table = second;
+    match opcode {
+        0x02 => Some(CanonTree::ResourceNew(first)),
+        0x03 => Some(CanonTree::ResourceDrop(first)),
+        0x04 => Some(CanonTree::ResourceRep(first)),
+        0x05 => Some(CanonTree::TaskCancel),
+        0x06 => Some(CanonTree::SubtaskCancel(flag(first)?)),
+        0x0c => Some(CanonTree::ThreadYield),
+        0x0d => Some(CanonTree::SubtaskDrop),
+        0x0e => Some(CanonTree::StreamNew(first)),
+        0x11 => Some(CanonTree::StreamCancelRead {
+            ty,
+            async_: flag(second)?,
+        }),
+        0x12 => Some(CanonTree::StreamCancelWrite {
+            ty,
+            async_: flag(second)?,
+        }),
+        0x13 => Some(CanonTree::StreamDropReadable(first)),
+        0x14 => Some(CanonTree::StreamDropWritable(first)),
+        0x15 => Some(CanonTree::FutureNew(first)),
+        0x18 => Some(CanonTree::FutureCancelRead {
+            ty,
+            async_: flag(second)?,
+        }),
+        0x19 => Some(CanonTree::FutureCancelWrite {
+            ty,
+            async_: flag(second)?,
+        }),
+        0x1a => Some(CanonTree::FutureDropReadable(first)),
+        0x1b => Some(CanonTree::FutureDropWritable(first)),
+        0x1e => Some(CanonTree::ErrorContextDrop),
+        0x1f => Some(CanonTree::WaitableSetNew),
+        0x20 => Some(CanonTree::WaitableSetWait(first)),
+        0x21 => Some(CanonTree::WaitableSetPoll(first)),
+        0x22 => Some(CanonTree::WaitableSetDrop),
+        0x23 => Some(CanonTree::WaitableJoin),
+        0x24 => Some(CanonTree::BackpressureInc),
+        0x25 => Some(CanonTree::BackpressureDec),
+        0x26 => Some(CanonTree::ThreadIndex),
+        0x27 => Some(CanonTree::ThreadNewIndirect { ty, table }),
+        0x28 => Some(CanonTree::ThreadResumeLater),
+        0x29 => Some(CanonTree::ThreadSuspend),
+        0x2a => Some(CanonTree::ThreadSuspendThenResume),
+        0x2b => Some(CanonTree::ThreadYieldThenResume),
+        0x2c => Some(CanonTree::ThreadSuspendThenPromote),
+        0x2d => Some(CanonTree::ThreadYieldThenPromote),
+        0x2e => Some(CanonTree::StreamForward(first)),
+        0x2f => Some(CanonTree::FutureForward(first)),
+        0x40 => Some(CanonTree::ThreadSpawnRef(first)),
+        0x41 => Some(CanonTree::ThreadSpawnIndirect { ty, table }),
+        0x42 => Some(CanonTree::ThreadAvailableParallelism),
+        _ => None,
+    }
+}
 
 /// Adds the function with this opcode, by its indices, an index and a flag, or a flag, and answers
 /// its index.
@@ -30,61 +93,9 @@ pub(crate) fn add_builtin(
 ) -> Result<u32, Refused>
     ensures { AddsIf builder.old builder.new result (builtin_of opcode first second) }
 {
-    match opcode {
-        0x02 => by_builder(builder.resource_new(first)),
-        0x03 => by_builder(builder.resource_drop(first)),
-        0x04 => by_builder(builder.resource_rep(first)),
-        0x05 => by_builder(builder.task_cancel()),
-        0x06 => match flag(first) {
-            Some(async_) => by_builder(builder.subtask_cancel(async_)),
-            None => Err(Refused::BadArgument),
-        },
-        0x0c => by_builder(builder.thread_yield()),
-        0x0d => by_builder(builder.subtask_drop()),
-        0x0e => by_builder(builder.stream_new(first)),
-        0x11 => match flag(second) {
-            Some(async_) => by_builder(builder.stream_cancel_read(first, async_)),
-            None => Err(Refused::BadArgument),
-        },
-        0x12 => match flag(second) {
-            Some(async_) => by_builder(builder.stream_cancel_write(first, async_)),
-            None => Err(Refused::BadArgument),
-        },
-        0x13 => by_builder(builder.stream_drop_readable(first)),
-        0x14 => by_builder(builder.stream_drop_writable(first)),
-        0x15 => by_builder(builder.future_new(first)),
-        0x18 => match flag(second) {
-            Some(async_) => by_builder(builder.future_cancel_read(first, async_)),
-            None => Err(Refused::BadArgument),
-        },
-        0x19 => match flag(second) {
-            Some(async_) => by_builder(builder.future_cancel_write(first, async_)),
-            None => Err(Refused::BadArgument),
-        },
-        0x1a => by_builder(builder.future_drop_readable(first)),
-        0x1b => by_builder(builder.future_drop_writable(first)),
-        0x1e => by_builder(builder.error_context_drop()),
-        0x1f => by_builder(builder.waitable_set_new()),
-        0x20 => by_builder(builder.waitable_set_wait(first)),
-        0x21 => by_builder(builder.waitable_set_poll(first)),
-        0x22 => by_builder(builder.waitable_set_drop()),
-        0x23 => by_builder(builder.waitable_join()),
-        0x24 => by_builder(builder.backpressure_inc()),
-        0x25 => by_builder(builder.backpressure_dec()),
-        0x26 => by_builder(builder.thread_index()),
-        0x27 => by_builder(builder.thread_new_indirect(first, second)),
-        0x28 => by_builder(builder.thread_resume_later()),
-        0x29 => by_builder(builder.thread_suspend()),
-        0x2a => by_builder(builder.thread_suspend_then_resume()),
-        0x2b => by_builder(builder.thread_yield_then_resume()),
-        0x2c => by_builder(builder.thread_suspend_then_promote()),
-        0x2d => by_builder(builder.thread_yield_then_promote()),
-        0x2e => by_builder(builder.stream_forward(first)),
-        0x2f => by_builder(builder.future_forward(first)),
-        0x40 => by_builder(builder.thread_spawn_ref(first)),
-        0x41 => by_builder(builder.thread_spawn_indirect(first, second)),
-        0x42 => by_builder(builder.thread_available_parallelism()),
-        _ => Err(Refused::BadArgument),
+    match function_of(opcode, first, second) {
+        Some(function) => by_builder(builder.canonical_tree(None, &function)),
+        None => Err(Refused::BadArgument),
     }
 }
 

@@ -24,8 +24,8 @@ impl<A: Allocator> AddsRow for ComponentBuilder<A> {
         self.add(
             Kind::CanonicalFunction,
             Space::CoreFuncs,
-            Some(row.name),
-            &Tagged(row.opcode, fields),
+            Some(row.0),
+            &Tagged(row.1, fields),
         )
     }
 
@@ -38,8 +38,8 @@ impl<A: Allocator> AddsRow for ComponentBuilder<A> {
         self.add_listed(
             Kind::CanonicalFunction,
             Space::CoreFuncs,
-            Some(row.name),
-            &Tagged(row.opcode, fields),
+            Some(row.0),
+            &Tagged(row.1, fields),
             options,
             &(),
         )
@@ -52,13 +52,13 @@ impl<A: Allocator + Clone> AddsSlotRow for ComponentBuilder<A> {
             return Err(Fault::Unfinished);
         }
         let alloc = self.spaces.allocator().clone()?;
-        let word = row.name;
+        let word = row.0;
         let name = format!(in alloc; "{word} {slot}")?;
         self.add(
             Kind::CanonicalFunction,
             Space::CoreFuncs,
             Some(name.as_str()),
-            &Tagged(row.opcode, &(ty, slot)),
+            &Tagged(row.1, &(ty, slot)),
         )
     }
 }

@@ -33,7 +33,7 @@ impl<A: Allocator> ComponentBuilder<A> {
             Kind::CanonicalFunction,
             Space::CoreFuncs,
             debug_name,
-            &Tagged(rows::LOWER.opcode, &lead),
+            &Tagged(rows::LOWER.1, &lead),
             options,
             &(),
         )
@@ -58,7 +58,7 @@ impl<A: Allocator> ComponentBuilder<A> {
             Kind::CanonicalFunction,
             Space::Funcs,
             debug_name,
-            &Tagged(rows::LIFT.opcode, &lead),
+            &Tagged(rows::LIFT.1, &lead),
             options,
             &type_index,
         )

@@ -2,7 +2,7 @@
 ghost use Rattle.std.specs.Option.{option_copied};
 ghost use Rattle.wenc_builder.specs.Enters.{Enters};
 ghost use Rattle.wenc_builder.specs.Entry.{core_instance_entry, instance_entry, canonical_tree_entry};
-ghost use Rattle.wenc_canon.specs.CanonTrees.{canon_view};
+ghost use Rattle.wenc_sections.specs.CanonTrees.{canon_view};
 ghost use Rattle.wenc_sections.specs.InstanceTrees.{core_instance_tree_view, instance_tree_view};
 
 use super::ComponentBuilder;
@@ -10,8 +10,8 @@ use super::kind::Kind;
 use super::space::Space;
 use std::alloc::Allocator;
 use wenc_base::Fault;
-use wenc_canon::{AddsSlot, CanonTree};
-use wenc_sections::{CoreInstanceTree, InstanceTree};
+use wenc_canon::AddsSlot;
+use wenc_sections::{CanonTree, CoreInstanceTree, InstanceTree};
 
 /// Items that are handed in as trees, for commands: each call adds one, with a debug name or none,
 /// and answers its index. Refused as the type says.

@@ -6,7 +6,7 @@ use Rattle.wenc_builder.specs.Entry.{items, module_entry, core_instance_entry, c
 use Rattle.wenc_builder.specs.Enters.{Enters}
 use Rattle.wenc_builder.specs.Holds.{Holds}
 use Rattle.wenc_builder.specs.Sections.{whole}
-use Rattle.wenc_canon.specs.CanonTrees.{canon_view}
+use Rattle.wenc_sections.specs.CanonTrees.{canon_view}
 use Rattle.wenc_parts.specs.Aliases.{alias_tree_view}
 use Rattle.wenc_parts.specs.Imports.{name_tree_view, string_option}
 use Rattle.wenc_sections.specs.InstanceTrees.{core_instance_tree_view, instance_tree_view}

@@ -3,7 +3,7 @@ use Rattle.wenc_base.specs.declared.fault.Fault.{Fault as Faults}
 use Rattle.wenc_base.specs.declared.fault.Fault.TheVariants.{Memory, Unfinished}
 use Rattle.wenc_builder.specs.Enters.{Enters}
 use Rattle.wenc_builder.specs.Entry.{Entry, canonical_tree_entry}
-use Rattle.wenc_canon.specs.CanonTrees.{canon_view}
+use Rattle.wenc_sections.specs.CanonTrees.{canon_view}
 use Rattle.wenc_canon.specs.declared.canonicals.CanonicalOption.{CanonicalOption}
 use Rattle.wenc_session.specs.Builtins.{builtin_with}
 use Rattle.wenc_session.specs.Packed.{second}

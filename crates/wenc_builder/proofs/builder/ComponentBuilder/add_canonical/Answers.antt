@@ -5,7 +5,7 @@ use Rattle.wenc_builder.specs.Space.{space_number}
 use Rattle.std.specs.Option.{option_copied}
 use Rattle.wenc_builder.specs.Entry.{canonical_entry}
 use Rattle.wenc_builder.specs.Item.{CanonItem}
-use Rattle.wenc_canon.specs.CanonTrees.{canon_view}
+use Rattle.wenc_sections.specs.CanonTrees.{canon_view}
 use Rattle.wenc_builder.specs.declared.builder.kind.Kind.TheVariants as kinds
 use Rattle.wenc_builder.proofs.Entered.{draft_enters}
 use Rattle.wenc_builder.proofs.Texts.{item_piece}

@@ -17,3 +17,9 @@ invariant_of-self g c =
       whole = params_go_on g.L.Lender.is_whole g.L.Lender.appended g.L.Lender.joins c.args.self.now.lender.now c.append_named.new.lender c.args.self.now.stage (map lent_named added.0.items) c.requires.stage
           added.3.state added.3.fits c.args.self.now.whole;
     }
+
+pub invariant_of-self-in-Err : goal.invariant_of-self-in-Err
+invariant_of-self-in-Err g c = search rules
+
+pub returns-in-Err-clause-back : goal.returns-in-Err-clause-back
+returns-in-Err-clause-back g c = search rules

@@ -15,11 +15,11 @@ use Rattle.wenc_builder.proofs.builder.canonicals.ComponentBuilderAddsRow.add_ro
 pub add-requires : goal.add-requires
 add-requires g c =
     let values : Values g.F.Fields.kinds = g.F.Fields.values c.args.fields.now in
-    item_piece (CanonItem (builtin_by c.args.row.opcode g.F.Fields.kinds values)) (builtin_serves c.args.row.name.now c.args.row.opcode g.F.Fields.kinds values (g.met.F.Fields.written c.args.fields.now) c.requires.row)
+    item_piece (CanonItem (builtin_by c.args.row.1 g.F.Fields.kinds values)) (builtin_serves c.args.row.0.now c.args.row.1 g.F.Fields.kinds values (g.met.F.Fields.written c.args.fields.now) c.requires.row)
 
 pub returns : goal.returns
 returns g c =
     let values : Values g.F.Fields.kinds = g.F.Fields.values c.args.fields.now in
-    draft_enters c.args.self.now c.add.new.self c.add.result (canonical_tree_entry None (builtin_by c.args.row.opcode g.F.Fields.kinds values)) (kind_id kinds.CanonicalFunction) (space_number spaces.CoreFuncs) (Some c.args.row.name.now)
-    (record { section = refl; defined = refl; named = ap Some (builtin_named c.args.row.name.now c.args.row.opcode g.F.Fields.kinds values c.requires.row c.requires.no_slot) })
-    (builtin_serves c.args.row.name.now c.args.row.opcode g.F.Fields.kinds values (g.met.F.Fields.written c.args.fields.now) c.requires.row) c.add.ensures
+    draft_enters c.args.self.now c.add.new.self c.add.result (canonical_tree_entry None (builtin_by c.args.row.1 g.F.Fields.kinds values)) (kind_id kinds.CanonicalFunction) (space_number spaces.CoreFuncs) (Some c.args.row.0.now)
+    (record { section = refl; defined = refl; named = ap Some (builtin_named c.args.row.0.now c.args.row.1 g.F.Fields.kinds values c.requires.row c.requires.no_slot) })
+    (builtin_serves c.args.row.0.now c.args.row.1 g.F.Fields.kinds values (g.met.F.Fields.written c.args.fields.now) c.requires.row) c.add.ensures

@@ -14,11 +14,11 @@ use Rattle.wenc_builder.proofs.builder.canonicals.ComponentBuilderAddsSlotRow.ad
 
 pub add-requires : goal.add-requires
 add-requires g c =
-    item_piece (CanonItem (builtin_by c.args.row.opcode (CoreType ∷ Slot ∷ []) (c.args.ty, c.args.slot)))
-    (builtin_serves c.args.row.name.now c.args.row.opcode (CoreType ∷ Slot ∷ []) (c.args.ty, c.args.slot) (two_fields CoreType Slot c.args.ty c.args.slot) c.requires)
+    item_piece (CanonItem (builtin_by c.args.row.1 (CoreType ∷ Slot ∷ []) (c.args.ty, c.args.slot)))
+    (builtin_serves c.args.row.0.now c.args.row.1 (CoreType ∷ Slot ∷ []) (c.args.ty, c.args.slot) (two_fields CoreType Slot c.args.ty c.args.slot) c.requires)
 
 pub returns : goal.returns
 returns g c =
-    draft_enters c.args.self.now c.add.new.self c.add.result (canonical_tree_entry None (builtin_by c.args.row.opcode (CoreType ∷ Slot ∷ []) (c.args.ty, c.args.slot))) (kind_id kinds.CanonicalFunction) (space_number spaces.CoreFuncs) (Some c.as_str.result.now)
-    (record { section = refl; defined = refl; named = ap Some (builtin_named_with c.args.row.name.now c.args.row.opcode (CoreType ∷ Slot ∷ []) (c.args.ty, c.args.slot) c.requires ∙ sym (c.as_str.ensures.value ∙ c.in_ok-name.ensures.ok)) })
-    (builtin_serves c.args.row.name.now c.args.row.opcode (CoreType ∷ Slot ∷ []) (c.args.ty, c.args.slot) (two_fields CoreType Slot c.args.ty c.args.slot) c.requires) c.add.ensures
+    draft_enters c.args.self.now c.add.new.self c.add.result (canonical_tree_entry None (builtin_by c.args.row.1 (CoreType ∷ Slot ∷ []) (c.args.ty, c.args.slot))) (kind_id kinds.CanonicalFunction) (space_number spaces.CoreFuncs) (Some c.as_str.result.now)
+    (record { section = refl; defined = refl; named = ap Some (builtin_named_with c.args.row.0.now c.args.row.1 (CoreType ∷ Slot ∷ []) (c.args.ty, c.args.slot) c.requires ∙ sym (c.as_str.ensures.value ∙ c.in_ok-name.ensures.ok)) })
+    (builtin_serves c.args.row.0.now c.args.row.1 (CoreType ∷ Slot ∷ []) (c.args.ty, c.args.slot) (two_fields CoreType Slot c.args.ty c.args.slot) c.requires) c.add.ensures

@@ -1,0 +1,467 @@
+//! Canonical functions, as trees.
+ghost use Rattle.std.specs.Prelude.{OnOk};
+ghost use Rattle.wenc_base.specs.Encode.{Appends, Serves};
+ghost use Rattle.wenc_base.specs.laws.Serves.{serves_itself};
+ghost use Rattle.wenc_canon.specs.Canonicals.{Lift, Lower, canonical};
+ghost use Rattle.wenc_canon.specs.inside.Rows.{row_first_byte, row_then};
+
+use std::alloc::{Allocator, Global};
+use wenc_base::{Delimited, Encode, Fault, Tagged, ValType};
+use wenc_canon::rows::{self, Row};
+use wenc_canon::{CanonicalOption, Fields, NotCancellable};
+use wenc_parts::{ComponentValType, ResultList};
+
+/// A canonical function, with all that it is made of (component model, binary format, "Canonical
+/// Definitions"). Each index is from 0 to 4294967295. More than 4294967295 options can't be encoded
+/// (`TooMany`).
+///
+/// ```
+/// let mut sink = Vec::new(alloc);
+/// let drop: CanonTree = CanonTree::ResourceDrop(3);
+/// drop.encode(&mut sink)?;
+/// ```
+#[derive(Drop)]
+#[derive_where(PartialEq, Eq, Debug)]
+pub enum CanonTree<A: Allocator = Global> {
+    /// Lifts a core function to a function of a component type.
+    Lift {
+        /// The index of the core function.
+        core_func: u32,
+        /// The index of the type.
+        ty: u32,
+        /// The options, in their order.
+        options: Vec<CanonicalOption, A>,
+    },
+    /// Lowers a component function to a core function.
+    Lower {
+        /// The index of the function.
+        func: u32,
+        /// The options, in their order.
+        options: Vec<CanonicalOption, A>,
+    },
+    /// `resource.new`: makes a handle that owns a resource of this type.
+    ResourceNew(u32),
+    /// `resource.drop`: drops a handle of this type.
+    ResourceDrop(u32),
+    /// `resource.rep`: gives the representation of a resource of this type.
+    ResourceRep(u32),
+    /// `task.cancel`: says that the current task was cancelled.
+    TaskCancel,
+    /// `subtask.cancel`: cancels a subtask. The flag says whether that may be answered later.
+    SubtaskCancel(bool),
+    /// `task.return`: gives the caller of a lifted function its result, or none, while the callee
+    /// goes on.
+    TaskReturn {
+        /// The type of the result, or none.
+        ty: Option<ComponentValType>,
+        /// The options, in their order.
+        options: Vec<CanonicalOption, A>,
+    },
+    /// `context.get`: reads a slot of the current task, which has this value type.
+    ContextGet {
+        /// The type of the slot.
+        ty: ValType,
+        /// The index of the slot.
+        slot: u32,
+    },
+    /// `context.set`: writes a slot of the current task, which has this value type.
+    ContextSet {
+        /// The type of the slot.
+        ty: ValType,
+        /// The index of the slot.
+        slot: u32,
+    },
+    /// `thread.yield`: lets other threads go on.
+    ThreadYield,
+    /// `subtask.drop`: drops a subtask that has ended.
+    SubtaskDrop,
+    /// `stream.new`: makes a stream of this type.
+    StreamNew(u32),
+    /// `stream.read`: reads from a stream of this type.
+    StreamRead {
+        /// The index of the type.
+        ty: u32,
+        /// The options, in their order.
+        options: Vec<CanonicalOption, A>,
+    },
+    /// `stream.write`: writes to a stream of this type.
+    StreamWrite {
+        /// The index of the type.
+        ty: u32,
+        /// The options, in their order.
+        options: Vec<CanonicalOption, A>,
+    },
+    /// `stream.cancel-read`: cancels a read from a stream of this type.
+    StreamCancelRead {
+        /// The index of the type.
+        ty: u32,
+        /// Whether it may be answered later.
+        async_: bool,
+    },
+    /// `stream.cancel-write`: cancels a write to a stream of this type.
+    StreamCancelWrite {
+        /// The index of the type.
+        ty: u32,
+        /// Whether it may be answered later.
+        async_: bool,
+    },
+    /// `stream.drop-readable`: drops the end of a stream of this type that is read.
+    StreamDropReadable(u32),
+    /// `stream.drop-writable`: drops the end of a stream of this type that is written.
+    StreamDropWritable(u32),
+    /// `future.new`: makes a future of this type.
+    FutureNew(u32),
+    /// `future.read`: reads from a future of this type.
+    FutureRead {
+        /// The index of the type.
+        ty: u32,
+        /// The options, in their order.
+        options: Vec<CanonicalOption, A>,
+    },
+    /// `future.write`: writes to a future of this type.
+    FutureWrite {
+        /// The index of the type.
+        ty: u32,
+        /// The options, in their order.
+        options: Vec<CanonicalOption, A>,
+    },
+    /// `future.cancel-read`: cancels a read from a future of this type.
+    FutureCancelRead {
+        /// The index of the type.
+        ty: u32,
+        /// Whether it may be answered later.
+        async_: bool,
+    },
+    /// `future.cancel-write`: cancels a write to a future of this type.
+    FutureCancelWrite {
+        /// The index of the type.
+        ty: u32,
+        /// Whether it may be answered later.
+        async_: bool,
+    },
+    /// `future.drop-readable`: drops the end of a future of this type that is read.
+    FutureDropReadable(u32),
+    /// `future.drop-writable`: drops the end of a future of this type that is written.
+    FutureDropWritable(u32),
+    /// `error-context.new`: makes an error context of a message.
+    ErrorContextNew(Vec<CanonicalOption, A>),
+    /// `error-context.debug-message`: gives the message of an error context.
+    ErrorContextDebugMessage(Vec<CanonicalOption, A>),
+    /// `error-context.drop`: drops an error context.
+    ErrorContextDrop,
+    /// `waitable-set.new`: makes a set of what can be waited for.
+    WaitableSetNew,
+    /// `waitable-set.wait`: waits until something in a set happens, which is written to this
+    /// memory.
+    WaitableSetWait(u32),
+    /// `waitable-set.poll`: looks whether something in a set happened, which is written to this
+    /// memory.
+    WaitableSetPoll(u32),
+    /// `waitable-set.drop`: drops a set of what can be waited for.
+    WaitableSetDrop,
+    /// `waitable.join`: puts something that can be waited for into a set.
+    WaitableJoin,
+    /// `backpressure.inc`: raises the counter that keeps new calls back.
+    BackpressureInc,
+    /// `backpressure.dec`: lowers the counter that keeps new calls back.
+    BackpressureDec,
+    /// `thread.index`: gives the index of the current thread.
+    ThreadIndex,
+    /// `thread.new-indirect`: makes a thread of a function of this type, by its index in a table.
+    ThreadNewIndirect {
+        /// The index of the type.
+        ty: u32,
+        /// The index of the table.
+        table: u32,
+    },
+    /// `thread.resume-later`: lets a thread that was suspended go on later.
+    ThreadResumeLater,
+    /// `thread.suspend`: suspends the current thread.
+    ThreadSuspend,
+    /// `thread.suspend-then-resume`: suspends the current thread, and lets another go on at once.
+    ThreadSuspendThenResume,
+    /// `thread.yield-then-resume`: lets another thread go on at once, and this one after it.
+    ThreadYieldThenResume,
+    /// `thread.suspend-then-promote`: suspends the current thread, and moves another to the front
+    /// of those that wait.
+    ThreadSuspendThenPromote,
+    /// `thread.yield-then-promote`: lets other threads go on, first the one that is moved to the
+    /// front of those that wait.
+    ThreadYieldThenPromote,
+    /// `stream.forward`: hands on what is left in one stream of this type to another.
+    StreamForward(u32),
+    /// `future.forward`: hands on the value of one future of this type to another.
+    FutureForward(u32),
+    /// `thread.spawn-ref`: starts a thread in a shared function of this type, by a reference to it.
+    ThreadSpawnRef(u32),
+    /// `thread.spawn-indirect`: starts a thread in a shared function of this type, by its index in
+    /// a table.
+    ThreadSpawnIndirect {
+        /// The index of the type.
+        ty: u32,
+        /// The index of the table.
+        table: u32,
+    },
+    /// `thread.available-parallelism`: gives how many threads can run at once.
+    ThreadAvailableParallelism,
+}
+
+impl<A: Allocator> CanonTree<A> {
+    ghost use Rattle.std.specs.Prelude.{◌≡◌};
+    ghost use Rattle.wenc_sections.specs.CanonTrees.{canon_view};
+    ghost use Rattle.wenc_sections.specs.inside.Operands.{operand_behind};
+    ghost use Rattle.wenc_canon.specs.Canonicals.{builtin_name};
+
+    /// The name of the function, without the number of a slot.
+    pub fn name(&self) -> &'static str
+        ensures { result.now ≡ builtin_name (canon_view self.now) }
+    {
+        self.row().0
+    }
+
+    /// The function's row.
+    #[inline(always)]
+    fn row(&self) -> &'static Row
+        ensures name { result.now.0.now ≡ builtin_name (canon_view self.now) }
+        ensures opcode { result.now.1 ≡ row_first_byte (canon_view self.now) }
+    {
+        match self {
+            CanonTree::Lift { .. } => &rows::LIFT,
+            CanonTree::Lower { .. } => &rows::LOWER,
+            CanonTree::ResourceNew(_) => &rows::RESOURCE_NEW,
+            CanonTree::ResourceDrop(_) => &rows::RESOURCE_DROP,
+            CanonTree::ResourceRep(_) => &rows::RESOURCE_REP,
+            CanonTree::TaskCancel => &rows::TASK_CANCEL,
+            CanonTree::SubtaskCancel(_) => &rows::SUBTASK_CANCEL,
+            CanonTree::TaskReturn { .. } => &rows::TASK_RETURN,
+            CanonTree::ContextGet { .. } => &rows::CONTEXT_GET,
+            CanonTree::ContextSet { .. } => &rows::CONTEXT_SET,
+            CanonTree::ThreadYield => &rows::THREAD_YIELD,
+            CanonTree::SubtaskDrop => &rows::SUBTASK_DROP,
+            CanonTree::StreamNew(_) => &rows::STREAM_NEW,
+            CanonTree::StreamRead { .. } => &rows::STREAM_READ,
+            CanonTree::StreamWrite { .. } => &rows::STREAM_WRITE,
+            CanonTree::StreamCancelRead { .. } => &rows::STREAM_CANCEL_READ,
+            CanonTree::StreamCancelWrite { .. } => &rows::STREAM_CANCEL_WRITE,
+            CanonTree::StreamDropReadable(_) => &rows::STREAM_DROP_READABLE,
+            CanonTree::StreamDropWritable(_) => &rows::STREAM_DROP_WRITABLE,
+            CanonTree::FutureNew(_) => &rows::FUTURE_NEW,
+            CanonTree::FutureRead { .. } => &rows::FUTURE_READ,
+            CanonTree::FutureWrite { .. } => &rows::FUTURE_WRITE,
+            CanonTree::FutureCancelRead { .. } => &rows::FUTURE_CANCEL_READ,
+            CanonTree::FutureCancelWrite { .. } => &rows::FUTURE_CANCEL_WRITE,
+            CanonTree::FutureDropReadable(_) => &rows::FUTURE_DROP_READABLE,
+            CanonTree::FutureDropWritable(_) => &rows::FUTURE_DROP_WRITABLE,
+            CanonTree::ErrorContextNew(_) => &rows::ERROR_CONTEXT_NEW,
+            CanonTree::ErrorContextDebugMessage(_) => &rows::ERROR_CONTEXT_DEBUG_MESSAGE,
+            CanonTree::ErrorContextDrop => &rows::ERROR_CONTEXT_DROP,
+            CanonTree::WaitableSetNew => &rows::WAITABLE_SET_NEW,
+            CanonTree::WaitableSetWait(_) => &rows::WAITABLE_SET_WAIT,
+            CanonTree::WaitableSetPoll(_) => &rows::WAITABLE_SET_POLL,
+            CanonTree::WaitableSetDrop => &rows::WAITABLE_SET_DROP,
+            CanonTree::WaitableJoin => &rows::WAITABLE_JOIN,
+            CanonTree::BackpressureInc => &rows::BACKPRESSURE_INC,
+            CanonTree::BackpressureDec => &rows::BACKPRESSURE_DEC,
+            CanonTree::ThreadIndex => &rows::THREAD_INDEX,
+            CanonTree::ThreadNewIndirect { .. } => &rows::THREAD_NEW_INDIRECT,
+            CanonTree::ThreadResumeLater => &rows::THREAD_RESUME_LATER,
+            CanonTree::ThreadSuspend => &rows::THREAD_SUSPEND,
+            CanonTree::ThreadSuspendThenResume => &rows::THREAD_SUSPEND_THEN_RESUME,
+            CanonTree::ThreadYieldThenResume => &rows::THREAD_YIELD_THEN_RESUME,
+            CanonTree::ThreadSuspendThenPromote => &rows::THREAD_SUSPEND_THEN_PROMOTE,
+            CanonTree::ThreadYieldThenPromote => &rows::THREAD_YIELD_THEN_PROMOTE,
+            CanonTree::StreamForward(_) => &rows::STREAM_FORWARD,
+            CanonTree::FutureForward(_) => &rows::FUTURE_FORWARD,
+            CanonTree::ThreadSpawnRef(_) => &rows::THREAD_SPAWN_REF,
+            CanonTree::ThreadSpawnIndirect { .. } => &rows::THREAD_SPAWN_INDIRECT,
+            CanonTree::ThreadAvailableParallelism => &rows::THREAD_AVAILABLE_PARALLELISM,
+        }
+    }
+
+    /// What follows the function's opcode.
+    #[tactic(auto, using(wenc_base::specs::laws::Serves::serves_itself))]
+    #[inline(always)]
+    fn operands(&self) -> Operands<'_, A>
+        ensures { Serves (operand_behind (row_first_byte (canon_view self.now)) result)
+            (canonical (canon_view self.now)) }
+    {
+        match self {
+            CanonTree::Lift {
+                core_func,
+                ty,
+                options,
+            } => Operands::Lifted(*core_func, *ty, options),
+            CanonTree::Lower { func, options } => Operands::Lowered(*func, options),
+            CanonTree::ResourceNew(index)
+            | CanonTree::ResourceDrop(index)
+            | CanonTree::ResourceRep(index)
+            | CanonTree::StreamNew(index)
+            | CanonTree::StreamDropReadable(index)
+            | CanonTree::StreamDropWritable(index)
+            | CanonTree::FutureNew(index)
+            | CanonTree::FutureDropReadable(index)
+            | CanonTree::FutureDropWritable(index)
+            | CanonTree::StreamForward(index)
+            | CanonTree::FutureForward(index)
+            | CanonTree::ThreadSpawnRef(index) => Operands::Index(*index),
+            CanonTree::TaskCancel
+            | CanonTree::SubtaskDrop
+            | CanonTree::ErrorContextDrop
+            | CanonTree::WaitableSetNew
+            | CanonTree::WaitableSetDrop
+            | CanonTree::WaitableJoin
+            | CanonTree::BackpressureInc
+            | CanonTree::BackpressureDec
+            | CanonTree::ThreadIndex
+            | CanonTree::ThreadResumeLater
+            | CanonTree::ThreadAvailableParallelism => Operands::Nothing,
+            CanonTree::SubtaskCancel(async_) => Operands::Flag(*async_),
+            CanonTree::TaskReturn { ty, options } => Operands::ResultsAndOptions(*ty, options),
+            CanonTree::ContextGet { ty, slot } | CanonTree::ContextSet { ty, slot } =>
+                Operands::Slot(*ty, *slot),
+            CanonTree::ThreadYield
+            | CanonTree::ThreadSuspend
+            | CanonTree::ThreadSuspendThenResume
+            | CanonTree::ThreadYieldThenResume
+            | CanonTree::ThreadSuspendThenPromote
+            | CanonTree::ThreadYieldThenPromote => Operands::NotCancellable,
+            CanonTree::StreamRead { ty, options }
+            | CanonTree::StreamWrite { ty, options }
+            | CanonTree::FutureRead { ty, options }
+            | CanonTree::FutureWrite { ty, options } => Operands::IndexAndOptions(*ty, options),
+            CanonTree::StreamCancelRead { ty, async_ }
+            | CanonTree::StreamCancelWrite { ty, async_ }
+            | CanonTree::FutureCancelRead { ty, async_ }
+            | CanonTree::FutureCancelWrite { ty, async_ } => Operands::IndexAndFlag(*ty, *async_),
+            CanonTree::ErrorContextNew(options) | CanonTree::ErrorContextDebugMessage(options) =>
+                Operands::Options(options),
+            CanonTree::WaitableSetWait(memory) | CanonTree::WaitableSetPoll(memory) =>
+                Operands::Memory(*memory),
+            CanonTree::ThreadNewIndirect { ty, table }
+            | CanonTree::ThreadSpawnIndirect { ty, table } => Operands::Indices(*ty, *table),
+        }
+    }
+}
+
+/// What follows the opcode of a canonical function.
+#[derive(Drop)]
+enum Operands<'a, A: Allocator> {
+    /// The core function and the type of a lifted function, and its options, which stand between
+    /// these.
+    Lifted(u32, u32, &'a Vec<CanonicalOption, A>),
+    /// The function that is lowered, and its options.
+    Lowered(u32, &'a Vec<CanonicalOption, A>),
+    Nothing,
+    NotCancellable,
+    Index(u32),
+    Flag(bool),
+    /// That it can't be cancelled, and the index of a memory.
+    Memory(u32),
+    IndexAndFlag(u32, bool),
+    Indices(u32, u32),
+    /// The value type of a slot, and its index.
+    Slot(ValType, u32),
+    Options(&'a Vec<CanonicalOption, A>),
+    IndexAndOptions(u32, &'a Vec<CanonicalOption, A>),
+    ResultsAndOptions(Option<ComponentValType>, &'a Vec<CanonicalOption, A>),
+}
+
+impl<'a, A: Allocator> Operands<'a, A> {
+    ghost use Rattle.wenc_sections.specs.inside.Operands.{operand_behind};
+
+    /// Writes this opcode, and these after it.
+    fn encode_behind<B: Allocator>(&self, opcode: u8, sink: &mut Vec<u8, B>) -> Result<(), Fault>
+        ensures appended { let p = operand_behind opcode self.now in
+            Appends p.text p.Cause ⊥ sink.old.items sink.new.items result }
+        ensures fits { OnOk result (operand_behind opcode self.now).Fits }
+    {
+        match self {
+            Operands::Lifted(core_func, ty, options) => lifted(core_func, *ty, options, sink),
+            Operands::Lowered(func, options) => lowered(func, options, sink),
+            Operands::Nothing => Tagged(opcode, &()).encode(sink),
+            Operands::NotCancellable => Tagged(opcode, &NotCancellable).encode(sink),
+            Operands::Index(index) => Tagged(opcode, index).encode(sink),
+            Operands::Flag(async_) => Tagged(opcode, async_).encode(sink),
+            Operands::Memory(memory) => Tagged(opcode, &(NotCancellable, *memory)).encode(sink),
+            Operands::IndexAndFlag(ty, async_) => Tagged(opcode, &(*ty, *async_)).encode(sink),
+            Operands::Indices(ty, table) => Tagged(opcode, &(*ty, *table)).encode(sink),
+            Operands::Slot(ty, slot) => Tagged(opcode, &(*ty, *slot)).encode(sink),
+            Operands::Options(options) => with_options(opcode, &(), options, sink),
+            Operands::IndexAndOptions(ty, options) => with_options(opcode, ty, options, sink),
+            Operands::ResultsAndOptions(ty, options) => {
+                with_options(opcode, &ResultList(*ty), options, sink)
+            }
+        }
+    }
+}
+
+impl<A: Allocator> Encode for CanonTree<A> {
+    ghost use Rattle.wenc_sections.specs.CanonTrees.{canon_view};
+
+    ghost piece = { λ t. canonical (canon_view t) };
+
+    fn encode<B: Allocator>(&self, sink: &mut Vec<u8, B>) -> Result<(), Fault> {
+        self.operands().encode_behind(self.row().1, sink)
+    }
+}
+
+impl<A: Allocator> Delimited for CanonTree<A> {
+    ghost use Rattle.wenc_canon.specs.Canonicals.{Canonical};
+    ghost use Rattle.wenc_sections.specs.CanonTrees.{canon_view};
+    ghost use Rattle.wenc_canon.specs.laws.Canonicals.{canonical_lawful};
+    ghost use Rattle.wenc_canon.specs.reading.Canonicals.{read_canonical};
+
+    ghost Seen = { Canonical };
+
+    ghost seen = { canon_view };
+
+    ghost form = { canonical };
+
+    ghost readable = { ((λ fuel. read_canonical), canonical_lawful) };
+
+    ghost written = { λ _. serves_itself };
+}
+
+/// Writes this opcode, these fields, and options after them.
+fn with_options<F: Fields, A: Allocator, B: Allocator>(
+    opcode: u8,
+    fields: &F,
+    options: &Vec<CanonicalOption, A>,
+    sink: &mut Vec<u8, B>,
+) -> Result<(), Fault>
+    ensures appended { let row = row_then opcode F.kinds (F.values fields.now) options.now.items in
+        Appends row.text row.Cause (F.unfinished fields.now) sink.old.items sink.new.items result }
+    ensures fits { OnOk result
+        (row_then opcode F.kinds (F.values fields.now) options.now.items).Fits }
+{
+    (Tagged(opcode, fields), options.as_slice()).encode(sink)
+}
+
+/// Writes a function that is lifted: its options stand in front of its type.
+fn lifted<A: Allocator, B: Allocator>(
+    core_func: &u32,
+    ty: u32,
+    options: &Vec<CanonicalOption, A>,
+    sink: &mut Vec<u8, B>,
+) -> Result<(), Fault>
+    ensures appended { let function = canonical (Lift core_func.now options.now.items ty) in
+        Appends function.text function.Cause ⊥ sink.old.items sink.new.items result }
+    ensures fits { OnOk result (canonical (Lift core_func.now options.now.items ty)).Fits }
+{
+    let lead = Tagged(rows::PLAIN, core_func);
+    (Tagged(rows::LIFT.1, &lead), options.as_slice(), ty).encode(sink)
+}
+
+/// Writes a function that is lowered.
+fn lowered<A: Allocator, B: Allocator>(
+    func: &u32,
+    options: &Vec<CanonicalOption, A>,
+    sink: &mut Vec<u8, B>,
+) -> Result<(), Fault>
+    ensures appended { let function = canonical (Lower func.now options.now.items) in
+        Appends function.text function.Cause ⊥ sink.old.items sink.new.items result }
+    ensures fits { OnOk result (canonical (Lower func.now options.now.items)).Fits }
+{
+    let lead = Tagged(rows::PLAIN, func);
+    (Tagged(rows::LOWER.1, &lead), options.as_slice()).encode(sink)
+}
