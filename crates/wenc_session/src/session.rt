@@ -83,6 +83,37 @@ pub(crate) fn by_builder<T: Drop>(answer: Result<T, Fault>) -> Result<T, Refused
     }
 }
 
+/// What a session becomes that is finished, and what is answered.
+fn finished(alloc: Global, session: Session) -> (Session, Result<usize, Refused>)
+    ensures finished { Finishes session result.0 result.1 }
+    ensures among { Among (0 ∷ 4 ∷ 7 ∷ []) (status_of result.1) }
+{
+    match session {
+        Session::Building(builder) => {
+            if !builder.is_finished() {
+                let unfinished = Refused::Fault(Fault::Unfinished);
+                return (Session::Building(builder), Err(unfinished));
+            }
+            match builder.finish() {
+                Ok(bytes) => {
+                    let len = bytes.len();
+                    (Session::Finished(bytes), Ok(len))
+                }
+                // None is refused that is finished.
+                Err(fault) => (
+                    Session::Finished(Vec::new(alloc)),
+                    Err(Refused::Fault(fault)),
+                ),
+            }
+        }
+        Session::Finished(bytes) => {
+            let len = bytes.len();
+            (Session::Finished(bytes), Ok(len))
+        }
+        Session::Declaring(types) => (Session::Declaring(types), Err(Refused::BadArgument)),
+    }
+}
+
 impl Session {
     /// A component without items. Refused for want of memory alone.
     pub fn new(alloc: Global) -> Result<Session, Refused>
@@ -563,34 +594,10 @@ impl Session {
         ensures finished { Finishes self.old self.new result }
         ensures among { Among (0 ∷ 4 ∷ 7 ∷ []) (status_of result) }
     {
-        match self {
-            Session::Building(builder) => {
-                if !builder.is_finished() {
-                    return Err(Refused::Fault(Fault::Unfinished));
-                }
-            }
-            Session::Finished(bytes) => return Ok(bytes.len()),
-            Session::Declaring(_) => return Err(Refused::BadArgument),
-        }
-        match replace(self, Session::Finished(Vec::new(alloc))) {
-            Session::Building(builder) => match builder.finish() {
-                Ok(bytes) => {
-                    let len = bytes.len();
-                    *self = Session::Finished(bytes);
-                    Ok(len)
-                }
-                Err(fault) => Err(Refused::Fault(fault)),
-            },
-            Session::Finished(bytes) => {
-                let len = bytes.len();
-                *self = Session::Finished(bytes);
-                Ok(len)
-            }
-            Session::Declaring(types) => {
-                *self = Session::Declaring(types);
-                Err(Refused::BadArgument)
-            }
-        }
+        let taken = replace(self, Session::Finished(Vec::new(alloc)));
+        let (session, answer) = finished(alloc, taken);
+        *self = session;
+        answer
     }
 
     /// Copies the bytes of the finished component to room for just so many.
