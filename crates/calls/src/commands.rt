@@ -56,7 +56,7 @@ fn items(rt: &impl Abort, alloc: Global) -> Vec<Command> {
         },
         Command::CoreType {
             debug_name: None,
-            ty: CoreTypeTree::Module(Vec::new(alloc)),
+            ty: ok(rt, Box::new(alloc, CoreTypeTree::Module(Vec::new(alloc)))),
         },
         Command::Instance {
             debug_name: None,

@@ -41,7 +41,10 @@ fn command(choices: &mut Choices, depth: u8) -> Command {
         }
         2 => {
             let ty = CoreTypeTree::choose(choices);
-            Command::CoreType { debug_name, ty }
+            match choices.boxed(ty) {
+                Some(ty) => Command::CoreType { debug_name, ty },
+                None => Command::AppendNames,
+            }
         }
         3 => {
             let commands = if depth == 0 {

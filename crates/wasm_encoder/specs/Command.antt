@@ -44,7 +44,8 @@ abbrev mutual
   command_view (CoreModule n bytes) = Add (entry (ModuleItem bytes.items) (string_option n))
   command_view (CoreInstance n i) =
       Add (entry (CoreInstanceItem (core_instance_tree_view i)) (string_option n))
-  command_view (CoreType n ty) = Add (entry (CoreTypeItem (core_type_view ty)) (string_option n))
+  command_view (CoreType n ty) =
+      Add (entry (CoreTypeItem (core_type_view ty.value)) (string_option n))
   command_view (Component' n shape inner) = Nest (string_option n) (row_view inner)
   command_view (ComponentRaw n bytes) = Add (entry (ComponentItem bytes.items) (string_option n))
   command_view (Instance n i) =

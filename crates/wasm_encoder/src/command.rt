@@ -53,8 +53,8 @@ pub enum Command<A: Allocator = Global> {
     CoreType {
         /// The debug name of what is added, or none.
         debug_name: Option<String<A>>,
-        /// The type.
-        ty: CoreTypeTree<A>,
+        /// The type, in a box, since it is far larger than what others have.
+        ty: Box<CoreTypeTree<A>, A>,
     },
     /// A nested component, made by commands. It is accepted only with all of them accepted, and
     /// else refused with the first fault among them.

@@ -25,7 +25,7 @@ impl<A: Allocator> From<ItemTree<A>> for Command<A> {
             },
             ItemTree::CoreType(ty) => Command::CoreType {
                 debug_name: None,
-                ty: Box::into_inner(ty),
+                ty,
             },
             ItemTree::Component(bytes) => Command::ComponentRaw {
                 debug_name: None,

@@ -59,7 +59,7 @@ pub fn function(canon: CanonTree) -> Command {
 }
 
 pub fn core_type(ty: CoreTypeTree) -> Command {
-    Command::CoreType { debug_name: None, ty }
+    Command::CoreType { debug_name: None, ty: ty.into() }
 }
 
 pub fn ty(ty: TypeTree) -> Command {

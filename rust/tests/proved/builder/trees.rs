@@ -1,6 +1,7 @@
 //! Commands, as values: their items are read from the texts that stand for them in their sections.
 
 use crate::proved::rt_std::alloc::Global;
+use crate::proved::rt_std::boxed::Box;
 use crate::proved::rt_std::vec::Vec;
 use crate::proved::wasm_encoder::{Command, ComponentExportKind, ComponentTypeRef, TypeTree};
 use crate::proved::wenc_decode::{Decode, type_of};
@@ -57,7 +58,9 @@ impl<'a> Tree<'a> {
             Tree::CoreInstance(text) => {
                 Command::CoreInstance { debug_name: None, instance: read(text) }
             }
-            Tree::CoreType(text) => Command::CoreType { debug_name: None, ty: read(text) },
+            Tree::CoreType(text) => {
+                Command::CoreType { debug_name: None, ty: Box::new(Global, read(text)).unwrap() }
+            }
             Tree::Instance(text) => Command::Instance { debug_name: None, instance: read(text) },
             Tree::Alias(name, text) => Command::Alias { debug_name: read(name), alias: read(text) },
             Tree::Type(text) => Command::Type { debug_name: None, ty: read_type(text) },
