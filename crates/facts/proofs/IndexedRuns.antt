@@ -1,10 +1,11 @@
 -- From a run to the indices of its items.
+use Rattle.std.specs.Option.{option_map}
 use Rattle.std.proofs.Common.{◌≡◌, ℕ, List, [], ◌∷◌, ◌++◌, length, Option, Some, None, option_to_list, Result, Ok, Err, refl, sym, subst, ◌∙◌, append_assoc, append-nil, arith}
 use Rattle.std.proofs.lemmas.Option.{same_Some}
 use Rattle.wenc_base.specs.declared.fault.Fault.{Fault}
 use Rattle.wenc_builder.specs.Entry.{Entry, items}
 use Rattle.wenc_builder.specs.Names.{names_entry}
-use Rattle.wenc_builder.specs.Space.{Indices, defines, next_index, index_at, index_of}
+use Rattle.wenc_builder.specs.Space.{Indices, defines, next_index, index_of}
 use Rattle.wasm_encoder.specs.Command.{CommandTree, AppendNames}
 use Rattle.wasm_encoder.specs.Cause.{added, index_added}
 use Rattle.wasm_encoder.specs.Ran.{entries_after, RanFrom}
@@ -20,7 +21,7 @@ grown es (c ∷ cs) (Ok a ∷ answers) all r =
     (added es c ++ k.0, k.1 ∙ append_assoc es (added es c) k.0)
 grown es (c ∷ cs) (Err fault ∷ answers) all r = grown es cs answers all r.1
 
-at_defined : (xs : List Entry) (o : Option Indices) (i : ℕ) → Some i ≡ index_at (items xs) o → (d : Indices) × (o ≡ Some d) × (i ≡ next_index (items xs) d.space)
+at_defined : (xs : List Entry) (o : Option Indices) (i : ℕ) → Some i ≡ option_map (λ (d : Indices). next_index (items xs) d.space) o → (d : Indices) × (o ≡ Some d) × (i ≡ next_index (items xs) d.space)
 at_defined xs None i e = absurd cc
 at_defined xs (Some d) i e = (d, refl, same_Some i _ e)
 

@@ -10,7 +10,8 @@ use Rattle.wenc_builder.specs.Entry.{Entry, items, component_entry}
 use Rattle.wenc_builder.specs.Enters.{Enters}
 use Rattle.wenc_builder.specs.Holds.{Holds}
 use Rattle.wenc_builder.specs.Sections.{whole}
-use Rattle.wenc_parts.specs.Imports.{string_option}
+use Rattle.std.specs.Option.{option_map}
+use Rattle.std.specs.String.{string_bytes}
 use Rattle.wasm_encoder.specs.Command.{CommandTree, Nest, Commands, no_more, then, command_view, row_view, commands_view}
 use Rattle.wasm_encoder.specs.Cause.{added, led, cause, first_cause}
 use Rattle.wasm_encoder.specs.Ran.{IsRefusal}
@@ -29,10 +30,10 @@ abbrev row_of : {A : Type 0} → Command A → (n : Count) × Row_of-Command A n
 row_of (commands.Component' n shape row) = (_, row)
 row_of _ = (_, end_of-Command)
 
-pub component_view : {A : Type 0} (n : Option (String A)) (inner : Vec (Command A) A) → command_view (commands.Component n inner) ≡ Nest (string_option n) (commands_view inner.items)
+pub component_view : {A : Type 0} (n : Option (String A)) (inner : Vec (Command A) A) → command_view (commands.Component n inner) ≡ Nest (option_map string_bytes n) (commands_view inner.items)
 component_view {A} n inner =
     let row = row_of (commands.Component n inner) in
-    ap (λ (cs : Commands). Nest (string_option n) cs) (listed_row row.0 row.1 ∙ ap commands_view (items_hidden-the_row-Command-0 A inner))
+    ap (λ (cs : Commands). Nest (option_map string_bytes n) cs) (listed_row row.0 row.1 ∙ ap commands_view (items_hidden-the_row-Command-0 A inner))
 
 -- ---- its commands
 

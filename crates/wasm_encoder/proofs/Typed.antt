@@ -1,4 +1,5 @@
 -- A type that is begun on a builder and written by an encoder.
+use Rattle.std.specs.Option.{option_map}
 use Rattle.std.proofs.Common.{◌≡◌, ℕ, List, [], ◌∷◌, ◌++◌, Ok, Err, Option, Some, refl, sym, ap, subst, ◌∙◌}
 use Rattle.wenc_base.specs.Fault.{IsWarranted, either, NoCause}
 use Rattle.wenc_base.specs.declared.fault.Fault.{Fault}
@@ -9,7 +10,7 @@ use Rattle.wenc_builder.specs.Entry.{Entry, items}
 use Rattle.wenc_builder.specs.Holds.{Holds}
 use Rattle.wenc_builder.specs.Item.{item}
 use Rattle.wenc_builder.specs.LenderState.{no_room_in_section}
-use Rattle.wenc_builder.specs.Space.{next_index, index_at}
+use Rattle.wenc_builder.specs.Space.{Indices, next_index}
 use Rattle.wenc_builder.specs.laws.Typed.{IsWrittenType, WritingCause, opening_due, writing_due, written_free, written_holds}
 use Rattle.wasm_encoder.specs.Command.{Add}
 use Rattle.wasm_encoder.specs.Ran.{IsTyped}
@@ -36,7 +37,7 @@ type_accepted old lent new last index x d w begun indexed opens wrote fits write
   itself_among,
   (
     written_whole old lent last es x d w begun opens (same ∙ wrote) fits writes h,
-    subst (λ (o : Option _). Some index ≡ index_at (items es) o) (sym w.defined) (ap (λ (n : ℕ). Some n) (indexed es h)),
+    subst (λ (o : Option _). Some index ≡ option_map (λ (d : Indices). next_index (items es) d.space) o) (sym w.defined) (ap (λ (n : ℕ). Some n) (indexed es h)),
     written_free old es x d w h opens (subst (λ (s : State). NoCause (EndingCause s x)) begun writes),
   ),
 ))

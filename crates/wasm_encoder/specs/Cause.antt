@@ -3,7 +3,8 @@ use Rattle.std.specs.Prelude.{ℕ, List, [], ◌∷◌, ◌++◌, Option, None, 
 use Rattle.wenc_base.specs.Fault.{first_of}
 use Rattle.wenc_base.specs.declared.fault.Fault.{Fault}
 use Rattle.wenc_builder.specs.Cause.{EntryCause}
-use Rattle.wenc_builder.specs.Entry.{Entry, items, component_entry}
+use Rattle.wenc_builder.specs.Entry.{Entry, entry, items}
+use Rattle.wenc_builder.specs.Item.{ComponentItem}
 use Rattle.wenc_builder.specs.Names.{names_entry}
 use Rattle.wenc_builder.specs.Sections.{whole}
 use Rattle.wenc_builder.specs.Space.{index_of}
@@ -13,7 +14,7 @@ abbrev mutual
   -- what a command adds after these entries, where it is accepted
   pub added : List Entry → CommandTree → List Entry
   added es (Add x) = x ∷ []
-  added es (Nest name cs) = component_entry name (whole (items (led [] cs))) ∷ []
+  added es (Nest name cs) = entry (ComponentItem (whole (items (led [] cs)))) name ∷ []
   added es AppendNames = option_to_list (names_entry es)
 
   -- the entries after these and after commands that are all accepted

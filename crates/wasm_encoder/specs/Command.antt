@@ -1,13 +1,15 @@
 -- Commands as pure data.
-use Rattle.std.specs.Prelude.{ℕ, List, [], ◌∷◌, None, Option}
+use Rattle.std.specs.Prelude.{ℕ, List, [], ◌∷◌, None, Option, String}
+use Rattle.std.specs.Option.{option_map}
 use Rattle.std.specs.String.{string_bytes}
 use Rattle.wenc_builder.specs.Entry.{Entry, entry, canonical_tree_entry, custom_entry}
 use Rattle.wenc_builder.specs.Entry.{export_entry, import_entry, start_entry}
-use Rattle.wenc_builder.specs.Item.{ModuleItem, CoreInstanceItem, CoreTypeItem, ComponentItem}
+use Rattle.wenc_builder.specs.Item.{Item, ModuleItem, CoreInstanceItem, CoreTypeItem}
+use Rattle.wenc_builder.specs.Item.{ComponentItem}
 use Rattle.wenc_builder.specs.Item.{InstanceItem, AliasItem, TypeItem, RawItem}
 use Rattle.wenc_sections.specs.CanonTrees.{canon_view}
 use Rattle.wenc_parts.specs.Aliases.{alias_tree_view}
-use Rattle.wenc_parts.specs.Imports.{name_tree_view, string_option}
+use Rattle.wenc_parts.specs.Imports.{name_tree_view}
 use Rattle.wenc_sections.specs.InstanceTrees.{core_instance_tree_view, instance_tree_view}
 use Rattle.wenc_types.specs.CoreTypeTrees.{core_type_view}
 use Rattle.wenc_types.specs.TypeTrees.{type_view}
@@ -39,20 +41,22 @@ commands_listed (then c cs) = c ∷ commands_listed cs
 
 -- ---- the code's commands as pure ones
 
+-- one that adds this item under this debug name, or without
+abbrev pub adding : {A : Type 0} → Item → Option (String A) → CommandTree
+adding item name = Add (entry item (option_map string_bytes name))
+
 abbrev mutual
   pub command_view : {A : Type 0} → Command A → CommandTree
-  command_view (CoreModule n bytes) = Add (entry (ModuleItem bytes.items) (string_option n))
-  command_view (CoreInstance n i) =
-      Add (entry (CoreInstanceItem (core_instance_tree_view i)) (string_option n))
-  command_view (CoreType n ty) =
-      Add (entry (CoreTypeItem (core_type_view ty.value)) (string_option n))
-  command_view (Component' n shape inner) = Nest (string_option n) (row_view inner)
-  command_view (ComponentRaw n bytes) = Add (entry (ComponentItem bytes.items) (string_option n))
-  command_view (Instance n i) =
-      Add (entry (InstanceItem (instance_tree_view i)) (string_option n))
-  command_view (Alias n alias) = Add (entry (AliasItem (alias_tree_view alias)) (string_option n))
-  command_view («Type» n ty) = Add (entry (TypeItem (type_view ty)) (string_option n))
-  command_view (Canon n canon) = Add (canonical_tree_entry (string_option n) (canon_view canon))
+  command_view (CoreModule n bytes) = adding (ModuleItem bytes.items) n
+  command_view (CoreInstance n i) = adding (CoreInstanceItem (core_instance_tree_view i)) n
+  command_view (CoreType n ty) = adding (CoreTypeItem (core_type_view ty.value)) n
+  command_view (Component' n shape inner) = Nest (option_map string_bytes n) (row_view inner)
+  command_view (ComponentRaw n bytes) = adding (ComponentItem bytes.items) n
+  command_view (Instance n i) = adding (InstanceItem (instance_tree_view i)) n
+  command_view (Alias n alias) = adding (AliasItem (alias_tree_view alias)) n
+  command_view («Type» n ty) = adding (TypeItem (type_view ty)) n
+  command_view (Canon n canon) =
+      Add (canonical_tree_entry (option_map string_bytes n) (canon_view canon))
   command_view (Start function args results) = Add (start_entry function args.items results)
   command_view (Import name ty) = Add (import_entry (name_tree_view name) ty)
   command_view (Export name kind index ty) = Add (export_entry (name_tree_view name) kind index ty)

@@ -1,6 +1,7 @@
 //! Commands: the calls of a builder as data, and a run of them.
 ghost use Rattle.std.specs.Prelude.{◌≡◌, ◌↔◌, ◌⊎◌, List, [], Ok, IfOk, IfErr, map};
-ghost use Rattle.std.specs.Option.{option_copied};
+ghost use Rattle.std.specs.Option.{option_copied, option_map};
+ghost use Rattle.std.specs.String.{string_bytes};
 ghost use Rattle.wenc_base.specs.Fault.{IsMemory, NoCause};
 ghost use Rattle.wenc_base.specs.Piece.{Spelling};
 ghost use Rattle.wenc_builder.specs.Item.{Item};
@@ -8,7 +9,6 @@ ghost use Rattle.wenc_builder.specs.Sections.{Section, runs, Reading, whole};
 ghost use Rattle.wenc_builder.specs.Enters.{EntersWithoutIndex};
 ghost use Rattle.wenc_builder.specs.Entry.{Entry, items, core_type_entry, type_entry, custom_entry};
 ghost use Rattle.wenc_builder.specs.Holds.{Holds};
-ghost use Rattle.wenc_parts.specs.Imports.{string_option};
 ghost use Rattle.wenc_types.specs.CoreTypeTrees.{core_type_view};
 ghost use Rattle.wenc_types.specs.TypeTrees.{type_view};
 ghost use Rattle.wasm_encoder.specs.Cause.{led, first_cause};
@@ -297,7 +297,7 @@ fn without_index(answer: Result<(), Fault>) -> Result<Result<Option<u32>, Fault>
 }
 
 fn as_deref<A: Allocator>(name: &Option<String<A>>) -> Option<&str>
-    ensures { option_copied result ≡ string_option name.now }
+    ensures { option_copied result ≡ option_map string_bytes name.now }
 {
     match name {
         None => None,

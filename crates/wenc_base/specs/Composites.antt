@@ -74,15 +74,10 @@ abbrev pub guard_before : Bool → Piece → Piece
 guard_before true p = p
 guard_before false p = 0x00 ▸ p
 
--- a type with that byte, where others may extend it
-abbrev pub guarded : Form Sub
-guarded s = guard_before s.is_final (sub_type s)
-
--- with guards, or without
+-- with that byte before a type that stands alone, or without
 abbrev pub standing : Bool → Form RecType
-standing true (Single s) = guarded s
-standing true (Rec types) = rec_type (Rec types)
-standing false g = rec_type g
+standing true (Single s) = guard_before s.is_final (sub_type s)
+standing guard g = rec_type g
 
 -- ---- the code's types as pure ones
 
@@ -92,19 +87,19 @@ params_of f = f.params.items
 abbrev pub results_of : {A : Type 0} → FuncType A → List ValType
 results_of f = f.results.items
 
+abbrev pub composite_view : {A : Type 0} → CompositeType A → Composite
+composite_view (composites.Func f) = Func f.params.items f.results.items
+composite_view (composites.Array a) = Array a.0
+composite_view (composites.Struct s) = Struct s.fields.items
+
 abbrev pub func_type_view : {A : Type 0} → FuncType A → Composite
-func_type_view f = Func (params_of f) (results_of f)
+func_type_view f = composite_view (composites.Func f)
 
 abbrev pub array_view : ArrayType → Composite
 array_view a = Array a.0
 
 abbrev pub structure_view : {A : Type 0} → StructType A → Composite
-structure_view s = Struct s.fields.items
-
-abbrev pub composite_view : {A : Type 0} → CompositeType A → Composite
-composite_view (composites.Func f) = func_type_view f
-composite_view (composites.Array a) = array_view a
-composite_view (composites.Struct s) = structure_view s
+structure_view s = composite_view (composites.Struct s)
 
 abbrev pub sub_view : {A : Type 0} → SubType A → Sub
 sub_view s =

@@ -4,7 +4,7 @@ use Rattle.std.specs.Prelude.{◌≡◌, ℕ, List, length, ◌++◌, Result, Er
 use Rattle.wenc_base.specs.Fault.{IsWarranted, NoCause, size_cause, first_of, member_cause}
 use Rattle.wenc_base.specs.Fault.{list_cause, drawn_cause}
 use Rattle.wenc_base.specs.Forms.{list, sized}
-use Rattle.wenc_base.specs.Piece.{Piece, Form, ◌⨾◌, refused_for, all_of}
+use Rattle.wenc_base.specs.Piece.{Piece, Form, ◌⨾◌, refused_for}
 use Rattle.wenc_base.specs.declared.fault.Fault.{Fault}
 use Rattle.wenc_base.specs.declared.fault.Fault.TheVariants.{Unfinished}
 
@@ -41,7 +41,7 @@ drawn_in_order form vs = refused_for (drawn_cause (λ v. (form v).Cause) vs) (li
 -- a piece after its size, which is known last
 abbrev pub sized_in_order : Piece → Piece
 sized_in_order p =
-    refused_for (first_of p.Cause (size_cause (length p.text))) (sized (all_of p))
+    refused_for (first_of p.Cause (size_cause (length p.text))) (sized p)
 
 -- ---- one piece for another
 

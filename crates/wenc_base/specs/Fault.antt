@@ -13,9 +13,7 @@ fault_number Unfinished = 4
 -- A call may answer this fault: for want of memory, or with this cause.
 abbrev pub IsWarranted : (Fault → Type 0) → Fault → Type 0
 IsWarranted cause (Memory e) = Unit {0}
-IsWarranted cause TooMany = cause TooMany
-IsWarranted cause TooLarge = cause TooLarge
-IsWarranted cause Unfinished = cause Unfinished
+IsWarranted cause fault = cause fault
 
 -- nothing stands against it
 abbrev pub NoCause : (Fault → Type 0) → Type 0
@@ -27,17 +25,13 @@ either one other fault = one fault ⊎ other fault
 
 -- why so many bytes can't be a text, or what a size is of: their number isn't one of 32 bits
 abbrev pub size_cause : ℕ → Fault → Type 0
-size_cause n (Memory e) = ⊥
-size_cause n TooMany = ⊥
 size_cause n TooLarge = 2 ^ 32 ≤ n
-size_cause n Unfinished = ⊥
+size_cause n other = ⊥
 
 -- why so many values can't be a list: their number isn't one of 32 bits
 abbrev pub count_cause : ℕ → Fault → Type 0
-count_cause n (Memory e) = ⊥
 count_cause n TooMany = 2 ^ 32 ≤ n
-count_cause n TooLarge = ⊥
-count_cause n Unfinished = ⊥
+count_cause n other = ⊥
 
 -- the cause of one thing or, where that has none, of the next: what is asked first is answered
 -- first

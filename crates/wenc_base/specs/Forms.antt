@@ -1,9 +1,10 @@
 -- Forms made of others (component model, binary format; WebAssembly 3.0, binary format,
 -- "Conventions" and "Values").
-use Rattle.std.specs.Prelude.{◌≡◌, ◌⊎◌, ℕ, ◌^◌, ◌<◌, List, ◌++◌, length, Bool, true, false}
+use Rattle.std.specs.Prelude.{◌≡◌, ◌⊎◌, ℕ, ◌^◌, ◌<◌, List, [], ◌++◌, length, Bool}
+use Rattle.std.specs.Prelude.{true, false}
 use Rattle.std.specs.Prelude.{Option, Some, None, IsUtf8}
 use Rattle.wenc_base.specs.Fault.{size_cause}
-use Rattle.wenc_base.specs.Piece.{Piece, Payload, Form, byte, ◌▸◌, ◌⨾◌, each, all_of, raw}
+use Rattle.wenc_base.specs.Piece.{Piece, Form, byte, ◌▸◌, ◌⨾◌, each, raw}
 use Rattle.wenc_base.specs.Number.{u32, count, size}
 use Rattle.std.specs.List.{AllByRecursion}
 
@@ -26,12 +27,7 @@ option form (Some v) = 0x01 ▸ form v
 
 -- these bytes, which are text
 abbrev pub utf8 : Form (List ℕ)
-utf8 bs = record {
-  Fits = IsUtf8 bs;
-  Cause = λ fault. ⊥;
-  text = bs;
-  Reads = λ mode bytes rest. IsUtf8 bs × (bytes ≡ bs ++ rest);
-}
+utf8 = raw IsUtf8
 
 -- how many bytes, then a text of so many
 abbrev pub name : Form (List ℕ)
@@ -42,13 +38,13 @@ abbrev pub AreBytes : List ℕ → Type 0
 AreBytes = AllByRecursion (λ b. b < 256)
 
 -- how many bytes, then that many, which are all of it
-abbrev pub sized : Payload → Piece
-sized w = record {
-  Fits = (length w.text < 2 ^ 32) × w.Fits;
-  Cause = λ fault. size_cause (length w.text) fault ⊎ w.Cause fault;
-  text = (u32 (length w.text)).text ++ w.text;
+abbrev pub sized : Piece → Piece
+sized p = record {
+  Fits = (length p.text < 2 ^ 32) × p.Fits;
+  Cause = λ fault. size_cause (length p.text) fault ⊎ p.Cause fault;
+  text = (u32 (length p.text)).text ++ p.text;
   Reads = λ mode bytes rest. (content : List ℕ) ×
-      (u32 (length content)).Reads mode bytes (content ++ rest) × w.ReadsAll mode content;
+      (u32 (length content)).Reads mode bytes (content ++ rest) × p.Reads mode content [];
 }
 
 -- how many bytes, then the bytes
@@ -57,4 +53,4 @@ byte_list bs = sized (raw AreBytes bs)
 
 -- a counted section, after its id: how many bytes, how many items, the items
 abbrev pub counted : {A : Type 0} → Form A → Form (List A)
-counted form items = sized (all_of (list form items))
+counted form items = sized (list form items)

@@ -49,14 +49,19 @@ pub data ReadsGroups (mode : Spelling) (top : ℕ) : ℕ → ℕ → List ℕ �
       → ReadsGroups mode top room high bytes rest
       → ReadsGroups mode top (suc room) n (b ∷ bytes) rest
 
+-- A number below a bound, whose last byte is below top. Its text is the shortest; read are texts
+-- that have at most room bytes before the last.
+abbrev pub number : ℕ → ℕ → ℕ → Form ℕ
+number top room bound n = record {
+  Fits = n < bound;
+  Cause = λ fault. ⊥;
+  text = groups top 9 n;
+  Reads = λ mode bytes rest. (n < bound) × ReadsGroups mode top room n bytes rest;
+}
+
 -- a number of 32 bits in at most five bytes
 abbrev pub u32 : Form ℕ
-u32 n = record {
-  Fits = n < 2 ^ 32;
-  Cause = λ fault. ⊥;
-  text = unsigned_text n;
-  Reads = λ mode bytes rest. (n < 2 ^ 32) × ReadsGroups mode 128 4 n bytes rest;
-}
+u32 = number 128 4 (2 ^ 32)
 
 -- how many values there are
 abbrev pub count : Form ℕ
@@ -68,21 +73,11 @@ size n = refused_for (size_cause n) (u32 n)
 
 -- a number of 64 bits in at most ten bytes
 abbrev pub u64 : Form ℕ
-u64 n = record {
-  Fits = n < 2 ^ 64;
-  Cause = λ fault. ⊥;
-  text = unsigned_text n;
-  Reads = λ mode bytes rest. (n < 2 ^ 64) × ReadsGroups mode 128 9 n bytes rest;
-}
+u64 = number 128 9 (2 ^ 64)
 
--- an index, written as a signed number
+-- an index, written as a signed number: the last byte has six bits and the sign
 abbrev pub index : Form ℕ
-index n = record {
-  Fits = n < 2 ^ 32;
-  Cause = λ fault. ⊥;
-  text = signed_text (pos n);
-  Reads = λ mode bytes rest. (n < 2 ^ 32) × ReadsGroups mode 64 4 n bytes rest;
-}
+index = number 64 4 (2 ^ 32)
 
 -- A signed number is read as its groups are, which are turned over below zero.
 abbrev pub ReadsSigned : ℤ → List ℕ → List ℕ → Type 0

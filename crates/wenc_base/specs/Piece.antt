@@ -25,32 +25,7 @@ pub record Piece : Type 1 where
 abbrev pub Form : Type 0 → Type 1
 Form A = A → Piece
 
--- What has no end of its own: it is all of the bytes that it is given.
-pub record Payload : Type 1 where
-  pub Fits : Type 0
-  pub Cause : Fault → Type 0
-  pub text : List ℕ
-  pub ReadsAll : Spelling → List ℕ → Type 0
-
 -- ---- pieces
-
--- no byte at all
-abbrev pub nothing : Piece
-nothing = record {
-  Fits = Unit {0};
-  Cause = λ fault. ⊥;
-  text = [];
-  Reads = λ mode bytes rest. bytes ≡ rest;
-}
-
--- this byte
-abbrev pub byte : ℕ → Piece
-byte b = record {
-  Fits = Unit {0};
-  Cause = λ fault. ⊥;
-  text = b ∷ [];
-  Reads = λ mode bytes rest. bytes ≡ b ∷ rest;
-}
 
 -- these bytes, whatever they are
 abbrev pub verbatim : List ℕ → Piece
@@ -59,6 +34,23 @@ verbatim bs = record {
   Cause = λ fault. ⊥;
   text = bs;
   Reads = λ mode bytes rest. bytes ≡ bs ++ rest;
+}
+
+-- no byte at all
+abbrev pub nothing : Piece
+nothing = verbatim []
+
+-- this byte
+abbrev pub byte : ℕ → Piece
+byte b = verbatim (b ∷ [])
+
+-- these bytes, of which P holds
+abbrev pub raw : (List ℕ → Type 0) → List ℕ → Piece
+raw P bs = record {
+  Fits = P bs;
+  Cause = λ fault. ⊥;
+  text = bs;
+  Reads = λ mode bytes rest. P bs × (bytes ≡ bs ++ rest);
 }
 
 -- a byte that says what comes, then that
@@ -75,16 +67,6 @@ b ▸ p = record {
 abbrev pub behind_bytes : List ℕ → Piece → Piece
 behind_bytes [] p = p
 behind_bytes (b ∷ bs) p = b ▸ behind_bytes bs p
-
--- a byte that says what comes, or another that is read widely, then that
-abbrev pub also : ℕ → ℕ → Piece → Piece
-also b other p = record {
-  Fits = p.Fits;
-  Cause = p.Cause;
-  text = b ∷ p.text;
-  Reads = λ mode bytes rest. (middle : List ℕ) ×
-      ((bytes ≡ b ∷ middle) ⊎ (IsWide mode × (bytes ≡ other ∷ middle))) × p.Reads mode middle rest;
-}
 
 -- a piece that is read widely in another piece's spelling too
 abbrev pub or_widely : Piece → Piece → Piece
@@ -143,45 +125,6 @@ each form vs = record {
   Cause = AnyCause (λ v. (form v).Cause) vs;
   text = flat_map (λ v. (form v).text) vs;
   Reads = λ mode. ReadsEach (λ v. (form v).Reads mode) vs;
-}
-
--- ---- wholes
-
--- a piece that is all of the bytes
-abbrev pub all_of : Piece → Payload
-all_of p = record {
-  Fits = p.Fits;
-  Cause = p.Cause;
-  text = p.text;
-  ReadsAll = λ mode bytes. p.Reads mode bytes [];
-}
-
--- no byte
-abbrev pub end : Payload
-end = record {
-  Fits = Unit {0};
-  Cause = λ fault. ⊥;
-  text = [];
-  ReadsAll = λ mode bytes. bytes ≡ [];
-}
-
--- these bytes, of which P holds
-abbrev pub raw : (List ℕ → Type 0) → List ℕ → Payload
-raw P bs = record {
-  Fits = P bs;
-  Cause = λ fault. ⊥;
-  text = bs;
-  ReadsAll = λ mode bytes. P bs × (bytes ≡ bs);
-}
-
--- a piece, then the rest of the bytes
-infixr 60 ◌⨾⨾◌
-abbrev pub ◌⨾⨾◌ : Piece → Payload → Payload
-p ⨾⨾ w = record {
-  Fits = p.Fits × w.Fits;
-  Cause = λ fault. p.Cause fault ⊎ w.Cause fault;
-  text = p.text ++ w.text;
-  ReadsAll = λ mode bytes. (middle : List ℕ) × p.Reads mode bytes middle × w.ReadsAll mode middle;
 }
 
 -- ---- texts

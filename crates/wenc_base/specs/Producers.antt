@@ -1,6 +1,6 @@
 -- Producers sections (tool conventions, "Producers Section").
 use Rattle.std.specs.Prelude.{◌≡◌, ℕ, ◌+◌, ◌≤◌, ◌^◌, List, [], ◌∷◌, ◌++◌, length}
-use Rattle.wenc_base.specs.Piece.{Piece, Form, refused_for, ◌⨾◌, all_of, ◌⨾⨾◌}
+use Rattle.wenc_base.specs.Piece.{Piece, Form, refused_for, ◌⨾◌}
 use Rattle.wenc_base.specs.Forms.{name, list, sized}
 use Rattle.wenc_base.specs.Fault.{either}
 use Rattle.wenc_base.specs.Holder.{HolderState, held_members, content_size, EncodeCause}
@@ -29,12 +29,12 @@ producers_label = 0x70 ∷ 0x72 ∷ 0x6f ∷ 0x64 ∷ 0x75 ∷ 0x63 ∷ 0x65 ∷
 
 -- the custom section of that name, whose data are a list of fields
 abbrev pub producers_section : Form (List Producers)
-producers_section fields = sized (name producers_label ⨾⨾ all_of (list producers_field fields))
+producers_section fields = sized (name producers_label ⨾ list producers_field fields)
 
 -- the producers section, where its fields are held
 abbrev pub producers_held : HolderState → Piece
 producers_held h =
-    refused_for (EncodeCause h) (sized (name producers_label ⨾⨾ all_of (held_members h)))
+    refused_for (EncodeCause h) (sized (name producers_label ⨾ held_members h))
 
 -- a field with the tools that are held
 abbrev pub held_field : List ℕ → HolderState → Piece

@@ -18,11 +18,9 @@ use Rattle.wenc_builder.specs.Holds.{open_of, namespace_of}
 
 -- too many items, or too many bytes with those of their number
 abbrev pub SectionCause : Option OpenSection → Fault → Type 0
-SectionCause None fault = ⊥
-SectionCause (Some o) (Memory e) = ⊥
 SectionCause (Some o) TooMany = 2 ^ 32 ≤ o.count
 SectionCause (Some o) TooLarge = 2 ^ 32 ≤ content_size o.count (length o.body)
-SectionCause (Some o) Unfinished = ⊥
+SectionCause current other = ⊥
 
 -- The open section, as it would be, is too large.
 abbrev pub NoRoom : Option OpenSection → Fault → Type 0
@@ -30,10 +28,9 @@ NoRoom current fault = (fault ≡ TooLarge) × SectionCause current TooLarge
 
 -- too many items or names, or too many bytes of names with those of their number
 abbrev pub SpaceCause : Namespace → Fault → Type 0
-SpaceCause s (Memory e) = ⊥
 SpaceCause s TooMany = (2 ^ 32 ≤ s.count) ⊎ (2 ^ 32 ≤ s.named)
 SpaceCause s TooLarge = 2 ^ 32 ≤ number_size s.named + length s.names
-SpaceCause s Unfinished = ⊥
+SpaceCause s other = ⊥
 
 -- too much of what the space of these indices is
 abbrev pub IndexCause : (ℕ → Namespace) → Option Indices → Fault → Type 0

@@ -8,7 +8,7 @@ use Rattle.wenc_parts.specs.declared.imports.ComponentTypeRef.{ComponentTypeRef}
 use Rattle.wenc_parts.specs.Imports.{ExternName}
 use Rattle.wenc_parts.specs.Aliases.{AliasOf, InstanceExport, CoreInstanceExport}
 use Rattle.wenc_canon.specs.Canonicals.{row, Values, Builtin, name_of}
-use Rattle.wenc_canon.specs.Canonicals.{Canonical, Lift, Lower, OfBuiltin}
+use Rattle.wenc_canon.specs.Canonicals.{Canonical, OfBuiltin}
 use Rattle.wenc_sections.specs.Start.{started}
 use Rattle.wenc_sections.specs.Instances.{CoreInstance, Instance}
 use Rattle.wenc_types.specs.CoreTypes.{CoreType}
@@ -75,14 +75,13 @@ builtin_entry i values = canonical_entry (Some (name_of i values)) (OfBuiltin i 
 
 -- the debug name of a canonical function: its own, or where it is lifted or lowered this one
 abbrev pub canonical_name : Option (List ℕ) → Canonical → Option (List ℕ)
-canonical_name debug_name (Lift function options type_index) = debug_name
-canonical_name debug_name (Lower function options) = debug_name
 canonical_name debug_name (OfBuiltin i values) = Some (name_of i values)
+canonical_name debug_name other = debug_name
 
 -- that of a canonical function as a tree
 abbrev pub canonical_tree_entry : Option (List ℕ) → Canonical → Entry
 canonical_tree_entry debug_name function =
-    canonical_entry (canonical_name debug_name function) function
+    entry (CanonItem function) (canonical_name debug_name function)
 
 -- none of these has a name
 abbrev pub start_entry : ℕ → List ℕ → ℕ → Entry

@@ -34,19 +34,15 @@ pub data Item : Type 0 where
 -- The id of the section that collects items of this kind; None where each item is a section of its
 -- own.
 abbrev pub collected : Item → Option ℕ
-collected (ModuleItem bytes) = None
 collected (CoreInstanceItem i) = Some (section_number ids.CoreInstance)
 collected (CoreTypeItem t) = Some (section_number ids.CoreType)
-collected (ComponentItem bytes) = None
 collected (InstanceItem i) = Some (section_number ids.Instance)
 collected (AliasItem to) = Some (section_number ids.Alias)
 collected (TypeItem t) = Some (section_number ids.«Type»)
 collected (CanonItem f) = Some (section_number ids.CanonicalFunction)
-collected (StartItem s) = None
 collected (ImportItem i) = Some (section_number ids.Import)
 collected (ExportItem e) = Some (section_number ids.Export)
-collected (CustomItem c) = None
-collected (RawItem bytes) = None
+collected other = None
 
 -- bytes that no reading is of
 abbrev pub unread : List ℕ → Piece

@@ -1,8 +1,9 @@
 -- Components: items cut into sections, and the sections' texts (component model, binary format,
 -- "Component Definitions").
-use Rattle.std.specs.Prelude.{◌≡◌, ℕ, ◌∷◌, [], List, Option, Some, None, Bool, ◌||◌, IsTrue, nat_eq}
+use Rattle.std.specs.Prelude.{◌≡◌, ℕ, ◌∷◌, [], List, Option, Some, None, Bool, IsTrue, nat_eq}
 use Rattle.std.specs.Prelude.{if◌then◌else◌}
-use Rattle.wenc_base.specs.Piece.{Spelling, Payload, Form, ◌▸◌, only_where, end, ◌⨾⨾◌}
+use Rattle.std.specs.List.{list_any}
+use Rattle.wenc_base.specs.Piece.{Spelling, Piece, Form, ◌▸◌, only_where, nothing, ◌⨾◌}
 use Rattle.wenc_base.specs.Forms.{counted}
 use Rattle.wenc_parts.specs.declared.component.ComponentSectionId.TheVariants as ids
 use Rattle.wenc_parts.specs.SectionIds.{section_number}
@@ -39,14 +40,9 @@ runs (x ∷ xs) = joined (collected x) x (runs xs)
 -- modules, components and starts.
 abbrev pub collects : ℕ → Bool
 collects id =
-    nat_eq id (section_number ids.CoreInstance)
-    || nat_eq id (section_number ids.CoreType)
-    || nat_eq id (section_number ids.Instance)
-    || nat_eq id (section_number ids.Alias)
-    || nat_eq id (section_number ids.«Type»)
-    || nat_eq id (section_number ids.CanonicalFunction)
-    || nat_eq id (section_number ids.Import)
-    || nat_eq id (section_number ids.Export)
+    list_any (λ kind. nat_eq id (section_number kind))
+    (ids.CoreInstance ∷ ids.CoreType ∷ ids.Instance ∷ ids.Alias ∷ ids.«Type» ∷
+    ids.CanonicalFunction ∷ ids.Import ∷ ids.Export ∷ [])
 
 -- an item of the kind that the section with this id collects
 abbrev pub item_of : ℕ → Form Item
@@ -58,17 +54,17 @@ section_piece (Run id xs) = only_where (IsTrue (collects id)) (id ▸ counted (i
 section_piece (Alone x) = only_where (collected x ≡ None) (item x)
 
 -- sections one after the other, and then the end
-abbrev pub sections : List Section → Payload
-sections [] = end
-sections (s ∷ ss) = section_piece s ⨾⨾ sections ss
+abbrev pub sections : List Section → Piece
+sections [] = nothing
+sections (s ∷ ss) = section_piece s ⨾ sections ss
 
 -- the preamble and the sections
-abbrev pub component : List Section → Payload
-component ss = preamble ⨾⨾ sections ss
+abbrev pub component : List Section → Piece
+component ss = preamble ⨾ sections ss
 
 -- The bytes are a component with these sections, and nothing else.
 abbrev pub Reading : Spelling → List ℕ → List Section → Type 0
-Reading mode bytes ss = (component ss).ReadsAll mode bytes
+Reading mode bytes ss = (component ss).Reads mode bytes []
 
 -- the bytes of the component with these items
 abbrev pub whole : List Item → List ℕ

@@ -1,5 +1,6 @@
 -- Index spaces: which one an item defines in, and the index that it gets (component model,
 -- explainer, "Index Spaces").
+use Rattle.std.specs.Option.{option_map}
 use Rattle.std.specs.Prelude.{◌≡◌, ℕ, ◌+◌, List, [], ◌∷◌, Option, Some, None, nat_eq, if◌then◌else◌}
 use Rattle.wenc_parts.specs.declared.exports.ComponentExportKind.{ComponentExportKind}
 use Rattle.wenc_parts.specs.declared.exports.ComponentExportKind.TheVariants.{Module, Func, Value}
@@ -18,7 +19,7 @@ use Rattle.wenc_builder.specs.declared.builder.space.Space.TheVariants.{Funcs, I
 use Rattle.wenc_builder.specs.declared.builder.space.Space.TheVariants.{Components, Types}
 use Rattle.wenc_parts.specs.Imports.{kind_of}
 use Rattle.wenc_parts.specs.Aliases.{AliasOf, InstanceExport, CoreInstanceExport, Outer}
-use Rattle.wenc_canon.specs.Canonicals.{Canonical, Lift, Lower, OfBuiltin}
+use Rattle.wenc_canon.specs.Canonicals.{Canonical, Lift}
 use Rattle.wenc_builder.specs.Item.{Item, ModuleItem, CoreInstanceItem, CoreTypeItem, ComponentItem}
 use Rattle.wenc_builder.specs.Item.{InstanceItem, AliasItem, TypeItem, CanonItem, StartItem}
 use Rattle.wenc_builder.specs.Item.{ImportItem, ExportItem, CustomItem, RawItem}
@@ -72,8 +73,7 @@ alias_space (Outer kind count number) = outer_kind_space kind
 -- a function that is lifted is one of the component, and any other is a core one
 abbrev pub canonical_space : Canonical → Space
 canonical_space (Lift function options ty) = Funcs
-canonical_space (Lower function options) = CoreFuncs
-canonical_space (OfBuiltin i values) = CoreFuncs
+canonical_space other = CoreFuncs
 
 -- so many indices in this space
 pub record Indices : Type 0 where
@@ -99,8 +99,7 @@ defines (CanonItem function) = some_in (canonical_space function) 1
 defines (StartItem start) = some_in Values start.results
 defines (ImportItem import) = some_in (kind_space (kind_of import.what)) 1
 defines (ExportItem export) = some_in (kind_space export.kind) 1
-defines (CustomItem custom) = None
-defines (RawItem bytes) = None
+defines other = None
 
 -- how many of these indices are in space k
 abbrev pub number_in : ℕ → Option Indices → ℕ
@@ -125,11 +124,6 @@ IsIndexAt xs (Some d) i = i ≡ next_index xs d.space
 abbrev pub IsIndexOf : List Item → Item → ℕ → Type 0
 IsIndexOf xs x i = IsIndexAt xs (defines x) i
 
--- the first of these indices, where there are any
-abbrev pub index_at : List Item → Option Indices → Option ℕ
-index_at xs None = None
-index_at xs (Some d) = Some (next_index xs d.space)
-
 -- the first index of an item that comes next, if it takes any
 abbrev pub index_of : List Item → Item → Option ℕ
-index_of xs x = index_at xs (defines x)
+index_of xs x = option_map (λ d. next_index xs d.space) (defines x)

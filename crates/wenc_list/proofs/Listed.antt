@@ -189,7 +189,7 @@ pub from_each : {A : Type 0} (all : ℕ) (ss : List (ListedSection A)) (bytes re
 from_each all [] bytes rest f = f
 from_each all (s ∷ ss) bytes rest f = (f.0, f.1, from_each all ss f.0 rest f.4)
 
-pub from_all : {A : Type 0} (all : ℕ) (ss : List (ListedSection A)) (bytes : List ℕ) → AreFrom all ss bytes [] → (sections (map section_view ss)).ReadsAll Wide bytes
+pub from_all : {A : Type 0} (all : ℕ) (ss : List (ListedSection A)) (bytes : List ℕ) → AreFrom all ss bytes [] → (sections (map section_view ss)).Reads Wide bytes []
 from_all all [] bytes f = f
 from_all all (s ∷ ss) bytes f = (f.0, f.1, from_all all ss f.0 f.4)
 
@@ -215,17 +215,17 @@ nothing_read s rest r = absurd (omega (arith, section_shorter s [] rest r))
 
 -- where sections are read to the end, of each of which P holds, one more follows wherever some of
 -- them were read
-pub goes_past : (P : Section → Type 0) (before ss : List Section) (bytes left : List ℕ) → (each section_piece before).Reads Wide bytes left → (sections ss).ReadsAll Wide bytes → AllByRecursion P ss → 0 < length left → (s : Section) × (rest : List ℕ) × (section_piece s).Reads Wide left rest × P s
+pub goes_past : (P : Section → Type 0) (before ss : List Section) (bytes left : List ℕ) → (each section_piece before).Reads Wide bytes left → (sections ss).Reads Wide bytes [] → AllByRecursion P ss → 0 < length left → (s : Section) × (rest : List ℕ) × (section_piece s).Reads Wide left rest × P s
 goes_past P [] [] bytes left b a w some = absurd (omega (arith, ap length b, ap length a))
 goes_past P [] (s ∷ ss) bytes left b a w some = (s, a.0, rw b at a.1, w.0)
 goes_past P (t ∷ ts) [] bytes left b a w some = absurd (nothing_read t b.0 (rw a at b.1))
 goes_past P (t ∷ ts) (s ∷ ss) bytes left b a w some = goes_past P ts ss b.0 left b.2 (rw (same_rest s t bytes a.0 b.0 a.1 b.1) at a.2) w.1 some
 
-stopped : (all : ℕ) (bytes : List ℕ) (place : ℕ) (P : List ℕ → Type 0) → StopsAt all bytes place P → (ss : List Section) → (sections ss).ReadsAll Wide bytes → AreWithin 100 ss → ⊥
+stopped : (all : ℕ) (bytes : List ℕ) (place : ℕ) (P : List ℕ → Type 0) → StopsAt all bytes place P → (ss : List Section) → (sections ss).Reads Wide bytes [] → AreWithin 100 ss → ⊥
 stopped all bytes place P f ss r w = let next = goes_past (λ s. AllByRecursion (HasDepth 100) (members s)) f.before ss bytes f.left f.read r w f.some_left in f.none_within next.0 next.1 next.2 (next.3, tt)
 
 -- where all is read within the depth, only memory can be wanting
-pub only_memory : (all : ℕ) (bytes : List ℕ) (fault : ListFault) → IsFaultBehind all bytes fault → (ss : List Section) → (sections ss).ReadsAll Wide bytes → AreWithin 100 ss → fault ≡ faults.Memory
+pub only_memory : (all : ℕ) (bytes : List ℕ) (fault : ListFault) → IsFaultBehind all bytes fault → (ss : List Section) → (sections ss).Reads Wide bytes [] → AreWithin 100 ss → fault ≡ faults.Memory
 only_memory all bytes faults.Memory f ss r w = refl
 only_memory all bytes (faults.NotAComponent place) f ss r w = absurd f
 only_memory all bytes (faults.BadSection place) f ss r w = absurd (stopped all bytes place _ f ss r w)
@@ -251,7 +251,7 @@ same_section s t bytes rest after r q v w =
     let items : members s ≡ members t = same_Ok (members s) (members t) (sym one ∙ other) in
     sym f.is ∙ rw (same.id_is, items) g.is
 
-pub same_sections : (ss ts : List Section) (bytes : List ℕ) → (sections ss).ReadsAll Wide bytes → (sections ts).ReadsAll Wide bytes → AreWithin 100 ss → AreWithin 100 ts → ss ≡ ts
+pub same_sections : (ss ts : List Section) (bytes : List ℕ) → (sections ss).Reads Wide bytes [] → (sections ts).Reads Wide bytes [] → AreWithin 100 ss → AreWithin 100 ts → ss ≡ ts
 same_sections [] [] bytes a b v w = refl
 same_sections [] (t ∷ ts) bytes a b v w = absurd (nothing_read t b.0 (rw a at b.1))
 same_sections (s ∷ ss) [] bytes a b v w = absurd (nothing_read s a.0 (rw b at a.1))

@@ -8,7 +8,7 @@ use Rattle.std.specs.List.{AllByRecursion}
 use Rattle.std.specs.Prelude.{IsTrue}
 use Rattle.wenc_base.specs.Forms.{list, name, AreBytes}
 use Rattle.wenc_base.specs.Number.{u32}
-use Rattle.wenc_base.specs.Piece.{Form, Wide, only_where, each, raw, ◌⨾⨾◌}
+use Rattle.wenc_base.specs.Piece.{Form, Wide, only_where, each, raw, ◌⨾◌}
 use Rattle.wenc_base.specs.laws.Forms.{raw_sound, bytes_lawful}
 use Rattle.wenc_base.specs.reading.Forms.{read_raw}
 use Rattle.wenc_base.specs.Readers.{Flaw, Bad, Deep, Reader, ◌>>=◌, times, all_read, done}
@@ -133,9 +133,9 @@ items_agree d id xs content r =
 -- ---- what stands alone
 
 abbrev pub AloneIn : ℕ → Item → List ℕ → Type 0
-AloneIn id (CustomItem c) content = (id ≡ 0) × (name c.label ⨾⨾ raw AreBytes c.bytes).ReadsAll Wide content
-AloneIn id (ModuleItem bs) content = (id ≡ 1) × (raw AreBytes bs).ReadsAll Wide content
-AloneIn id (ComponentItem bs) content = (id ≡ 4) × (raw AreBytes bs).ReadsAll Wide content
+AloneIn id (CustomItem c) content = (id ≡ 0) × (name c.label ⨾ raw AreBytes c.bytes).Reads Wide content []
+AloneIn id (ModuleItem bs) content = (id ≡ 1) × (raw AreBytes bs).Reads Wide content []
+AloneIn id (ComponentItem bs) content = (id ≡ 4) × (raw AreBytes bs).Reads Wide content []
 AloneIn id (StartItem s) content = (id ≡ 9) × (start_content s).Reads Wide content []
 AloneIn id other content = ⊥
 

@@ -1,10 +1,11 @@
 -- What an import or an export refers to, and its name (component model, binary format, "Import and
 -- Export Definitions").
 use Rattle.std.specs.Prelude.{ℕ, List, [], ◌∷◌, ◌++◌, Option, Some, None, String, Box}
-use Rattle.wenc_base.specs.Piece.{Piece, Form, nothing, byte, ◌▸◌, ◌⨾◌, also}
+use Rattle.wenc_base.specs.Piece.{Piece, Form, nothing, byte, ◌▸◌, ◌⨾◌, or_widely}
 use Rattle.wenc_base.specs.Number.{u32}
 use Rattle.wenc_base.specs.Forms.{name, list}
 use Rattle.wenc_parts.specs.Types.{value_type}
+use Rattle.std.specs.Option.{option_map}
 use Rattle.std.specs.String.{string_bytes}
 use Rattle.std.specs.Cow.{cow_str_bytes}
 use Rattle.std.specs.declared.borrow.CowStr.{CowStr}
@@ -79,7 +80,7 @@ name_options n =
 
 -- 01 is an older spelling of 00
 abbrev pub name_with : List ℕ → List NameOption → Piece
-name_with text [] = also 0x00 0x01 (name text)
+name_with text [] = or_widely (0x00 ▸ name text) (0x01 ▸ name text)
 name_with text (option ∷ options) = 0x02 ▸ name text ⨾ list name_option (option ∷ options)
 
 abbrev pub extern_name : Form ExternName
@@ -87,29 +88,21 @@ extern_name n = name_with n.name (name_options n)
 
 -- ---- the code's names as pure ones
 
-abbrev pub text_option : {A : Type 0} → Option (CowStr A) → Option (List ℕ)
-text_option None = None
-text_option (Some text) = Some (cow_str_bytes text)
-
 abbrev pub extern_name_view : {A : Type 0} → ComponentExternName A → ExternName
 extern_name_view n = record {
   name = cow_str_bytes n.name;
-  implements = text_option n.implements;
-  version_suffix = text_option n.version_suffix;
-  external_id = text_option n.external_id;
+  implements = option_map cow_str_bytes n.implements;
+  version_suffix = option_map cow_str_bytes n.version_suffix;
+  external_id = option_map cow_str_bytes n.external_id;
 }
-
-abbrev pub string_option : {A : Type 0} → Option (String A) → Option (List ℕ)
-string_option None = None
-string_option (Some text) = Some (string_bytes text)
 
 -- a name with these options
 abbrev pub options_view : {A : Type 0} → List ℕ → NameOptions A → ExternName
 options_view name options = record {
   name = name;
-  implements = string_option options.implements;
-  version_suffix = string_option options.version_suffix;
-  external_id = string_option options.external_id;
+  implements = option_map string_bytes options.implements;
+  version_suffix = option_map string_bytes options.version_suffix;
+  external_id = option_map string_bytes options.external_id;
 }
 
 -- a name with the options that are in a box, or without any

@@ -3,7 +3,9 @@ ghost use Rattle.std.specs.Prelude.{◌≡◌, ◌≢◌, ◌++◌, ℕ, List, l
 ghost use Rattle.wenc_base.specs.Encode.{Appends};
 ghost use Rattle.wenc_base.specs.laws.Delimited.{itself};
 ghost use Rattle.wenc_base.specs.Fault.{IsMemory};
-ghost use Rattle.wenc_parts.specs.Imports.{text_option, string_option};
+ghost use Rattle.std.specs.Cow.{cow_str_bytes};
+ghost use Rattle.std.specs.Option.{option_map};
+ghost use Rattle.std.specs.String.{string_bytes};
 ghost use Rattle.wenc_base.specs.laws.Serves.{serves_itself};
 
 use crate::exports::ComponentExportKind;
@@ -239,9 +241,9 @@ impl<'a, A: Allocator> Delimited for ComponentExternName<'a, A> {
 struct OptionEntry<'a, 'b, A: Allocator>(u8, &'b Option<CowStr<'a, A>>);
 
 impl<'a, 'b, A: Allocator> Encode for OptionEntry<'a, 'b, A> {
-    ghost use Rattle.wenc_parts.specs.Imports.{option_entry, text_option};
+    ghost use Rattle.wenc_parts.specs.Imports.{option_entry};
 
-    ghost piece = { λ o. option_entry o.0 (text_option o.1.now) };
+    ghost piece = { λ o. option_entry o.0 (option_map cow_str_bytes o.1.now) };
 
     fn encode<B: Allocator>(&self, sink: &mut Vec<u8, B>) -> Result<(), Fault> {
         match self.1 {
@@ -348,7 +350,7 @@ impl<A: Allocator> NameTree<A> {
 }
 
 fn borrowed<A: Allocator>(text: &Option<String<A>>) -> Option<CowStr<'_>>
-    ensures { text_option result ≡ string_option text.now }
+    ensures { option_map cow_str_bytes result ≡ option_map string_bytes text.now }
 {
     match text {
         None => None,

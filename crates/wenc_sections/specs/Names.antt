@@ -1,7 +1,7 @@
 -- The section of names (component model, binary format, "Name Section").
 use Rattle.std.specs.Prelude.{◌≡◌, ℕ, ◌+◌, ◌≤◌, ◌^◌, List, [], ◌∷◌, ◌++◌, length, Result, OnOk}
 use Rattle.std.specs.List.{flat_map}
-use Rattle.wenc_base.specs.Piece.{Piece, Form, byte, ◌▸◌, ◌⨾◌, all_of, verbatim, refused_for}
+use Rattle.wenc_base.specs.Piece.{Piece, Form, byte, ◌▸◌, ◌⨾◌, verbatim, refused_for}
 use Rattle.wenc_base.specs.Forms.{name, sized, byte_list}
 use Rattle.wenc_base.specs.Custom.{Custom, custom}
 use Rattle.wenc_base.specs.Encode.{Appends}
@@ -42,8 +42,8 @@ pub data Subsection : Type 0 where
 
 -- its id, how many bytes come, and these
 abbrev pub subsection : Form Subsection
-subsection (ComponentName text) = 0x00 ▸ sized (all_of (name text))
-subsection (ItemNames sort names) = 0x01 ▸ sized (all_of (item_sort sort ⨾ name_map names))
+subsection (ComponentName text) = 0x00 ▸ sized (name text)
+subsection (ItemNames sort names) = 0x01 ▸ sized (item_sort sort ⨾ name_map names)
 subsection (RawNames id bytes) = id ▸ byte_list bytes
 
 -- subsections one after the other
@@ -52,7 +52,7 @@ subsections_text ss = flat_map (λ s. (subsection s).text) ss
 
 -- the names of a sort that are held, which are taken as they are
 abbrev pub held_subsection : Sort → HolderState → Piece
-held_subsection sort held = 0x01 ▸ sized (all_of (item_sort sort ⨾ verbatim (held_text held)))
+held_subsection sort held = 0x01 ▸ sized (item_sort sort ⨾ verbatim (held_text held))
 
 -- the names of a sort, where it has some
 abbrev pub item_names : Sort → List NameAssociation → List Subsection

@@ -1,6 +1,6 @@
 -- Starts (component model, binary format, "Start Definitions").
 use Rattle.std.specs.Prelude.{ℕ, List}
-use Rattle.wenc_base.specs.Piece.{Form, ◌⨾◌, all_of}
+use Rattle.wenc_base.specs.Piece.{Form, ◌⨾◌}
 use Rattle.wenc_base.specs.Number.{u32}
 use Rattle.wenc_base.specs.Forms.{list, sized}
 
@@ -20,4 +20,4 @@ start_content s = u32 s.function ⨾ list u32 s.arguments ⨾ u32 s.results
 
 -- after the section's id: how many bytes, then these
 abbrev pub start : Form Start
-start s = sized (all_of (start_content s))
+start s = sized (start_content s)

@@ -1,11 +1,12 @@
 //! Texts that C hands in.
-ghost use Rattle.std.specs.Option.{option_copied};
+ghost use Rattle.std.specs.Cow.{cow_str_bytes};
+ghost use Rattle.std.specs.Option.{option_copied, option_map};
 ghost use Rattle.std.specs.Prelude.{◌≡◌, MatchOption, MatchResult};
 ghost use Rattle.std.specs.Str.{IsUtf8};
 ghost use Rattle.wenc_session.specs.Flagged.{IsText, text_if};
 ghost use Rattle.wenc_session.specs.Names.{AreTexts, given, name_with};
 ghost use Rattle.wenc_session.specs.declared.refused.Refused.TheVariants.{Malformed};
-ghost use Rattle.wenc_parts.specs.Imports.{extern_name_view, text_option};
+ghost use Rattle.wenc_parts.specs.Imports.{extern_name_view};
 
 use crate::refused::Refused;
 use std::borrow::CowStr;
@@ -57,7 +58,7 @@ pub fn text_where(there: bool, bytes: &[u8]) -> Result<Option<&str>, Refused>
 
 /// A text that is borrowed, where there is one.
 fn borrowed(text: Option<&str>) -> Option<CowStr<'_>>
-    ensures { text_option result ≡ option_copied text.entry }
+    ensures { option_map cow_str_bytes result ≡ option_copied text.entry }
 {
     match text {
         Some(text) => Some(CowStr::Borrowed(text)),

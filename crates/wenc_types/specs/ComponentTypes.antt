@@ -95,11 +95,9 @@ abbrev mutual
 
 abbrev mutual
   pub depth : DefType → ℕ
-  depth (DefinedType ty) = 0
-  depth (FunctionType ty) = 0
   depth (ComponentType ds) = suc (component_depth ds)
   depth (InstanceType ds) = suc (instance_depth ds)
-  depth (ResourceType rep dtor) = 0
+  depth other = 0
 
   pub instance_depth : InstanceDeclarations → ℕ
   instance_depth no_instance = 0
@@ -112,7 +110,5 @@ abbrev mutual
       max (declared_depth d) (component_depth others)
 
   pub declared_depth : InstanceDeclaration → ℕ
-  declared_depth (CoreTyped ty) = 0
   declared_depth (Typed ty) = depth ty
-  declared_depth (Aliased to) = 0
-  declared_depth (Exported name ty) = 0
+  declared_depth other = 0

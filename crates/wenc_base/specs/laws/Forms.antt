@@ -2,9 +2,9 @@
 use Rattle.std.proofs.Common.{true≢false, ◌≡◌, ℕ, ◌≤◌, ◌^◌, Bool, true, false, cond, List, [], ◌∷◌, ◌++◌, length, take, drop, Option, Some, None, Result, Ok, Err, refl, sym, ◌∙◌, append_assoc, arith, inl, inr}
 use Rattle.std.specs.Str.{is_utf8}
 use Rattle.std.proofs.lemmas.Bool.{cases_lt, lt-ltb, le-ltb}
-use Rattle.std.proofs.lemmas.List.{take_at, drop_at, take-append-drop, length-take-le, length-append}
+use Rattle.std.proofs.lemmas.List.{take_at, drop_at, take-append-drop, length-take-le, length-append, append-nil}
 use Rattle.wenc_base.specs.Number.{u32}
-use Rattle.wenc_base.specs.Piece.{Payload, Form, Wide, raw}
+use Rattle.wenc_base.specs.Piece.{Piece, Form, Wide, raw}
 use Rattle.wenc_base.specs.laws.Sound.{Told, Sound, SoundWhole, weaken, behind_value, then_tells, last_tells, give_tells, nowhere_tells, choose_tells, Fewer, Several, times_told}
 use Rattle.wenc_base.specs.Forms.{flag, list, option, utf8, name, AreBytes, sized, byte_list, counted}
 use Rattle.wenc_base.specs.Readers.{Flaw, Bad, Lawful, Reader, times, done}
@@ -78,14 +78,14 @@ name_sound = then_tells _ u32_sound (λ n. record {
 
 -- ---- with a size
 
-pub sized_lawful : {A : Type 0} {w : Payload} {read : ℕ → List ℕ → Result A Flaw} {v : A} → LawfulWhole w read v → Lawful (sized w) (λ fuel. read_sized (read fuel)) v
-sized_lawful {w = w} a = record {
-  text_is_read = λ mode rest h. (w.text, rw append_assoc ((u32_lawful (length w.text)).text_is_read mode (w.text ++ rest) h.0), a.text_is_read mode h.1);
+pub sized_lawful : {A : Type 0} {p : Piece} {read : ℕ → List ℕ → Result A Flaw} {v : A} → LawfulWhole p read v → Lawful (sized p) (λ fuel. read_sized (read fuel)) v
+sized_lawful {p = p} a = record {
+  text_is_read = λ mode rest h. (p.text, rw append_assoc ((u32_lawful (length p.text)).text_is_read mode (p.text ++ rest) h.0), a.text_is_read mode h.1);
   strict_is_text = λ bytes rest r.
-      (let whole : r.0 ≡ w.text = a.strict_is_text r.0 r.2 in
-      (u32_lawful (length r.0)).strict_is_text bytes (r.0 ++ rest) r.1 ∙ rw whole (sym (append_assoc _ w.text rest)));
+      (let whole : r.0 ≡ p.text = a.strict_is_text r.0 r.2 in
+      (u32_lawful (length r.0)).strict_is_text bytes (r.0 ++ rest) r.1 ∙ rw whole (sym (append_assoc _ p.text rest)));
   fits = λ bytes rest r. (rw (a.strict_is_text r.0 r.2) at ((u32_lawful (length r.0)).fits bytes (r.0 ++ rest) r.1), a.fits r.0 r.2);
-  free = λ h fault c. elim c [ inl large ↦ size_free (length w.text) h.0 fault large | inr own ↦ a.free h.1 fault own ];
+  free = λ h fault c. elim c [ inl large ↦ size_free (length p.text) h.0 fault large | inr own ↦ a.free h.1 fault own ];
   never = λ c. elim c [ inl large ↦ large | inr own ↦ a.never own ];
   depth = a.depth;
   finds = λ fuel le mode bytes rest r.
@@ -117,7 +117,7 @@ bytes_sound P make bytes k = tested (are_bytes bytes) refl
     tested false e = tt
 
 pub raw_sound : SoundWhole (raw AreBytes) read_raw
-raw_sound = record { tells = λ bytes. bytes_sound (λ bs. (raw AreBytes bs).ReadsAll Wide bytes) (λ bs. bs) bytes (λ h. (h, refl)) }
+raw_sound = record { tells = λ bytes. bytes_sound (λ bs. (raw AreBytes bs).Reads Wide bytes []) (λ bs. bs) bytes (λ h. (h, sym (append-nil bytes))) }
 
 pub byte_list_lawful : (bs : List ℕ) → Lawful (byte_list bs) (λ fuel. read_byte_list) bs
 byte_list_lawful bs = sized_lawful (bytes_lawful (λ bytes. bytes) bs)

@@ -4,7 +4,7 @@ use Rattle.std.proofs.lemmas.List.{take_at, append-nil, length-append}
 use Rattle.std.specs.List.{flat_map, AllByRecursion}
 use Rattle.wenc_base.specs.Encode.{Serves}
 use Rattle.wenc_base.specs.Fault.{NoCause}
-use Rattle.wenc_base.specs.Piece.{Piece, Form, all_of}
+use Rattle.wenc_base.specs.Piece.{Piece, Form}
 use Rattle.wenc_base.specs.Number.{unsigned_text}
 use Rattle.wenc_base.specs.Forms.{list, sized}
 use Rattle.wenc_base.specs.Holder.{HolderState, is_finished, section_text, with_member, Contains, AddCause, Accepted, AddsMember, AddsListed}
@@ -30,7 +30,7 @@ contains_next form old new member members e fits c = rw e (record {
 })
 
 -- the text of a section is that of its members in the grammar
-pub section_text_of : {A : Type 0} (form : Form A) (h : HolderState) (members : List A) → Contains form h members → section_text h ≡ (sized (all_of (list form members))).text
+pub section_text_of : {A : Type 0} (form : Form A) (h : HolderState) (members : List A) → Contains form h members → section_text h ≡ (sized (list form members)).text
 section_text_of form h members c = rw (← c.count, c.body, ← length-append (unsigned_text (length members)) (flat_map (λ m. (form m).text) members)) refl
 
 same_add : (h : HolderState) (text : List ℕ) (one other : Fault → Type 0) → ((fault : Fault) → one fault → other fault) → (fault : Fault) → AddCause h text one fault → AddCause h text other fault

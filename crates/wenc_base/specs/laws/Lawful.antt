@@ -6,19 +6,19 @@ use Rattle.wenc_base.specs.Fault.{NoCause}
 use Rattle.wenc_base.specs.declared.fault.Fault.{Fault}
 use Rattle.wenc_base.specs.declared.fault.Fault.TheVariants.{Unfinished}
 use Rattle.wenc_base.specs.Readers.{Flaw, Bad, Reader, go_on, ◌>>=◌, give, times, pick, choose, done, made, Lawful, LawfulForm}
-use Rattle.wenc_base.specs.Piece.{Piece, Payload, Form, Spelling, Strict, Wide, nothing, byte, refused_for, ◌▸◌, also, or_widely, ◌⨾◌, only_where, each, all_of, end, raw, ◌⨾⨾◌}
+use Rattle.wenc_base.specs.Piece.{Piece, Form, Spelling, Strict, Wide, nothing, byte, refused_for, ◌▸◌, or_widely, ◌⨾◌, only_where, each, raw}
 use Rattle.std.proofs.lemmas.List.{append-nil}
 
 -- ---- the laws of a piece that fills the bytes
 
-pub record LawfulWhole {A : Type 0} (w : Payload) (read : ℕ → List ℕ → Result A Flaw) (v : A) : Type 0 where
-  pub text_is_read : (mode : Spelling) → w.Fits → w.ReadsAll mode w.text
-  pub strict_is_text : (bytes : List ℕ) → w.ReadsAll Strict bytes → bytes ≡ w.text
-  pub fits : (bytes : List ℕ) → w.ReadsAll Strict bytes → w.Fits
+pub record LawfulWhole {A : Type 0} (w : Piece) (read : ℕ → List ℕ → Result A Flaw) (v : A) : Type 0 where
+  pub text_is_read : (mode : Spelling) → w.Fits → w.Reads mode w.text []
+  pub strict_is_text : (bytes : List ℕ) → w.Reads Strict bytes [] → bytes ≡ w.text
+  pub fits : (bytes : List ℕ) → w.Reads Strict bytes [] → w.Fits
   pub free : w.Fits → NoCause w.Cause
   pub never : w.Cause Unfinished → ⊥
   pub depth : ℕ
-  pub finds : (fuel : ℕ) → depth ≤ fuel → (mode : Spelling) (bytes : List ℕ) → w.ReadsAll mode bytes → read fuel bytes ≡ Ok v
+  pub finds : (fuel : ℕ) → depth ≤ fuel → (mode : Spelling) (bytes : List ℕ) → w.Reads mode bytes [] → read fuel bytes ≡ Ok v
 
 -- ---- what follows
 
@@ -46,8 +46,8 @@ delimited {p = p} {q = q} one two r s h k e =
     reads_once one two Strict Strict (p.text ++ r) r s (one.text_is_read Strict r h) (rw e (two.text_is_read Strict s k))
 
 -- two values that one reader finds in all of the bytes
-pub whole_once : {A : Type 0} {p q : Payload} {read : ℕ → List ℕ → Result A Flaw} {v w : A} → LawfulWhole p read v → LawfulWhole q read w
-    → (mode other : Spelling) (bytes : List ℕ) → p.ReadsAll mode bytes → q.ReadsAll other bytes → v ≡ w
+pub whole_once : {A : Type 0} {p q : Piece} {read : ℕ → List ℕ → Result A Flaw} {v w : A} → LawfulWhole p read v → LawfulWhole q read w
+    → (mode other : Spelling) (bytes : List ℕ) → p.Reads mode bytes [] → q.Reads other bytes [] → v ≡ w
 whole_once {v = v} {w = w} one two mode other bytes a b =
     same_Ok v w (sym (one.finds (one.depth + two.depth) (omega arith) mode bytes a) ∙ two.finds (one.depth + two.depth) (omega arith) other bytes b)
 
@@ -121,19 +121,6 @@ row_lawful {p = p} table other b l = record {
   never = l.never;
   depth = l.depth;
   finds = λ fuel le mode bytes rest r. rw r.1 (l.finds fuel le mode r.0 rest r.2);
-}
-
-pub row_also : {A : Type 0} {p : Piece} {v : A} (table : ℕ → List (ℕ × Reader A)) (other : ℕ → Reader A) (b c : ℕ)
-    → Lawful p (λ fuel. pick (table fuel) (other fuel) b) v → Lawful p (λ fuel. pick (table fuel) (other fuel) c) v → Lawful (also b c p) (λ fuel. choose (table fuel) (other fuel)) v
-unfolding choose
-row_also {p = p} {v = v} table other b c l k = record {
-  text_is_read = λ mode rest h. (p.text ++ rest, inl refl, l.text_is_read mode rest h);
-  strict_is_text = λ bytes rest r. elim r.1 [ inl e ↦ e ∙ ap (λ (t : List ℕ). b ∷ t) (l.strict_is_text r.0 rest r.2) | inr w ↦ absurd w.0 ];
-  fits = λ bytes rest r. l.fits r.0 rest r.2;
-  free = l.free;
-  never = l.never;
-  depth = l.depth + k.depth;
-  finds = λ fuel le mode bytes rest r. elim r.1 [ inl e ↦ rw e (l.finds fuel (omega arith) mode r.0 rest r.2) | inr w ↦ rw w.1 (k.finds fuel (omega arith) mode r.0 rest r.2) ];
 }
 
 -- a byte that a row has, then a piece
@@ -269,7 +256,7 @@ deeper {p = p} {read = read} {v = v} a = record {
 
 -- ---- all of the bytes
 
-pub whole_lawful : {A : Type 0} {p : Piece} {read : ℕ → Reader A} {v : A} → Lawful p read v → LawfulWhole (all_of p) (λ fuel. done (read fuel)) v
+pub whole_lawful : {A : Type 0} {p : Piece} {read : ℕ → Reader A} {v : A} → Lawful p read v → LawfulWhole p (λ fuel. done (read fuel)) v
 whole_lawful {p = p} a = record {
   text_is_read = λ mode h. rw append-nil at (a.text_is_read mode [] h);
   strict_is_text = λ bytes r. a.strict_is_text bytes [] r ∙ append-nil p.text;
@@ -284,16 +271,16 @@ whole_lawful {p = p} a = record {
 pub raw_lawful : {A : Type 0} (P : List ℕ → Type 0) (is_so : List ℕ → Bool) (bs : List ℕ) (make : List ℕ → A) → (P bs → is_so bs ≡ true)
     → LawfulWhole (raw P bs) (λ fuel bytes. cond (is_so bytes) (Ok (make bytes)) (Err Bad)) (make bs)
 raw_lawful P is_so bs make test = record {
-  text_is_read = λ mode h. (h, refl);
-  strict_is_text = λ bytes r. r.1;
+  text_is_read = λ mode h. (h, sym (append-nil bs));
+  strict_is_text = λ bytes r. r.1 ∙ append-nil bs;
   fits = λ bytes r. r.0;
   free = λ h fault c. c;
   never = λ c. c;
   depth = 0;
-  finds = λ fuel le mode bytes r. rw (r.1, test r.0) refl;
+  finds = λ fuel le mode bytes r. rw (r.1, append-nil bs, test r.0) refl;
 }
 
-pub then_whole : {A B : Type 0} {p : Piece} {q : Payload} {read : ℕ → Reader A} {v : A} (next : ℕ → A → List ℕ → Result B Flaw) {w : B} → Lawful p read v → LawfulWhole q (λ fuel. next fuel v) w → LawfulWhole (p ⨾⨾ q) (λ fuel bytes. go_on (read fuel bytes) (next fuel)) w
+pub then_whole : {A B : Type 0} {p q : Piece} {read : ℕ → Reader A} {v : A} (next : ℕ → A → List ℕ → Result B Flaw) {w : B} → Lawful p read v → LawfulWhole q (λ fuel. next fuel v) w → LawfulWhole (p ⨾ q) (λ fuel bytes. go_on (read fuel bytes) (next fuel)) w
 then_whole {p = p} {q = q} next a b = record {
   text_is_read = λ mode h. (q.text, a.text_is_read mode q.text h.0, b.text_is_read mode h.1);
   strict_is_text = λ bytes r. a.strict_is_text bytes r.0 r.1 ∙ ap (λ (t : List ℕ). p.text ++ t) (b.strict_is_text r.0 r.2);
@@ -304,7 +291,7 @@ then_whole {p = p} {q = q} next a b = record {
   finds = λ fuel le mode bytes r. rw (a.finds fuel (omega arith) mode bytes r.0 r.1) (b.finds fuel (omega arith) mode r.0 r.2);
 }
 
-pub last_whole : {A B : Type 0} {w : Payload} {read : ℕ → List ℕ → Result A Flaw} {v : A} (make : A → B) → LawfulWhole w read v → LawfulWhole w (λ fuel bytes. made make (read fuel bytes)) (make v)
+pub last_whole : {A B : Type 0} {w : Piece} {read : ℕ → List ℕ → Result A Flaw} {v : A} (make : A → B) → LawfulWhole w read v → LawfulWhole w (λ fuel bytes. made make (read fuel bytes)) (make v)
 last_whole make a = record {
   text_is_read = a.text_is_read;
   strict_is_text = a.strict_is_text;
@@ -323,7 +310,7 @@ unfoldable pub to_end : {A B : Type 0} → B → Reader A → (A → List ℕ �
 to_end none read next [] = Ok none
 to_end none read next (b ∷ bytes) = go_on (read (b ∷ bytes)) next
 
-pub at_end : {A B : Type 0} (none : B) (read : ℕ → Reader A) (next : ℕ → A → List ℕ → Result B Flaw) → LawfulWhole end (λ fuel. to_end none (read fuel) (next fuel)) none
+pub at_end : {A B : Type 0} (none : B) (read : ℕ → Reader A) (next : ℕ → A → List ℕ → Result B Flaw) → LawfulWhole nothing (λ fuel. to_end none (read fuel) (next fuel)) none
 unfolding to_end
 at_end none read next = record {
   text_is_read = λ mode h. refl;
@@ -340,8 +327,8 @@ unfolding to_end
 some_left none read next [] x nowhere found = absurd cc
 some_left none read next (b ∷ bytes) x nowhere found = refl
 
-pub before_end : {A B : Type 0} {p : Piece} {q : Payload} {v : A} {w : B} (none : B) (read : ℕ → Reader A) (next : ℕ → A → List ℕ → Result B Flaw)
-    → ((fuel : ℕ) → read fuel [] ≡ Err Bad) → Lawful p read v → LawfulWhole q (λ fuel. next fuel v) w → LawfulWhole (p ⨾⨾ q) (λ fuel. to_end none (read fuel) (next fuel)) w
+pub before_end : {A B : Type 0} {p q : Piece} {v : A} {w : B} (none : B) (read : ℕ → Reader A) (next : ℕ → A → List ℕ → Result B Flaw)
+    → ((fuel : ℕ) → read fuel [] ≡ Err Bad) → Lawful p read v → LawfulWhole q (λ fuel. next fuel v) w → LawfulWhole (p ⨾ q) (λ fuel. to_end none (read fuel) (next fuel)) w
 before_end {v = v} none read next some a b =
     let l = then_whole next a b in
     record {
@@ -354,7 +341,7 @@ before_end {v = v} none read next some a b =
       finds = λ fuel le mode bytes r. some_left none (read fuel) (next fuel) bytes (v, r.0) (some fuel) (a.finds fuel (omega arith) mode bytes r.0 r.1) ∙ l.finds fuel (omega arith) mode bytes r;
     }
 
-pub deeper_whole : {A : Type 0} {p : Payload} {read : ℕ → List ℕ → Result A Flaw} {v : A} → LawfulWhole p (λ fuel. read (suc fuel)) v → LawfulWhole p read v
+pub deeper_whole : {A : Type 0} {p : Piece} {read : ℕ → List ℕ → Result A Flaw} {v : A} → LawfulWhole p (λ fuel. read (suc fuel)) v → LawfulWhole p read v
 deeper_whole {p = p} {read = read} {v = v} a = record {
   text_is_read = a.text_is_read;
   strict_is_text = a.strict_is_text;
@@ -365,6 +352,6 @@ deeper_whole {p = p} {read = read} {v = v} a = record {
   finds = finds;
 }
   where
-    finds : (fuel : ℕ) → suc a.depth ≤ fuel → (mode : Spelling) (bytes : List ℕ) → p.ReadsAll mode bytes → read fuel bytes ≡ Ok v
+    finds : (fuel : ℕ) → suc a.depth ≤ fuel → (mode : Spelling) (bytes : List ℕ) → p.Reads mode bytes [] → read fuel bytes ≡ Ok v
     finds zero le mode bytes r = absurd (omega arith)
     finds (suc fuel) le mode bytes r = a.finds fuel (omega arith) mode bytes r

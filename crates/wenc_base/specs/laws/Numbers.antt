@@ -1,8 +1,8 @@
 -- The laws of the forms of numbers.
 use Rattle.std.proofs.Common.{◌≡◌, ℕ, ℤ, pos, negsuc, zero, suc, ◌+◌, ◌*◌, ◌/◌, ◌%◌, ◌-◌, ◌^◌, ◌<◌, ◌≤◌, cond, List, [], ◌∷◌, ◌++◌, map, Result, Ok, Err, refl, ap, ◌∙◌, arith, inl, inr}
 use Rattle.std.proofs.lemmas.Bool.{cases_lt, le-ltb, lt-ltb}
-use Rattle.wenc_base.specs.Piece.{Piece, Spelling, Strict, Wide}
-use Rattle.wenc_base.specs.Number.{groups, MayGoOn, complement, ReadsGroups, last, more, u32, count, size, u64, i64, index}
+use Rattle.wenc_base.specs.Piece.{Spelling, Strict, Wide}
+use Rattle.wenc_base.specs.Number.{groups, MayGoOn, complement, ReadsGroups, last, more, number, u32, count, size, u64, i64, index}
 use Rattle.wenc_base.specs.laws.Groups.{limit, groups_below, groups_from}
 use Rattle.wenc_base.specs.Fault.{NoCause, count_cause, size_cause}
 use Rattle.wenc_base.specs.declared.fault.Fault.TheVariants.{Memory, TooMany, TooLarge, Unfinished}
@@ -90,18 +90,9 @@ groups_sound top bound (suc room) (b ∷ bytes) le =
           ]
     ]
 
--- a number below `bound`, with the text of a larger room
-abbrev number : ℕ → ℕ → ℕ → ℕ → ℕ → Piece
-number top room larger bound n = record {
-  Fits = n < bound;
-  Cause = λ fault. ⊥;
-  text = groups top larger n;
-  Reads = λ mode bytes rest. (n < bound) × ReadsGroups mode top room n bytes rest;
-}
-
 -- each form of numbers below a bound
-number_lawful : (top room larger bound n : ℕ) → top ≤ 128 → room ≤ larger → bound ≤ limit top room → Lawful (number top room larger bound n) (λ fuel. read_groups top bound room) n
-number_lawful top room larger bound n small le below = record {
+number_lawful : (top room bound n : ℕ) → top ≤ 128 → room ≤ 9 → bound ≤ limit top room → Lawful (number top room bound n) (λ fuel. read_groups top bound room) n
+number_lawful top room bound n small le below = record {
   text_is_read = λ mode rest h. (h, rw (same h) (groups_read mode top room n rest (omega arith)));
   strict_is_text = λ bytes rest r. rw (same r.0) (strict_groups top room n bytes rest r.1);
   fits = λ bytes rest r. r.0;
@@ -111,11 +102,11 @@ number_lawful top room larger bound n small le below = record {
   finds = λ fuel le mode bytes rest r. groups_are_read mode top bound room n bytes rest small r.0 r.1;
 }
   where
-    same : n < bound → groups top larger n ≡ groups top room n
-    same h = same_in_room top room larger n le (omega arith)
+    same : n < bound → groups top 9 n ≡ groups top room n
+    same h = same_in_room top room 9 n le (omega arith)
 
 pub u32_lawful : (n : ℕ) → Lawful (u32 n) (λ fuel. read_u32) n
-u32_lawful n = number_lawful 128 4 9 (2 ^ 32) n (omega arith) (omega arith) (omega arith)
+u32_lawful n = number_lawful 128 4 (2 ^ 32) n (omega arith) (omega arith) (omega arith)
 
 -- ---- counts and sizes
 
@@ -141,13 +132,13 @@ pub u32_sound : Sound u32 read_u32
 u32_sound = record { tells = λ bytes. groups_sound 128 (2 ^ 32) 4 bytes (omega arith) }
 
 pub u64_lawful : (n : ℕ) → Lawful (u64 n) (λ fuel. read_u64) n
-u64_lawful n = number_lawful 128 9 9 (2 ^ 64) n (omega arith) (omega arith) (omega arith)
+u64_lawful n = number_lawful 128 9 (2 ^ 64) n (omega arith) (omega arith) (omega arith)
 
 pub u64_sound : Sound u64 read_u64
 u64_sound = record { tells = λ bytes. groups_sound 128 (2 ^ 64) 9 bytes (omega arith) }
 
 pub index_lawful : (n : ℕ) → Lawful (index n) (λ fuel. read_index) n
-index_lawful n = number_lawful 64 4 9 (2 ^ 32) n (omega arith) (omega arith) (omega arith)
+index_lawful n = number_lawful 64 4 (2 ^ 32) n (omega arith) (omega arith) (omega arith)
 
 pub index_sound : Sound index read_index
 index_sound = record { tells = λ bytes. groups_sound 64 (2 ^ 32) 4 bytes (omega arith) }

@@ -1,6 +1,7 @@
 -- The laws of custom sections.
-use Rattle.std.proofs.Common.{ℕ, List, refl}
-use Rattle.wenc_base.specs.Piece.{Wide, raw, ◌⨾⨾◌}
+use Rattle.std.proofs.Common.{ℕ, List, [], sym}
+use Rattle.std.proofs.lemmas.List.{append-nil}
+use Rattle.wenc_base.specs.Piece.{Wide, raw, ◌⨾◌}
 use Rattle.wenc_base.specs.Forms.{name, AreBytes}
 use Rattle.wenc_base.specs.Readers.{Lawful, Reader, ◌>>=◌, give, go_on, done}
 use Rattle.wenc_base.specs.laws.Lawful.{LawfulWhole, then, last, then_whole, whole_lawful}
@@ -11,11 +12,11 @@ use Rattle.wenc_base.specs.Custom.{Custom, custom}
 use Rattle.wenc_base.specs.Producers.{Producer, producer, Producers, producers_field, producers_label, producers_section}
 use Rattle.wenc_base.specs.reading.Sections.{labelled_section, read_custom_content}
 
-pub custom_content_lawful : (c : Custom) → LawfulWhole (name c.label ⨾⨾ raw AreBytes c.bytes) (λ fuel. read_custom_content) c
+pub custom_content_lawful : (c : Custom) → LawfulWhole (name c.label ⨾ raw AreBytes c.bytes) (λ fuel. read_custom_content) c
 custom_content_lawful c = then_whole _ (name_lawful c.label) (bytes_lawful (labelled_section c.label) c.bytes)
 
-pub custom_content_sound : SoundWhole (λ c. name c.label ⨾⨾ raw AreBytes c.bytes) read_custom_content
-custom_content_sound = then_whole_sound (λ c. name c.label ⨾⨾ raw AreBytes c.bytes) (λ label. read_bytes (labelled_section label)) name_sound (λ label bytes middle r. bytes_sound (λ c. (name c.label ⨾⨾ raw AreBytes c.bytes).ReadsAll Wide bytes) (labelled_section label) middle (λ h. (middle, r, (h, refl))))
+pub custom_content_sound : SoundWhole (λ c. name c.label ⨾ raw AreBytes c.bytes) read_custom_content
+custom_content_sound = then_whole_sound (λ c. name c.label ⨾ raw AreBytes c.bytes) (λ label. read_bytes (labelled_section label)) name_sound (λ label bytes middle r. bytes_sound (λ c. (name c.label ⨾ raw AreBytes c.bytes).Reads Wide bytes []) (labelled_section label) middle (λ h. (middle, r, (h, sym (append-nil middle)))))
 
 abbrev pub read_custom : Reader Custom
 read_custom = read_sized read_custom_content

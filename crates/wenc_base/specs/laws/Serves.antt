@@ -6,7 +6,7 @@ use Rattle.wenc_base.specs.Encode.{Appends, Serves, in_order, list_in_order, dra
 use Rattle.wenc_base.specs.Fault.{IsWarranted, NoCause, either, first_of, count_cause, size_cause, member_cause}
 use Rattle.wenc_base.specs.Forms.{list, option, sized}
 use Rattle.wenc_base.specs.Holder.{listed}
-use Rattle.wenc_base.specs.Piece.{Piece, Form, AnyCause, ◌▸◌, ◌⨾◌, nothing, verbatim, behind_bytes, all_of}
+use Rattle.wenc_base.specs.Piece.{Piece, Form, AnyCause, ◌▸◌, ◌⨾◌, nothing, verbatim, behind_bytes}
 use Rattle.wenc_base.specs.declared.fault.Fault.{Fault}
 use Rattle.wenc_base.specs.declared.fault.Fault.TheVariants.{Memory, TooMany, TooLarge, Unfinished}
 use Rattle.wenc_base.specs.Delimited.{option_seen}
@@ -136,7 +136,7 @@ two_serve p q = order_serves (serves_itself {p = p}) (serves_itself {p = q})
 pub three_serve : (p q r : Piece) → Serves (in_order p (in_order q r)) (p ⨾ q ⨾ r)
 three_serve p q r = order_serves (serves_itself {p = p}) (two_serve q r)
 
-pub sized_serves : {p q : Piece} → Serves p q → Serves (sized_in_order p) (sized (all_of q))
+pub sized_serves : {p q : Piece} → Serves p q → Serves (sized_in_order p) (sized q)
 sized_serves {p} {q} a =
     let same : IsAmong (size_cause (length p.text)) (size_cause (length q.text)) = rw a.text ((λ fault c. c), λ none. none) in
     let c : IsAmong (first_of p.Cause (size_cause (length p.text))) (either (size_cause (length q.text)) q.Cause) = turned_among (a.among, a.free) same in

@@ -3,7 +3,7 @@
 use Rattle.std.proofs.Common.{◌≡◌, ℕ, zero, suc, ◌<◌, true, false, eqb, List, [], ◌∷◌, ◌++◌, length, map, Result, Ok, Err, refl, sym, ap, subst, inl, inr, ◌⊎◌, arith}
 use Rattle.std.proofs.lemmas.Bool.{eqb-true}
 use Rattle.std.specs.List.{AllByRecursion}
-use Rattle.wenc_base.specs.Piece.{Piece, Form, Payload, Wide, nothing, ◌▸◌, ◌⨾◌, only_where, each, all_of}
+use Rattle.wenc_base.specs.Piece.{Piece, Form, Wide, nothing, ◌▸◌, ◌⨾◌, only_where, each}
 use Rattle.wenc_base.specs.Readers.{Flaw, Bad, Deep, Reader, go_on, ◌>>=◌, give, nowhere, too_deep, times, pick, choose, all_read, done, Lawful}
 
 -- P of what was found, Goes where that is too deep
@@ -20,8 +20,8 @@ abbrev pub Sound : {A : Type 0} → Form A → Reader A → Type 0
 Sound form read = Tells form (λ bytes. ⊥) read
 
 -- What the reader finds of all of the bytes is read, and nothing is too deep.
-pub record SoundWhole {A : Type 0} (form : A → Payload) (read : List ℕ → Result A Flaw) : Type 0 where
-  pub tells : (bytes : List ℕ) → Told (λ v. (form v).ReadsAll Wide bytes) ⊥ (read bytes)
+pub record SoundWhole {A : Type 0} (form : Form A) (read : List ℕ → Result A Flaw) : Type 0 where
+  pub tells : (bytes : List ℕ) → Told (λ v. (form v).Reads Wide bytes []) ⊥ (read bytes)
 
 pub weaken : {A : Type 0} (P Q : A → Type 0) (D E : Type 0) (found : Result A Flaw) → ((x : A) → P x → Q x) → (D → E) → Told P D found → Told Q E found
 weaken P Q D E (Ok x) k go h = k x h
@@ -159,14 +159,14 @@ all_told P D (Ok (v, b ∷ rest)) h = tt
 all_told P D (Err Bad) h = tt
 all_told P D (Err Deep) h = h
 
-pub whole_sound : {A : Type 0} {form : Form A} {read : Reader A} → Sound form read → SoundWhole (λ v. all_of (form v)) (done read)
+pub whole_sound : {A : Type 0} {form : Form A} {read : Reader A} → Sound form read → SoundWhole form (done read)
 whole_sound {form = form} {read = read} s = record { tells = λ bytes. all_told (λ x. (form x.0).Reads Wide bytes x.1) ⊥ (read bytes) (s.tells bytes) }
 
 -- a value, then the rest of the bytes
-pub then_whole_sound : {A B : Type 0} {part : Form A} {read : Reader A} (form : B → Payload) (next : A → List ℕ → Result B Flaw) → Sound part read
-    → ((v : A) (bytes middle : List ℕ) → (part v).Reads Wide bytes middle → Told (λ w. (form w).ReadsAll Wide bytes) ⊥ (next v middle)) → SoundWhole form (λ bytes. go_on (read bytes) next)
+pub then_whole_sound : {A B : Type 0} {part : Form A} {read : Reader A} (form : Form B) (next : A → List ℕ → Result B Flaw) → Sound part read
+    → ((v : A) (bytes middle : List ℕ) → (part v).Reads Wide bytes middle → Told (λ w. (form w).Reads Wide bytes []) ⊥ (next v middle)) → SoundWhole form (λ bytes. go_on (read bytes) next)
 then_whole_sound {part = part} {read = read} form next s k = record {
-  tells = λ bytes. told_on (λ x. (part x.0).Reads Wide bytes x.1) ⊥ (λ w. (form w).ReadsAll Wide bytes) ⊥ next (read bytes) (s.tells bytes) (λ e. e) (λ x r. k x.0 bytes x.1 r);
+  tells = λ bytes. told_on (λ x. (part x.0).Reads Wide bytes x.1) ⊥ (λ w. (form w).Reads Wide bytes []) ⊥ next (read bytes) (s.tells bytes) (λ e. e) (λ x r. k x.0 bytes x.1 r);
 }
 
 -- ---- what is read is found

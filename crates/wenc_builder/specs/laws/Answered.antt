@@ -1,4 +1,5 @@
 -- What a call did, by the list that was held.
+use Rattle.std.specs.Option.{option_map}
 use Rattle.std.proofs.Common.{◌≡◌, ℕ, inl, inr, List, [], ◌∷◌, ◌++◌, Option, Some, None, refl, Result, Ok, Err, sym, ap, subst}
 use Rattle.std.specs.Result.{MatchResult}
 use Rattle.wenc_base.specs.Fault.{IsWarranted}
@@ -7,7 +8,7 @@ use Rattle.wenc_base.specs.declared.fault.Fault.TheVariants.{Unfinished}
 use Rattle.wenc_base.specs.laws.Serves.{still_warranted}
 use Rattle.wenc_builder.specs.Item.{Item, item}
 use Rattle.wenc_builder.specs.Sections.{runs}
-use Rattle.wenc_builder.specs.Space.{Indices, defines, IsIndexAt, IsIndexOf, index_at, index_of}
+use Rattle.wenc_builder.specs.Space.{Indices, defines, IsIndexAt, IsIndexOf, next_index, index_of}
 use Rattle.wenc_builder.specs.Entry.{Entry, items}
 use Rattle.wenc_builder.specs.Builder.{OpenSection, Namespace, namespace_at, with_entry, State}
 use Rattle.wenc_builder.specs.Holds.{open_of, namespace_of, Holds}
@@ -63,7 +64,7 @@ pub answered_with : {R : Type 0} (old new : State) (result : Result R Fault) (x 
 answered_with old new (Ok r) x Told Counted es e h = ((e.held es h).0, (e.held es h).1, λ fault c. e.free fault (from_entry old es x h fault c))
 answered_with old new (Err fault) x Told Counted es e h = (rw e.err h, still_warranted _ _ (to_entry old es x h) fault e.warranted)
 
-index_is : (xs : List Item) (d : Option Indices) (i : ℕ) → IsIndexAt xs d i → Some i ≡ index_at xs d
+index_is : (xs : List Item) (d : Option Indices) (i : ℕ) → IsIndexAt xs d i → Some i ≡ option_map (λ (d : Indices). next_index xs d.space) d
 index_is xs None i p = absurd p
 index_is xs (Some d) i p = ap (λ (n : ℕ). Some n) p
 

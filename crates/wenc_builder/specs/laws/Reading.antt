@@ -171,7 +171,7 @@ section_read (Run id xs) mode bytes rest r = items_read id xs mode r.1.2.2.0 [] 
 section_read (Alone (RawItem bs)) mode bytes rest r = absurd r.1
 section_read (Alone other) mode bytes rest r = (tt, tt)
 
-sections_read : (ss : List Section) (mode : Spelling) (bytes : List ℕ) → (sections ss).ReadsAll mode bytes → SectionsHaveNoRaw ss
+sections_read : (ss : List Section) (mode : Spelling) (bytes : List ℕ) → (sections ss).Reads mode bytes [] → SectionsHaveNoRaw ss
 sections_read [] mode bytes r = tt
 sections_read (s ∷ ss) mode bytes r = (section_read s mode bytes r.0 r.1, sections_read ss mode r.0 r.2)
 

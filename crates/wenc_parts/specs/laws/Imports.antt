@@ -3,7 +3,7 @@ use Rattle.std.proofs.Common.{◌≡◌, ℕ, true, false, true≢false, cond, �
 use Rattle.wenc_base.specs.Forms.{name, list}
 use Rattle.wenc_parts.specs.Exports.{component_export_kind}
 use Rattle.wenc_base.specs.Readers.{Bad, Lawful, ◌>>=◌}
-use Rattle.wenc_base.specs.laws.Lawful.{row_lawful, row_also, row_byte, then, last}
+use Rattle.wenc_base.specs.laws.Lawful.{row_lawful, row_byte, or_widely_lawful, then, last}
 use Rattle.wenc_base.specs.laws.Sound.{Told, Sound, give_tells, last_tells, then_tells, nowhere_tells, choose_tells}
 use Rattle.wenc_base.specs.Piece.{Wide}
 use Rattle.wenc_base.specs.laws.Numbers.{u32_lawful, u32_sound}
@@ -85,7 +85,7 @@ they_ascend (Some i) (Some v) None = refl
 they_ascend (Some i) (Some v) (Some e) = refl
 
 name_with_lawful : (text : List ℕ) (options : List NameOption) → ascend_from 0 options ≡ true → Lawful (name_with text options) (λ fuel. read_extern_name) (with_options text options)
-name_with_lawful text [] e = row_also _ _ 0x00 0x01 (last plain_name (name_lawful text)) (last plain_name (name_lawful text))
+name_with_lawful text [] e = or_widely_lawful (row_lawful _ _ 0x00 (last plain_name (name_lawful text))) (row_lawful _ _ 0x01 (last plain_name (name_lawful text)))
 name_with_lawful text (o ∷ os) e =
     row_lawful _ _ 0x02 (then _ (name_lawful text) (given_last (o ∷ os) (λ bytes. rw e refl) (list_lawful name_option_lawful (o ∷ os))))
   where
@@ -150,9 +150,9 @@ options_sound text (o ∷ os) bytes middle rest e p r = rw (same_options text (o
 
 pub extern_name_sound : Sound extern_name read_extern_name
 extern_name_sound = choose_tells _ _ (
-  last_tells plain_name name_sound (λ text bytes rest r. (bytes, inl refl, r)),
+  last_tells plain_name name_sound (λ text bytes rest r. inl (bytes, refl, r)),
   (
-    last_tells plain_name name_sound (λ text bytes rest r. (bytes, inr (tt, refl), r)),
+    last_tells plain_name name_sound (λ text bytes rest r. inr (tt, (bytes, refl, r))),
     (then_tells _ name_sound (λ text. then_tells _ (list_sound name_option_sound) (λ options. record { tells = λ rest. tested text options rest })), tt),
   ),
 ) nowhere_tells

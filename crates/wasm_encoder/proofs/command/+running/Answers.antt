@@ -8,7 +8,9 @@ use Rattle.wenc_builder.specs.Holds.{Holds}
 use Rattle.wenc_builder.specs.Sections.{whole}
 use Rattle.wenc_sections.specs.CanonTrees.{canon_view}
 use Rattle.wenc_parts.specs.Aliases.{alias_tree_view}
-use Rattle.wenc_parts.specs.Imports.{name_tree_view, string_option}
+use Rattle.wenc_parts.specs.Imports.{name_tree_view}
+use Rattle.std.specs.Option.{option_map}
+use Rattle.std.specs.String.{string_bytes}
 use Rattle.wenc_sections.specs.InstanceTrees.{core_instance_tree_view, instance_tree_view}
 use Rattle.wasm_encoder.specs.Command.{CommandTree, command_view, commands_view}
 use Rattle.wasm_encoder.specs.Cause.{led, first_cause}
@@ -22,21 +24,21 @@ use Rattle.wasm_encoder.proofs.command.+running.Goals as goal
 
 pub run-returns-in-CoreModule : goal.run-returns-in-CoreModule
 run-returns-in-CoreModule g t c =
-    let n = string_option c.in-CoreModule.debug_name in
+    let n = option_map string_bytes c.in-CoreModule.debug_name in
     let v = c.in-CoreModule.bytes.items in
     let e : Enters c.args.builder.now c.core_module_raw.new.self c.core_module_raw.result (module_entry n v) = rw (← c.as_deref.ensures, ← c.deref.ensures.value) c.core_module_raw.ensures in
     rw (c.indexed.ensures, c.in-CoreModule.is) (entered_alone c.args.builder.now c.core_module_raw.new.self c.core_module_raw.result (module_entry n v) e)
 
 pub run-returns-in-CoreInstance : goal.run-returns-in-CoreInstance
 run-returns-in-CoreInstance g t c =
-    let n = string_option c.in-CoreInstance.debug_name in
+    let n = option_map string_bytes c.in-CoreInstance.debug_name in
     let v = core_instance_tree_view c.in-CoreInstance.instance in
     let e : Enters c.args.builder.now c.core_instance_tree.new.self c.core_instance_tree.result (core_instance_entry n v) = rw (← c.as_deref-in-CoreInstance.ensures) c.core_instance_tree.ensures in
     rw (c.indexed-in-CoreInstance.ensures, c.in-CoreInstance.is) (entered_alone c.args.builder.now c.core_instance_tree.new.self c.core_instance_tree.result (core_instance_entry n v) e)
 
 pub run-returns-in-Ok : goal.run-returns-in-Ok
 run-returns-in-Ok g t c =
-    let n = string_option c.in-Component.debug_name in
+    let n = option_map string_bytes c.in-Component.debug_name in
     let inner = commands_view c.in-Component.commands.items in
     let accepted : Holds c.in-Ok.inner (led [] inner) × NoCause (first_cause [] inner) = c.in-Ok.ensures.accepted in
     let e : Enters c.args.builder.now c.component.new.self c.component.result (component_entry n (whole (items (led [] inner)))) = rw (← c.as_deref-in-Ok.ensures) (c.component.ensures.entered (led [] inner) accepted.0) in
@@ -45,7 +47,7 @@ run-returns-in-Ok g t c =
 
 pub run-returns-in-Err : goal.run-returns-in-Err
 run-returns-in-Err g t c =
-    let n = string_option c.in-Component.debug_name in
+    let n = option_map string_bytes c.in-Component.debug_name in
     let inner = commands_view c.in-Component.commands.items in
     let refused : IsRefusal (first_cause [] inner) c.in-Err.fault = c.in-Err.ensures.refused in
     let P : CommandTree → Type 0 = λ v. Answers c.args.builder.now c.args.builder.now (Err c.in-Err.fault) v in
@@ -53,28 +55,28 @@ run-returns-in-Err g t c =
 
 pub run-returns-in-ComponentRaw : goal.run-returns-in-ComponentRaw
 run-returns-in-ComponentRaw g t c =
-    let n = string_option c.in-ComponentRaw.debug_name in
+    let n = option_map string_bytes c.in-ComponentRaw.debug_name in
     let v = c.in-ComponentRaw.bytes.items in
     let e : Enters c.args.builder.now c.component_raw.new.self c.component_raw.result (component_entry n v) = rw (← c.as_deref-in-ComponentRaw.ensures, ← c.deref-in-ComponentRaw.ensures.value) c.component_raw.ensures in
     rw (c.indexed-in-ComponentRaw.ensures, c.in-ComponentRaw.is) (entered_alone c.args.builder.now c.component_raw.new.self c.component_raw.result (component_entry n v) e)
 
 pub run-returns-in-Instance : goal.run-returns-in-Instance
 run-returns-in-Instance g t c =
-    let n = string_option c.in-Instance.debug_name in
+    let n = option_map string_bytes c.in-Instance.debug_name in
     let v = instance_tree_view c.in-Instance.instance in
     let e : Enters c.args.builder.now c.instance_tree.new.self c.instance_tree.result (instance_entry n v) = rw (← c.as_deref-in-Instance.ensures) c.instance_tree.ensures in
     rw (c.indexed-in-Instance.ensures, c.in-Instance.is) (entered_alone c.args.builder.now c.instance_tree.new.self c.instance_tree.result (instance_entry n v) e)
 
 pub run-returns-in-Alias : goal.run-returns-in-Alias
 run-returns-in-Alias g t c =
-    let n = string_option c.in-Alias.debug_name in
+    let n = option_map string_bytes c.in-Alias.debug_name in
     let v = alias_tree_view c.in-Alias.alias in
     let e : Enters c.args.builder.now c.alias.new.self c.alias.result (alias_entry n v) = rw (← c.as_alias.ensures, ← c.as_deref-in-Alias.ensures) c.alias.ensures in
     rw (c.indexed-in-Alias.ensures, c.in-Alias.is) (entered_alone c.args.builder.now c.alias.new.self c.alias.result (alias_entry n v) e)
 
 pub run-returns-in-Canon : goal.run-returns-in-Canon
 run-returns-in-Canon g t c =
-    let n = string_option c.in-Canon.debug_name in
+    let n = option_map string_bytes c.in-Canon.debug_name in
     let v = canon_view c.in-Canon.canon in
     let e : Enters c.args.builder.now c.canonical_tree.new.self c.canonical_tree.result (canonical_tree_entry n v) = rw (← c.as_deref-in-Canon.ensures) c.canonical_tree.ensures in
     rw (c.indexed-in-Canon.ensures, c.in-Canon.is) (entered_alone c.args.builder.now c.canonical_tree.new.self c.canonical_tree.result (canonical_tree_entry n v) e)
