@@ -1,6 +1,6 @@
 -- Why every form is lawful: its values have a reader in common.
 use Rattle.std.proofs.Common.{[], true}
-use Rattle.wenc_base.specs.Composites.{Sub, Single, Rec, RecType, Func, final, guarded, standing}
+use Rattle.wenc_base.specs.Composites.{Sub, Single, Rec, RecType, Func, final, standing}
 use Rattle.wenc_base.specs.Delimited.{IsReadable}
 use Rattle.wenc_base.specs.FormLaws.{FormLaws}
 use Rattle.wenc_base.specs.Types.{nullable}
@@ -60,7 +60,7 @@ alone (Single s) = s
 alone (Rec types) = final (Func [] [])
 
 -- a type with its guard is a group of one
-guarded_readable : IsReadable guarded
+guarded_readable : IsReadable (λ s. standing true (Single s))
 guarded_readable = (_, λ s. last alone (standing_lawful (Single s)))
 
 -- the function, its arguments, how many results

@@ -1,7 +1,7 @@
 -- The forms of the format by their names, all but the raw sections, whose bytes are their caller's.
 use Rattle.std.specs.Prelude.{true, List}
 use Rattle.wenc_base.specs.Composites.{storage_type, field_type, composite_type}
-use Rattle.wenc_base.specs.Composites.{sub_type, rec_type, guarded, standing}
+use Rattle.wenc_base.specs.Composites.{Single, sub_type, rec_type, standing}
 use Rattle.wenc_base.specs.Custom.{custom}
 use Rattle.wenc_base.specs.Delimited.{pair}
 use Rattle.wenc_base.specs.Entities.{table_type, memory_type, global_type, tag_type, entity_type}
@@ -188,7 +188,7 @@ form_row NameOptions = of name_option
 form_row ExternNames = of extern_name
 form_row ModuleArguments = of module_argument
 form_row OuterKinds = of outer_kind
-form_row GuardedSubTypes = of guarded
+form_row GuardedSubTypes = of (λ s. standing true (Single s))
 form_row GroupsInComponents = of (standing true)
 form_row ModuleDeclarations = of module_declaration
 form_row ModuleTypes = of module_type
