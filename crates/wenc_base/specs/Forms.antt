@@ -1,6 +1,6 @@
 -- Forms made of others (component model, binary format; WebAssembly 3.0, binary format,
 -- "Conventions" and "Values").
-use Rattle.std.specs.Prelude.{◌≡◌, ◌⊎◌, ℕ, ◌^◌, ◌<◌, List, [], ◌++◌, length, Bool}
+use Rattle.std.specs.Prelude.{◌⊎◌, ℕ, ◌^◌, ◌<◌, List, [], ◌++◌, length, Bool}
 use Rattle.std.specs.Prelude.{true, false}
 use Rattle.std.specs.Prelude.{Option, Some, None, IsUtf8}
 use Rattle.wenc_base.specs.Fault.{size_cause}

@@ -1,6 +1,6 @@
 -- What an import or an export refers to, and its name (component model, binary format, "Import and
 -- Export Definitions").
-use Rattle.std.specs.Prelude.{ℕ, List, [], ◌∷◌, ◌++◌, Option, Some, None, String, Box}
+use Rattle.std.specs.Prelude.{ℕ, List, [], ◌∷◌, ◌++◌, Option, Some, None, Box}
 use Rattle.wenc_base.specs.Piece.{Piece, Form, nothing, byte, ◌▸◌, ◌⨾◌, or_widely}
 use Rattle.wenc_base.specs.Number.{u32}
 use Rattle.wenc_base.specs.Forms.{name, list}
@@ -8,7 +8,6 @@ use Rattle.wenc_parts.specs.Types.{value_type}
 use Rattle.std.specs.Option.{option_map}
 use Rattle.std.specs.String.{string_bytes}
 use Rattle.std.specs.Cow.{cow_str_bytes}
-use Rattle.std.specs.declared.borrow.CowStr.{CowStr}
 use Rattle.wenc_parts.specs.declared.exports.ComponentExportKind.{ComponentExportKind}
 use Rattle.wenc_parts.specs.declared.exports.ComponentExportKind.TheVariants as kinds
 use Rattle.wenc_parts.specs.declared.imports.ComponentExternName.{ComponentExternName}

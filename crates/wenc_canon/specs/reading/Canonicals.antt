@@ -7,7 +7,7 @@ use Rattle.wenc_base.specs.reading.Types.{read_val_type}
 use Rattle.wenc_parts.specs.reading.Types.{read_result_list}
 use Rattle.wenc_canon.specs.declared.canonicals.CanonicalOption.{CanonicalOption}
 use Rattle.wenc_canon.specs.declared.canonicals.CanonicalOption.TheVariants.{UTF8, UTF16, CompactUTF16, Memory, Realloc, PostReturn, Async, Callback, CoreType as CoreTypeOption, Gc}
-use Rattle.wenc_canon.specs.Canonicals.{Field, Index, Options, Flag, Zero, CoreType, Results, Slot, Value, Values, fields, Builtin, row, builtins, Canonical, Lift, Lower, OfBuiltin}
+use Rattle.wenc_canon.specs.Canonicals.{Field, Index, Options, Flag, Zero, CoreType, Results, Slot, Value, Values, Builtin, row, builtins, Canonical, Lift, Lower, OfBuiltin}
 
 -- ---- options
 

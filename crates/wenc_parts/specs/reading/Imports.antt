@@ -1,7 +1,6 @@
 -- Readers of type references and of names.
 use Rattle.std.specs.Prelude.{ℕ, suc, Bool, true, false, List, [], ◌∷◌, Some, Ok, Err, nat_lt}
 use Rattle.std.specs.Prelude.{if◌then◌else◌}
-use Rattle.wenc_base.specs.Forms.{name}
 use Rattle.wenc_base.specs.Readers.{Bad, Reader, ◌>>=◌, give, nowhere, choose}
 use Rattle.wenc_base.specs.reading.Numbers.{read_u32}
 use Rattle.wenc_base.specs.reading.Forms.{read_name, read_list}
