@@ -142,7 +142,7 @@ impl<A: Allocator> Buffer<A> {
         ensures { self.new ≡ buffer_ended self.old }
     {
         self.holder.finish_member();
-        if let Some(earlier) = self.earlier {
+        if let Some(earlier) = &self.earlier {
             self.closed_len = close_earlier(&mut self.holder, earlier);
             self.earlier = None;
         }
@@ -182,7 +182,7 @@ impl<A: Allocator> Buffer<A> {
             closed_len: self.closed_len,
             items_end,
         };
-        close_earlier(&mut self.holder, earlier);
+        close_earlier(&mut self.holder, &earlier);
         self.closed_len = self.holder.kept_len();
         self.kind = None;
         Ok(())

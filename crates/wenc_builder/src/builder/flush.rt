@@ -50,12 +50,12 @@ pub fn open_head(kind: Option<Kind>, count: u32, body: usize) -> Short
 /// Closes the section before the members, which stay after a gap. Answers how many bytes are
 /// closed. It takes no memory.
 #[tactic(auto, using(wenc_base::proofs::Groups::size_at_most_5))]
-pub fn close_earlier<A: Allocator>(holder: &mut Holder<A>, earlier: Earlier) -> usize
-    requires within { earlier.items_end ≤ length holder.old.kept }
-    requires section { SectionIsIn earlier.kind earlier.closed_len earlier.items_end }
-    requires fits { SectionFits (earlier_view holder.old.kept earlier) }
-    ensures holder { holder.new ≡ with_kept holder.old (kept_with holder.old.kept earlier) }
-    ensures len { result ≡ length (closed_with holder.old.kept earlier) }
+pub fn close_earlier<A: Allocator>(holder: &mut Holder<A>, earlier: &Earlier) -> usize
+    requires within { earlier.now.items_end ≤ length holder.old.kept }
+    requires section { SectionIsIn earlier.now.kind earlier.now.closed_len earlier.now.items_end }
+    requires fits { SectionFits (earlier_view holder.old.kept earlier.now) }
+    ensures holder { holder.new ≡ with_kept holder.old (kept_with holder.old.kept earlier.now) }
+    ensures len { result ≡ length (closed_with holder.old.kept earlier.now) }
 {
     match earlier.kind {
         None => earlier.closed_len,
@@ -76,13 +76,13 @@ pub fn close_earlier<A: Allocator>(holder: &mut Holder<A>, earlier: Earlier) -> 
 #[tactic(auto, using(wenc_base::proofs::Groups::size_at_most_5))]
 #[cold]
 #[inline(never)]
-fn close_long<A: Allocator>(holder: &mut Holder<A>, kind: Kind, earlier: Earlier) -> usize
-    requires kind { earlier.kind ≡ Some kind }
-    requires within { earlier.items_end ≤ length holder.old.kept }
-    requires section { SectionIsIn earlier.kind earlier.closed_len earlier.items_end }
-    requires fits { SectionFits (earlier_view holder.old.kept earlier) }
-    ensures holder { holder.new ≡ with_kept holder.old (kept_with holder.old.kept earlier) }
-    ensures len { result ≡ length (closed_with holder.old.kept earlier) }
+fn close_long<A: Allocator>(holder: &mut Holder<A>, kind: Kind, earlier: &Earlier) -> usize
+    requires kind { earlier.now.kind ≡ Some kind }
+    requires within { earlier.now.items_end ≤ length holder.old.kept }
+    requires section { SectionIsIn earlier.now.kind earlier.now.closed_len earlier.now.items_end }
+    requires fits { SectionFits (earlier_view holder.old.kept earlier.now) }
+    ensures holder { holder.new ≡ with_kept holder.old (kept_with holder.old.kept earlier.now) }
+    ensures len { result ≡ length (closed_with holder.old.kept earlier.now) }
 {
     let start = earlier.closed_len + GAP;
     let head = section_head(kind, earlier.count, earlier.items_end - start);
