@@ -414,6 +414,7 @@ impl<'a, T: Encode> Encode for Tagged<'a, T> {
 
     ghost unfinished = { λ t. T.unfinished t.1.now };
 
+    #[inline(always)]
     fn encode<A: Allocator>(&self, sink: &mut Vec<u8, A>) -> Result<(), Fault> {
         if !has_room(sink, 1) {
             return encode_value_first(self.0, self.1, sink);
@@ -479,6 +480,7 @@ impl<T: Encode, U: Encode> Encode for (T, U) {
 
     ghost unfinished = { λ p. T.unfinished p.0 };
 
+    #[inline(always)]
     fn encode<A: Allocator>(&self, sink: &mut Vec<u8, A>) -> Result<(), Fault> {
         let start = sink.len();
         self.0.encode(sink)?;

@@ -107,6 +107,7 @@ impl Encode for ComponentTypeRef {
 
     ghost piece = { λ r. type_reference r };
 
+    #[inline(always)]
     fn encode<A: Allocator>(&self, sink: &mut Vec<u8, A>) -> Result<(), Fault> {
         let kind = self.kind();
         match self {
@@ -212,6 +213,7 @@ impl<'a, A: Allocator> Encode for ComponentExternName<'a, A> {
     ghost piece = { λ n. extern_name (extern_name_view n) };
 
     #[tactic(auto, using(crate::proofs::Names::plain_serves))]
+    #[inline(always)]
     fn encode<B: Allocator>(&self, sink: &mut Vec<u8, B>) -> Result<(), Fault> {
         if self.option_count() != 0 {
             return self.encode_with_options(sink);

@@ -109,6 +109,7 @@ impl Encode for ComponentValType {
 
     ghost piece = { λ t. value_type t };
 
+    #[inline(always)]
     fn encode<A: Allocator>(&self, sink: &mut Vec<u8, A>) -> Result<(), Fault> {
         match self {
             ComponentValType::Primitive(ty) => ty.encode(sink),
