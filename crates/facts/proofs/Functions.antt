@@ -11,7 +11,7 @@ use Rattle.wenc_base.specs.laws.Holders.{contains_opened, member_appended_twice}
 use Rattle.wenc_parts.specs.Types.{result_list}
 use Rattle.wenc_parts.specs.declared.types.ComponentValType.{ComponentValType}
 use Rattle.wenc_types.specs.ComponentTypes.{DefType, FunctionType, def_type}
-use Rattle.wenc_types.specs.DefinedTypes.{LabelledType, labelled_type, lent_named}
+use Rattle.wenc_types.specs.DefinedTypes.{LabelledType, labelled_type, lent_labelled_type}
 use Rattle.wenc_types.specs.FuncStages.{params_from}
 use Rattle.wenc_types.specs.declared.func_type.FuncStage.{FuncStage}
 use Rattle.wenc_types.specs.declared.func_type.FuncStage.TheVariants.{Start}
@@ -29,9 +29,9 @@ function_is_one_more h ps answer types fits answers c =
 -- A function type that was written in two parts, its parameters and then what it answers, is one type more.
 pub function_written : {S : Type 0} (steps : S → Option (Bor (List ℕ) × ComponentValType) → S → Type 0) (values : S) (h lent mid new last : HolderState) (stage : FuncStage) (answer : Option ComponentValType)
     (outcome : Result (Unit {0}) Fault) (R : List ℕ → Fault → Type 0) → lent ≡ member_begun h [] → stage ≡ Start
-    → WholeRun steps values (λ run. Extended mid (member_appended lent) R (params_from stage (map lent_named run.items)))
+    → WholeRun steps values (λ run. Extended mid (member_appended lent) R (params_from stage (map lent_labelled_type run.items)))
     → OnOk outcome (new ≡ member_ended (member_appended mid (result_list answer).text)) → OnOk outcome (result_list answer).Fits → last ≡ new
-    → OnOk outcome (WholeRun steps values (λ run. (types : List DefType) → Contains def_type h types → Contains def_type last (types ++ function (map lent_named run.items) answer ∷ [])))
+    → OnOk outcome (WholeRun steps values (λ run. (types : List DefType) → Contains def_type h types → Contains def_type last (types ++ function (map lent_labelled_type run.items) answer ∷ [])))
 function_written steps values h lent mid new last stage answer (Ok u) R begins starts first second answers same =
-    (first.0, first.1, first.2, λ types c. rw (same, second, first.3.state, begins, starts) (function_is_one_more h (map lent_named first.0.items) answer types (rw starts at first.3.fits) answers c))
+    (first.0, first.1, first.2, λ types c. rw (same, second, first.3.state, begins, starts) (function_is_one_more h (map lent_labelled_type first.0.items) answer types (rw starts at first.3.fits) answers c))
 function_written steps values h lent mid new last stage answer (Err f) R begins starts first second answers same = tt

@@ -78,7 +78,7 @@ pub fn one_import_more<A: Allocator, B: Allocator>(
 ) -> Result<(), Fault>
     ensures { OnOk result ((is : List Import) → Contains import_item imports.old is
         → Contains import_item imports.new
-        (is ++ record { name = extern_name_view name.entry; what = ty } ∷ [])) }
+        (is ++ record { name = extern_name_view name.entry; ty = ty } ∷ [])) }
 {
     what_is_added_is_contained();
     imports.import(name, ty)?;

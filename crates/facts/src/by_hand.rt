@@ -23,7 +23,7 @@ fn imported<A: Allocator>(alloc: A) -> Result<ComponentImportSection<A>, Fault>
     ensures { IfOk result (λ imports. imports
         ≡ with_member no_members (import_item (record {
           name = plain_name (codes "i");
-          what = ComponentTypeRef.«Type» TypeBounds.SubResource;
+          ty = ComponentTypeRef.«Type» TypeBounds.SubResource;
         })).text) }
 {
     let mut imports = ComponentImportSection::new(alloc);
@@ -53,7 +53,7 @@ fn exported<A: Allocator>(alloc: A) -> Result<ComponentExportSection<A>, Fault>
           name = plain_name (codes "g");
           kind = ComponentExportKind.«Type»;
           index = 1;
-          what = None;
+          ty = None;
         })).text) }
 {
     let mut exports = ComponentExportSection::new(alloc);
@@ -86,7 +86,7 @@ pub fn by_hand<A: Allocator + Copy>(alloc: A) -> Result<Vec<u8, A>, Fault>
         ++ (10 ∷ section_text (with_member no_members (import_item
         (record {
           name = plain_name (codes "i");
-          what = ComponentTypeRef.«Type» TypeBounds.SubResource;
+          ty = ComponentTypeRef.«Type» TypeBounds.SubResource;
         })).text))
         ++ (6 ∷ section_text (with_member no_members (alias
         (Outer ComponentOuterAliasKind.«Type» 0 0)).text))
@@ -95,7 +95,7 @@ pub fn by_hand<A: Allocator + Copy>(alloc: A) -> Result<Vec<u8, A>, Fault>
           name = plain_name (codes "g");
           kind = ComponentExportKind.«Type»;
           index = 1;
-          what = None;
+          ty = None;
         })).text))) }
 {
     let imports = imported(alloc)?;

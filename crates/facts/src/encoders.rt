@@ -7,7 +7,7 @@ ghost use Rattle.wenc_base.specs.Holder.{Contains};
 ghost use Rattle.wenc_types.specs.ComponentTypes.{DefType, DefinedType, FunctionType, ComponentDeclaration, Declared, Typed, def_type};
 ghost use Rattle.wenc_types.specs.Declarations.{ModuleDeclares, ComponentDeclares};
 ghost use Rattle.wenc_types.specs.CoreTypes.{CoreType, Grouped, ModuleDeclaration, ModuleRecType, core_type};
-ghost use Rattle.wenc_types.specs.DefinedTypes.{OptionOf, lent_named};
+ghost use Rattle.wenc_types.specs.DefinedTypes.{OptionOf, lent_labelled_type};
 
 use std::alloc::Allocator;
 use wasm_encoder::laws::openings_are_members;
@@ -73,7 +73,7 @@ where
         → Contains def_type section.old types → Contains def_type section.new
         (types ++ FunctionType (record {
           is_async = false;
-          params = map lent_named run.items;
+          params = map lent_labelled_type run.items;
           answer = answer;
         }) ∷ []))) }
 {

@@ -21,7 +21,7 @@ pub fn importing<A: Allocator + Copy>(alloc: A) -> Result<Vec<u8, A>, Fault>
         ++ 0x0a ∷ (counted import_item
         (record {
           name = plain_name (codes "f");
-          what = ComponentTypeRef.«Type» TypeBounds.SubResource;
+          ty = ComponentTypeRef.«Type» TypeBounds.SubResource;
         } ∷ [])).text) }
 {
     let mut imports = ComponentImportSection::new(alloc);

@@ -16,7 +16,7 @@ use Rattle.wenc_parts.specs.declared.types.PrimitiveValType.{PrimitiveValType}
 use Rattle.wenc_parts.specs.contracts.types.ComponentValTypePartialEq.TheImpl.{eq-value as value_eq'}
 use Rattle.wenc_parts.specs.contracts.types.PrimitiveValTypePartialEq.TheImpl.{eq-value as primitive_eq'}
 use Rattle.wenc_types.specs.DefinedTypes.{LabelledType, Case, DefValType, Primitive, Record, Variant, ListOf, MapOf, FixedLengthList, Tuple, Flags, Enumeration, OptionOf, ResultOf, Own, Borrow, Future, Stream}
-use Rattle.wenc_types.specs.TypeTrees.{named_view, case_view, defined_view}
+use Rattle.wenc_types.specs.TypeTrees.{labelled_type_view, case_view, defined_view}
 use Rattle.wenc_types.specs.declared.defined_tree.CaseTree.{CaseTree}
 use Rattle.wenc_types.specs.declared.defined_tree.DefinedTree.{DefinedTree}
 use Rattle.wenc_types.specs.declared.defined_tree.DefinedTree.TheVariants as trees
@@ -41,7 +41,7 @@ options (Some t) (Some u) = Decides-like _ (λ e. cc) (λ e. cc) (values t u)
 texts : {A : Type 0} (m n : String A) → Decides (bytes_eq (string_bytes m) (string_bytes n)) (string_bytes m ≡ string_bytes n)
 texts m n = bytes_eq-Decides (string_bytes m) (string_bytes n)
 
-nameds : {A : Type 0} (f g : String A × ComponentValType) → Decides (bytes_eq (string_bytes f.0) (string_bytes g.0) && value_eq'.it f.1 g.1) (named_view f ≡ named_view g)
+nameds : {A : Type 0} (f g : String A × ComponentValType) → Decides (bytes_eq (string_bytes f.0) (string_bytes g.0) && value_eq'.it f.1 g.1) (labelled_type_view f ≡ labelled_type_view g)
 nameds f g = both _ _ (texts f.0 g.0) (values f.1 g.1) (λ p q. cc) (λ e. ap (λ (n : LabelledType). n.name) e) (λ e. ap (λ (n : LabelledType). n.ty) e)
 
 cases : (A : RattleType) (al : Ghosts A.Denot) (d e : Dict) (c k : CaseTree A.Denot) → Decides ((case_eq' A al d e).it c k) (case_view c ≡ case_view k)
@@ -77,7 +77,7 @@ differ x y e = (λ q. absurd (true≢false (sym q)), λ s. absurd (true≢false 
 pub defined_types : (A : RattleType) (al : Ghosts A.Denot) (d e : Dict) (a b : DefinedTree A.Denot) → Decides ((defined_eq' A al d e).it a b) (defined_view a ≡ defined_view b)
 defined_types A al d e (trees.Primitive p) (trees.Primitive p') = Decides-like _ (λ q. cc) (λ q. cc) (primitives p p')
 defined_types A al d e (trees.Primitive p) other = differ _ _ refl
-defined_types A al d e (trees.Record v) (trees.Record v') = Decides-like _ (λ q. cc) (λ q. cc) (lists _ named_view nameds v.items v'.items)
+defined_types A al d e (trees.Record v) (trees.Record v') = Decides-like _ (λ q. cc) (λ q. cc) (lists _ labelled_type_view nameds v.items v'.items)
 defined_types A al d e (trees.Record v) other = differ _ _ refl
 defined_types A al d e (trees.Variant v) (trees.Variant v') = Decides-like _ (λ q. cc) (λ q. cc) (lists (case_eq' A al d e).it case_view (cases A al d e) v.items v'.items)
 defined_types A al d e (trees.Variant v) other = differ _ _ refl

@@ -27,7 +27,7 @@ raw_serves bytes = record { text = refl; fits = λ h. h; among = λ fault c. c; 
 
 -- an export's name, kind, index and type
 pub export_serves : (n : ExternName) (kind : ComponentExportKind) (index : ℕ) (what : Option ComponentTypeRef)
-    → Serves (in_order (extern_name n) (in_order (component_export_kind kind) (in_order (u32 index) (option type_reference what)))) (item (ExportItem (record { name = n; kind = kind; index = index; what = what })))
+    → Serves (in_order (extern_name n) (in_order (component_export_kind kind) (in_order (u32 index) (option type_reference what)))) (item (ExportItem (record { name = n; kind = kind; index = index; ty = what })))
 export_serves n kind index what =
     order_serves (serves_itself {p = extern_name n}) (order_serves (serves_itself {p = component_export_kind kind}) (order_serves (serves_itself {p = u32 index}) (serves_itself {p = option type_reference what})))
 

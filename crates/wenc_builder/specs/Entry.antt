@@ -30,11 +30,11 @@ entry item name = record { item = item; name = name }
 
 -- an import and an export have the debug name that is their name
 abbrev pub import_entry : ExternName → ComponentTypeRef → Entry
-import_entry name what = entry (ImportItem (record { name = name; what = what })) (Some name.name)
+import_entry name what = entry (ImportItem (record { name = name; ty = what })) (Some name.name)
 
 abbrev pub export_entry : ExternName → ComponentExportKind → ℕ → Option ComponentTypeRef → Entry
 export_entry name kind index what =
-    entry (ExportItem (record { name = name; kind = kind; index = index; what = what }))
+    entry (ExportItem (record { name = name; kind = kind; index = index; ty = what }))
     (Some name.name)
 
 abbrev pub alias_entry : Option (List ℕ) → AliasOf → Entry

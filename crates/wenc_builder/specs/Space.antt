@@ -97,7 +97,7 @@ defines (AliasItem to) = some_in (alias_space to) 1
 defines (TypeItem ty) = some_in Types 1
 defines (CanonItem function) = some_in (canonical_space function) 1
 defines (StartItem start) = some_in Values start.results
-defines (ImportItem import) = some_in (kind_space (kind_of import.what)) 1
+defines (ImportItem import) = some_in (kind_space (kind_of import.ty)) 1
 defines (ExportItem export) = some_in (kind_space export.kind) 1
 defines other = None
 

@@ -14,12 +14,12 @@ use wenc_types::{CaseTree, DefinedTree};
 /// A field or a parameter.
 impl<A: Allocator + Copy> Decode<A> for (String<A>, ComponentValType) {
     ghost use Rattle.wenc_types.specs.DefinedTypes.{LabelledType};
-    ghost use Rattle.wenc_types.specs.TypeTrees.{named_view};
+    ghost use Rattle.wenc_types.specs.TypeTrees.{labelled_type_view};
     ghost use Rattle.wenc_types.specs.reading.DefinedTypes.{read_labelled_type};
 
     ghost Value = { LabelledType };
 
-    ghost view = { named_view };
+    ghost view = { labelled_type_view };
 
     ghost read = { read_labelled_type };
 

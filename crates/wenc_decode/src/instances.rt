@@ -103,13 +103,13 @@ impl<A: Allocator + Copy> Decode<A> for CoreInstanceTree<A> {
 
 /// What a component is given under a name.
 impl<A: Allocator + Copy> Decode<A> for (String<A>, ComponentExportKind, u32) {
-    ghost use Rattle.wenc_sections.specs.InstanceTrees.{given_tree_view};
+    ghost use Rattle.wenc_sections.specs.InstanceTrees.{instantiate_arg_tree_view};
     ghost use Rattle.wenc_sections.specs.Instances.{InstantiateArg};
     ghost use Rattle.wenc_sections.specs.reading.Items.{read_given};
 
     ghost Value = { InstantiateArg };
 
-    ghost view = { given_tree_view };
+    ghost view = { instantiate_arg_tree_view };
 
     ghost read = { read_given };
 
@@ -126,13 +126,13 @@ impl<A: Allocator + Copy> Decode<A> for (String<A>, ComponentExportKind, u32) {
 
 /// An item that is exported under a name.
 impl<A: Allocator + Copy> Decode<A> for (NameTree<A>, ComponentExportKind, u32) {
-    ghost use Rattle.wenc_sections.specs.InstanceTrees.{exported_tree_view};
+    ghost use Rattle.wenc_sections.specs.InstanceTrees.{inline_export_tree_view};
     ghost use Rattle.wenc_sections.specs.Instances.{InlineExport};
     ghost use Rattle.wenc_sections.specs.reading.Items.{read_inline_exported};
 
     ghost Value = { InlineExport };
 
-    ghost view = { exported_tree_view };
+    ghost view = { inline_export_tree_view };
 
     ghost read = { read_inline_exported };
 

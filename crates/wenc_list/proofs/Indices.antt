@@ -81,7 +81,7 @@ collected_few (InstanceItem i) id k e = at_most Instances 1 k
 collected_few (AliasItem to) id k e = at_most (alias_space to) 1 k
 collected_few (TypeItem t) id k e = at_most Types 1 k
 collected_few (CanonItem f) id k e = at_most (canonical_space f) 1 k
-collected_few (ImportItem i) id k e = at_most (kind_space (kind_of i.what)) 1 k
+collected_few (ImportItem i) id k e = at_most (kind_space (kind_of i.ty)) 1 k
 collected_few (ExportItem x) id k e = at_most (kind_space x.kind) 1 k
 
 each_few : (id k : ℕ) (xs : List Item) (bytes rest : List ℕ) → (each (item_of id) xs).Reads Wide bytes rest → next_index xs k ≤ length xs

@@ -26,9 +26,9 @@ item_view (trees.«Type» ty) = TypeItem (type_view ty)
 item_view (trees.Canon canon) = CanonItem (canon_view canon)
 item_view (trees.Start function args results) =
     StartItem (record { function = function; arguments = args.items; results = results })
-item_view (trees.Import name ty) = ImportItem (record { name = name_tree_view name; what = ty })
+item_view (trees.Import name ty) = ImportItem (record { name = name_tree_view name; ty = ty })
 item_view (trees.Export name kind index ty) =
-    ExportItem (record { name = name_tree_view name; kind = kind; index = index; what = ty })
+    ExportItem (record { name = name_tree_view name; kind = kind; index = index; ty = ty })
 item_view (trees.Custom name bytes) =
     CustomItem (record { label = string_bytes name; bytes = bytes.items })
 

@@ -13,8 +13,8 @@ pub record Export : Type 0 where
   pub name : ExternName
   pub kind : ComponentExportKind
   pub index : ℕ
-  pub what : Option ComponentTypeRef
+  pub ty : Option ComponentTypeRef
 
 abbrev pub export_item : Form Export
 export_item e =
-    extern_name e.name ⨾ component_export_kind e.kind ⨾ u32 e.index ⨾ option type_reference e.what
+    extern_name e.name ⨾ component_export_kind e.kind ⨾ u32 e.index ⨾ option type_reference e.ty

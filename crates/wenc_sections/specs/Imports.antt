@@ -6,7 +6,7 @@ use Rattle.wenc_parts.specs.Imports.{ExternName, extern_name, type_reference}
 -- what is imported under a name
 pub record Import : Type 0 where
   pub name : ExternName
-  pub what : ComponentTypeRef
+  pub ty : ComponentTypeRef
 
 abbrev pub import_item : Form Import
-import_item i = extern_name i.name ⨾ type_reference i.what
+import_item i = extern_name i.name ⨾ type_reference i.ty

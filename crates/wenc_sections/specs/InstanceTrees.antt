@@ -32,17 +32,19 @@ core_instance_tree_view (core_trees.Exports exports) =
 
 -- ---- of components
 
-abbrev pub given_tree_view : {A : Type 0} → String A × ComponentExportKind × ℕ → InstantiateArg
-given_tree_view g = record { name = string_bytes g.0; kind = g.1; index = g.2 }
+abbrev pub instantiate_arg_tree_view : {A : Type 0} → String A × ComponentExportKind × ℕ
+    → InstantiateArg
+instantiate_arg_tree_view g = record { name = string_bytes g.0; kind = g.1; index = g.2 }
 
-abbrev pub exported_tree_view : {A : Type 0} → NameTree A × ComponentExportKind × ℕ → InlineExport
-exported_tree_view e = record { name = name_tree_view e.0; kind = e.1; index = e.2 }
+abbrev pub inline_export_tree_view : {A : Type 0} → NameTree A × ComponentExportKind × ℕ
+    → InlineExport
+inline_export_tree_view e = record { name = name_tree_view e.0; kind = e.1; index = e.2 }
 
 abbrev pub instance_tree_view : {A : Type 0} → InstanceTree A → Instance
 instance_tree_view (trees.Instantiate index args) =
-    Instantiate index (map given_tree_view args.items)
-instance_tree_view (trees.Exports exports) = Exports (map exported_tree_view exports.items)
+    Instantiate index (map instantiate_arg_tree_view args.items)
+instance_tree_view (trees.Exports exports) = Exports (map inline_export_tree_view exports.items)
 
 -- the exports of trees
-abbrev pub exported_tree : {A : Type 0} → Form (NameTree A × ComponentExportKind × ℕ)
-exported_tree e = inline_export (exported_tree_view e)
+abbrev pub inline_export_tree : {A : Type 0} → Form (NameTree A × ComponentExportKind × ℕ)
+inline_export_tree e = inline_export (inline_export_tree_view e)

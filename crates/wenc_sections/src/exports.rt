@@ -52,7 +52,7 @@ impl<A: Allocator> Counted<Exports, A> {
           name = extern_name_view name.entry;
           kind = kind;
           index = index;
-          what = ty;
+          ty = ty;
         })) self.old self.new result }
     {
         self.items.add_encoded(&(name, (kind, (index, ty))))

@@ -45,7 +45,7 @@ impl<A: Allocator> Counted<Imports, A> {
     ) -> Result<(), Fault>
         ensures { AddsMember (import_item (record {
           name = extern_name_view name.entry;
-          what = ty;
+          ty = ty;
         })) self.old self.new result }
     {
         self.items.add_encoded(&(name, ty))

@@ -3,7 +3,7 @@ ghost use Rattle.std.specs.Prelude.{◌≡◌, ◌++◌, ℕ, List, OnOk, OnErr,
 ghost use Rattle.wenc_base.specs.Encode.{Appends, Written, list_in_order};
 ghost use Rattle.wenc_base.specs.Fault.{IsWarranted, member_cause};
 ghost use Rattle.wenc_base.specs.laws.Serves.{serves_itself};
-ghost use Rattle.wenc_sections.specs.InstanceTrees.{exported_tree};
+ghost use Rattle.wenc_sections.specs.InstanceTrees.{inline_export_tree};
 
 use crate::instances::{CORE_EXPORTS, CORE_INSTANTIATE, EXPORTS, INSTANTIATE};
 use std::alloc::{Allocator, Global};
@@ -131,7 +131,7 @@ impl<A: Allocator> Delimited for InstanceTree<A> {
 struct ExportList<'a, A: Allocator>(&'a [(NameTree<A>, ComponentExportKind, u32)]);
 
 impl<'a, A: Allocator> Encode for ExportList<'a, A> {
-    ghost piece = { λ l. list_in_order exported_tree l.0.now };
+    ghost piece = { λ l. list_in_order inline_export_tree l.0.now };
 
     fn encode<B: Allocator>(&self, sink: &mut Vec<u8, B>) -> Result<(), Fault> {
         let start = sink.len();
@@ -151,10 +151,11 @@ fn encode_exports<A: Allocator, B: Allocator>(
     exports: &[(NameTree<A>, ComponentExportKind, u32)],
     sink: &mut Vec<u8, B>,
 ) -> Result<(), Fault>
-    ensures ok { OnOk result (Written exported_tree sink.old.items exports.now sink.new.items) }
+    ensures ok { OnOk result
+        (Written inline_export_tree sink.old.items exports.now sink.new.items) }
     ensures err { OnErr result ((more : List ℕ) × (sink.new.items ≡ sink.old.items ++ more)) }
     ensures warranted { IfErr result
-        (IsWarranted (member_cause (λ e. (exported_tree e).Cause) exports.now)) }
+        (IsWarranted (member_cause (λ e. (inline_export_tree e).Cause) exports.now)) }
 {
     for export in exports {
         encode_export(export, sink)?;
@@ -167,9 +168,9 @@ fn encode_export<A: Allocator, B: Allocator>(
     export: &(NameTree<A>, ComponentExportKind, u32),
     sink: &mut Vec<u8, B>,
 ) -> Result<(), Fault>
-    ensures appended { Appends (exported_tree export.now).text (exported_tree export.now).Cause ⊥
-        sink.old.items sink.new.items result }
-    ensures fits { OnOk result (exported_tree export.now).Fits }
+    ensures appended { Appends (inline_export_tree export.now).text
+        (inline_export_tree export.now).Cause ⊥ sink.old.items sink.new.items result }
+    ensures fits { OnOk result (inline_export_tree export.now).Fits }
 {
     (export.0.as_name(), export.1, export.2).encode(sink)
 }

@@ -34,7 +34,7 @@ new_type_of kind =
 abbrev pub declared_item : Item → Option (List ℕ) → Option ComponentDeclaration
 declared_item (TypeItem ty) None = Some (Declared (Typed ty))
 declared_item (AliasItem to) None = Some (Declared (Aliased to))
-declared_item (ImportItem import) name = Some (Imported import.name import.what)
+declared_item (ImportItem import) name = Some (Imported import.name import.ty)
 declared_item other name = None
 
 -- that item of such a type; that of an instance has no imports

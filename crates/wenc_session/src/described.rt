@@ -93,11 +93,11 @@ pub(crate) trait Kept<T>: Drop {
 impl Kept<ComponentValType> for (String, ComponentValType) {
     ghost use Rattle.wenc_session.specs.Packed.{labelled};
     ghost use Rattle.wenc_types.specs.DefinedTypes.{LabelledType};
-    ghost use Rattle.wenc_types.specs.TypeTrees.{named_view};
+    ghost use Rattle.wenc_types.specs.TypeTrees.{labelled_type_view};
 
     ghost Seen = { LabelledType };
 
-    ghost seen = { named_view };
+    ghost seen = { labelled_type_view };
 
     ghost of = { labelled };
 

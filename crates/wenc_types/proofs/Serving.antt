@@ -19,9 +19,9 @@ use Rattle.wenc_parts.specs.declared.types.ComponentValType.{ComponentValType}
 use Rattle.wenc_types.specs.ComponentTypes.{def_type, instance_declaration, component_declaration}
 use Rattle.wenc_types.specs.CoreTypes.{ModuleImport, ModuleOuter, module_declaration, module_type}
 use Rattle.wenc_types.specs.CoreTypeTrees.{module_declaration_view}
-use Rattle.wenc_types.specs.DefinedTypes.{labelled_type, Case as PureCase, case, Record, Variant, Tuple, def_val_type, function_type_of, function_type, lent_named, lent_case}
+use Rattle.wenc_types.specs.DefinedTypes.{labelled_type, Case as PureCase, case, Record, Variant, Tuple, def_val_type, function_type_of, function_type, lent_labelled_type, lent_case}
 use Rattle.wenc_types.specs.FuncStages.{async_byte}
-use Rattle.wenc_types.specs.TypeTrees.{named_view, case_view, function_view, type_view, instance_declaration_view, component_declaration_view}
+use Rattle.wenc_types.specs.TypeTrees.{labelled_type_view, case_view, function_view, type_view, instance_declaration_view, component_declaration_view}
 use Rattle.wenc_types.specs.declared.core_type_tree.ModuleDecl.{ModuleDecl}
 use Rattle.wenc_types.specs.declared.defined_tree.CaseTree.{CaseTree}
 use Rattle.wenc_types.specs.declared.defined_type.Case.{Case}
@@ -78,10 +78,10 @@ field_tree f = in_order (name_form (string_bytes f.0)) (value_type f.1)
 abbrev pub lent_field : Form (Bor (List ℕ) × ComponentValType)
 lent_field f = in_order (name_form f.0.now) (value_type f.1)
 
-fields_tree_serve : {A : Type 0} (fields : List (String A × ComponentValType)) → Serves (list_in_order field_tree fields) (list labelled_type (map named_view fields))
-fields_tree_serve = list_serves field_tree named_view labelled_type (λ f. two_serve (name_form (string_bytes f.0)) (value_type f.1))
+fields_tree_serve : {A : Type 0} (fields : List (String A × ComponentValType)) → Serves (list_in_order field_tree fields) (list labelled_type (map labelled_type_view fields))
+fields_tree_serve = list_serves field_tree labelled_type_view labelled_type (λ f. two_serve (name_form (string_bytes f.0)) (value_type f.1))
 
-pub record_tree_serves : {A : Type 0} (fields : List (String A × ComponentValType)) → Serves (0x72 ▸ list_in_order field_tree fields) (def_val_type (Record (map named_view fields)))
+pub record_tree_serves : {A : Type 0} (fields : List (String A × ComponentValType)) → Serves (0x72 ▸ list_in_order field_tree fields) (def_val_type (Record (map labelled_type_view fields)))
 record_tree_serves fields = tagged_serves 0x72 (fields_tree_serve fields)
 
 pub variant_tree_serves : {A : Type 0} (cases : List (CaseTree A)) → Serves (0x71 ▸ list_in_order (λ c. case (case_view c)) cases) (def_val_type (Variant (map case_view cases)))
@@ -94,8 +94,8 @@ pub tuple_tree_serves : (elements : List ComponentValType) → Serves (0x6f ▸ 
 tuple_tree_serves elements = tagged_serves 0x6f (list_is_list value_type elements)
 
 -- fields, cases and names that an iterator gives
-pub fields_serve : (lead : List ℕ) (vs : List (Bor (List ℕ) × ComponentValType)) → Serves (behind_bytes lead (list lent_field vs)) (behind_bytes lead (list labelled_type (map lent_named vs)))
-fields_serve = listed_serves lent_field lent_named labelled_type (λ f. two_serve (name_form f.0.now) (value_type f.1))
+pub fields_serve : (lead : List ℕ) (vs : List (Bor (List ℕ) × ComponentValType)) → Serves (behind_bytes lead (list lent_field vs)) (behind_bytes lead (list labelled_type (map lent_labelled_type vs)))
+fields_serve = listed_serves lent_field lent_labelled_type labelled_type (λ f. two_serve (name_form f.0.now) (value_type f.1))
 
 pub names_serve : (lead : List ℕ) (vs : List (Bor (List ℕ))) → Serves (behind_bytes lead (list (λ n. name_form n.now) vs)) (behind_bytes lead (list name_form (map (λ n. n.now) vs)))
 names_serve = listed_serves (λ (n : Bor (List ℕ)). name_form n.now) (λ n. n.now) name_form (λ n. serves_itself)
@@ -127,10 +127,10 @@ pub function_tree_serves : {A : Type 0} (is_async : Bool) (tag : ℕ) (params : 
     → Serves (tag ▸ in_order (list_in_order field_tree params) (result_list answer)) (function_type (function_view is_async params answer))
 function_tree_serves is_async tag params answer e = rw e (at is_async)
   where
-    both : Serves (in_order (list_in_order field_tree params) (result_list answer)) (list labelled_type (map named_view params) ⨾ result_list answer)
+    both : Serves (in_order (list_in_order field_tree params) (result_list answer)) (list labelled_type (map labelled_type_view params) ⨾ result_list answer)
     both = order_serves (fields_tree_serve params) (serves_itself {p = result_list answer})
 
-    at : (is_async : Bool) → Serves (async_byte is_async ▸ in_order (list_in_order field_tree params) (result_list answer)) (function_type_of is_async (map named_view params) answer)
+    at : (is_async : Bool) → Serves (async_byte is_async ▸ in_order (list_in_order field_tree params) (result_list answer)) (function_type_of is_async (map labelled_type_view params) answer)
     at false = tagged_serves 0x40 both
     at true = tagged_serves 0x43 both
 

@@ -77,8 +77,8 @@ function_type f = function_type_of f.is_async f.params f.answer
 
 -- ---- what an iterator gives, as pure values
 
-abbrev pub lent_named : Bor (List ℕ) × ComponentValType → LabelledType
-lent_named f = record { name = f.0.now; ty = f.1 }
+abbrev pub lent_labelled_type : Bor (List ℕ) × ComponentValType → LabelledType
+lent_labelled_type f = record { name = f.0.now; ty = f.1 }
 
 abbrev pub lent_case : Bor (List ℕ) × Option ComponentValType → Case
 lent_case c = record { name = c.0.now; ty = c.1 }

@@ -21,15 +21,15 @@ use Rattle.wenc_types.specs.declared.type_tree.ComponentDecl.{ComponentDecl, fol
 use Rattle.wenc_types.specs.declared.type_tree.ComponentDecl.TheOpen.{TypeTree-F, InstanceDecl-F}
 use Rattle.wenc_types.specs.declared.type_tree.ComponentDecl.TheOpen.{ComponentDecl-F}
 
-abbrev pub named_view : {A : Type 0} → String A × ComponentValType → LabelledType
-named_view f = record { name = string_bytes f.0; ty = f.1 }
+abbrev pub labelled_type_view : {A : Type 0} → String A × ComponentValType → LabelledType
+labelled_type_view f = record { name = string_bytes f.0; ty = f.1 }
 
 abbrev pub case_view : {A : Type 0} → CaseTree A → Case
 case_view c = record { name = string_bytes c.name; ty = c.ty }
 
 abbrev pub defined_view : {A : Type 0} → DefinedTree A → DefValType
 defined_view (trees.Primitive ty) = pure.Primitive ty
-defined_view (trees.Record fields) = pure.Record (map named_view fields.items)
+defined_view (trees.Record fields) = pure.Record (map labelled_type_view fields.items)
 defined_view (trees.Variant cases) = pure.Variant (map case_view cases.items)
 defined_view (trees.List element) = pure.ListOf element
 defined_view (trees.Map key value) = pure.MapOf key value
@@ -47,7 +47,7 @@ defined_view (trees.Stream ty) = pure.Stream ty
 abbrev pub function_view : {A : Type 0} → Bool → List (String A × ComponentValType)
     → Option ComponentValType → Function
 function_view is_async params answer =
-    record { is_async = is_async; params = map named_view params; answer = answer }
+    record { is_async = is_async; params = map labelled_type_view params; answer = answer }
 
 -- one level, with each child already seen as a pure one
 abbrev type_step : {A : Type 0} → TypeTree-F A ComponentDeclaration InstanceDeclaration DefType

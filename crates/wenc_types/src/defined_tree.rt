@@ -113,12 +113,13 @@ impl<A: Allocator> Delimited for DefinedTree<A> {
 
 impl<A: Allocator> DelimitedEq for DefinedTree<A> {
     ghost use Rattle.std.specs.String.{string_bytes};
-    ghost use Rattle.wenc_types.specs.TypeTrees.{named_view, case_view};
+    ghost use Rattle.wenc_types.specs.TypeTrees.{labelled_type_view, case_view};
     ghost use Rattle.wenc_types.specs.laws.CoreTypes.{alike_by, each_sees};
     ghost use Rattle.wenc_types.specs.laws.TypeTrees.{named_sees, case_sees, defined_sees};
 
     ghost alike = { alike_by _ _ (defined_sees _
-        (λ v w. each_sees _ named_view (named_sees _ (λ m n t e. rw e refl)) v.items w.items)
+        (λ v w. each_sees _ labelled_type_view (named_sees _ (λ m n t e. rw e refl)) v.items
+        w.items)
         (λ v w. each_sees _ case_view (case_sees _ (λ m n t e. rw e refl)) v.items w.items)
         (λ v w e. rw e refl)
         (λ v w. each_sees _ string_bytes (λ m n e. rw e refl) v.items w.items)

@@ -2,7 +2,7 @@
 ghost use Rattle.std.specs.Iterator.{IsFinite};
 ghost use Rattle.std.specs.Prelude.{◌≡◌, true, false, map};
 ghost use Rattle.wenc_base.specs.Lender.{Ends, EndsListed, MakesWhole};
-ghost use Rattle.wenc_types.specs.DefinedTypes.{DefValType, Primitive, Record, Variant, ListOf, MapOf, FixedLengthList, Tuple, Flags, Enumeration, OptionOf, ResultOf, Own, Borrow, Future, Stream, def_val_type, lent_named, lent_case};
+ghost use Rattle.wenc_types.specs.DefinedTypes.{DefValType, Primitive, Record, Variant, ListOf, MapOf, FixedLengthList, Tuple, Flags, Enumeration, OptionOf, ResultOf, Own, Borrow, Future, Stream, def_val_type, lent_labelled_type, lent_case};
 ghost use Rattle.wenc_types.specs.TypeTrees.{defined_view};
 
 use crate::defined_tree::DefinedTree;
@@ -69,7 +69,7 @@ impl<'a, L: Lender> ComponentDefinedTypeEncoder<'a, L> {
         requires ends { IsFinite (F.remaining fields) }
         ensures { EndsListed L.appended L.ended L.refuses F.next_gives fields
             self.entry.lender.now self.exit.0.now result
-            (λ fs. def_val_type (Record (map lent_named fs))) }
+            (λ fs. def_val_type (Record (map lent_labelled_type fs))) }
     {
         self.lender.end_with_list(&[0x72], fields)
     }

@@ -5,7 +5,7 @@ ghost use Rattle.wenc_base.specs.Forms.{list};
 ghost use Rattle.wenc_base.specs.Lender.{Extends, ExtendsListed, Ends, MakesWhole};
 ghost use Rattle.wenc_base.specs.Piece.{byte, behind_bytes};
 ghost use Rattle.wenc_parts.specs.Types.{result_list};
-ghost use Rattle.wenc_types.specs.DefinedTypes.{Function, function_type, labelled_type, lent_named};
+ghost use Rattle.wenc_types.specs.DefinedTypes.{Function, function_type, labelled_type, lent_labelled_type};
 ghost use Rattle.wenc_types.specs.FuncStages.{async_byte, BeforeParams, lead_from, params_from, goes_on, RestMakesWhole};
 ghost use Rattle.wenc_types.specs.declared.func_type.FuncStage.TheVariants as stages;
 
@@ -113,7 +113,7 @@ impl<'a, L: Lender> ComponentFuncTypeEncoder<'a, L> {
         ensures appended { ExtendsListed P.next_gives params
             self.old.lender.now self.new.lender.now result
             (L.appended self.old.lender.now) (L.refuses self.old.lender.now)
-            (λ ps. params_from self.old.stage (map lent_named ps)) }
+            (λ ps. params_from self.old.stage (map lent_labelled_type ps)) }
         ensures next { OnOk result (self.new.stage ≡ stages.Params) }
         ensures back { OnErr result (self.new.stage ≡ self.old.stage) }
     {
@@ -156,7 +156,7 @@ where
     requires ends { IsFinite (I.remaining values) }
     ensures { ExtendsListed I.next_gives values lender.old lender.new result
         (L.appended lender.old) (L.refuses lender.old)
-        (λ vs. behind_bytes lead.now (list labelled_type (map lent_named vs))) }
+        (λ vs. behind_bytes lead.now (list labelled_type (map lent_labelled_type vs))) }
 {
     lender.append_list(lead, values)
 }

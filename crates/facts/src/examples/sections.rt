@@ -30,7 +30,7 @@ pub fn component<A: Allocator + Copy>(alloc: A) -> Result<Vec<u8, A>, Fault>
     ensures { IfOk result (λ bytes. bytes.items
         ≡ preamble.text ++ 0x0a ∷ (counted import_item (record {
           name = plain_name (codes "file");
-          what = ComponentTypeRef.«Type» TypeBounds.SubResource;
+          ty = ComponentTypeRef.«Type» TypeBounds.SubResource;
         } ∷ [])).text) }
 {
     let mut imports = ComponentImportSection::new(alloc);
@@ -73,7 +73,7 @@ pub fn aliases<A: Allocator + Copy>(alloc: A) -> Result<Vec<u8, A>, Fault>
     ensures { IfOk result (λ bytes. bytes.items
         ≡ preamble.text ++ 0x0a ∷ (counted import_item (record {
           name = plain_name (codes "file");
-          what = ComponentTypeRef.«Type» TypeBounds.SubResource;
+          ty = ComponentTypeRef.«Type» TypeBounds.SubResource;
         } ∷ [])).text ++ 0x06 ∷ (counted alias_form
         (Outer ComponentOuterAliasKind.«Type» 0 0 ∷ [])).text) }
 {
@@ -102,12 +102,12 @@ pub fn exports<A: Allocator + Copy>(alloc: A) -> Result<Vec<u8, A>, Fault>
     ensures { IfOk result (λ bytes. bytes.items
         ≡ preamble.text ++ 0x0a ∷ (counted import_item (record {
           name = plain_name (codes "file");
-          what = ComponentTypeRef.«Type» TypeBounds.SubResource;
+          ty = ComponentTypeRef.«Type» TypeBounds.SubResource;
         } ∷ [])).text ++ 0x0b ∷ (counted export_item (record {
           name = plain_name (codes "handle");
           kind = ComponentExportKind.«Type»;
           index = 0;
-          what = None;
+          ty = None;
         } ∷ [])).text) }
 {
     let mut imports = ComponentImportSection::new(alloc);
@@ -131,10 +131,10 @@ pub fn imports<A: Allocator + Copy>(alloc: A) -> Result<Vec<u8, A>, Fault>
     ensures { IfOk result (λ bytes. bytes.items
         ≡ preamble.text ++ 0x0a ∷ (counted import_item (record {
           name = plain_name (codes "file");
-          what = ComponentTypeRef.«Type» TypeBounds.SubResource;
+          ty = ComponentTypeRef.«Type» TypeBounds.SubResource;
         } ∷ record {
           name = plain_name (codes "log");
-          what = ComponentTypeRef.«Type» (TypeBounds.Eq 0);
+          ty = ComponentTypeRef.«Type» (TypeBounds.Eq 0);
         } ∷ [])).text) }
 {
     let mut imports = ComponentImportSection::new(alloc);

@@ -18,13 +18,13 @@ use Rattle.wenc_sections.specs.reading.Items.{ascribed, core_exported, imported,
 -- ---- imports and exports
 
 pub import_lawful : (i : Import) → Lawful (import_item i) (λ fuel. read_import) i
-import_lawful i = then _ (extern_name_lawful i.name) (last (imported i.name) (type_reference_lawful i.what))
+import_lawful i = then _ (extern_name_lawful i.name) (last (imported i.name) (type_reference_lawful i.ty))
 
 pub import_sound : Sound import_item read_import
 import_sound = then_tells _ extern_name_sound (λ name. last_tells (imported name) type_reference_sound (λ what middle rest r bytes p. (middle, p, r)))
 
 pub inline_export_lawful : (e : Export) → Lawful (export_item e) (λ fuel. read_inline_export) e
-inline_export_lawful e = then _ (extern_name_lawful e.name) (then _ (component_export_kind_lawful e.kind) (then _ (u32_lawful e.index) (last (ascribed e.name e.kind e.index) (option_lawful type_reference_lawful e.what))))
+inline_export_lawful e = then _ (extern_name_lawful e.name) (then _ (component_export_kind_lawful e.kind) (then _ (u32_lawful e.index) (last (ascribed e.name e.kind e.index) (option_lawful type_reference_lawful e.ty))))
 
 pub inline_export_sound : Sound export_item read_inline_export
 inline_export_sound =

@@ -20,13 +20,13 @@ use Rattle.wenc_sections.specs.Start.{Start, started}
 -- ---- imports and exports
 
 abbrev pub imported : ExternName → ComponentTypeRef → Import
-imported name what = record { name = name; what = what }
+imported name what = record { name = name; ty = what }
 
 abbrev pub read_import : Reader Import
 read_import = read_extern_name >>= λ name. read_type_reference >>= λ what. give (imported name what)
 
 abbrev pub ascribed : ExternName → ComponentExportKind → ℕ → Option ComponentTypeRef → Export
-ascribed name kind index what = record { name = name; kind = kind; index = index; what = what }
+ascribed name kind index what = record { name = name; kind = kind; index = index; ty = what }
 
 abbrev pub read_inline_export : Reader Export
 read_inline_export =

@@ -5,7 +5,7 @@ use Rattle.wenc_base.specs.declared.types.ValType.{ValType}
 use Rattle.wenc_parts.specs.declared.types.ComponentValType.{ComponentValType}
 use Rattle.wenc_types.specs.ComponentTypes.{DefinedType, ComponentType, InstanceType, ResourceType, instances_of, components_of}
 use Rattle.wenc_types.specs.DefinedTypes.{LabelledType, Case, DefValType, Primitive, Record, Variant, ListOf, MapOf, FixedLengthList, Tuple, Flags, Enumeration, OptionOf, ResultOf, Own, Borrow, Future, Stream}
-use Rattle.wenc_types.specs.TypeTrees.{named_view, case_view, defined_view, type_view, instance_declaration_view, component_declaration_view}
+use Rattle.wenc_types.specs.TypeTrees.{labelled_type_view, case_view, defined_view, type_view, instance_declaration_view, component_declaration_view}
 use Rattle.wenc_types.specs.declared.defined_tree.CaseTree.{CaseTree}
 use Rattle.wenc_types.specs.declared.defined_tree.DefinedTree.{DefinedTree}
 use Rattle.wenc_types.specs.declared.defined_tree.DefinedTree.TheVariants as trees
@@ -19,7 +19,7 @@ use Rattle.wenc_types.specs.laws.CoreTypes.{SeesAlike}
 
 -- fields and cases, by their names
 pub named_sees : {A : Type 0} (eq : String A × ComponentValType → String A × ComponentValType → Bool)
-    → ((m n : String A) (t : ComponentValType) → string_bytes m ≡ string_bytes n → eq (m, t) (m, t) ≡ eq (m, t) (n, t)) → SeesAlike eq named_view
+    → ((m n : String A) (t : ComponentValType) → string_bytes m ≡ string_bytes n → eq (m, t) (m, t) ≡ eq (m, t) (n, t)) → SeesAlike eq labelled_type_view
 named_sees eq names f g e =
     let types : f.1 ≡ g.1 = ap (λ (v : LabelledType). v.ty) e in
     subst (λ (t : ComponentValType). eq f f ≡ eq f (g.0, t)) types (names f.0 g.0 f.1 (ap (λ (v : LabelledType). v.name) e))
@@ -36,7 +36,7 @@ case_sees eq names c d e =
 -- the trees that are seen as this type
 abbrev ShapeOf : {A : Type 0} → DefValType → DefinedTree A → Type 0
 ShapeOf (Primitive p) t = t ≡ trees.Primitive p
-ShapeOf {A} (Record fields) t = (v : Vec (String A × ComponentValType) A) × (fields ≡ map named_view v.items) × (t ≡ trees.Record v)
+ShapeOf {A} (Record fields) t = (v : Vec (String A × ComponentValType) A) × (fields ≡ map labelled_type_view v.items) × (t ≡ trees.Record v)
 ShapeOf {A} (Variant cases) t = (v : Vec (CaseTree A) A) × (cases ≡ map case_view v.items) × (t ≡ trees.Variant v)
 ShapeOf (ListOf element) t = t ≡ trees.List element
 ShapeOf (MapOf key value) t = t ≡ trees.Map key value
@@ -70,7 +70,7 @@ shape_of (trees.Stream ty) = refl
 
 -- Trees, by what their lists have: fields, cases, elements and names.
 pub defined_sees : {A : Type 0} (eq : DefinedTree A → DefinedTree A → Bool)
-    → SeesAlike (λ (v w : Vec (String A × ComponentValType) A). eq (trees.Record v) (trees.Record w)) (λ v. map named_view v.items)
+    → SeesAlike (λ (v w : Vec (String A × ComponentValType) A). eq (trees.Record v) (trees.Record w)) (λ v. map labelled_type_view v.items)
     → SeesAlike (λ (v w : Vec (CaseTree A) A). eq (trees.Variant v) (trees.Variant w)) (λ v. map case_view v.items)
     → SeesAlike (λ (v w : Vec ComponentValType A). eq (trees.Tuple v) (trees.Tuple w)) (λ v. v.items)
     → SeesAlike (λ (v w : Vec (String A) A). eq (trees.Flags v) (trees.Flags w)) (λ v. map string_bytes v.items)

@@ -4,4 +4,4 @@ use Rattle.facts.proofs.applied.one_import_more.Goals as goal
 
 pub returns : goal.returns
 returns g c is had =
-    c.what_is_added_is_contained.ensures.value Imports (record { name = extern_name_view c.args.name; what = c.args.ty }) is c.args.imports.now _ c.in_ok-import.ensures.ok had
+    c.what_is_added_is_contained.ensures.value Imports (record { name = extern_name_view c.args.name; ty = c.args.ty }) is c.args.imports.now _ c.in_ok-import.ensures.ok had

@@ -1,7 +1,7 @@
 use Rattle.std.proofs.Common.{take}
 use Rattle.wenc_base.specs.Encode.{Written}
-use Rattle.wenc_sections.specs.InstanceTrees.{exported_tree}
+use Rattle.wenc_sections.specs.InstanceTrees.{inline_export_tree}
 use Rattle.wenc_sections.proofs.instance_trees.encode_exports.Given as goal
 
 abbrev pub invariant-loop-export : goal.invariant-loop-export
-invariant-loop-export g l = Written exported_tree l.initial.sink.items (take l.export-index l.exports) l.sink.items
+invariant-loop-export g l = Written inline_export_tree l.initial.sink.items (take l.export-index l.exports) l.sink.items

@@ -17,4 +17,4 @@ returns g c =
     (record { section = refl; defined = rw c.from.ensures refl; named = rw c.as_str-name.ensures.value refl }) (export_serves (extern_name_view c.args.name) c.args.kind c.args.index c.args.ty) c.add.ensures
 
 pub add-requires : goal.add-requires
-add-requires g c = rw c.from.ensures (item_piece (ExportItem (record { name = extern_name_view c.args.name; kind = c.args.kind; index = c.args.index; what = c.args.ty })) (export_serves (extern_name_view c.args.name) c.args.kind c.args.index c.args.ty))
+add-requires g c = rw c.from.ensures (item_piece (ExportItem (record { name = extern_name_view c.args.name; kind = c.args.kind; index = c.args.index; ty = c.args.ty })) (export_serves (extern_name_view c.args.name) c.args.kind c.args.index c.args.ty))

@@ -17,4 +17,4 @@ returns g c =
     (record { section = refl; defined = rw (c.from.ensures, c.kind.ensures.is) refl; named = rw c.as_str-name.ensures.value refl }) (two_serve (extern_name (extern_name_view c.args.name)) (type_reference c.args.ty)) c.add.ensures
 
 pub add-requires : goal.add-requires
-add-requires g c = rw (c.from.ensures, c.kind.ensures.is) (item_piece (ImportItem (record { name = extern_name_view c.args.name; what = c.args.ty })) (two_serve (extern_name (extern_name_view c.args.name)) (type_reference c.args.ty)))
+add-requires g c = rw (c.from.ensures, c.kind.ensures.is) (item_piece (ImportItem (record { name = extern_name_view c.args.name; ty = c.args.ty })) (two_serve (extern_name (extern_name_view c.args.name)) (type_reference c.args.ty)))

@@ -1,6 +1,6 @@
 use Rattle.std.proofs.Common.{◌∷◌, [], map}
 use Rattle.wenc_base.specs.laws.Lenders.{whole_for}
-use Rattle.wenc_types.specs.DefinedTypes.{Record, lent_named}
+use Rattle.wenc_types.specs.DefinedTypes.{Record, lent_labelled_type}
 use Rattle.wenc_types.proofs.Serving.{fields_serve, ends_listed_for}
 use Rattle.wenc_types.proofs.defined_type.ComponentDefinedTypeEncoder.record.Goals as goal
 
@@ -9,4 +9,4 @@ returns g c = ends_listed_for g.L.Lender.appended g.L.Lender.ended g.L.Lender.re
 
 pub end_with_list-requires-clause-whole : goal.end_with_list-requires-clause-whole
 end_with_list-requires-clause-whole g c vs =
-    whole_for g.L.Lender.is_whole g.L.Lender.appended c.args.self.lender.now (fields_serve (0x72 ∷ []) vs) (c.args.self.whole (Record (map lent_named vs)))
+    whole_for g.L.Lender.is_whole g.L.Lender.appended c.args.self.lender.now (fields_serve (0x72 ∷ []) vs) (c.args.self.whole (Record (map lent_labelled_type vs)))

@@ -1,5 +1,5 @@
 use Rattle.wenc_types.specs.laws.FuncStages.{params_go_on}
-use Rattle.wenc_types.specs.DefinedTypes.{lent_named}
+use Rattle.wenc_types.specs.DefinedTypes.{lent_labelled_type}
 use Rattle.std.proofs.Common.{rules, map}
 use Rattle.wenc_types.proofs.func_type.ComponentFuncTypeEncoder.params.Goals as goal
 
@@ -14,7 +14,7 @@ invariant_of-self g c =
     let added = (rw (c.lead.ensures) at c.in-Ok.ensures.ok) in
     record {
       going_on = search rules;
-      whole = params_go_on g.L.Lender.is_whole g.L.Lender.appended g.L.Lender.joins c.args.self.now.lender.now c.append_named.new.lender c.args.self.now.stage (map lent_named added.0.items) c.requires.stage
+      whole = params_go_on g.L.Lender.is_whole g.L.Lender.appended g.L.Lender.joins c.args.self.now.lender.now c.append_named.new.lender c.args.self.now.stage (map lent_labelled_type added.0.items) c.requires.stage
           added.3.state added.3.fits c.args.self.now.whole;
     }
 
