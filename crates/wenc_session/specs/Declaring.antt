@@ -1,6 +1,6 @@
 -- Types of components, of instances and of core modules, while C declares what they have.
 use Rattle.std.specs.Prelude.{◌≡◌, ℕ, List, Option, Some, None, Result, IfOk}
-use Rattle.std.specs.Prelude.{nat_eq, if◌then◌else◌}
+use Rattle.std.specs.Prelude.{option_map, nat_eq, if◌then◌else◌}
 use Rattle.wenc_base.specs.declared.fault.Fault.{Fault}
 use Rattle.wenc_builder.specs.Entry.{Entry}
 use Rattle.wenc_builder.specs.Item.{Item, AliasItem, CoreTypeItem, ImportItem, TypeItem}
@@ -44,17 +44,20 @@ declared_item (AliasItem to) None = Some (Declared (Aliased to))
 declared_item (ImportItem import) name = Some (Imported import.name import.what)
 declared_item other name = None
 
--- that item of such a type; that of an instance has no imports, and that of a module has types of the
--- core, and aliases of outer ones
+-- what a component type declares, as a module type declares it: types of the core, and aliases of
+-- outer ones
+abbrev pub in_module : ComponentDeclaration → Option ModuleDeclaration
+in_module (Declared (CoreTyped (Grouped g))) = Some (ModuleRecType g)
+in_module (Declared (Aliased (Outer outers.CoreType count n))) = Some (ModuleOuter count n)
+in_module other = None
+
+-- that item of such a type: that of an instance has no imports
 abbrev pub declared_in : Declaring → Option ComponentDeclaration → Option ComponentDeclaration
 declared_in (declaring.Component t) d = d
 declared_in (declaring.Instance t) (Some (Declared d)) = Some (Declared d)
 declared_in (declaring.Instance t) other = None
-declared_in (declaring.Module t) (Some (Declared (CoreTyped (Grouped g)))) =
-    Some (Declared (CoreTyped (Grouped g)))
-declared_in (declaring.Module t) (Some (Declared (Aliased (Outer outers.CoreType count n)))) =
-    Some (Declared (Aliased (Outer outers.CoreType count n)))
-declared_in (declaring.Module t) other = None
+declared_in (declaring.Module t) (Some d) = option_map (λ m. d) (in_module d)
+declared_in (declaring.Module t) None = None
 
 abbrev pub declaration_of : Declaring → Entry → Option ComponentDeclaration
 declaration_of t x = declared_in t (declared_item x.item x.name)
@@ -85,10 +88,12 @@ counted_by (declaring.Module t) other = None
 -- ---- what a call does
 
 -- A type of modules declared this, and the answer is its index; or it was refused for a cause.
-abbrev pub DeclaresInModule : TypeState → TypeState → Result ℕ Fault → ModuleDeclaration → Type 0
-DeclaresInModule old new result d =
+abbrev pub DeclaresInModule : TypeState → TypeState → Result ℕ Fault → Option ModuleDeclaration
+    → Type 0
+DeclaresInModule old new result (Some d) =
     AddsToModule old new (indexed_outcome result) d
     × IfOk result (λ i. i ≡ next_of old.counts (module_sort d))
+DeclaresInModule old new result None = ⊥
 
 -- This was declared, and the answer is its index; or it was refused for a cause.
 abbrev pub DeclaresTo : Declaring → Declaring → Result ℕ Fault → ComponentDeclaration → Type 0
@@ -98,9 +103,6 @@ DeclaresTo (declaring.Component t) (declaring.Component t') result d =
 DeclaresTo (declaring.Instance t) (declaring.Instance t') result (Declared d) =
     AddsToInstance t t' (indexed_outcome result) d
     × IfOk result (λ i. i ≡ next_of t.counts (instance_sort d))
-DeclaresTo (declaring.Module t) (declaring.Module t') result (Declared (CoreTyped (Grouped g))) =
-    DeclaresInModule t t' result (ModuleRecType g)
-DeclaresTo (declaring.Module t) (declaring.Module t') result
-    (Declared (Aliased (Outer outers.CoreType count n))) =
-    DeclaresInModule t t' result (ModuleOuter count n)
+DeclaresTo (declaring.Module t) (declaring.Module t') result d =
+    DeclaresInModule t t' result (in_module d)
 DeclaresTo old new result other = ⊥

@@ -175,10 +175,10 @@ fn declare_module<K: DeclaringKind>(
     }
 }
 
-/// Declares a type of the core in a type of modules, and answers its index. What is refused is given
-/// up.
+/// Declares a type in a type of modules, and answers its index. What is refused is given up.
 fn declare_group(to: &mut ModuleType, ty: &GroupTree) -> Result<u32, Fault>
-    ensures { DeclaresInModule to.old to.new result (ModuleRecType (rec_type_view ty.now)) }
+    ensures { DeclaresInModule to.old to.new result
+        (Some (ModuleRecType (rec_type_view ty.now))) }
 {
     let index = to.type_count();
     match to.ty() {
