@@ -83,7 +83,7 @@ enum wenc_status {
   WENC_BAD_ITEM = 12
 };
 
-/* Kinds of items, for exports and aliases of exports. */
+/* Kinds of items, for exports, aliases of exports, and types that are declared. */
 enum wenc_kind {
   WENC_MODULE = 0,
   WENC_FUNC = 1,
@@ -431,8 +431,8 @@ enum wenc_status wenc_start(wenc_builder *builder, uint32_t function, const uint
 /* Adds a function that the component model provides: one that takes indices, or an index and a flag
  * (0 or 1), or a flag alone, or nothing, in that order `first` and `second`. Of what it doesn't
  * take nothing is looked at. It has its own name as its debug name.
- * WENC_BAD_ARGUMENT where it is none of these (what takes options, types or slots goes by
- * wenc_item), and where a flag is another number.
+ * WENC_BAD_ARGUMENT where it is none of these (what takes options or slots has a call of its own),
+ * and where a flag is another number.
  * Answers 0, 1, 2, 3, 7, 8, 9. */
 enum wenc_status wenc_builtin(wenc_builder *builder, enum wenc_function function, uint32_t first,
                               uint32_t second, uint32_t *index);
