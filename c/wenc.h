@@ -691,7 +691,7 @@ enum wenc_status wenc_raw_custom_section(wenc_builder *builder, const uint8_t *b
 enum wenc_status wenc_append_names(wenc_builder *builder);
 
 /* Puts the number of items in an index space (wenc_space) into `*count`: of a type those of core
- * types, types and instances.
+ * types, types and instances, of a module's type those of core types.
  * Answers 0, 7, 8, 9. */
 enum wenc_status wenc_count(wenc_builder *builder, enum wenc_space space, uint32_t *count);
 

@@ -1,9 +1,9 @@
 -- A type that is begun, written by an encoder, and ended, is declared as by one call; and where it is refused nothing is changed.
-use Rattle.std.proofs.Common.{◌≡◌, inl, inr, ℕ, ◌+◌, ◌≤◌, Result, Ok, Err, List, [], ◌∷◌, ◌++◌, Option, Some, None, true, false, length, length-append, refl, sym, ap, subst, ◌∙◌, append_assoc, append-nil, arith}
+use Rattle.std.proofs.Common.{◌≡◌, inl, inr, ℕ, ◌+◌, Result, Ok, Err, List, [], ◌∷◌, ◌++◌, Option, Some, None, true, false, length, length-append, refl, sym, ap, subst, ◌∙◌, append_assoc, append-nil, arith}
 use Rattle.std.specs.Prelude.{is_none}
 use Rattle.wenc_base.specs.Encode.{Serves}
 use Rattle.wenc_base.specs.Fault.{IsWarranted, NoCause, either}
-use Rattle.wenc_base.specs.Holder.{AddCause, EncodeCause, HolderState, OneMoreCause, is_finished, with_member}
+use Rattle.wenc_base.specs.Holder.{AddCause, EncodeCause, OneMoreCause, is_finished, with_member}
 use Rattle.wenc_base.specs.Openings.{member_appended, member_begun, member_ended, no_room_in_holder}
 use Rattle.wenc_base.specs.Piece.{Form, Piece, ◌▸◌, refused_for}
 use Rattle.wenc_base.specs.declared.fault.Fault.{Fault}
