@@ -8,19 +8,21 @@ use Rattle.wenc_base.specs.Holder.{Accepted, AddCause, HolderState, is_finished}
 use Rattle.wenc_base.specs.Piece.{Piece}
 use Rattle.wenc_builder.specs.Builder.{State, builder_is_finished}
 use Rattle.wenc_builder.specs.laws.Never.{never_unfinished}
-use Rattle.wenc_session.specs.Declaring.{DeclaresInModule, DeclaresTo, declaration_of, in_module, state_of}
+use Rattle.wenc_parts.specs.Imports.{ExternName}
+use Rattle.wenc_parts.specs.declared.imports.ComponentTypeRef.{ComponentTypeRef}
+use Rattle.wenc_session.specs.Declaring.{DeclaresInModule, DeclaresTo, declaration_of, declared_in, in_module, state_of}
 use Rattle.wenc_session.specs.declared.declaring.Declaring.{Declaring}
 use Rattle.wenc_session.specs.declared.declaring.Declaring.TheVariants as declaring
 use Rattle.wenc_types.specs.CoreTypes.{Module, ModuleDeclaration, module_declaration}
-use Rattle.wenc_types.specs.Declarations.{TypeState}
-use Rattle.wenc_types.specs.ComponentTypes.{ComponentDeclaration, ComponentType, Declared, Imported, InstanceDeclaration, InstanceType, and_component, and_instance, component_declaration, instance_declaration, no_component, no_instance}
+use Rattle.wenc_types.specs.Declarations.{AddsToModule, TypeState}
+use Rattle.wenc_types.specs.ComponentTypes.{ComponentDeclaration, ComponentType, Declared, Exported, Imported, InstanceDeclaration, InstanceType, and_component, and_instance, component_declaration, instance_declaration, no_component, no_instance}
 use Rattle.wenc_builder.specs.Enters.{EntersWith, Enters, EntersWithoutIndex}
 use Rattle.wenc_builder.specs.Entry.{Entry}
 use Rattle.wenc_builder.specs.Item.{CoreTypeItem, Item, TypeItem}
 use Rattle.wenc_builder.specs.Names.{AddsNames, none_named, kept_names}
 use Rattle.wenc_builder.specs.Space.{Indices}
 use Rattle.wenc_session.specs.Reads.{AddsReadTo, IsUnread, entry_of}
-use Rattle.wenc_session.specs.Sessions.{answer_of, AddsIfTo, AddsTo, AddsWithoutIndexTo, Answered, DeclaresIfTo, Does, Finishes, IsEmpty, IsSettled, Nests, NestsTo, StaysSettled}
+use Rattle.wenc_session.specs.Sessions.{answer_of, AddsIfTo, AddsTo, AddsWithoutIndexTo, Answered, DeclaresCore, DeclaresIfTo, Does, ExportsTo, Finishes, IsEmpty, IsSettled, Nests, NestsTo, StaysSettled}
 use Rattle.wenc_session.specs.declared.refused.Refused.{Refused as Refusals}
 use Rattle.wenc_session.specs.declared.refused.Refused.TheVariants.{BadArgument, Fault, Finished}
 use Rattle.wenc_session.specs.declared.session.Session.{Session}
@@ -149,6 +151,32 @@ added_stays (sessions.Finished bytes) t answer x f a = closed_stays t answer (se
 added_stays (sessions.Declaring d) (sessions.Declaring e) answer x f a = declared_stays d e answer (declaration_of d x) f a
 added_stays (sessions.Declaring d) (sessions.Building b) answer x f a = absurd a
 added_stays (sessions.Declaring d) (sessions.Finished bytes) answer x f a = absurd a
+
+pub exported_stays : (s t : Session) (answer : Result ℕ Refusals) (name : ExternName) (ty : ComponentTypeRef) → IsSettled s → ExportsTo s t answer name ty → StaysSettled t answer
+exported_stays (sessions.Declaring d) (sessions.Declaring e) answer name ty f a = declared_stays d e answer (declared_in d (Some (Declared (Exported name ty)))) f a
+exported_stays (sessions.Declaring d) (sessions.Building b) answer name ty f a = other_stays (sessions.Building b) answer (sessions.Declaring d) f a.0 a.1
+exported_stays (sessions.Declaring d) (sessions.Finished bytes) answer name ty f a = other_stays (sessions.Finished bytes) answer (sessions.Declaring d) f a.0 a.1
+exported_stays (sessions.Building b) t answer name ty f a = other_stays t answer (sessions.Building b) f a.0 a.1
+exported_stays (sessions.Finished bytes) t answer name ty f a = other_stays t answer (sessions.Finished bytes) f a.0 a.1
+
+core_kept : (t u : TypeState) (answer : Result (Unit {0}) Refusals) (d : ModuleDeclaration) → is_finished t.held ≡ true → Answered (λ result. AddsToModule t u result d) answer → StaysSettled (sessions.Declaring (declaring.Module u)) answer
+core_kept t u (Ok i) d f a = (added_to f a.added.ok, λ h. absurd cc)
+core_kept t u (Err (Fault Unfinished)) d f a = absurd (settled_cause t.held (module_declaration d).text (module_declaration d).Cause f (module_never d) a.added.warranted)
+core_kept t u (Err (Fault (Memory e))) d f a = (rw a.err f, λ h. absurd cc)
+core_kept t u (Err (Fault TooMany)) d f a = (rw a.err f, λ h. absurd cc)
+core_kept t u (Err (Fault TooLarge)) d f a = (rw a.err f, λ h. absurd cc)
+core_kept t u (Err other) d f a = absurd a
+
+pub core_stays : (s t : Session) (answer : Result (Unit {0}) Refusals) (d : ModuleDeclaration) → IsSettled s → DeclaresCore s t answer d → StaysSettled t answer
+core_stays (sessions.Declaring (declaring.Module m)) (sessions.Declaring (declaring.Module n)) answer d f a = core_kept m n answer d f a
+core_stays (sessions.Declaring (declaring.Module m)) (sessions.Declaring (declaring.Component n)) answer d f a = other_stays (sessions.Declaring (declaring.Component n)) answer (sessions.Declaring (declaring.Module m)) f a.0 a.1
+core_stays (sessions.Declaring (declaring.Module m)) (sessions.Declaring (declaring.Instance n)) answer d f a = other_stays (sessions.Declaring (declaring.Instance n)) answer (sessions.Declaring (declaring.Module m)) f a.0 a.1
+core_stays (sessions.Declaring (declaring.Module m)) (sessions.Building b) answer d f a = other_stays (sessions.Building b) answer (sessions.Declaring (declaring.Module m)) f a.0 a.1
+core_stays (sessions.Declaring (declaring.Module m)) (sessions.Finished bytes) answer d f a = other_stays (sessions.Finished bytes) answer (sessions.Declaring (declaring.Module m)) f a.0 a.1
+core_stays (sessions.Declaring (declaring.Component m)) t answer d f a = other_stays t answer (sessions.Declaring (declaring.Component m)) f a.0 a.1
+core_stays (sessions.Declaring (declaring.Instance m)) t answer d f a = other_stays t answer (sessions.Declaring (declaring.Instance m)) f a.0 a.1
+core_stays (sessions.Building b) t answer d f a = other_stays t answer (sessions.Building b) f a.0 a.1
+core_stays (sessions.Finished bytes) t answer d f a = other_stays t answer (sessions.Finished bytes) f a.0 a.1
 
 pub without_index_stays : (s t : Session) (answer : Result (Unit {0}) Refusals) (x : Entry) → IsSettled s → AddsWithoutIndexTo s t answer x → StaysSettled t answer
 without_index_stays s t answer x f a = does_stay (λ b c result. EntersWithoutIndex b c result x) (λ b c result f e. enters_keep x b c result f e) s t answer f a
