@@ -90,12 +90,29 @@ static uint32_t declare(wenc_builder *to) {
   return status;
 }
 
+/* The same of a type of modules. */
+static uint32_t declare_module(wenc_builder *to) {
+  static const uint32_t params[] = {WENC_CORE_I32, WENC_CORE_EXTERNREF};
+  static const wenc_entity function = {.kind = WENC_CORE_FUNC};
+  wenc_builder types = {NULL};
+  uint32_t index, status = wenc_types_new(&types, WENC_MODULE);
+  if (status == WENC_DONE)
+    status = wenc_core_type_function(&types, UNNAMED, params, 2, params, 1, &index);
+  if (status == WENC_DONE)
+    status = wenc_core_type_import(&types, TEXT("a module"), TEXT("an import"), &function);
+  if (status == WENC_DONE) status = wenc_core_type_export(&types, TEXT("an export"), &function);
+  if (status == WENC_DONE) status = wenc_type(to, NAMED, &types, &index);
+  wenc_free(&types);
+  return status;
+}
+
 /* The call with this number, of CALLS. */
-#define CALLS 17
+#define CALLS 19
 
 static uint32_t call(wenc_builder *to, int number) {
   static const wenc_part exports[] = {{5, WENC_CORE_FUNC, 0}};
   static const uint32_t args[] = {0, 0, 0, 0, 0, 0, 0, 0};
+  static const uint32_t params[] = {WENC_CORE_I32, WENC_CORE_V128};
   static const char type[] = "\x42\x02\x00\x60\x00\x00\x01\x6b\x73";
   uint32_t index;
   switch (number) {
@@ -116,6 +133,8 @@ static uint32_t call(wenc_builder *to, int number) {
     case 13: return wenc_item(to, WENC_SECTION_IMPORT, NAMED, TEXT("\x00\x01\x66\x01\x00"), &index);
     case 14: return wenc_custom_section(to, TEXT("custom"), bytes, sizeof bytes);
     case 15: return declare(to);
+    case 16: return declare_module(to);
+    case 17: return wenc_core_type_function(to, NAMED, params, 2, params, 1, &index);
     default: return wenc_append_names(to);
   }
 }

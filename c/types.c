@@ -1,6 +1,7 @@
 /* Declares the type of an instance and that of a component, by handles of their own, and hands in
  * what these refuse; then adds the functions that have options or slots, and two items by their
- * texts. It prints the component that has all these. */
+ * texts. It prints the component that has all these, and then one of core types, with that of a
+ * module. */
 #include "wenc.h"
 
 #include <stdio.h>
@@ -117,10 +118,113 @@ static void add_by_texts(wenc_builder *builder) {
   ADDS(wenc_item(builder, WENC_SECTION_CANON, NAMED("lifted"), ALL(lifted), &index), 0);
 }
 
-int main(void) {
-  wenc_builder builder = {NULL}, interface = {NULL}, world = {NULL};
+/* A module with a type of its own and one of the component around it. */
+static void declare_module(wenc_builder *types) {
+  static const uint32_t params[] = {WENC_CORE_I32};
+  static const wenc_entity function = {.kind = WENC_CORE_FUNC, .type = 1};
+  static const wenc_entity memory = {
+      .kind = WENC_CORE_MEMORY, .minimum = 1, .has_maximum = true, .maximum = 200, .is_shared = true};
+  static const wenc_entity table = {
+      .kind = WENC_CORE_TABLE, .type = WENC_CORE_FUNCREF, .minimum = 3, .maximum = 9, .is_long = true};
+  static const wenc_entity global = {
+      .kind = WENC_CORE_GLOBAL, .type = WENC_CORE_F64, .is_mutable = true};
+  static const wenc_entity tag = {.kind = WENC_CORE_TAG, .type = 0};
+  static const wenc_entity exported = {.kind = WENC_CORE_FUNC, .type = 0};
+  REQUIRE(wenc_types_new(types, WENC_MODULE) == WENC_DONE);
+  ADDS(wenc_core_type_function(types, UNNAMED, ALL(params), params, 0, &index), 0);
+  ADDS(wenc_alias_outer(types, UNNAMED, WENC_OUTER_CORE_TYPE, 1, 0, &index), 1);
+  REQUIRE(wenc_core_type_import(types, TEXT("env"), TEXT("f"), &function) == WENC_DONE);
+  REQUIRE(wenc_core_type_import(types, TEXT("env"), TEXT("memory"), &memory) == WENC_DONE);
+  REQUIRE(wenc_core_type_import(types, TEXT("env"), TEXT("table"), &table) == WENC_DONE);
+  REQUIRE(wenc_core_type_import(types, TEXT("env"), TEXT("global"), &global) == WENC_DONE);
+  REQUIRE(wenc_core_type_export(types, TEXT("tag"), &tag) == WENC_DONE);
+  REQUIRE(wenc_core_type_export(types, TEXT("main"), &exported) == WENC_DONE);
+}
+
+/* What a type of a module can't declare, and what can't be in one. */
+static void hand_in_to_module(wenc_builder *types, wenc_builder *builder) {
+  static const uint32_t known[] = {WENC_CORE_I32}, unknown[] = {WENC_CORE_I32, 0x71};
+  static const wenc_entity function = {.kind = WENC_CORE_FUNC};
+  static const wenc_entity kind = {.kind = 5};
+  static const wenc_entity table = {.kind = WENC_CORE_TABLE, .type = WENC_CORE_I32};
+  static const wenc_entity global = {.kind = WENC_CORE_GLOBAL, .type = 0x71};
+  uint32_t index = 7;
+  wenc_builder none = {NULL}, other = {NULL};
+  REQUIRE(wenc_types_new(&other, WENC_INSTANCE) == WENC_DONE);
+  REQUIRE(wenc_import(types, TEXT("f"), WENC_REF_FUNC, 0, &index) == WENC_BAD_ARGUMENT);
+  REQUIRE(wenc_type_export(types, TEXT("f"), WENC_REF_FUNC, 0, &index) == WENC_BAD_ARGUMENT);
+  REQUIRE(wenc_type_own(types, UNNAMED, 0, &index) == WENC_BAD_ARGUMENT);
+  REQUIRE(wenc_type(types, UNNAMED, &other, &index) == WENC_BAD_ARGUMENT);
+  REQUIRE(wenc_alias_outer(types, UNNAMED, WENC_OUTER_TYPE, 1, 0, &index) == WENC_BAD_ARGUMENT);
+  REQUIRE(wenc_alias_export(types, UNNAMED, 0, WENC_TYPE, TEXT("t"), &index) == WENC_BAD_ARGUMENT);
+  REQUIRE(wenc_core_type_function(types, NAMED("n"), ALL(known), ALL(known), &index) ==
+          WENC_BAD_ARGUMENT);
+  REQUIRE(wenc_core_type_function(types, UNNAMED, ALL(unknown), ALL(known), &index) ==
+          WENC_BAD_ARGUMENT);
+  REQUIRE(wenc_core_type_function(types, UNNAMED, ALL(known), ALL(unknown), &index) ==
+          WENC_BAD_ARGUMENT);
+  REQUIRE(wenc_count(types, WENC_TYPES, &index) == WENC_BAD_ARGUMENT);
+  REQUIRE(wenc_core_type_import(types, TEXT("m"), TEXT("n"), &kind) == WENC_BAD_ARGUMENT);
+  REQUIRE(wenc_core_type_import(types, TEXT("m"), TEXT("n"), &table) == WENC_BAD_ARGUMENT);
+  REQUIRE(wenc_core_type_export(types, TEXT("n"), &global) == WENC_BAD_ARGUMENT);
+  REQUIRE(wenc_core_type_import(types, TEXT("m"), TEXT("\xff"), &function) == WENC_MALFORMED);
+  REQUIRE(wenc_core_type_import(&other, TEXT("m"), TEXT("n"), &function) == WENC_BAD_ARGUMENT);
+  REQUIRE(wenc_core_type_export(builder, TEXT("n"), &function) == WENC_BAD_ARGUMENT);
+  REQUIRE(wenc_core_type_export(&none, TEXT("n"), &function) == WENC_NO_BUILDER);
+  REQUIRE(index == 7);
+  wenc_free(&other);
+}
+
+/* An instance that exports a module, and a component that imports one, each after a core type. */
+static void declare_around(wenc_builder *instance, wenc_builder *component, wenc_builder *module) {
+  static const uint32_t of_instance[] = {WENC_CORE_F32}, of_component[] = {WENC_CORE_FUNCREF};
+  REQUIRE(wenc_types_new(instance, WENC_INSTANCE) == WENC_DONE);
+  ADDS(wenc_core_type_function(instance, UNNAMED, of_instance, 0, ALL(of_instance), &index), 0);
+  ADDS(wenc_type(instance, UNNAMED, module, &index), 1);
+  ADDS(wenc_type_export(instance, TEXT("made"), WENC_REF_MODULE, 1, &index), 0);
+  REQUIRE(wenc_types_new(component, WENC_COMPONENT) == WENC_DONE);
+  ADDS(wenc_core_type_function(component, UNNAMED, ALL(of_component), of_component, 0, &index), 0);
+  ADDS(wenc_type(component, UNNAMED, module, &index), 1);
+  ADDS(wenc_alias_outer(component, UNNAMED, WENC_OUTER_CORE_TYPE, 1, 0, &index), 2);
+  ADDS(wenc_import(component, TEXT("from"), WENC_REF_MODULE, 1, &index), 0);
+}
+
+/* A component with these types. */
+static void add_core_types(wenc_builder *builder) {
+  static const uint32_t params[] = {WENC_CORE_I32, WENC_CORE_EXTERNREF};
+  static const uint32_t results[] = {WENC_CORE_I64, WENC_CORE_V128};
+  wenc_builder module = {NULL}, instance = {NULL}, component = {NULL};
+  declare_module(&module);
+  hand_in_to_module(&module, builder);
+  count(&module, WENC_CORE_TYPES, 2);
+  declare_around(&instance, &component, &module);
+  count(&component, WENC_CORE_TYPES, 3);
+  ADDS(wenc_core_type_function(builder, NAMED("two"), ALL(params), ALL(results), &index), 0);
+  ADDS(wenc_type(builder, NAMED("module"), &module, &index), 1);
+  ADDS(wenc_type(builder, UNNAMED, &instance, &index), 0);
+  ADDS(wenc_type(builder, UNNAMED, &component, &index), 1);
+  ADDS(wenc_import(builder, TEXT("given"), WENC_REF_MODULE, 1, &index), 0);
+  REQUIRE(wenc_append_names(builder) == WENC_DONE);
+  wenc_free(&module);
+  wenc_free(&instance);
+  wenc_free(&component);
+}
+
+/* Finishes the component, prints it, and frees the builder. */
+static void print(wenc_builder *builder) {
   size_t len, i;
   uint8_t *bytes;
+  REQUIRE(wenc_finish(builder, &len) == WENC_DONE);
+  bytes = malloc(len);
+  REQUIRE(bytes != NULL && wenc_bytes(builder, bytes, len) == WENC_DONE);
+  wenc_free(builder);
+  for (i = 0; i < len; i++) printf("%02x", bytes[i]);
+  printf("\n");
+  free(bytes);
+}
+
+int main(void) {
+  wenc_builder builder = {NULL}, interface = {NULL}, world = {NULL};
   REQUIRE(wenc_new(&builder) == WENC_DONE);
   declare_interface(&interface);
   hand_in_others(&interface, &builder);
@@ -137,12 +241,9 @@ int main(void) {
   wenc_free(&interface);
   wenc_free(&world);
   REQUIRE(interface.at == NULL && world.at == NULL);
-  REQUIRE(wenc_finish(&builder, &len) == WENC_DONE);
-  bytes = malloc(len);
-  REQUIRE(bytes != NULL && wenc_bytes(&builder, bytes, len) == WENC_DONE);
-  wenc_free(&builder);
-  for (i = 0; i < len; i++) printf("%02x", bytes[i]);
-  printf("\n");
-  free(bytes);
+  print(&builder);
+  REQUIRE(wenc_new(&builder) == WENC_DONE);
+  add_core_types(&builder);
+  print(&builder);
   return 0;
 }

@@ -83,7 +83,7 @@ enum wenc_status {
   WENC_BAD_ITEM = 12
 };
 
-/* Kinds of items, for exports and aliases of exports. */
+/* Kinds of items, for exports, aliases of exports, and types that are declared. */
 enum wenc_kind {
   WENC_MODULE = 0,
   WENC_FUNC = 1,
@@ -218,14 +218,37 @@ enum wenc_context_function {
   WENC_CONTEXT_SET = 0x0b
 };
 
-/* Core types of numbers and vectors, by their bytes in the binary format. */
+/* Value types of the core, by their bytes in the binary format. */
 enum wenc_core_type {
   WENC_CORE_I32 = 0x7f,
   WENC_CORE_I64 = 0x7e,
   WENC_CORE_F32 = 0x7d,
   WENC_CORE_F64 = 0x7c,
-  WENC_CORE_V128 = 0x7b
+  WENC_CORE_V128 = 0x7b,
+  /* References to any function, and to whatever the host refers to, which may be null. */
+  WENC_CORE_FUNCREF = 0x70,
+  WENC_CORE_EXTERNREF = 0x6f
 };
+
+/* What a core module imports or exports. What its kind has nothing of is not looked at. */
+typedef struct {
+  /* How many elements a table has at first, or how many pages a memory; and how many at most, where
+   * `has_maximum` holds. */
+  uint64_t minimum;
+  uint64_t maximum;
+  /* One of wenc_core_kind. */
+  uint32_t kind;
+  /* Of a function and of a tag the index of its type, in the type that declares it; of a global
+   * variable one of wenc_core_type; of a table WENC_CORE_FUNCREF or WENC_CORE_EXTERNREF. */
+  uint32_t type;
+  bool has_maximum;
+  /* Whether the indices of a table, or the addresses of a memory, have 64 bits. */
+  bool is_long;
+  /* Whether threads share a memory. */
+  bool is_shared;
+  /* Whether a global variable can be changed. */
+  bool is_mutable;
+} wenc_entity;
 
 /* Options of functions that are lifted or lowered, by their bytes in the binary format. What stands
  * before one says what the number is that goes with it. */
@@ -408,8 +431,8 @@ enum wenc_status wenc_start(wenc_builder *builder, uint32_t function, const uint
 /* Adds a function that the component model provides: one that takes indices, or an index and a flag
  * (0 or 1), or a flag alone, or nothing, in that order `first` and `second`. Of what it doesn't
  * take nothing is looked at. It has its own name as its debug name.
- * WENC_BAD_ARGUMENT where it is none of these (what takes options, types or slots goes by
- * wenc_item), and where a flag is another number.
+ * WENC_BAD_ARGUMENT where it is none of these (what takes options or slots has a call of its own),
+ * and where a flag is another number.
  * Answers 0, 1, 2, 3, 7, 8, 9. */
 enum wenc_status wenc_builtin(wenc_builder *builder, enum wenc_function function, uint32_t first,
                               uint32_t second, uint32_t *index);
@@ -428,8 +451,8 @@ enum wenc_status wenc_builtin_with(wenc_builder *builder, enum wenc_function_wit
 enum wenc_status wenc_task_return(wenc_builder *builder, enum wenc_ref ref, uint32_t of,
                                   const wenc_part *options, size_t options_len, uint32_t *index);
 
-/* Adds context.get or context.set, of a slot with this type and this number. Its debug name is its
- * own.
+/* Adds context.get or context.set, of a slot with this type, a number or a vector, and with this
+ * number. Its debug name is its own.
  * Answers 0, 1, 2, 3, 7, 8, 9. */
 enum wenc_status wenc_context(wenc_builder *builder, enum wenc_context_function function,
                               enum wenc_core_type ty, uint32_t slot, uint32_t *index);
@@ -583,6 +606,15 @@ enum wenc_status wenc_type_function(wenc_builder *builder, bool named, const uin
                                     size_t names_len, const wenc_part *params, size_t params_len,
                                     enum wenc_ref ref, uint32_t of, uint32_t *index);
 
+/* Adds a type of core functions as a core type, by what they take and what they answer: each is one
+ * of wenc_core_type. It is final: no other extends it.
+ * Answers 0, 1, 2, 3, 5, 7, 8, 9. */
+enum wenc_status wenc_core_type_function(wenc_builder *builder, bool named,
+                                         const uint8_t *debug_name, size_t debug_name_len,
+                                         const uint32_t *params, size_t params_len,
+                                         const uint32_t *results, size_t results_len,
+                                         uint32_t *index);
+
 /* Adds the item that has this text in the binary format: the bytes that stand for it in a section
  * with this id (wenc_section). Of a section that is one item (a custom section, a core module, a
  * component, a start) it is the section's content. Widely spelled texts are read too, such as
@@ -597,22 +629,27 @@ enum wenc_status wenc_item(wenc_builder *builder, enum wenc_section section, boo
                            const uint8_t *debug_name, size_t debug_name_len, const uint8_t *text,
                            size_t text_len, uint32_t *index);
 
-/* ---- types of components and of instances
+/* ---- types of components, of instances and of core modules
  *
- * A handle of wenc_types_new is such a type. On it wenc_import and wenc_import_named (of a
- * component's), the calls for aliases, wenc_type and those whose names begin with wenc_type_ declare
- * what the type has, without a debug name; all other calls but wenc_count and wenc_free refuse it as
- * a bad argument.
+ * A handle of wenc_types_new is such a type. On it these calls declare what the type has, without a
+ * debug name; all others but wenc_count and wenc_free refuse it as a bad argument:
+ *
+ *  - of a component's type wenc_import and wenc_import_named; of it and of an instance's the calls
+ *    for aliases, wenc_type, wenc_core_type_function, and those whose names begin with wenc_type_;
+ *  - of a module's type those whose names begin with wenc_core_type_, and wenc_alias_outer of
+ *    WENC_OUTER_CORE_TYPE.
+ *
  * Indices in it are its own: `*index` is that of the type, core type or instance that was declared,
  * and 0 of anything else, which isn't counted. */
 
-/* Begins a type that declares nothing: `kind` is WENC_COMPONENT or WENC_INSTANCE. The handle is
- * {NULL} before: else WENC_BAD_ARGUMENT. It owns the type then, until wenc_free.
+/* Begins a type that declares nothing: `kind` is WENC_COMPONENT, WENC_INSTANCE or WENC_MODULE. The
+ * handle is {NULL} before: else WENC_BAD_ARGUMENT. It owns the type then, until wenc_free.
  * Answers 0, 1, 7. */
 enum wenc_status wenc_types_new(wenc_builder *types, enum wenc_kind kind);
 
-/* Adds the type that `types` declares, to a builder or to another type. `types` stays as it is, and
- * may declare more. WENC_BAD_ARGUMENT where it is a builder.
+/* Adds the type that `types` declares, to a builder or to another type: that of a module as a core
+ * type. `types` stays as it is, and may declare more. WENC_BAD_ARGUMENT where it is a builder, and
+ * where the other is a module's type.
  * Answers 0, 1, 2, 3, 5, 7, 8, 9. */
 enum wenc_status wenc_type(wenc_builder *builder, bool named, const uint8_t *debug_name,
                            size_t debug_name_len, wenc_builder *types, uint32_t *index);
@@ -622,6 +659,18 @@ enum wenc_status wenc_type(wenc_builder *builder, bool named, const uint8_t *deb
  * Answers 0, 1, 2, 3, 5, 7, 8, 9. */
 enum wenc_status wenc_type_export(wenc_builder *types, const uint8_t *name, size_t name_len,
                                   enum wenc_ref ref, uint32_t of, uint32_t *index);
+
+/* Declares that a module of the type imports `*entity`, from a module of the one name under the
+ * other.
+ * Answers 0, 1, 2, 3, 5, 7, 8, 9. */
+enum wenc_status wenc_core_type_import(wenc_builder *types, const uint8_t *from, size_t from_len,
+                                       const uint8_t *name, size_t name_len,
+                                       const wenc_entity *entity);
+
+/* Declares that a module of the type exports `*entity` under this name.
+ * Answers 0, 1, 2, 3, 5, 7, 8, 9. */
+enum wenc_status wenc_core_type_export(wenc_builder *types, const uint8_t *name, size_t name_len,
+                                       const wenc_entity *entity);
 
 /* ---- what has no index
  *
@@ -642,7 +691,7 @@ enum wenc_status wenc_raw_custom_section(wenc_builder *builder, const uint8_t *b
 enum wenc_status wenc_append_names(wenc_builder *builder);
 
 /* Puts the number of items in an index space (wenc_space) into `*count`: of a type those of core
- * types, types and instances.
+ * types, types and instances, of a module's type those of core types.
  * Answers 0, 7, 8, 9. */
 enum wenc_status wenc_count(wenc_builder *builder, enum wenc_space space, uint32_t *count);
 

@@ -8,10 +8,10 @@ use crate::proved::handle::Handle;
 use crate::proved::rt_std::alloc::Global;
 use crate::proved::wenc_c::lists::Row;
 use crate::proved::wenc_c::{
-    aliases, builtins, by_text, canonicals, declarations, defined, instances, lifecycle, lists,
-    named, standalone, types,
+    aliases, builtins, by_text, canonicals, cores, declarations, defined, instances, lifecycle,
+    lists, named, standalone, types,
 };
-use crate::proved::wenc_session::{Part, Session};
+use crate::proved::wenc_session::{Entity, Part, Session};
 use alloc::boxed::Box;
 use core::ffi::c_void;
 use core::{mem, ptr, slice};
@@ -65,8 +65,8 @@ unsafe fn room<'a, T>(at: *mut T, len: usize) -> &'a mut [T] {
 }
 
 /// Writes functions of C: the module of `wenc_c` that has them, then each with its arguments. A
-/// handle has `*` in front, `at[len]: T` is a pointer and a number, `&mut` stands in front of what
-/// is written, and `debug_name` is a flag and a text.
+/// handle has `*` in front, `at[len]: T` is a pointer and a number, `&` stands in front of what is
+/// read and `&mut` of what is written, and `debug_name` is a flag and a text.
 macro_rules! calls {
     ($module:ident: $($name:ident($($argument:tt)*);)*) => {
         $(call! { $module $name [] [] [] $($argument)*, })*
@@ -90,6 +90,9 @@ macro_rules! call {
     };
     ($m:ident $n:ident $h:tt [$($c:tt)*] [$($r:tt)*] &mut $at:ident: $t:ty, $($rest:tt)*) => {
         call! { $m $n $h [$($c)* $at: *mut $t,] [$($r)* &mut *$at,] $($rest)* }
+    };
+    ($m:ident $n:ident $h:tt [$($c:tt)*] [$($r:tt)*] & $at:ident: $t:ty, $($rest:tt)*) => {
+        call! { $m $n $h [$($c)* $at: *const $t,] [$($r)* &*$at,] $($rest)* }
     };
     ($m:ident $n:ident $h:tt [$($c:tt)*] [$($r:tt)*] debug_name, $($rest:tt)*) => {
         call! {
@@ -221,6 +224,14 @@ calls! { declarations:
     wenc_types_new(*types, kind: u32);
     wenc_type(*builder, debug_name, *types, &mut index: u32);
     wenc_type_export(*types, name[name_len]: u8, reference: u32, of: u32, &mut index: u32);
+}
+
+calls! { cores:
+    wenc_core_type_function(
+        *builder, debug_name, params[params_len]: u32, results[results_len]: u32, &mut index: u32
+    );
+    wenc_core_type_import(*types, from[from_len]: u8, name[name_len]: u8, &entity: Entity);
+    wenc_core_type_export(*types, name[name_len]: u8, &entity: Entity);
 }
 
 calls! { defined:

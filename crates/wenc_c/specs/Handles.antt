@@ -11,10 +11,12 @@ use Rattle.wenc_parts.specs.Imports.{ExternName}
 use Rattle.wenc_parts.specs.declared.imports.ComponentTypeRef.{ComponentTypeRef}
 use Rattle.wenc_session.specs.Reads.{AddsReadTo}
 use Rattle.wenc_session.specs.Sessions.{Does, AddsTo, AddsIfTo, AddsWithoutIndexTo, Nests, Counts}
-use Rattle.wenc_session.specs.Sessions.{AddsType, ExportsTo, Finishes, Copies, IsEmpty, IsSettled}
+use Rattle.wenc_session.specs.Sessions.{AddsType, ExportsTo, DeclaresCore, Finishes, Copies}
+use Rattle.wenc_session.specs.Sessions.{IsEmpty, IsSettled}
 use Rattle.wenc_session.specs.declared.refused.Refused.{Refused as Refusals}
 use Rattle.wenc_session.specs.declared.refused.Refused.TheVariants.{NoBuilder}
 use Rattle.wenc_session.specs.declared.session.Session.{Session}
+use Rattle.wenc_types.specs.CoreTypes.{ModuleDeclaration}
 
 -- This was done to what the handle owns; or it owns nothing, and that is answered.
 abbrev pub At : {R : Type 0} → (Session → Session → Result R Refusals → Type 0) → Option Session
@@ -65,6 +67,11 @@ AddsTypeAt name None old new answer = (answer ≡ Err NoBuilder) × (new ≡ old
 abbrev pub ExportsAt : Option Session → Option Session → Result ℕ Refusals → ExternName
     → ComponentTypeRef → Type 0
 ExportsAt old new answer name ty = At (λ s s' a. ExportsTo s s' a name ty) old new answer
+
+-- The type of modules that the handle owns declared this (`DeclaresCore`).
+abbrev pub DeclaresCoreAt : Option Session → Option Session → Result (Unit {0}) Refusals
+    → ModuleDeclaration → Type 0
+DeclaresCoreAt old new answer d = At (λ s s' a. DeclaresCore s s' a d) old new answer
 
 -- The answer is how many items this space has in what the handle owns (`Counts`), or that it owns
 -- nothing.

@@ -1,4 +1,4 @@
-//! The calls of types that declare what components or instances have.
+//! The calls of types that declare what components, instances or core modules have.
 ghost use Rattle.std.specs.Prelude.{◌≡◌, ◌⊎◌, ◌∷◌, [], None, Some};
 ghost use Rattle.std.specs.Str.{IsUtf8};
 ghost use Rattle.wenc_c.specs.Handles.{AddsTypeAt, ExportsAt, Refuses};
@@ -20,8 +20,8 @@ use wenc_session::numbers::type_ref;
 use wenc_session::texts::{text, text_where};
 use wenc_session::{Declaring, Refused, Session};
 
-/// Begins a type of components or of instances, by its kind. The handle owns nothing before: else it
-/// is refused as a bad argument, and owns what it owned.
+/// Begins a type of components, of instances or of core modules, by its kind. The handle owns
+/// nothing before: else it is refused as a bad argument, and owns what it owned.
 #[unsafe(no_mangle)]
 pub extern "C" fn wenc_types_new(alloc: Global, types: &mut Handle, kind: u32) -> u32
     // What it owns then declares nothing.
@@ -48,7 +48,8 @@ pub extern "C" fn wenc_types_new(alloc: Global, types: &mut Handle, kind: u32) -
     }
 }
 
-/// Adds the type that `types` declares, which is left as it is.
+/// Adds the type that `types` declares, that of core modules as a core type. `types` is left as it
+/// is.
 #[unsafe(no_mangle)]
 pub extern "C" fn wenc_type(
     alloc: Global,

@@ -13,6 +13,7 @@ mod builtins;
 mod by_text;
 pub mod callers;
 mod canonicals;
+mod cores;
 mod declarations;
 mod defined;
 mod handle;

@@ -1,5 +1,5 @@
 -- No call leaves an item unfinished.
-use Rattle.std.proofs.Common.{◌≡◌, inl, inr, ℕ, Bool, true, false, true≢false, List, Option, Some, None, Result, Ok, Err, refl, sym, subst, ◌∙◌}
+use Rattle.std.proofs.Common.{◌≡◌, inl, inr, ℕ, Bool, true, false, true≢false, List, [], ◌∷◌, Option, Some, None, Result, Ok, Err, refl, sym, subst, ◌∙◌}
 use Rattle.wenc_base.specs.declared.fault.Fault.{Fault as Faults}
 use Rattle.wenc_base.specs.declared.fault.Fault.TheVariants.{Memory, TooMany, TooLarge, Unfinished}
 use Rattle.wenc_base.specs.Readers.{Flaw}
@@ -8,17 +8,21 @@ use Rattle.wenc_base.specs.Holder.{Accepted, AddCause, HolderState, is_finished}
 use Rattle.wenc_base.specs.Piece.{Piece}
 use Rattle.wenc_builder.specs.Builder.{State, builder_is_finished}
 use Rattle.wenc_builder.specs.laws.Never.{never_unfinished}
-use Rattle.wenc_session.specs.Declaring.{DeclaresTo, declaration_of, state_of}
+use Rattle.wenc_parts.specs.Imports.{ExternName}
+use Rattle.wenc_parts.specs.declared.imports.ComponentTypeRef.{ComponentTypeRef}
+use Rattle.wenc_session.specs.Declaring.{DeclaresInModule, DeclaresTo, declaration_of, declared_in, in_module, state_of}
 use Rattle.wenc_session.specs.declared.declaring.Declaring.{Declaring}
 use Rattle.wenc_session.specs.declared.declaring.Declaring.TheVariants as declaring
-use Rattle.wenc_types.specs.ComponentTypes.{ComponentDeclaration, ComponentType, Declared, Imported, InstanceDeclaration, InstanceType, and_component, and_instance, component_declaration, instance_declaration, no_component, no_instance}
+use Rattle.wenc_types.specs.CoreTypes.{Module, ModuleDeclaration, module_declaration}
+use Rattle.wenc_types.specs.Declarations.{AddsToModule, TypeState}
+use Rattle.wenc_types.specs.ComponentTypes.{ComponentDeclaration, ComponentType, Declared, Exported, Imported, InstanceDeclaration, InstanceType, and_component, and_instance, component_declaration, instance_declaration, no_component, no_instance}
 use Rattle.wenc_builder.specs.Enters.{EntersWith, Enters, EntersWithoutIndex}
 use Rattle.wenc_builder.specs.Entry.{Entry}
-use Rattle.wenc_builder.specs.Item.{Item, TypeItem}
+use Rattle.wenc_builder.specs.Item.{CoreTypeItem, Item, TypeItem}
 use Rattle.wenc_builder.specs.Names.{AddsNames, none_named, kept_names}
 use Rattle.wenc_builder.specs.Space.{Indices}
 use Rattle.wenc_session.specs.Reads.{AddsReadTo, IsUnread, entry_of}
-use Rattle.wenc_session.specs.Sessions.{answer_of, AddsIfTo, AddsTo, AddsWithoutIndexTo, Answered, DeclaresIfTo, Does, Finishes, IsEmpty, IsSettled, Nests, NestsTo, StaysSettled}
+use Rattle.wenc_session.specs.Sessions.{answer_of, AddsIfTo, AddsTo, AddsWithoutIndexTo, Answered, DeclaresCore, DeclaresIfTo, Does, ExportsTo, Finishes, IsEmpty, IsSettled, Nests, NestsTo, StaysSettled}
 use Rattle.wenc_session.specs.declared.refused.Refused.{Refused as Refusals}
 use Rattle.wenc_session.specs.declared.refused.Refused.TheVariants.{BadArgument, Fault, Finished}
 use Rattle.wenc_session.specs.declared.session.Session.{Session}
@@ -93,6 +97,9 @@ component_never d c = never_unfinished (TypeItem (ComponentType (and_component d
 instance_never : (d : InstanceDeclaration) → (instance_declaration d).Cause Unfinished → ⊥
 instance_never d c = never_unfinished (TypeItem (InstanceType (and_instance d no_instance))) (inr (inl c))
 
+module_never : (d : ModuleDeclaration) → (module_declaration d).Cause Unfinished → ⊥
+module_never d c = never_unfinished (CoreTypeItem (Module (d ∷ []))) (inr (inl c))
+
 abbrev Kept : {R : Type 0} → Declaring → Result R Refusals → Type 0
 Kept new answer = (is_finished (state_of new).held ≡ true) × (answer ≡ Err (Fault Unfinished) → ⊥)
 
@@ -100,6 +107,15 @@ not_answered : (answer : Result ℕ Refusals) → Answered (λ result. ⊥) answ
 not_answered (Ok i) a = a
 not_answered (Err (Fault fault)) a = a
 not_answered (Err other) a = absurd a
+
+module_kept : (t u : TypeState) (answer : Result ℕ Refusals) (o : Option ModuleDeclaration) → is_finished t.held ≡ true → Answered (λ result. DeclaresInModule t u result o) answer → Kept (declaring.Module u) answer
+module_kept t u (Ok i) (Some d) f a = (added_to f a.0.added.ok, λ h. absurd cc)
+module_kept t u (Err (Fault Unfinished)) (Some d) f a = absurd (settled_cause t.held (module_declaration d).text (module_declaration d).Cause f (module_never d) a.0.added.warranted)
+module_kept t u (Err (Fault (Memory e))) (Some d) f a = (rw a.0.err f, λ h. absurd cc)
+module_kept t u (Err (Fault TooMany)) (Some d) f a = (rw a.0.err f, λ h. absurd cc)
+module_kept t u (Err (Fault TooLarge)) (Some d) f a = (rw a.0.err f, λ h. absurd cc)
+module_kept t u answer None f a = absurd (not_answered answer a)
+module_kept t u (Err other) (Some d) f a = absurd a
 
 declared_kept : (old new : Declaring) (answer : Result ℕ Refusals) (d : ComponentDeclaration) → is_finished (state_of old).held ≡ true → Answered (λ result. DeclaresTo old new result d) answer → Kept new answer
 declared_kept (declaring.Component t) (declaring.Component u) (Ok i) d f a = (added_to f a.0.added.ok, λ h. absurd cc)
@@ -112,8 +128,13 @@ declared_kept (declaring.Instance t) (declaring.Instance u) (Err (Fault Unfinish
 declared_kept (declaring.Instance t) (declaring.Instance u) (Err (Fault (Memory e))) (Declared d) f a = (rw a.0.err f, λ h. absurd cc)
 declared_kept (declaring.Instance t) (declaring.Instance u) (Err (Fault TooMany)) (Declared d) f a = (rw a.0.err f, λ h. absurd cc)
 declared_kept (declaring.Instance t) (declaring.Instance u) (Err (Fault TooLarge)) (Declared d) f a = (rw a.0.err f, λ h. absurd cc)
+declared_kept (declaring.Module t) (declaring.Module u) answer d f a = module_kept t u answer (in_module d) f a
 declared_kept (declaring.Component t) (declaring.Instance u) answer d f a = absurd (not_answered answer a)
+declared_kept (declaring.Component t) (declaring.Module u) answer d f a = absurd (not_answered answer a)
 declared_kept (declaring.Instance t) (declaring.Component u) answer d f a = absurd (not_answered answer a)
+declared_kept (declaring.Instance t) (declaring.Module u) answer d f a = absurd (not_answered answer a)
+declared_kept (declaring.Module t) (declaring.Component u) answer d f a = absurd (not_answered answer a)
+declared_kept (declaring.Module t) (declaring.Instance u) answer d f a = absurd (not_answered answer a)
 declared_kept (declaring.Instance t) (declaring.Instance u) answer (Imported name ty) f a = absurd (not_answered answer a)
 declared_kept (declaring.Component t) (declaring.Component u) (Err other) d f a = absurd a
 declared_kept (declaring.Instance t) (declaring.Instance u) (Err other) (Declared d) f a = absurd a
@@ -130,6 +151,32 @@ added_stays (sessions.Finished bytes) t answer x f a = closed_stays t answer (se
 added_stays (sessions.Declaring d) (sessions.Declaring e) answer x f a = declared_stays d e answer (declaration_of d x) f a
 added_stays (sessions.Declaring d) (sessions.Building b) answer x f a = absurd a
 added_stays (sessions.Declaring d) (sessions.Finished bytes) answer x f a = absurd a
+
+pub exported_stays : (s t : Session) (answer : Result ℕ Refusals) (name : ExternName) (ty : ComponentTypeRef) → IsSettled s → ExportsTo s t answer name ty → StaysSettled t answer
+exported_stays (sessions.Declaring d) (sessions.Declaring e) answer name ty f a = declared_stays d e answer (declared_in d (Some (Declared (Exported name ty)))) f a
+exported_stays (sessions.Declaring d) (sessions.Building b) answer name ty f a = other_stays (sessions.Building b) answer (sessions.Declaring d) f a.0 a.1
+exported_stays (sessions.Declaring d) (sessions.Finished bytes) answer name ty f a = other_stays (sessions.Finished bytes) answer (sessions.Declaring d) f a.0 a.1
+exported_stays (sessions.Building b) t answer name ty f a = other_stays t answer (sessions.Building b) f a.0 a.1
+exported_stays (sessions.Finished bytes) t answer name ty f a = other_stays t answer (sessions.Finished bytes) f a.0 a.1
+
+core_kept : (t u : TypeState) (answer : Result (Unit {0}) Refusals) (d : ModuleDeclaration) → is_finished t.held ≡ true → Answered (λ result. AddsToModule t u result d) answer → StaysSettled (sessions.Declaring (declaring.Module u)) answer
+core_kept t u (Ok i) d f a = (added_to f a.added.ok, λ h. absurd cc)
+core_kept t u (Err (Fault Unfinished)) d f a = absurd (settled_cause t.held (module_declaration d).text (module_declaration d).Cause f (module_never d) a.added.warranted)
+core_kept t u (Err (Fault (Memory e))) d f a = (rw a.err f, λ h. absurd cc)
+core_kept t u (Err (Fault TooMany)) d f a = (rw a.err f, λ h. absurd cc)
+core_kept t u (Err (Fault TooLarge)) d f a = (rw a.err f, λ h. absurd cc)
+core_kept t u (Err other) d f a = absurd a
+
+pub core_stays : (s t : Session) (answer : Result (Unit {0}) Refusals) (d : ModuleDeclaration) → IsSettled s → DeclaresCore s t answer d → StaysSettled t answer
+core_stays (sessions.Declaring (declaring.Module m)) (sessions.Declaring (declaring.Module n)) answer d f a = core_kept m n answer d f a
+core_stays (sessions.Declaring (declaring.Module m)) (sessions.Declaring (declaring.Component n)) answer d f a = other_stays (sessions.Declaring (declaring.Component n)) answer (sessions.Declaring (declaring.Module m)) f a.0 a.1
+core_stays (sessions.Declaring (declaring.Module m)) (sessions.Declaring (declaring.Instance n)) answer d f a = other_stays (sessions.Declaring (declaring.Instance n)) answer (sessions.Declaring (declaring.Module m)) f a.0 a.1
+core_stays (sessions.Declaring (declaring.Module m)) (sessions.Building b) answer d f a = other_stays (sessions.Building b) answer (sessions.Declaring (declaring.Module m)) f a.0 a.1
+core_stays (sessions.Declaring (declaring.Module m)) (sessions.Finished bytes) answer d f a = other_stays (sessions.Finished bytes) answer (sessions.Declaring (declaring.Module m)) f a.0 a.1
+core_stays (sessions.Declaring (declaring.Component m)) t answer d f a = other_stays t answer (sessions.Declaring (declaring.Component m)) f a.0 a.1
+core_stays (sessions.Declaring (declaring.Instance m)) t answer d f a = other_stays t answer (sessions.Declaring (declaring.Instance m)) f a.0 a.1
+core_stays (sessions.Building b) t answer d f a = other_stays t answer (sessions.Building b) f a.0 a.1
+core_stays (sessions.Finished bytes) t answer d f a = other_stays t answer (sessions.Finished bytes) f a.0 a.1
 
 pub without_index_stays : (s t : Session) (answer : Result (Unit {0}) Refusals) (x : Entry) → IsSettled s → AddsWithoutIndexTo s t answer x → StaysSettled t answer
 without_index_stays s t answer x f a = does_stay (λ b c result. EntersWithoutIndex b c result x) (λ b c result f e. enters_keep x b c result f e) s t answer f a

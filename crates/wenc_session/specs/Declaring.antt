@@ -1,18 +1,21 @@
--- Types of components and of instances, while C declares what they have.
+-- Types of components, of instances and of core modules, while C declares what they have.
 use Rattle.std.specs.Prelude.{◌≡◌, ℕ, List, Option, Some, None, Result, IfOk}
-use Rattle.std.specs.Prelude.{nat_eq, if◌then◌else◌}
+use Rattle.std.specs.Prelude.{option_map, nat_eq, if◌then◌else◌}
 use Rattle.wenc_base.specs.declared.fault.Fault.{Fault}
 use Rattle.wenc_builder.specs.Entry.{Entry}
-use Rattle.wenc_builder.specs.Item.{Item, AliasItem, ImportItem, TypeItem}
+use Rattle.wenc_builder.specs.Item.{Item, AliasItem, CoreTypeItem, ImportItem, TypeItem}
 use Rattle.wenc_builder.specs.declared.builder.space.Space.{Space}
 use Rattle.wenc_builder.specs.declared.builder.space.Space.TheVariants as spaces
+use Rattle.wenc_parts.specs.Aliases.{Outer}
+use Rattle.wenc_parts.specs.declared.aliases.ComponentOuterAliasKind.TheVariants as outers
 use Rattle.wenc_session.specs.declared.declaring.Declaring.{Declaring}
 use Rattle.wenc_session.specs.declared.declaring.Declaring.TheVariants as declaring
-use Rattle.wenc_types.specs.ComponentTypes.{Aliased, ComponentDeclaration, Declared, Imported}
-use Rattle.wenc_types.specs.ComponentTypes.{Typed}
-use Rattle.wenc_types.specs.Declarations.{AddsToComponent, AddsToInstance, TypeState}
+use Rattle.wenc_types.specs.ComponentTypes.{Aliased, ComponentDeclaration, CoreTyped, Declared}
+use Rattle.wenc_types.specs.ComponentTypes.{Imported, Typed}
+use Rattle.wenc_types.specs.CoreTypes.{Grouped, ModuleDeclaration, ModuleOuter, ModuleRecType}
+use Rattle.wenc_types.specs.Declarations.{AddsToComponent, AddsToInstance, AddsToModule, TypeState}
 use Rattle.wenc_types.specs.Declarations.{component_sort, indexed_outcome, instance_sort}
-use Rattle.wenc_types.specs.Declarations.{no_declarations}
+use Rattle.wenc_types.specs.Declarations.{module_sort, no_declarations}
 use Rattle.wenc_types.specs.declared.counts.Counts.{Counts}
 use Rattle.wenc_types.specs.declared.counts.Sort.{Sort}
 use Rattle.wenc_types.specs.declared.counts.Sort.TheVariants as sorts
@@ -21,27 +24,40 @@ use Rattle.wenc_types.specs.declared.counts.Sort.TheVariants as sorts
 abbrev pub state_of : Declaring → TypeState
 state_of (declaring.Component t) = t
 state_of (declaring.Instance t) = t
+state_of (declaring.Module t) = t
 
 -- such a type before it declares anything, by the number of its kind
 abbrev pub new_type_of : ℕ → Option Declaring
 new_type_of kind =
-    if nat_eq kind 4 then Some (declaring.Component no_declarations)
-    else (if nat_eq kind 5 then Some (declaring.Instance no_declarations) else None)
+    if nat_eq kind 0 then Some (declaring.Module no_declarations)
+    else (if nat_eq kind 4 then Some (declaring.Component no_declarations)
+    else (if nat_eq kind 5 then Some (declaring.Instance no_declarations) else None))
 
 -- ---- what can be declared
 
--- an item that a component type declares: a type or an alias, without a debug name, or an import
+-- an item that a component type declares: a type, a core type or an alias, without a debug name, or
+-- an import
 abbrev pub declared_item : Item → Option (List ℕ) → Option ComponentDeclaration
 declared_item (TypeItem ty) None = Some (Declared (Typed ty))
+declared_item (CoreTypeItem ty) None = Some (Declared (CoreTyped ty))
 declared_item (AliasItem to) None = Some (Declared (Aliased to))
 declared_item (ImportItem import) name = Some (Imported import.name import.ty)
 declared_item other name = None
 
--- that item of such a type; that of an instance has no imports
+-- what a component type declares, as a module type declares it: types of the core, and aliases of
+-- outer ones
+abbrev pub in_module : ComponentDeclaration → Option ModuleDeclaration
+in_module (Declared (CoreTyped (Grouped g))) = Some (ModuleRecType g)
+in_module (Declared (Aliased (Outer outers.CoreType count n))) = Some (ModuleOuter count n)
+in_module other = None
+
+-- that item of such a type: that of an instance has no imports
 abbrev pub declared_in : Declaring → Option ComponentDeclaration → Option ComponentDeclaration
 declared_in (declaring.Component t) d = d
 declared_in (declaring.Instance t) (Some (Declared d)) = Some (Declared d)
 declared_in (declaring.Instance t) other = None
+declared_in (declaring.Module t) (Some d) = option_map (λ m. d) (in_module d)
+declared_in (declaring.Module t) None = None
 
 abbrev pub declaration_of : Declaring → Entry → Option ComponentDeclaration
 declaration_of t x = declared_in t (declared_item x.item x.name)
@@ -62,7 +78,22 @@ counted_in n spaces.Types = Some n.types
 counted_in n spaces.Instances = Some n.instances
 counted_in n other = None
 
+-- the same of such a type; that of a module counts core types alone
+abbrev pub counted_by : Declaring → Space → Option ℕ
+counted_by (declaring.Component t) space = counted_in t.counts space
+counted_by (declaring.Instance t) space = counted_in t.counts space
+counted_by (declaring.Module t) spaces.CoreTypes = Some t.counts.types
+counted_by (declaring.Module t) other = None
+
 -- ---- what a call does
+
+-- A type of modules declared this, and the answer is its index; or it was refused for a cause.
+abbrev pub DeclaresInModule : TypeState → TypeState → Result ℕ Fault → Option ModuleDeclaration
+    → Type 0
+DeclaresInModule old new result (Some d) =
+    AddsToModule old new (indexed_outcome result) d
+    × IfOk result (λ i. i ≡ next_of old.counts (module_sort d))
+DeclaresInModule old new result None = ⊥
 
 -- This was declared, and the answer is its index; or it was refused for a cause.
 abbrev pub DeclaresTo : Declaring → Declaring → Result ℕ Fault → ComponentDeclaration → Type 0
@@ -72,4 +103,6 @@ DeclaresTo (declaring.Component t) (declaring.Component t') result d =
 DeclaresTo (declaring.Instance t) (declaring.Instance t') result (Declared d) =
     AddsToInstance t t' (indexed_outcome result) d
     × IfOk result (λ i. i ≡ next_of t.counts (instance_sort d))
+DeclaresTo (declaring.Module t) (declaring.Module t') result d =
+    DeclaresInModule t t' result (in_module d)
 DeclaresTo old new result other = ⊥

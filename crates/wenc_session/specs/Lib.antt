@@ -1,4 +1,5 @@
 pub mod Builtins
+pub mod Cores
 pub mod Declaring
 pub mod Described
 pub mod Flagged

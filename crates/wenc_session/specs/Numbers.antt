@@ -3,6 +3,9 @@ use Rattle.std.specs.Prelude.{ℕ, Option, Some, None, option_map, nat_eq, if◌
 use Rattle.std.specs.Prelude.{false}
 use Rattle.wenc_base.specs.declared.exports.ExportKind.{ExportKind}
 use Rattle.wenc_base.specs.declared.exports.ExportKind.TheVariants as core_kinds
+use Rattle.wenc_base.specs.declared.types.AbstractHeapType.TheVariants as abstract_heaps
+use Rattle.wenc_base.specs.declared.types.HeapType.TheVariants as heaps
+use Rattle.wenc_base.specs.declared.types.RefType.{RefType}
 use Rattle.wenc_base.specs.declared.types.ValType.{ValType}
 use Rattle.wenc_base.specs.declared.types.ValType.TheVariants as core_values
 use Rattle.wenc_builder.specs.declared.builder.space.Space.{Space}
@@ -81,6 +84,25 @@ core_value_of n =
     else (if nat_eq n 0x7d then Some core_values.F32
     else (if nat_eq n 0x7c then Some core_values.F64
     else (if nat_eq n 0x7b then Some core_values.V128 else None))))
+
+-- a reference to any function, or to whatever the host refers to, which may be null, by its byte in
+-- the binary format
+abbrev pub core_reference_of : ℕ → Option RefType
+core_reference_of n =
+    if nat_eq n 0x70
+    then Some (record { nullable = true; heap_type = heaps.Abstract abstract_heaps.Func })
+    else (if nat_eq n 0x6f
+    then Some (record { nullable = true; heap_type = heaps.Abstract abstract_heaps.Extern })
+    else None)
+
+-- the first, or else the reference
+abbrev pub or_reference : Option ValType → Option RefType → Option ValType
+or_reference (Some t) r = Some t
+or_reference None r = option_map core_values.Ref r
+
+-- a value type of the core: a number or a vector, or such a reference
+abbrev pub core_val_type_of : ℕ → Option ValType
+core_val_type_of n = or_reference (core_value_of n) (core_reference_of n)
 
 -- whether it holds
 abbrev pub flag_of : ℕ → Option Bool

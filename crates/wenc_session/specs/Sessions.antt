@@ -6,7 +6,7 @@ use Rattle.wenc_base.specs.Piece.{Spelling}
 use Rattle.wenc_base.specs.declared.fault.Fault.{Fault as Faults}
 use Rattle.wenc_base.specs.declared.fault.Fault.TheVariants.{Memory, TooMany, TooLarge, Unfinished}
 use Rattle.wenc_builder.specs.Builder.{State, builder_is_finished, count_in, sections_text}
-use Rattle.wenc_builder.specs.Entry.{Entry, items, component_entry, type_entry}
+use Rattle.wenc_builder.specs.Entry.{Entry, items, component_entry, core_type_entry, type_entry}
 use Rattle.wenc_builder.specs.Enters.{Enters, EntersWithoutIndex}
 use Rattle.wenc_builder.specs.Holds.{Holds}
 use Rattle.wenc_builder.specs.Raw.{HasNoRaw}
@@ -14,10 +14,13 @@ use Rattle.wenc_builder.specs.Sections.{Reading, Section, runs, whole}
 use Rattle.wenc_builder.specs.declared.builder.space.Space.{Space}
 use Rattle.wenc_parts.specs.Imports.{ExternName}
 use Rattle.wenc_parts.specs.declared.imports.ComponentTypeRef.{ComponentTypeRef}
-use Rattle.wenc_types.specs.ComponentTypes.{ComponentDeclaration, ComponentType, Declared, DefType}
+use Rattle.wenc_types.specs.ComponentTypes.{ComponentDeclaration, ComponentType, Declared}
 use Rattle.wenc_types.specs.ComponentTypes.{Exported, InstanceType, components_of, instances_of}
-use Rattle.wenc_types.specs.Declarations.{ComponentDeclares, InstanceDeclares, TypeState}
-use Rattle.wenc_session.specs.Declaring.{DeclaresTo, counted_in, declaration_of, state_of}
+use Rattle.wenc_types.specs.CoreTypes.{Module, ModuleDeclaration}
+use Rattle.wenc_types.specs.Declarations.{AddsToModule, ComponentDeclares, InstanceDeclares}
+use Rattle.wenc_types.specs.Declarations.{ModuleDeclares, TypeState}
+use Rattle.wenc_session.specs.Declaring.{DeclaresTo, counted_by, declaration_of, declared_in}
+use Rattle.wenc_session.specs.Declaring.{state_of}
 use Rattle.wenc_session.specs.declared.declaring.Declaring.{Declaring}
 use Rattle.wenc_session.specs.declared.declaring.Declaring.TheVariants as declaring
 use Rattle.wenc_session.specs.declared.refused.Refused.{Refused as Refusals}
@@ -128,28 +131,38 @@ Nests name (sessions.Building inner) old new answer = Does (NestsTo name inner) 
 Nests name (sessions.Finished bytes) old new answer = (answer ≡ Err Finished) × (new ≡ old)
 Nests name (sessions.Declaring t) old new answer = (answer ≡ Err BadArgument) × (new ≡ old)
 
--- What a call does with a type of components or of instances: it adds the type with these
--- declarations. One that has something unfinished is refused, and nothing is changed.
-pub record AddsTypeOf {D : Type 0} (name : Option (List ℕ)) (t : TypeState)
-    (declares : TypeState → List D → Type 0) (type_of : List D → DefType)
-    (old new : Session) (answer : Result ℕ Refusals) : Type 0 where
-  pub added : (ds : List D) → declares t ds → AddsTo old new answer (type_entry name (type_of ds))
+-- What a call does with a type that declares: it adds the entry with these declarations. One that
+-- has something unfinished is refused, and nothing is changed.
+pub record AddsTypeOf {D : Type 0} (t : TypeState) (declares : TypeState → List D → Type 0)
+    (entry_of : List D → Entry) (old new : Session) (answer : Result ℕ Refusals) : Type 0 where
+  pub added : (ds : List D) → declares t ds → AddsTo old new answer (entry_of ds)
   pub unfinished : is_finished t.held ≡ false → OnOk answer ⊥ × (new ≡ old)
 
--- A type was added; what is none is refused.
+-- A type was added, that of modules as a core type; what is none is refused.
 abbrev pub AddsType : Option (List ℕ) → Session → Session → Session → Result ℕ Refusals → Type 0
 AddsType name (sessions.Declaring (declaring.Component t)) old new answer =
-    AddsTypeOf name t ComponentDeclares (λ ds. ComponentType (components_of ds)) old new answer
+    AddsTypeOf t ComponentDeclares (λ ds. type_entry name (ComponentType (components_of ds)))
+    old new answer
 AddsType name (sessions.Declaring (declaring.Instance t)) old new answer =
-    AddsTypeOf name t InstanceDeclares (λ ds. InstanceType (instances_of ds)) old new answer
+    AddsTypeOf t InstanceDeclares (λ ds. type_entry name (InstanceType (instances_of ds)))
+    old new answer
+AddsType name (sessions.Declaring (declaring.Module t)) old new answer =
+    AddsTypeOf t ModuleDeclares (λ ds. core_type_entry name (Module ds)) old new answer
 AddsType name other old new answer = (answer ≡ Err BadArgument) × (new ≡ old)
 
--- A type declared this export; what is no type refuses it.
+-- A type declared this export, if it can; what is no type refuses it.
 abbrev pub ExportsTo : Session → Session → Result ℕ Refusals → ExternName → ComponentTypeRef
     → Type 0
 ExportsTo (sessions.Declaring t) (sessions.Declaring t') answer name ty =
-    DeclaresIfTo t t' answer (Some (Declared (Exported name ty)))
+    DeclaresIfTo t t' answer (declared_in t (Some (Declared (Exported name ty))))
 ExportsTo old new answer name ty = (answer ≡ Err BadArgument) × (new ≡ old)
+
+-- A type of modules declared this; what is none refuses it.
+abbrev pub DeclaresCore : Session → Session → Result (Unit {0}) Refusals → ModuleDeclaration
+    → Type 0
+DeclaresCore (sessions.Declaring (declaring.Module t)) (sessions.Declaring (declaring.Module t'))
+    answer d = Answered (λ result. AddsToModule t t' result d) answer
+DeclaresCore old new answer d = (answer ≡ Err BadArgument) × (new ≡ old)
 
 -- what is there, or the answer that it isn't
 abbrev pub answer_if : {R : Type 0} → Option R → Result R Refusals
@@ -161,7 +174,7 @@ abbrev pub Counts : Space → Session → Result ℕ Refusals → Type 0
 Counts space (sessions.Building b) answer = answer ≡ Ok (count_in b space)
 Counts space (sessions.Finished bytes) answer = answer ≡ Err Finished
 Counts space (sessions.Declaring t) answer =
-    answer ≡ answer_if (counted_in (state_of t).counts space)
+    answer ≡ answer_if (counted_by t space)
 
 -- ---- the whole
 

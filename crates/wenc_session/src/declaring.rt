@@ -1,29 +1,37 @@
-//! Types of components and of instances, while C declares what they have.
+//! Types of components, of instances and of core modules, while C declares what they have.
 ghost use Rattle.std.specs.Prelude.{◌≡◌, Err, IfOk, List, OnOk, Some, false, true};
+ghost use Rattle.wenc_base.specs.Composites.{rec_type_view};
 ghost use Rattle.wenc_base.specs.Encode.{Serves};
 ghost use Rattle.wenc_base.specs.Holder.{is_finished};
 ghost use Rattle.wenc_parts.specs.Aliases.{alias_view};
 ghost use Rattle.wenc_parts.specs.Imports.{extern_name_view};
-ghost use Rattle.wenc_session.specs.Declaring.{DeclaresTo, counted_in, declared_in, new_type_of, next_of, state_of};
+ghost use Rattle.wenc_session.specs.Cores.{function_group};
+ghost use Rattle.wenc_session.specs.Declaring.{DeclaresInModule, DeclaresTo, counted_by, counted_in, declared_in, new_type_of, next_of, state_of};
 ghost use Rattle.wenc_session.specs.Described.{described_view};
 ghost use Rattle.wenc_session.specs.Sessions.{DeclaresIfTo};
 ghost use Rattle.wenc_session.specs.Statuses.{Among, of_a_call, status_of};
 ghost use Rattle.wenc_session.specs.declared.declaring.Declaring.TheVariants as declaring;
-ghost use Rattle.wenc_types.specs.ComponentTypes.{Aliased, ComponentDeclaration, ComponentType as ComponentTypes, Declared, Exported, Imported, InstanceDeclaration, InstanceType as InstanceTypes, Typed};
+ghost use Rattle.wenc_types.specs.ComponentTypes.{Aliased, ComponentDeclaration, ComponentType as ComponentTypes, CoreTyped, Declared, Exported, Imported, InstanceDeclaration, InstanceType as InstanceTypes, Typed};
 ghost use Rattle.wenc_types.specs.ComponentTypes.{components_of, instance_declaration, instances_of};
-ghost use Rattle.wenc_types.specs.Declarations.{AddsDeclaration, ComponentDeclares, InstanceDeclares, TypeState, indexed_outcome, type_given_up};
+ghost use Rattle.wenc_types.specs.CoreTypes.{Grouped, Module as ModuleTypes, ModuleDeclaration, ModuleRecType};
+ghost use Rattle.wenc_types.specs.CoreTypeTrees.{core_type_view};
+ghost use Rattle.wenc_types.specs.Declarations.{AddsDeclaration, ComponentDeclares, InstanceDeclares, ModuleDeclares, TypeState, indexed_outcome, type_given_up};
 ghost use Rattle.wenc_types.specs.TypeTrees.{type_view};
 ghost use Rattle.wenc_types.specs.declared.counts.Sort.TheVariants as sorts;
 
+use crate::cores::CoreFunction;
 use crate::described::Described;
 use crate::refused::Refused;
 use crate::session::by_builder;
 use std::alloc::Global;
-use wenc_base::Fault;
+use wenc_base::{Fault, GroupTree};
 use wenc_builder::Space;
-use wenc_parts::{Alias, ComponentExternName, ComponentTypeRef};
+use wenc_parts::{Alias, ComponentExternName, ComponentOuterAliasKind, ComponentTypeRef};
 use wenc_types::counts::{Sort, sort_of_alias, sort_of_kind};
-use wenc_types::{ComponentType, Declarations, DeclaringKind, InstanceType, TypeTree};
+use wenc_types::{
+    ComponentType, CoreTypeTree, Declarations, DeclaredKind, DeclaringKind, InstanceType,
+    ModuleType, TypeTree,
+};
 
 /// A type, while C declares what it has.
 #[derive(Drop)]
@@ -32,6 +40,8 @@ pub enum Declaring {
     Component(ComponentType),
     /// A type of instances.
     Instance(InstanceType),
+    /// A type of core modules.
+    Module(ModuleType),
 }
 
 /// How many declarations of this sort there are: the index of the next one. 0 of what has none.
@@ -47,7 +57,7 @@ fn next_of<K: DeclaringKind>(ty: &Declarations<K, Global>, sort: Option<Sort>) -
 }
 
 /// Gives up the type that was being written when this fault was met.
-fn give_up<K: DeclaringKind>(ty: &mut Declarations<K, Global>, fault: Fault) -> Result<u32, Fault>
+fn give_up<K: DeclaredKind>(ty: &mut Declarations<K, Global>, fault: Fault) -> Result<u32, Fault>
     ensures { (result ≡ Err fault) × (ty.new ≡ type_given_up ty.old) }
 {
     ty.discard_unfinished();
@@ -121,85 +131,213 @@ fn declare_instance<K: DeclaringKind>(
     }
 }
 
+/// Declares a core type, and answers its index. What is refused is given up.
+fn declare_core_type<K: DeclaringKind>(
+    to: &mut Declarations<K, Global>,
+    ty: &CoreTypeTree,
+) -> Result<u32, Fault>
+    ensures declared { (d : K.Declaration)
+        → Serves (instance_declaration (CoreTyped (core_type_view ty.now))) (K.form d)
+        → K.sort d ≡ Some sorts.CoreType
+        → AddsDeclaration K.form K.sort to.old to.new (indexed_outcome result) d }
+    ensures index { IfOk result (λ i. i ≡ to.old.counts.core_types) }
+{
+    let index = to.core_type_count();
+    match to.core_type() {
+        Ok(encoder) => match encoder.tree(ty) {
+            Ok(()) => Ok(index),
+            Err(fault) => give_up(to, fault),
+        },
+        Err(fault) => Err(fault),
+    }
+}
+
+/// Declares a type of modules, and answers its index. What is refused is given up.
+fn declare_module<K: DeclaringKind>(
+    to: &mut Declarations<K, Global>,
+    ty: &ModuleType,
+) -> Result<u32, Fault>
+    requires { is_finished ty.now.held ≡ true }
+    ensures declared { (ds : List ModuleDeclaration) → ModuleDeclares ty.now ds
+        → (d : K.Declaration)
+        → Serves (instance_declaration (CoreTyped (ModuleTypes ds))) (K.form d)
+        → K.sort d ≡ Some sorts.CoreType
+        → AddsDeclaration K.form K.sort to.old to.new (indexed_outcome result) d }
+    ensures index { IfOk result (λ i. i ≡ to.old.counts.core_types) }
+{
+    let index = to.core_type_count();
+    match to.core_type() {
+        Ok(encoder) => match encoder.module(ty) {
+            Ok(()) => Ok(index),
+            Err(fault) => give_up(to, fault),
+        },
+        Err(fault) => Err(fault),
+    }
+}
+
+/// Declares a type in a type of modules, and answers its index. What is refused is given up.
+fn declare_group(to: &mut ModuleType, ty: &GroupTree) -> Result<u32, Fault>
+    ensures { DeclaresInModule to.old to.new result
+        (Some (ModuleRecType (rec_type_view ty.now))) }
+{
+    let index = to.type_count();
+    match to.ty() {
+        Ok(encoder) => match encoder.group(ty) {
+            Ok(()) => Ok(index),
+            Err(fault) => give_up(to, fault),
+        },
+        Err(fault) => Err(fault),
+    }
+}
+
 impl Declaring {
-    /// A type that declares nothing so far: of components (4) or of instances (5), by the number of
-    /// the kind.
+    /// A type that declares nothing so far: of modules (0), of components (4) or of instances (5),
+    /// by the number of the kind.
     pub fn new(alloc: Global, kind: u32) -> Option<Declaring>
         ensures { result ≡ new_type_of kind }
     {
         match kind {
+            0 => Some(Declaring::Module(ModuleType::new(alloc))),
             4 => Some(Declaring::Component(ComponentType::new(alloc))),
             5 => Some(Declaring::Instance(InstanceType::new(alloc))),
             _ => None,
         }
     }
 
-    /// Declares a type.
-    pub fn ty(&mut self, alloc: Global, ty: Described<'_>) -> Result<u32, Fault>
-        ensures { DeclaresTo self.old self.new result (Declared (Typed (described_view ty.entry))) }
+    /// Declares a type. A type of modules has none.
+    #[tactic(auto, using(crate::proofs::Statuses::fault_among))]
+    pub fn ty(&mut self, alloc: Global, ty: Described<'_>) -> Result<u32, Refused>
+        ensures declared { DeclaresIfTo self.old self.new result
+            (declared_in self.old (Some (Declared (Typed (described_view ty.entry))))) }
+        ensures among { Among of_a_call (status_of result) }
     {
+        if let Declaring::Module(_) = self {
+            return Err(Refused::BadArgument);
+        }
         if !self.is_finished() {
-            return Err(Fault::Unfinished);
+            return Err(Refused::Fault(Fault::Unfinished));
         }
         match ty.tree(alloc) {
             Ok(tree) => match self {
-                Declaring::Component(to) => declare_type(to, &tree),
-                Declaring::Instance(to) => declare_type(to, &tree),
+                Declaring::Component(to) => by_builder(declare_type(to, &tree)),
+                Declaring::Instance(to) => by_builder(declare_type(to, &tree)),
+                Declaring::Module(_) => Err(Refused::BadArgument),
             },
-            Err(failed) => Err(Fault::Memory(failed)),
+            Err(failed) => Err(Refused::Fault(Fault::Memory(failed))),
         }
     }
 
-    /// Declares the type that another declares, which is left as it is.
-    pub fn type_of(&mut self, types: &Declaring) -> Result<u32, Fault>
+    /// Declares a type of core functions.
+    #[tactic(auto, using(crate::proofs::Statuses::fault_among))]
+    pub fn core_function(
+        &mut self,
+        alloc: Global,
+        function: CoreFunction<'_>,
+    ) -> Result<u32, Refused>
+        ensures declared { DeclaresIfTo self.old self.new result
+            (declared_in self.old (Some (Declared (CoreTyped (Grouped
+            (function_group function.entry.params function.entry.results)))))) }
+        ensures among { Among of_a_call (status_of result) }
+    {
+        if !self.is_finished() {
+            return Err(Refused::Fault(Fault::Unfinished));
+        }
+        match function.tree(alloc) {
+            Ok(tree) => match self {
+                Declaring::Component(to) => {
+                    by_builder(declare_core_type(to, &CoreTypeTree::Group(tree)))
+                }
+                Declaring::Instance(to) => {
+                    by_builder(declare_core_type(to, &CoreTypeTree::Group(tree)))
+                }
+                Declaring::Module(to) => by_builder(declare_group(to, &tree)),
+            },
+            Err(failed) => Err(Refused::Fault(Fault::Memory(failed))),
+        }
+    }
+
+    /// Declares the type that another declares, which is left as it is. A type of modules has none.
+    pub fn type_of(&mut self, types: &Declaring) -> Result<u32, Refused>
         ensures component { (t : TypeState) (ds : List ComponentDeclaration)
             → types.now ≡ declaring.Component t → ComponentDeclares t ds
-            → DeclaresTo self.old self.new result
-            (Declared (Typed (ComponentTypes (components_of ds)))) }
+            → DeclaresIfTo self.old self.new result (declared_in self.old
+            (Some (Declared (Typed (ComponentTypes (components_of ds)))))) }
         ensures instance { (t : TypeState) (ds : List InstanceDeclaration)
             → types.now ≡ declaring.Instance t → InstanceDeclares t ds
-            → DeclaresTo self.old self.new result
-            (Declared (Typed (InstanceTypes (instances_of ds)))) }
+            → DeclaresIfTo self.old self.new result (declared_in self.old
+            (Some (Declared (Typed (InstanceTypes (instances_of ds)))))) }
+        ensures module { (t : TypeState) (ds : List ModuleDeclaration)
+            → types.now ≡ declaring.Module t → ModuleDeclares t ds
+            → DeclaresIfTo self.old self.new result (declared_in self.old
+            (Some (Declared (CoreTyped (ModuleTypes ds))))) }
         ensures unfinished { is_finished (state_of types.now).held ≡ false
             → OnOk result ⊥ × (self.new ≡ self.old) }
+        ensures among { Among of_a_call (status_of result) }
     {
         match types {
             Declaring::Component(ty) => self.component(ty),
             Declaring::Instance(ty) => self.instance(ty),
+            Declaring::Module(ty) => self.module(ty),
         }
     }
 
     /// Declares a type of components.
-    fn component(&mut self, ty: &ComponentType) -> Result<u32, Fault>
+    #[tactic(auto, using(crate::proofs::Statuses::fault_among))]
+    fn component(&mut self, ty: &ComponentType) -> Result<u32, Refused>
         ensures declared { (ds : List ComponentDeclaration) → ComponentDeclares ty.now ds
-            → DeclaresTo self.old self.new result
-            (Declared (Typed (ComponentTypes (components_of ds)))) }
+            → DeclaresIfTo self.old self.new result (declared_in self.old
+            (Some (Declared (Typed (ComponentTypes (components_of ds)))))) }
         ensures unfinished { is_finished ty.now.held ≡ false
             → OnOk result ⊥ × (self.new ≡ self.old) }
+        ensures among { Among of_a_call (status_of result) }
     {
         if !ty.is_finished() {
-            return Err(Fault::Unfinished);
+            return Err(Refused::Fault(Fault::Unfinished));
         }
         match self {
-            Declaring::Component(to) => declare_component(to, ty),
-            Declaring::Instance(to) => declare_component(to, ty),
+            Declaring::Component(to) => by_builder(declare_component(to, ty)),
+            Declaring::Instance(to) => by_builder(declare_component(to, ty)),
+            Declaring::Module(_) => Err(Refused::BadArgument),
         }
     }
 
     /// Declares a type of instances.
-    fn instance(&mut self, ty: &InstanceType) -> Result<u32, Fault>
+    #[tactic(auto, using(crate::proofs::Statuses::fault_among))]
+    fn instance(&mut self, ty: &InstanceType) -> Result<u32, Refused>
         ensures declared { (ds : List InstanceDeclaration) → InstanceDeclares ty.now ds
-            → DeclaresTo self.old self.new result
-            (Declared (Typed (InstanceTypes (instances_of ds)))) }
+            → DeclaresIfTo self.old self.new result (declared_in self.old
+            (Some (Declared (Typed (InstanceTypes (instances_of ds)))))) }
         ensures unfinished { is_finished ty.now.held ≡ false
             → OnOk result ⊥ × (self.new ≡ self.old) }
+        ensures among { Among of_a_call (status_of result) }
     {
         if !ty.is_finished() {
-            return Err(Fault::Unfinished);
+            return Err(Refused::Fault(Fault::Unfinished));
         }
         match self {
-            Declaring::Component(to) => declare_instance(to, ty),
-            Declaring::Instance(to) => declare_instance(to, ty),
+            Declaring::Component(to) => by_builder(declare_instance(to, ty)),
+            Declaring::Instance(to) => by_builder(declare_instance(to, ty)),
+            Declaring::Module(_) => Err(Refused::BadArgument),
+        }
+    }
+
+    /// Declares a type of modules.
+    #[tactic(auto, using(crate::proofs::Statuses::fault_among))]
+    fn module(&mut self, ty: &ModuleType) -> Result<u32, Refused>
+        ensures declared { (ds : List ModuleDeclaration) → ModuleDeclares ty.now ds
+            → DeclaresIfTo self.old self.new result (declared_in self.old
+            (Some (Declared (CoreTyped (ModuleTypes ds))))) }
+        ensures unfinished { is_finished ty.now.held ≡ false
+            → OnOk result ⊥ × (self.new ≡ self.old) }
+        ensures among { Among of_a_call (status_of result) }
+    {
+        if !ty.is_finished() {
+            return Err(Refused::Fault(Fault::Unfinished));
+        }
+        match self {
+            Declaring::Component(to) => by_builder(declare_module(to, ty)),
+            Declaring::Instance(to) => by_builder(declare_module(to, ty)),
+            Declaring::Module(_) => Err(Refused::BadArgument),
         }
     }
 
@@ -210,13 +348,16 @@ impl Declaring {
         match self {
             Declaring::Component(ty) => ty.is_finished(),
             Declaring::Instance(ty) => ty.is_finished(),
+            Declaring::Module(ty) => ty.is_finished(),
         }
     }
 
-    /// Declares an alias.
-    pub fn alias(&mut self, alias: Alias<'_>) -> Result<u32, Fault>
-        ensures { DeclaresTo self.old self.new result
-            (Declared (Aliased (alias_view alias.entry))) }
+    /// Declares an alias. A type of modules has none but those of outer core types.
+    #[tactic(auto, using(crate::proofs::Statuses::fault_among))]
+    pub fn alias(&mut self, alias: Alias<'_>) -> Result<u32, Refused>
+        ensures declared { DeclaresIfTo self.old self.new result
+            (declared_in self.old (Some (Declared (Aliased (alias_view alias.entry))))) }
+        ensures among { Among of_a_call (status_of result) }
     {
         let sort = sort_of_alias(&alias);
         match self {
@@ -230,10 +371,18 @@ impl Declaring {
                 to.alias(alias)?;
                 Ok(index)
             }
+            Declaring::Module(to) => match alias {
+                Alias::Outer {
+                    kind: ComponentOuterAliasKind::CoreType,
+                    count,
+                    index,
+                } => by_builder(to.alias_core_type(count, index)),
+                _ => Err(Refused::BadArgument),
+            },
         }
     }
 
-    /// Declares an import. A type of instances has none.
+    /// Declares an import. Types of instances and of modules have none of these.
     pub fn import(
         &mut self,
         name: ComponentExternName<'_>,
@@ -245,18 +394,20 @@ impl Declaring {
     {
         match self {
             Declaring::Component(to) => by_builder(import_into(to, name, ty)),
-            Declaring::Instance(_) => Err(Refused::BadArgument),
+            _ => Err(Refused::BadArgument),
         }
     }
 
-    /// Declares an export.
+    /// Declares an export. A type of modules has none of these.
+    #[tactic(auto, using(crate::proofs::Statuses::fault_among))]
     pub fn export(
         &mut self,
         name: ComponentExternName<'_>,
         ty: ComponentTypeRef,
-    ) -> Result<u32, Fault>
-        ensures { DeclaresTo self.old self.new result
-            (Declared (Exported (extern_name_view name.entry) ty)) }
+    ) -> Result<u32, Refused>
+        ensures declared { DeclaresIfTo self.old self.new result
+            (declared_in self.old (Some (Declared (Exported (extern_name_view name.entry) ty)))) }
+        ensures among { Among of_a_call (status_of result) }
     {
         let sort = sort_of_kind(ty.kind());
         match self {
@@ -270,16 +421,22 @@ impl Declaring {
                 to.export(name, ty)?;
                 Ok(index)
             }
+            Declaring::Module(_) => Err(Refused::BadArgument),
         }
     }
 
-    /// The number of declarations in this space, where they are counted.
+    /// The number of declarations in this space, where they are counted: of a type of modules those
+    /// of core types alone.
     pub fn count(&self, space: Space) -> Option<u32>
-        ensures { result ≡ counted_in (state_of self.now).counts space }
+        ensures { result ≡ counted_by self.now space }
     {
         match self {
             Declaring::Component(ty) => count_in(ty, space),
             Declaring::Instance(ty) => count_in(ty, space),
+            Declaring::Module(ty) => match space {
+                Space::CoreTypes => Some(ty.type_count()),
+                _ => None,
+            },
         }
     }
 }

@@ -5,8 +5,11 @@ ghost use Rattle.wenc_builder.specs.Enters.{Enters, EntersWithoutIndex};
 ghost use Rattle.wenc_builder.specs.Entry.{Entry};
 ghost use Rattle.wenc_builder.specs.Item.{Item};
 ghost use Rattle.wenc_builder.specs.Names.{AddsNames};
+ghost use Rattle.wenc_parts.specs.Imports.{ExternName};
+ghost use Rattle.wenc_parts.specs.declared.imports.ComponentTypeRef.{ComponentTypeRef as References};
+ghost use Rattle.wenc_types.specs.CoreTypes.{ModuleDeclaration};
 ghost use Rattle.wenc_session.specs.Reads.{AddsReadTo, IsReadAs, read_custom, read_one};
-ghost use Rattle.wenc_session.specs.Sessions.{AddsIfTo, AddsTo, AddsWithoutIndexTo, Does, Finishes, IsEmpty, IsSettled, Nests, StaysSettled};
+ghost use Rattle.wenc_session.specs.Sessions.{AddsIfTo, AddsTo, AddsWithoutIndexTo, DeclaresCore, Does, ExportsTo, Finishes, IsEmpty, IsSettled, Nests, StaysSettled};
 ghost use Rattle.wenc_session.specs.declared.refused.Refused.{Refused as Refusals};
 ghost use Rattle.wenc_session.specs.declared.session.Session.{Session as Sessions};
 ghost use Rattle.wenc_list.specs.Listing.{HasDepth};
@@ -32,6 +35,11 @@ pub fn nothing_stays_unfinished()
         → IsSettled s → AddsReadTo Enters s t answer name found → StaysSettled t answer }
     ensures nested { (s t inner : Sessions) (answer : Result ℕ Refusals) (name : Option (List ℕ))
         → IsSettled s → IsSettled inner → Nests name inner s t answer → StaysSettled t answer }
+    ensures exported { (s t : Sessions) (answer : Result ℕ Refusals) (name : ExternName)
+        (ty : References) → IsSettled s → ExportsTo s t answer name ty → StaysSettled t answer }
+    ensures declared { (s t : Sessions) (answer : Result (Unit {0}) Refusals)
+        (d : ModuleDeclaration) → IsSettled s → DeclaresCore s t answer d
+        → StaysSettled t answer }
     ensures without_index { (s t : Sessions) (answer : Result (Unit {0}) Refusals) (x : Entry)
         → IsSettled s → AddsWithoutIndexTo s t answer x → StaysSettled t answer }
     ensures custom { (s t : Sessions) (answer : Result (Unit {0}) Refusals)

@@ -4,6 +4,7 @@
 
 mod adding;
 mod builtins;
+pub mod cores;
 pub mod declaring;
 pub mod described;
 mod items;
@@ -15,6 +16,7 @@ pub mod session;
 pub mod texts;
 mod written;
 
+pub use cores::{CoreFunction, CoreValTypes, Entity};
 pub use declaring::Declaring;
 pub use described::Described;
 pub use packed::{Packed, Part};

@@ -1,10 +1,10 @@
 //! What the numbers of C stand for (`c/wenc.h` names them).
 ghost use Rattle.std.specs.Prelude.{◌≡◌};
-ghost use Rattle.wenc_session.specs.Numbers.{answer_type_of, core_item_of, core_kind_of, core_value_of, flag_of, given_type_of, kind_of};
+ghost use Rattle.wenc_session.specs.Numbers.{answer_type_of, core_item_of, core_kind_of, core_reference_of, core_val_type_of, core_value_of, flag_of, given_type_of, kind_of};
 ghost use Rattle.wenc_session.specs.Numbers.{module_arg_of, named_item_of, nothing_of, option_of, outer_kind_of, primitive_of, space_of};
 ghost use Rattle.wenc_session.specs.Numbers.{type_ref_of, value_of};
 
-use wenc_base::{ExportKind, ValType};
+use wenc_base::{AbstractHeapType, ExportKind, HeapType, RefType, ValType};
 use wenc_builder::Space;
 use wenc_canon::CanonicalOption;
 use wenc_parts::{
@@ -120,6 +120,36 @@ pub fn core_value(number: u32) -> Option<ValType>
         0x7c => Some(ValType::F64),
         0x7b => Some(ValType::V128),
         _ => None,
+    }
+}
+
+/// A reference to any function, or to whatever the host refers to, by its byte in the binary format.
+/// It may be null.
+pub fn core_reference(number: u32) -> Option<RefType>
+    ensures { result ≡ core_reference_of number }
+{
+    let heap_type = match number {
+        0x70 => AbstractHeapType::Func,
+        0x6f => AbstractHeapType::Extern,
+        _ => return None,
+    };
+    Some(RefType {
+        nullable: true,
+        heap_type: HeapType::Abstract(heap_type),
+    })
+}
+
+/// A value type of the core, by its byte in the binary format: a number or a vector, or such a
+/// reference.
+pub fn core_val_type(number: u32) -> Option<ValType>
+    ensures { result ≡ core_val_type_of number }
+{
+    match core_value(number) {
+        Some(ty) => Some(ty),
+        None => match core_reference(number) {
+            Some(ty) => Some(ValType::Ref(ty)),
+            None => None,
+        },
     }
 }
 

@@ -2,6 +2,7 @@
 ghost use Rattle.std.specs.Prelude.{◌≡◌, ◌<◌, Err, ℕ};
 ghost use Rattle.wenc_session.specs.Sessions.{answer_of, outcome_of};
 ghost use Rattle.wenc_session.specs.Statuses.{number_of, status_of};
+ghost use Rattle.wenc_session.specs.declared.refused.Refused.TheVariants as refusals;
 
 use std::alloc::AllocError;
 use wenc_base::Fault;
@@ -40,6 +41,14 @@ impl Refused {
             Refused::Finished => 8,
             Refused::NoBuilder => 9,
         }
+    }
+}
+
+impl From<Fault> for Refused {
+    ghost from_gives = { λ fault refused. refused ≡ refusals.Fault fault };
+
+    fn from(fault: Fault) -> Refused {
+        Refused::Fault(fault)
     }
 }
 

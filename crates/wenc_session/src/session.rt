@@ -5,32 +5,35 @@ ghost use Rattle.wenc_base.specs.Fault.{IsMemory};
 ghost use Rattle.wenc_builder.specs.Builder.{count_in};
 ghost use Rattle.wenc_builder.specs.Enters.{Enters, EntersWithoutIndex};
 ghost use Rattle.wenc_builder.specs.Entry.{import_entry, export_entry, alias_entry, module_entry, component_entry};
-ghost use Rattle.wenc_builder.specs.Entry.{builtin_entry, canonical_entry, start_entry, custom_entry, raw_entry, core_instance_entry, instance_entry, type_entry};
+ghost use Rattle.wenc_builder.specs.Entry.{builtin_entry, canonical_entry, start_entry, custom_entry, raw_entry, core_instance_entry, core_type_entry, instance_entry, type_entry};
 ghost use Rattle.wenc_builder.specs.Names.{AddsNames};
 ghost use Rattle.wenc_canon.specs.Canonicals.{TaskReturn};
 ghost use Rattle.wenc_session.specs.Builtins.{builtin_of, builtin_with, context_of};
+ghost use Rattle.wenc_session.specs.Cores.{function_group};
 ghost use Rattle.wenc_session.specs.Described.{described_view};
 ghost use Rattle.wenc_session.specs.Packed.{core_instantiating, exporting, inline_exporting, instantiating, lifting, lowering, second};
 ghost use Rattle.wenc_session.specs.Reads.{AddsReadTo, read_custom, read_one};
-ghost use Rattle.wenc_session.specs.Sessions.{AddsIfTo, AddsTo, AddsType, AddsWithoutIndexTo, Copies, Counts, Does, ExportsTo, Finishes, IsEmpty};
+ghost use Rattle.wenc_session.specs.Sessions.{AddsIfTo, AddsTo, AddsType, AddsWithoutIndexTo, Copies, Counts, DeclaresCore, Does, ExportsTo, Finishes, IsEmpty};
 ghost use Rattle.wenc_session.specs.Sessions.{IsFaultThat, Nests, of_builder};
 ghost use Rattle.wenc_session.specs.Statuses.{Among, of_a_call, status_of};
 ghost use Rattle.wenc_parts.specs.Aliases.{alias_view};
 ghost use Rattle.wenc_parts.specs.Imports.{extern_name_view};
+ghost use Rattle.wenc_types.specs.CoreTypes.{Grouped, ModuleExport, ModuleImport};
 
 use crate::adding::{add, add_custom};
 use crate::builtins::{add_builtin, add_context, add_task_return, add_with_options};
+use crate::cores::CoreFunction;
 use crate::declaring::Declaring;
 use crate::described::Described;
 use crate::packed::Packed;
 use crate::refused::Refused;
 use crate::written::{
-    write_core_instance, write_described, write_exports, write_instance, write_items, write_lifted,
-    write_lowered, write_type_of,
+    write_core_function, write_core_instance, write_described, write_exports, write_instance,
+    write_items, write_lifted, write_lowered, write_type_of,
 };
 use std::alloc::Global;
 use std::mem::replace;
-use wenc_base::{CustomSection, ExportKind, Fault};
+use wenc_base::{CustomSection, EntityType, ExportKind, Fault};
 use wenc_builder::{ComponentBuilder, Space};
 use wenc_canon::CanonicalOption;
 use wenc_parts::{
@@ -176,7 +179,7 @@ impl Session {
             Session::Finished(_) => Err(Refused::Finished),
             Session::Declaring(types) => match debug_name {
                 Some(_) => Err(Refused::BadArgument),
-                None => by_builder(types.alias(alias)),
+                None => types.alias(alias),
             },
         }
     }
@@ -387,12 +390,36 @@ impl Session {
             Session::Finished(_) => Err(Refused::Finished),
             Session::Declaring(types) => match debug_name {
                 Some(_) => Err(Refused::BadArgument),
-                None => by_builder(types.ty(alloc, ty)),
+                None => types.ty(alloc, ty),
             },
         }
     }
 
-    /// Adds the type that another declares, which is left as it is.
+    /// Adds a type of core functions.
+    pub fn core_function(
+        &mut self,
+        alloc: Global,
+        debug_name: Option<&str>,
+        function: CoreFunction<'_>,
+    ) -> Result<u32, Refused>
+        ensures added { AddsTo self.old self.new result
+            (core_type_entry (option_copied debug_name.entry)
+            (Grouped (function_group function.entry.params function.entry.results))) }
+        ensures among { Among of_a_call (status_of result) }
+    {
+        match self {
+            Session::Building(builder) => by_builder(write_core_function(
+                builder, alloc, debug_name, function,
+            )),
+            Session::Finished(_) => Err(Refused::Finished),
+            Session::Declaring(types) => match debug_name {
+                Some(_) => Err(Refused::BadArgument),
+                None => types.core_function(alloc, function),
+            },
+        }
+    }
+
+    /// Adds the type that another declares, which is left as it is. That of modules is a core type.
     pub fn type_of(&mut self, debug_name: Option<&str>, types: &Session) -> Result<u32, Refused>
         ensures added { AddsType (option_copied debug_name.entry) types.now self.old self.new
             result }
@@ -406,7 +433,7 @@ impl Session {
             Session::Finished(_) => Err(Refused::Finished),
             Session::Declaring(to) => match debug_name {
                 Some(_) => Err(Refused::BadArgument),
-                None => by_builder(to.type_of(types)),
+                None => to.type_of(types),
             },
         }
     }
@@ -421,7 +448,35 @@ impl Session {
         ensures among { Among of_a_call (status_of result) }
     {
         match self {
-            Session::Declaring(types) => by_builder(types.export(name, ty)),
+            Session::Declaring(types) => types.export(name, ty),
+            _ => Err(Refused::BadArgument),
+        }
+    }
+
+    /// Declares an import of a type of modules.
+    pub fn declare_core_import(
+        &mut self,
+        module: &str,
+        name: &str,
+        ty: EntityType,
+    ) -> Result<(), Refused>
+        ensures declared { DeclaresCore self.old self.new result
+            (ModuleImport «module».now name.now ty) }
+        ensures among { Among of_a_call (status_of result) }
+    {
+        match self {
+            Session::Declaring(Declaring::Module(to)) => by_builder(to.import(module, name, ty)),
+            _ => Err(Refused::BadArgument),
+        }
+    }
+
+    /// Declares an export of a type of modules.
+    pub fn declare_core_export(&mut self, name: &str, ty: EntityType) -> Result<(), Refused>
+        ensures declared { DeclaresCore self.old self.new result (ModuleExport name.now ty) }
+        ensures among { Among of_a_call (status_of result) }
+    {
+        match self {
+            Session::Declaring(Declaring::Module(to)) => by_builder(to.export(name, ty)),
             _ => Err(Refused::BadArgument),
         }
     }

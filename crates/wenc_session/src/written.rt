@@ -6,15 +6,18 @@ ghost use Rattle.wenc_builder.specs.Builder.{builder_is_finished, item_given_up}
 ghost use Rattle.wenc_builder.specs.Enters.{Enters};
 ghost use Rattle.wenc_builder.specs.Entry.{Entry, canonical_entry, core_instance_entry, core_type_entry, instance_entry, type_entry};
 ghost use Rattle.wenc_builder.specs.Holds.{Holds};
+ghost use Rattle.wenc_session.specs.Cores.{function_group};
 ghost use Rattle.wenc_session.specs.Declaring.{state_of};
 ghost use Rattle.wenc_session.specs.Described.{described_view};
 ghost use Rattle.wenc_session.specs.declared.declaring.Declaring.TheVariants as declaring;
 ghost use Rattle.wenc_session.specs.Packed.{core_instantiating, exporting, inline_exporting, instantiating, lifting, lowering};
 ghost use Rattle.wenc_types.specs.ComponentTypes.{ComponentDeclaration, ComponentType as ComponentTypes, InstanceDeclaration, InstanceType as InstanceTypes, components_of, instances_of};
+ghost use Rattle.wenc_types.specs.CoreTypes.{Grouped, Module as ModuleTypes, ModuleDeclaration};
 ghost use Rattle.wenc_types.specs.CoreTypeTrees.{core_type_view};
-ghost use Rattle.wenc_types.specs.Declarations.{ComponentDeclares, InstanceDeclares, TypeState};
+ghost use Rattle.wenc_types.specs.Declarations.{ComponentDeclares, InstanceDeclares, ModuleDeclares, TypeState};
 ghost use Rattle.wenc_types.specs.TypeTrees.{type_view};
 
+use crate::cores::CoreFunction;
 use crate::declaring::Declaring;
 use crate::described::Described;
 use crate::packed::{Exports, InlineItems, Items, Packed, Unnamed};
@@ -23,7 +26,7 @@ use wenc_base::{ExportKind, Fault};
 use wenc_builder::ComponentBuilder;
 use wenc_canon::CanonicalOption;
 use wenc_parts::{ComponentExportKind, ModuleArg};
-use wenc_types::{CoreTypeTree, TypeTree};
+use wenc_types::{CoreTypeTree, ModuleType, TypeTree};
 
 /// Gives up the item that was being written when this fault was met.
 fn give_up(builder: &mut ComponentBuilder, fault: Fault) -> Result<u32, Fault>
@@ -87,12 +90,63 @@ pub(crate) fn write_type_of(
         → ty.now ≡ declaring.Instance t → InstanceDeclares t ds
         → Enters builder.old builder.new result
         (type_entry (option_copied debug_name.entry) (InstanceTypes (instances_of ds))) }
+    ensures module { (t : TypeState) (ds : List ModuleDeclaration)
+        → ty.now ≡ declaring.Module t → ModuleDeclares t ds
+        → Enters builder.old builder.new result
+        (core_type_entry (option_copied debug_name.entry) (ModuleTypes ds)) }
     ensures unfinished { is_finished (state_of ty.now).held ≡ false
         → OnOk result ⊥ × (builder.new ≡ builder.old) }
 {
     match ty {
         Declaring::Component(ty) => builder.type_component(debug_name, ty),
         Declaring::Instance(ty) => builder.type_instance(debug_name, ty),
+        Declaring::Module(ty) => write_module_type(builder, debug_name, ty),
+    }
+}
+
+/// Adds this type of modules, with a debug name or none, and answers its index. What is refused is
+/// given up.
+fn write_module_type(
+    builder: &mut ComponentBuilder,
+    debug_name: Option<&str>,
+    ty: &ModuleType,
+) -> Result<u32, Fault>
+    ensures entered { (ds : List ModuleDeclaration) → ModuleDeclares ty.now ds
+        → Enters builder.old builder.new result
+        (core_type_entry (option_copied debug_name.entry) (ModuleTypes ds)) }
+    ensures unfinished { is_finished ty.now.held ≡ false
+        → OnOk result ⊥ × (builder.new ≡ builder.old) }
+{
+    if !ty.is_finished() || !builder.is_finished() {
+        return Err(Fault::Unfinished);
+    }
+    match builder.core_type(debug_name) {
+        Ok((index, encoder)) => match encoder.module(ty) {
+            Ok(()) => Ok(index),
+            Err(fault) => give_up(builder, fault),
+        },
+        Err(fault) => Err(fault),
+    }
+}
+
+/// Adds a type of core functions, with a debug name or none, and answers its index. What is refused
+/// is given up.
+pub(crate) fn write_core_function(
+    builder: &mut ComponentBuilder,
+    alloc: Global,
+    debug_name: Option<&str>,
+    function: CoreFunction<'_>,
+) -> Result<u32, Fault>
+    ensures { Enters builder.old builder.new result
+        (core_type_entry (option_copied debug_name.entry)
+        (Grouped (function_group function.entry.params function.entry.results))) }
+{
+    if !builder.is_finished() {
+        return Err(Fault::Unfinished);
+    }
+    match function.tree(alloc) {
+        Ok(tree) => write_core_type(builder, debug_name, &CoreTypeTree::Group(tree)),
+        Err(failed) => Err(Fault::Memory(failed)),
     }
 }
 

@@ -1,4 +1,4 @@
-use Rattle.wenc_session.proofs.Settled.{empty_settled, added_stays, added_if_stays, found_stays, nested_stays, without_index_stays, custom_stays, names_stay, finished_stays}
+use Rattle.wenc_session.proofs.Settled.{empty_settled, added_stays, exported_stays, core_stays, added_if_stays, found_stays, nested_stays, without_index_stays, custom_stays, names_stay, finished_stays}
 use Rattle.wenc_session.proofs.laws.nothing_stays_unfinished.Goals as goal
 
 pub returns-clause-begun : goal.returns-clause-begun
@@ -15,6 +15,12 @@ returns-clause-read c = found_stays
 
 pub returns-clause-nested : goal.returns-clause-nested
 returns-clause-nested c = nested_stays
+
+pub returns-clause-exported : goal.returns-clause-exported
+returns-clause-exported c = exported_stays
+
+pub returns-clause-declared : goal.returns-clause-declared
+returns-clause-declared c = core_stays
 
 pub returns-clause-without_index : goal.returns-clause-without_index
 returns-clause-without_index c = without_index_stays

@@ -1,10 +1,22 @@
-use Rattle.std.proofs.Common.{refl}
+use Rattle.std.proofs.Common.{ℕ, Result, refl}
+use Rattle.wenc_base.specs.declared.fault.Fault.{Fault as Faults}
 use Rattle.wenc_base.specs.laws.Serves.{serves_itself}
 use Rattle.wenc_types.specs.ComponentTypes.{Declared, Typed, ComponentType, components_of}
+use Rattle.wenc_session.specs.Declaring.{DeclaresTo}
+use Rattle.wenc_session.specs.declared.declaring.Declaring.TheVariants as declaring
+use Rattle.wenc_session.proofs.Answers.{answered}
 use Rattle.wenc_session.proofs.declaring.Declaring.component.Goals as goal
 
 pub returns-in-Component-clause-declared : goal.returns-in-Component-clause-declared
-returns-in-Component-clause-declared c ds h = rw c.in-Component.is (c.declare_component.ensures.declared ds h (Declared (Typed (ComponentType (components_of ds)))) serves_itself refl, c.declare_component.ensures.index)
+returns-in-Component-clause-declared c ds h =
+    let d = Declared (Typed (ComponentType (components_of ds))) in
+    let did = c.declare_component.ensures in
+    rw (c.in-Component.is, c.by_builder.ensures.told)
+    (answered (λ (r : Result ℕ Faults). DeclaresTo (declaring.Component c.in-Component.to) (declaring.Component c.declare_component.new.to) r d) c.declare_component.result (did.declared ds h d serves_itself refl, did.index))
 
 pub returns-in-Instance-clause-declared : goal.returns-in-Instance-clause-declared
-returns-in-Instance-clause-declared c ds h = rw c.in-Instance.is (c.declare_component-in-Instance.ensures.declared ds h (Typed (ComponentType (components_of ds))) serves_itself refl, c.declare_component-in-Instance.ensures.index)
+returns-in-Instance-clause-declared c ds h =
+    let d = Typed (ComponentType (components_of ds)) in
+    let did = c.declare_component-in-Instance.ensures in
+    rw (c.in-Instance.is, c.by_builder-in-Instance.ensures.told)
+    (answered (λ (r : Result ℕ Faults). DeclaresTo (declaring.Instance c.in-Instance.to) (declaring.Instance c.declare_component-in-Instance.new.to) r (Declared d)) c.declare_component-in-Instance.result (did.declared ds h d serves_itself refl, did.index))
