@@ -1,19 +1,18 @@
 -- What refuses the beginning of a list refuses the list.
-use Rattle.std.proofs.Common.{refl, ◌≡◌, ℕ, ◌+◌, ◌≤◌, inl, inr, List, [], ◌∷◌, ◌++◌, Option, Some, None, length, length-append, arith}
+use Rattle.std.proofs.Common.{ℕ, ◌+◌, ◌≤◌, inl, inr, List, [], ◌∷◌, ◌++◌, Option, Some, None, length, length-append, arith}
 use Rattle.std.proofs.lemmas.Bool.Decides.{eqb_tells}
 use Rattle.std.proofs.lemmas.Grind.{flat_map-append}
 use Rattle.std.specs.List.{flat_map}
 use Rattle.wenc_base.proofs.Groups.{size_monotone}
-use Rattle.wenc_base.specs.Fault.{count_cause, either}
+use Rattle.wenc_base.specs.Fault.{count_cause}
 use Rattle.wenc_base.specs.Forms.{list}
 use Rattle.wenc_base.specs.Number.{unsigned_text}
-use Rattle.wenc_base.specs.Piece.{AnyCause, Form, ◌▸◌}
+use Rattle.wenc_base.specs.Piece.{AnyCause, Form}
 use Rattle.wenc_base.specs.declared.fault.Fault.{Fault}
 use Rattle.wenc_base.specs.declared.fault.Fault.TheVariants.{Memory, TooMany, TooLarge, Unfinished}
-use Rattle.wenc_builder.specs.Builder.{BegunItem, OpenSection, State, content_of, entered_at, item_appended}
+use Rattle.wenc_builder.specs.Builder.{OpenSection, State, entered_at}
 use Rattle.wenc_builder.specs.Cause.{EnterCause, SectionCause}
 use Rattle.wenc_builder.specs.Entry.{canonical_entry, core_instance_entry, instance_entry}
-use Rattle.wenc_builder.specs.LenderState.{no_room_in_section}
 use Rattle.wenc_canon.specs.Canonicals.{Lift, Lower, canonical, canonical_option}
 use Rattle.wenc_canon.specs.declared.canonicals.CanonicalOption.{CanonicalOption}
 use Rattle.wenc_sections.specs.Instances.{Argument, CoreExport, CoreExports, CoreInstantiate, Exports, InlineExport, Instantiate, InstantiateArg}

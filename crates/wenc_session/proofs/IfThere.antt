@@ -1,11 +1,11 @@
 -- What is added where there is an entry.
-use Rattle.std.proofs.Common.{◌≡◌, inr, ℕ, Option, Some, None, Result, Ok, Err, false, refl}
+use Rattle.std.proofs.Common.{◌≡◌, inr, ℕ, Option, Some, None, Result, Err, false, refl}
 use Rattle.wenc_base.specs.declared.fault.Fault.{Fault as Faults}
 use Rattle.wenc_base.specs.declared.fault.Fault.TheVariants.{Unfinished}
 use Rattle.wenc_builder.specs.Builder.{State, builder_is_finished}
 use Rattle.wenc_builder.specs.Enters.{Enters}
 use Rattle.wenc_builder.specs.Entry.{Entry}
-use Rattle.wenc_session.specs.Sessions.{AddsIf, Answered, of_builder}
+use Rattle.wenc_session.specs.Sessions.{AddsIf, of_builder}
 use Rattle.wenc_session.proofs.Answers.{answered}
 
 pub adds_if : (old new : State) (result : Result ℕ Faults) (o : Option Entry) → ¬ (o ≡ None) → ((x : Entry) → Enters old new result x) → AddsIf old new (of_builder result) o

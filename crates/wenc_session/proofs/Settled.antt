@@ -22,7 +22,7 @@ use Rattle.wenc_builder.specs.Item.{CoreTypeItem, Item, TypeItem}
 use Rattle.wenc_builder.specs.Names.{AddsNames, none_named, kept_names}
 use Rattle.wenc_builder.specs.Space.{Indices}
 use Rattle.wenc_session.specs.Reads.{AddsReadTo, IsUnread, entry_of}
-use Rattle.wenc_session.specs.Sessions.{answer_of, AddsIfTo, AddsTo, AddsWithoutIndexTo, Answered, DeclaresCore, DeclaresIfTo, Does, ExportsTo, Finishes, IsEmpty, IsSettled, Nests, NestsTo, StaysSettled}
+use Rattle.wenc_session.specs.Sessions.{AddsIfTo, AddsTo, AddsWithoutIndexTo, Answered, DeclaresCore, DeclaresIfTo, Does, ExportsTo, Finishes, IsEmpty, IsSettled, Nests, NestsTo, StaysSettled}
 use Rattle.wenc_session.specs.declared.refused.Refused.{Refused as Refusals}
 use Rattle.wenc_session.specs.declared.refused.Refused.TheVariants.{BadArgument, Fault, Finished}
 use Rattle.wenc_session.specs.declared.session.Session.{Session}

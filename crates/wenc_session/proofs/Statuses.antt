@@ -1,5 +1,5 @@
 -- Which statuses tell what a call did.
-use Rattle.std.proofs.Common.{◌≡◌, ℕ, List, ◌∷◌, Option, Some, None, Result, Ok, Err, refl, ap, sym, subst, inl, inr}
+use Rattle.std.proofs.Common.{◌≡◌, ℕ, List, ◌∷◌, Option, Some, None, Result, Ok, Err, refl, inl, inr}
 use Rattle.wenc_base.specs.Fault.{fault_number}
 use Rattle.wenc_base.specs.Readers.{Flaw}
 use Rattle.wenc_base.specs.declared.fault.Fault.{Fault as Faults}

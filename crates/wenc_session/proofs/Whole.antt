@@ -2,9 +2,6 @@
 -- cause of that list.
 use Rattle.std.proofs.Common.{◌≡◌, ℕ, List, [], ◌∷◌, ◌++◌, map, Option, Result, Ok, Err, refl, sym, ap, subst, ◌∙◌}
 use Rattle.std.specs.Iterator.{YieldsFirstBy}
-use Rattle.wenc_base.specs.Fault.{IsWarranted, either}
-use Rattle.wenc_base.specs.Lender.{Extended, Extends, ExtendsListed}
-use Rattle.wenc_base.specs.Piece.{Piece}
 use Rattle.wenc_base.specs.declared.fault.Fault.{Fault}
 use Rattle.wenc_base.specs.laws.Serves.{still_warranted}
 use Rattle.wenc_builder.specs.Builder.{State}
