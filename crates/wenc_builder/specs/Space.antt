@@ -22,7 +22,7 @@ use Rattle.wenc_parts.specs.Aliases.{AliasOf, InstanceExport, CoreInstanceExport
 use Rattle.wenc_canon.specs.Canonicals.{Canonical, Lift}
 use Rattle.wenc_builder.specs.Item.{Item, ModuleItem, CoreInstanceItem, CoreTypeItem, ComponentItem}
 use Rattle.wenc_builder.specs.Item.{InstanceItem, AliasItem, TypeItem, CanonItem, StartItem}
-use Rattle.wenc_builder.specs.Item.{ImportItem, ExportItem, CustomItem, RawItem}
+use Rattle.wenc_builder.specs.Item.{ImportItem, ExportItem}
 
 -- the thirteen spaces by their numbers, in the order in which a builder tells their counts
 abbrev pub space_number : Space → ℕ

@@ -6,7 +6,7 @@ use Rattle.std.specs.Prelude.{IsTrue, IsSome, IfOk, MatchOption}
 use Rattle.wenc_base.specs.Forms.{AreBytes}
 use Rattle.wenc_base.specs.Number.{u32, ReadsGroups, last, more}
 use Rattle.wenc_base.specs.Piece.{Form, Wide, each}
-use Rattle.wenc_base.specs.Readers.{Flaw, Bad, Deep, Reader, go_on, times, give, ◌>>=◌}
+use Rattle.wenc_base.specs.Readers.{Flaw, Bad, Deep, go_on, times, give, ◌>>=◌}
 use Rattle.wenc_base.specs.laws.Forms.{bytes_pass}
 use Rattle.wenc_base.specs.laws.Lawful.{same_Ok_pair}
 use Rattle.wenc_base.specs.laws.Numbers.{u32_lawful, u32_sound}
@@ -24,7 +24,6 @@ use Rattle.wenc_list.specs.Items.{item_section}
 use Rattle.wenc_list.specs.Listing.{HasDepth, IsFramed, IsLabelled, StopsAt}
 use Rattle.wenc_list.specs.Unread.{ReadsItems, IsNoItem, StopsInside, IsUnread, IsReadHere, IsNamed}
 use Rattle.wenc_list.specs.declared.unread.Unread.{Unread}
-use Rattle.wenc_list.specs.declared.unread.Unread.TheVariants as parts
 use Rattle.wenc_list.specs.inside.Contents.{read_content_item, read_content, read_frame}
 use Rattle.wenc_list.specs.inside.Unread.{Reaches, IsUnreadOr}
 use Rattle.wenc_list.proofs.Listed.{told_ok, not_both, is_framed, same_frame, never_framed, against, labelled_found, is_read, is_within, filled_by}

@@ -1,16 +1,16 @@
 -- The reader of types that nest is exact: what it finds is read and no deeper, what is read is
 -- found, and where it says that a type is too deep, the bytes go so deep.
-use Rattle.std.proofs.Common.{◌≡◌, ℕ, zero, suc, ◌<◌, ◌≤◌, Bool, true, false, List, [], ◌∷◌, Option, Result, Ok, Err, refl, ap, ◌∙◌, inl, inr, arith}
+use Rattle.std.proofs.Common.{◌≡◌, ℕ, zero, suc, ◌<◌, ◌≤◌, Bool, true, false, List, [], ◌∷◌, Option, Result, Ok, refl, ◌∙◌, inl, inr, arith}
 use Rattle.std.specs.List.{AllByRecursion}
 use Rattle.wenc_base.specs.Number.{u32}
 use Rattle.wenc_base.specs.Piece.{Form, Wide, only_where, each}
 use Rattle.wenc_base.specs.laws.Forms.{list_lawful, list_sound, option_lawful, option_sound}
 use Rattle.wenc_base.specs.declared.types.ValType.{ValType}
-use Rattle.wenc_base.specs.Readers.{Flaw, Bad, Reader, ◌>>=◌, give, too_deep, times, choose}
+use Rattle.wenc_base.specs.Readers.{Flaw, Reader, ◌>>=◌, give, too_deep, times, choose}
 use Rattle.wenc_base.specs.laws.Lawful.{then, last}
 use Rattle.wenc_base.specs.laws.Numbers.{u32_lawful, count_lawful, u32_sound}
 use Rattle.wenc_base.specs.reading.Numbers.{read_u32}
-use Rattle.wenc_base.specs.laws.Sound.{Told, Tells, Sound, deep_where, sound_tells, told_on, then_tells, last_tells, nowhere_tells, too_deep_tells, sound_behind, RowsTell, both_tables, choose_tells, Fewer, Several, times_told, each_plain, Finds, agreed, or_deeper, nothing_finds, then_finds, last_finds, lawful_finds, too_deep_finds, row_finds, ReadsApart, other_finds}
+use Rattle.wenc_base.specs.laws.Sound.{Told, Tells, Sound, deep_where, sound_tells, told_on, then_tells, last_tells, nowhere_tells, too_deep_tells, sound_behind, RowsTell, both_tables, choose_tells, Fewer, Several, times_told, each_plain, Finds, agreed, or_deeper, nothing_finds, then_finds, last_finds, lawful_finds, too_deep_finds, row_finds, other_finds}
 use Rattle.wenc_base.specs.laws.Types.{val_type_lawful, val_type_sound}
 use Rattle.wenc_parts.specs.declared.types.ComponentValType.{ComponentValType}
 use Rattle.wenc_parts.specs.laws.Aliases.{alias_lawful, alias_sound}
@@ -27,7 +27,7 @@ use Rattle.wenc_types.specs.laws.DefinedTypes.{labelled_type_lawful, named_sound
 use Rattle.wenc_types.specs.reading.DefinedTypes.{defined_rows, read_defined, read_signature, to_function}
 use Rattle.wenc_decode.specs.Depth.{Front, ByteThen, OpensTypes}
 use Rattle.wenc_types.specs.reading.ComponentTypes.{read_exported, read_imported, read_instance_declaration, read_component_declaration, read_components, read_instances, read_shallow, type_rows, read_type, read_component_type, read_instance_type}
-use Rattle.wenc_types.specs.reading.ComponentTypes.{read_resource_type, read_declared}
+use Rattle.wenc_types.specs.reading.ComponentTypes.{read_resource_type}
 
 -- ---- what doesn't nest
 

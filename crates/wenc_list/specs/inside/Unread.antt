@@ -1,5 +1,5 @@
 -- What the walk over a section's items finds.
-use Rattle.std.specs.Prelude.{◌≡◌, ℕ, ◌<◌, ◌≤◌, List, Option, Some, None, Result, Ok}
+use Rattle.std.specs.Prelude.{◌≡◌, ℕ, ◌<◌, ◌≤◌, List, Option, Some, None, Ok}
 use Rattle.wenc_builder.specs.Item.{Item}
 use Rattle.wenc_list.specs.Listing.{IsLabelled}
 use Rattle.wenc_list.specs.Unread.{ReadsItems, IsNoItem, IsUnreadIn}
