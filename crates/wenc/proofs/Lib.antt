@@ -2,6 +2,7 @@ pub mod Parted
 pub mod Numbers
 pub mod Commands
 pub mod Lines
+pub mod Front
 pub mod Sent
 pub mod Ended
 pub mod ListArgs

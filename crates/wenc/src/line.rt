@@ -9,7 +9,16 @@ use crate::kind::{kind, reference};
 use crate::number::{bytes, number};
 use crate::words::Words;
 use std::alloc::{AllocError, Global};
-use wasm_encoder::{AliasTree, Command, NameTree};
+use wasm_encoder::{AliasTree, Command, ComponentExportKind, NameTree};
+
+/// What words say of the kind and the index of an item with a name, which isn't empty.
+fn kind_and_index(name: &str, word: &str, index: &str) -> Option<(ComponentExportKind, u32)>
+{
+    if name.is_empty() {
+        return None;
+    }
+    Some((kind(word)?, number(index)?))
+}
 
 /// `import NAME KIND I`
 fn import(alloc: Global, words: Words) -> Result<Option<Command>, AllocError>
@@ -19,7 +28,7 @@ fn import(alloc: Global, words: Words) -> Result<Option<Command>, AllocError>
     let Some((name, word, index)) = words.three() else {
         return Ok(None);
     };
-    let (Some(kind), Some(index)) = (kind(word), number(index)) else {
+    let Some((kind, index)) = kind_and_index(name, word, index) else {
         return Ok(None);
     };
     let name = NameTree::from(String::from_str(alloc, name)?);
@@ -35,7 +44,7 @@ fn export(alloc: Global, words: Words) -> Result<Option<Command>, AllocError>
     let Some((name, word, index)) = words.three() else {
         return Ok(None);
     };
-    let (Some(kind), Some(index)) = (kind(word), number(index)) else {
+    let Some((kind, index)) = kind_and_index(name, word, index) else {
         return Ok(None);
     };
     let name = NameTree::from(String::from_str(alloc, name)?);
@@ -55,7 +64,7 @@ fn alias_export(alloc: Global, words: Words) -> Result<Option<Command>, AllocErr
     let Some((instance, word, name)) = words.three() else {
         return Ok(None);
     };
-    let (Some(instance), Some(kind)) = (number(instance), kind(word)) else {
+    let Some((kind, instance)) = kind_and_index(name, word, instance) else {
         return Ok(None);
     };
     let debug_name = String::from_str(alloc, name)?;
@@ -79,6 +88,9 @@ fn core_module(alloc: Global, words: Words) -> Result<Option<Command>, AllocErro
     let (Some(word), None) = (words.next(), words.next()) else {
         return Ok(None);
     };
+    if word.is_empty() {
+        return Ok(None);
+    }
     match bytes(alloc, word)? {
         Some(bytes) => Ok(Some(Command::CoreModule {
             debug_name: None,
@@ -150,16 +162,19 @@ fn command_of(alloc: Global, words: Words) -> Result<Option<Command>, AllocError
     }
 }
 
+/// The command that a line of a text says, if it says one.
+pub(crate) fn text_command(alloc: Global, line: &str) -> Result<Option<Command>, AllocError>
+    ensures { IfOk result (λ c. option_map command_view c ≡ line_command line.now) }
+{
+    command_of(alloc, Words::of(line))
+}
+
 /// The command that a line says, if it says one.
 pub fn command(alloc: Global, line: &[u8]) -> Result<Option<Command>, AllocError>
     ensures { IfOk result (λ c. option_map command_view c ≡ line_command line.now) }
 {
-    let Ok(line) = str::from_utf8(line) else {
-        return Ok(None);
-    };
-    let words = Words::of(line);
-    if words.has_empty() {
-        return Ok(None);
+    match str::from_utf8(line) {
+        Ok(line) => text_command(alloc, line),
+        Err(_) => Ok(None),
     }
-    command_of(alloc, words)
 }
