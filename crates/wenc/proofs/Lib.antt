@@ -3,6 +3,7 @@ pub mod Numbers
 pub mod Commands
 pub mod Lines
 pub mod Front
+pub mod Full
 pub mod Sent
 pub mod Ended
 pub mod ListArgs

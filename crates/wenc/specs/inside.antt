@@ -2,3 +2,4 @@
 pub mod Steps
 pub mod ListSteps
 pub mod Lines
+pub mod Full

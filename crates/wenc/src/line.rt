@@ -3,6 +3,7 @@ ghost use Rattle.std.specs.Prelude.{◌≡◌, IfOk, option_map};
 ghost use Rattle.wasm_encoder.specs.Command.{command_view};
 ghost use Rattle.wenc.specs.Script.{import_command, export_command, alias_command, core_module_command, start_command, append_names_command, command_of, line_command};
 ghost use Rattle.wenc.specs.Words.{words_left};
+ghost use Rattle.wenc.specs.inside.Full.{of_full, kind_and_index};
 
 use crate::builtin::builtin;
 use crate::kind::{kind, reference};
@@ -13,6 +14,7 @@ use wasm_encoder::{AliasTree, Command, ComponentExportKind, NameTree};
 
 /// What words say of the kind and the index of an item with a name, which isn't empty.
 fn kind_and_index(name: &str, word: &str, index: &str) -> Option<(ComponentExportKind, u32)>
+    ensures { result ≡ kind_and_index name.now word.now index.now }
 {
     if name.is_empty() {
         return None;
@@ -23,7 +25,7 @@ fn kind_and_index(name: &str, word: &str, index: &str) -> Option<(ComponentExpor
 /// `import NAME KIND I`
 fn import(alloc: Global, words: Words) -> Result<Option<Command>, AllocError>
     ensures { IfOk result
-        (λ c. option_map command_view c ≡ import_command (words_left words.entry)) }
+        (λ c. option_map command_view c ≡ of_full import_command (words_left words.entry)) }
 {
     let Some((name, word, index)) = words.three() else {
         return Ok(None);
@@ -39,7 +41,7 @@ fn import(alloc: Global, words: Words) -> Result<Option<Command>, AllocError>
 /// `export NAME KIND I`
 fn export(alloc: Global, words: Words) -> Result<Option<Command>, AllocError>
     ensures { IfOk result
-        (λ c. option_map command_view c ≡ export_command (words_left words.entry)) }
+        (λ c. option_map command_view c ≡ of_full export_command (words_left words.entry)) }
 {
     let Some((name, word, index)) = words.three() else {
         return Ok(None);
@@ -59,7 +61,7 @@ fn export(alloc: Global, words: Words) -> Result<Option<Command>, AllocError>
 /// `alias-export I KIND NAME`
 fn alias_export(alloc: Global, words: Words) -> Result<Option<Command>, AllocError>
     ensures { IfOk result
-        (λ c. option_map command_view c ≡ alias_command (words_left words.entry)) }
+        (λ c. option_map command_view c ≡ of_full alias_command (words_left words.entry)) }
 {
     let Some((instance, word, name)) = words.three() else {
         return Ok(None);
@@ -82,7 +84,7 @@ fn alias_export(alloc: Global, words: Words) -> Result<Option<Command>, AllocErr
 /// `core-module HEX`
 fn core_module(alloc: Global, words: Words) -> Result<Option<Command>, AllocError>
     ensures { IfOk result
-        (λ c. option_map command_view c ≡ core_module_command (words_left words.entry)) }
+        (λ c. option_map command_view c ≡ of_full core_module_command (words_left words.entry)) }
 {
     let mut words = words;
     let (Some(word), None) = (words.next(), words.next()) else {
@@ -139,7 +141,8 @@ fn append_names(words: Words) -> Option<Command>
 
 /// The command that the words of a line say, if they say one.
 fn command_of(alloc: Global, words: Words) -> Result<Option<Command>, AllocError>
-    ensures { IfOk result (λ c. option_map command_view c ≡ command_of (words_left words.entry)) }
+    ensures { IfOk result
+        (λ c. option_map command_view c ≡ of_full command_of (words_left words.entry)) }
 {
     let mut words = words;
     let Some(verb) = words.next() else {
