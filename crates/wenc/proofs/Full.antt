@@ -104,7 +104,6 @@ has_empty_turned (x ∷ a) [] (z ∷ c) = refl
 has_empty_turned (x ∷ a) (y ∷ b) [] = refl
 has_empty_turned (x ∷ a) (y ∷ b) (z ∷ c) = refl
 
-
 full_named : (f : ComponentExportKind × ℕ → CommandTree) (name k i : List ℕ) (y : Option CommandTree) → option_map f (both (kind k) (number_word i)) ≡ y
     → cond (has_empty (name ∷ k ∷ i ∷ [])) None y ≡ option_map f (kind_and_index name k i)
 full_named f name k i y h =
@@ -183,10 +182,12 @@ full_start words = full_same (has_empty words) (start_command words) (by words)
     no_results : (function : Option ℕ) (arguments : Option (List ℕ)) → start_of function None arguments ≡ None
     no_results None arguments = refl
     no_results (Some f) arguments = refl
+
     no_arguments : (function results : Option ℕ) → start_of function results None ≡ None
     no_arguments None results = refl
     no_arguments (Some f) None = refl
     no_arguments (Some f) (Some r) = refl
+
     by : (words : List (List ℕ)) → has_empty words ≡ true → start_command words ≡ None
     by [] h = refl
     by (function ∷ []) h = refl

@@ -56,7 +56,7 @@ pub fn parse<A: Allocator>(alloc: A, names: Global, text: &[u8]) -> Result<Vec<C
         number += 1;
         last = behind;
     }
-    // The line of the first byte that is in no text is bad.
+    // The last line goes on with bytes that are no text.
     if !is_whole {
         return Err(Failure::BadLine(number));
     }
