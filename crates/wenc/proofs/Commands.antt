@@ -37,6 +37,11 @@ line_read commands all n [] lines h =
     ap (λ (cs : List CommandTree). put_before cs (commands_from (n + 1) lines)) (sym (append-nil commands) ∙ e)
 line_read commands all n (b ∷ line) lines h = one_more commands (line_command (b ∷ line)) all n (commands_from (n + 1) lines) h
 
+-- the last line was read
+pub last_read : (commands after : List CommandTree) (n : ℕ) (line : List ℕ) (all : Result (List CommandTree) ℕ) → put_before commands (commands_from n (line ∷ [])) ≡ all
+    → option_map (λ (cs : List CommandTree). commands ++ cs) (commands_of_line line) ≡ Some after → all ≡ Ok after
+last_read commands after n line all said h = sym said ∙ line_read commands after n line [] h ∙ ap Ok (append-nil after)
+
 none_said : (c : Option CommandTree) (n : ℕ) (said : Result (List CommandTree) ℕ) → option_map (λ (x : CommandTree). x ∷ []) c ≡ None → with_line n c said ≡ Err n
 none_said None n said h = refl
 none_said (Some c) n said h = absurd cc

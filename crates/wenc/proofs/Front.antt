@@ -7,10 +7,12 @@ use Rattle.std.proofs.lemmas.Bool.Decides.{eqb_tells}
 use Rattle.std.proofs.lemmas.List.{drop_all}
 use Rattle.std.proofs.lemmas.Str.{IsUtf8-append, IsUtf8-nil, IsUtf8-take, IsUtf8-drop, IsUtf8-from_ascii, IsCharBoundary-before_ascii, IsCharBoundary-after_ascii}
 use Rattle.wenc.specs.Parts.{parted, first_grown}
+use Rattle.wasm_encoder.specs.Command.{CommandTree}
 use Rattle.wenc.specs.Script.{commands_from}
 use Rattle.wenc.specs.inside.Lines.{IsTextInFront}
 use Rattle.wenc.proofs.Parted.{parted_whole, take_one_more, drop_one_more}
 use Rattle.wenc.proofs.Lines.{not_text}
+use Rattle.wenc.proofs.Commands.{put_before}
 
 -- the front that is a text is cut off, and is a text
 pub text_cut : {E : Type 0} (bytes : List ℕ) (n k : ℕ) (r : Result (Bor (List ℕ)) E) (Q : E → Type 0) (other text : Bor (List ℕ)) → IsValidUpTo bytes n → k ≡ n
@@ -143,16 +145,27 @@ bad_end n bytes text done last front parts done_text no_end =
     let valid : IsValidUpTo (text ++ more) (length text) = subst (λ (l : List ℕ). IsValidUpTo l (length text)) whole front.1 in
     ap (commands_from n) (parts_behind 10 last more f.part f.parts no_end f.is) ∙ bad_first n (last ++ f.part) f.parts (line_is_no_text text more done last f valid parts done_text)
 
--- the lines end at a bad one, where more bytes follow the text
-pub bad_last : (n : ℕ) (bytes text done last : List ℕ) (is_whole : Bool) → IsTextInFront bytes text is_whole → is_whole ≡ false → text ≡ done ++ last → IsUtf8 done
+bad_last : (n : ℕ) (bytes text done last : List ℕ) (is_whole : Bool) → IsTextInFront bytes text is_whole → is_whole ≡ false → text ≡ done ++ last → IsUtf8 done
     → position_or_len (λ b. eqb b 10) last ≡ length last → commands_from n (parted 10 (last ++ drop (length text) bytes)) ≡ Err n
 bad_last n bytes text done last is_whole front no_more = bad_end n bytes text done last (rw no_more at front)
 
--- the last line, where none do
-pub last_line : (bytes text last : List ℕ) (is_whole : Bool) → IsTextInFront bytes text is_whole → is_whole ≡ true → position_or_len (λ b. eqb b 10) last ≡ length last
+-- the last line is bad, where more bytes follow the text
+pub ends_badly : (commands : List CommandTree) (n : ℕ) (bytes text done last : List ℕ) (is_whole : Bool) (all : Result (List CommandTree) ℕ)
+    → put_before commands (commands_from n (parted 10 (last ++ drop (length text) bytes))) ≡ all → IsTextInFront bytes text is_whole → is_whole ≡ false
+    → text ≡ done ++ last → IsUtf8 done → position_or_len (λ b. eqb b 10) last ≡ length last → all ≡ Err n
+ends_badly commands n bytes text done last is_whole all said front no_more parts done_text no_end =
+    sym said ∙ ap (put_before commands) (bad_last n bytes text done last is_whole front no_more parts done_text no_end)
+
+last_line : (bytes text last : List ℕ) (is_whole : Bool) → IsTextInFront bytes text is_whole → is_whole ≡ true → position_or_len (λ b. eqb b 10) last ≡ length last
     → parted 10 (last ++ drop (length text) bytes) ≡ last ∷ []
 last_line bytes text last false front whole no_end = absurd cc
 last_line bytes text last true front whole no_end = rw (none_behind bytes text front.0, append-nil) (parted_whole 10 last no_end)
+
+-- the last line, where none do
+pub last_said : (commands : List CommandTree) (n : ℕ) (bytes text last : List ℕ) (is_whole : Bool) (all : Result (List CommandTree) ℕ)
+    → put_before commands (commands_from n (parted 10 (last ++ drop (length text) bytes))) ≡ all → IsTextInFront bytes text is_whole → is_whole ≡ true
+    → position_or_len (λ b. eqb b 10) last ≡ length last → put_before commands (commands_from n (last ∷ [])) ≡ all
+last_said commands n bytes text last is_whole all said front whole no_end = rw (last_line bytes text last is_whole front whole no_end) at said
 
 -- ---- the loop over the lines
 

@@ -1,9 +1,9 @@
-use Rattle.std.proofs.Common.{◌≡◌, List, ℕ, [], refl, sym, ap, ◌∙◌, ◌++◌, arith, rules, map, length, drop, lit<, Ok, append-nil}
+use Rattle.std.proofs.Common.{List, ℕ, [], refl, sym, ◌∙◌, ◌++◌, arith, length, drop, lit<}
 use Rattle.wenc.specs.Parts.{parted}
-use Rattle.wenc.specs.Script.{script, commands_from, command_view}
+use Rattle.wenc.specs.Script.{script}
 use Rattle.std.proofs.lemmas.Str.{IsUtf8-nil}
-use Rattle.wenc.proofs.Commands.{put_before, nothing_before, line_read, read_failed}
-use Rattle.wenc.proofs.Front.{CutAtEnd, front_and_behind, front_text, front_shorter, bad_last, last_line, behind_text, behind_shorter, next_line, done_grows, done_and_behind}
+use Rattle.wenc.proofs.Commands.{nothing_before, line_read, last_read, read_failed}
+use Rattle.wenc.proofs.Front.{CutAtEnd, front_and_behind, front_text, front_shorter, ends_badly, last_said, behind_text, behind_shorter, next_line, done_grows, done_and_behind}
 use Rattle.wenc.proofs.script.parse.Goals as goal
 
 pub loop-line-init : goal.loop-line-init
@@ -54,16 +54,16 @@ pub returns-then-not-is_whole : goal.returns-then-not-is_whole
 returns-then-not-is_whole g c =
     let now = c.loop-line.invariant in
     let no_end = c.in_default.ensures.byte (lit< tt) (λ w o f. f) in
-    sym now.said ∙ ap (put_before _) (bad_last c.loop-line.number c.args.text.now _ now.done c.loop-line.last.now _ c.text_in_front-is_whole.ensures c.if-not-is_whole.true now.parts now.done_text no_end)
+    ends_badly _ c.loop-line.number c.args.text.now _ now.done c.loop-line.last.now _ _ now.said c.text_in_front-is_whole.ensures c.if-not-is_whole.true now.parts now.done_text no_end
 
 pub returns-in_err-read_line-2 : goal.returns-in_err-read_line-2
 returns-in_err-read_line-2 g c =
     let no_end = c.in_default.ensures.byte (lit< tt) (λ w o f. f) in
-    let only = last_line c.args.text.now _ c.loop-line.last.now _ c.text_in_front-is_whole.ensures c.if-not-is_whole.false no_end in
-    read_failed c.from_residual-in_err-read_line-2.result c.in_err-read_line-2.field-0.0 c.loop-line.number c.loop-line.last.now [] _ _ _ c.from_residual-in_err-read_line-2.ensures.1 c.in_err-read_line-2.ensures (rw only at c.loop-line.invariant.said)
+    let said = last_said _ c.loop-line.number c.args.text.now _ c.loop-line.last.now _ _ c.loop-line.invariant.said c.text_in_front-is_whole.ensures c.if-not-is_whole.false no_end in
+    read_failed c.from_residual-in_err-read_line-2.result c.in_err-read_line-2.field-0.0 c.loop-line.number c.loop-line.last.now [] _ _ _ c.from_residual-in_err-read_line-2.ensures.1 c.in_err-read_line-2.ensures said
 
 pub returns : goal.returns
 returns g c =
     let no_end = c.in_default.ensures.byte (lit< tt) (λ w o f. f) in
-    let only = last_line c.args.text.now _ c.loop-line.last.now _ c.text_in_front-is_whole.ensures c.if-not-is_whole.false no_end in
-    sym (rw only at c.loop-line.invariant.said) ∙ line_read _ _ c.loop-line.number c.loop-line.last.now [] c.in_ok-read_line-2.ensures ∙ ap Ok (append-nil _)
+    let said = last_said _ c.loop-line.number c.args.text.now _ c.loop-line.last.now _ _ c.loop-line.invariant.said c.text_in_front-is_whole.ensures c.if-not-is_whole.false no_end in
+    last_read _ _ c.loop-line.number c.loop-line.last.now _ said c.in_ok-read_line-2.ensures
