@@ -1,13 +1,13 @@
 -- Lines with an empty word say nothing: where it is no name, no bytes and no number is empty.
-use Rattle.std.proofs.Common.{◌≡◌, ℕ, ◌+◌, Bool, true, false, cond, List, [], ◌∷◌, Option, Some, None, refl, sym, ap, ◌∙◌, length, option_map, option_and_then}
+use Rattle.std.proofs.Common.{◌≡◌, ℕ, Bool, true, false, cond, List, [], ◌∷◌, Option, Some, None, refl, sym, ap, ◌∙◌, length, option_map, option_and_then}
 use Rattle.wenc_parts.specs.declared.exports.ComponentExportKind.{ComponentExportKind}
-use Rattle.wenc_canon.specs.Canonicals.{Field, Index, Options, Flag, Zero, CoreType, Results, Slot, Value, Builtin, row, builtins, OfBuiltin}
-use Rattle.wenc.specs.Fields.{number_word, number_before, numbers, flag_word, kind, reference_word, hex}
+use Rattle.wenc_canon.specs.Canonicals.{Field, Index, Options, Flag, Zero, CoreType, Results, Slot, Builtin, row, builtins}
+use Rattle.wenc.specs.Fields.{number_word, number_before, numbers, flag_word, kind, reference_word}
 use Rattle.wenc.specs.Builtins.{said, word_is_over, values_said, one_of, builtin_said}
 use Rattle.wasm_encoder.specs.Command.{CommandTree, Add}
 use Rattle.wenc_parts.specs.Imports.{plain_name}
 use Rattle.wenc_builder.specs.Entry.{import_entry, export_entry, alias_export_entry, canonical_tree_entry}
-use Rattle.wenc.specs.Script.{has_empty, import_of, import_command, export_of, export_command, alias_said, alias_command, core_module_command, start_of, start_command, append_names_command, command_by, command_of}
+use Rattle.wenc.specs.Script.{has_empty, import_of, import_command, export_of, export_command, alias_said, alias_command, start_of, start_command, append_names_command, command_by, command_of}
 use Rattle.std.specs.Prelude.{codes}
 use Rattle.std.specs.Str.{bytes_eq}
 use Rattle.std.proofs.lemmas.Slice.Eq.{bytes_eq-Decides}

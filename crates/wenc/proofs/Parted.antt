@@ -1,10 +1,7 @@
 -- Parting at the first separator.
-use Rattle.std.proofs.Common.{◌≡◌, ℕ, suc, ◌+◌, ◌-◌, ◌<◌, ◌⊎◌, eqb, not, List, [], ◌∷◌, length, take, drop, Some, None, refl, ◌∙◌, arith, inl, inr, length-drop}
+use Rattle.std.proofs.Common.{◌≡◌, ℕ, suc, ◌+◌, ◌<◌, eqb, List, [], ◌∷◌, length, take, drop, refl, arith, inl, inr}
 use Rattle.std.proofs.lemmas.Bool.Decides.{eqb_tells}
-use Rattle.std.proofs.lemmas.Bool.{cases_lt, le-ltb, lt-ltb}
-use Rattle.std.proofs.lemmas.List.{take_all}
-use Rattle.std.proofs.lemmas.List.Sums.{prefix_len-le-length}
-use Rattle.std.specs.List.{position_or_len, before_first, after_first, position}
+use Rattle.std.specs.List.{position_or_len, before_first, after_first}
 use Rattle.wenc.specs.Parts.{parted}
 
 pub parted_whole : (separator : ℕ) (s : List ℕ) → position_or_len (λ b. eqb b separator) s ≡ length s → parted separator s ≡ s ∷ []
