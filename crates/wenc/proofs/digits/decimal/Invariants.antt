@@ -4,9 +4,10 @@ use Rattle.wenc.proofs.digits.decimal.Given as goal
 
 abbrev pub invariant-loop-rest : goal.invariant-loop-rest
 invariant-loop-rest l = record {
-  room : length l.text ≡ 10;
+  room : length l.line ≡ 11;
+  behind : length (drop 10 l.fn.line) ≡ 1;
   within : l.start ≤ 10;
-  written : decimal l.rest ++ drop l.start l.text ≡ decimal l.number;
+  written : decimal l.rest ++ drop l.start l.line ≡ decimal l.number ++ drop 10 l.fn.line;
 }
 
 abbrev pub decreases-loop-rest : goal.decreases-loop-rest
