@@ -9,6 +9,7 @@ use Rattle.wenc.specs.Fields.{kind, number_word}
 abbrev pub of_full : (List (List ℕ) → Option CommandTree) → List (List ℕ) → Option CommandTree
 of_full says words = if has_empty words then None else says words
 
+-- two values, where there are both
 abbrev pub both : {A B : Type 0} → Option A → Option B → Option (A × B)
 both None y = None
 both (Some x) None = None
