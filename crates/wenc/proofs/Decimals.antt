@@ -4,11 +4,11 @@ use Rattle.std.specs.Fmt.{decimal}
 use Rattle.std.proofs.lemmas.Fmt.{decimal_step, decimal_digit, decimal_nonempty, length-decimal-le}
 
 -- there is room for one digit more
-pub has_room : (number : ℕ) (behind : List ℕ) (rest start : ℕ) (text : List ℕ) → number < 2 ^ 32 → rest < 2 ^ 32 → length text ≡ 11 → length behind ≡ 1 → start ≤ 10 → decimal rest ++ drop start text ≡ decimal number ++ behind → 1 ≤ start
-has_room number behind rest start text small smaller room one within written =
+pub has_room : (number rest start : ℕ) (text : List ℕ) → number < 2 ^ 32 → rest < 2 ^ 32 → length text ≡ 10 → start ≤ 10 → decimal rest ++ drop start text ≡ decimal number → 1 ≤ start
+has_room number rest start text small smaller room within written =
     let fits : length (decimal number) ≤ 10 = length-decimal-le 10 number (omega arith) (omega arith) (omega arith) in
     let some : 0 < length (decimal rest) = decimal_nonempty rest (omega arith) in
-    omega (arith, length-append (decimal rest) (drop start text), length-drop start text, length-append (decimal number) behind, ap length written)
+    omega (arith, length-append (decimal rest) (drop start text), length-drop start text, ap length written)
 
 -- a digit in front of those that are written
 pub digit_set : (start digit : ℕ) (text : List ℕ) → 1 ≤ start → start ≤ length text → drop (start - 1) (slice_set text (start - 1) digit) ≡ digit ∷ drop start text
@@ -20,14 +20,14 @@ digit_set start digit text some within =
     let less : i < start = omega arith in
     drop-cons (slice_set text i digit) i 0 set_below ∙ rw (next, get_or-set_same, drop-set-lt) refl
 
-pub digit_more : (all : List ℕ) (rest start : ℕ) (text : List ℕ) → 10 ≤ rest → rest < 2 ^ 32 → 1 ≤ start → start ≤ length text → decimal rest ++ drop start text ≡ all
-    → decimal (rest / 10) ++ drop (start - 1) (slice_set text (start - 1) (48 + rest % 10)) ≡ all
-digit_more all rest start text more small some within written =
+pub digit_more : (number rest start : ℕ) (text : List ℕ) → 10 ≤ rest → rest < 2 ^ 32 → 1 ≤ start → start ≤ length text → decimal rest ++ drop start text ≡ decimal number
+    → decimal (rest / 10) ++ drop (start - 1) (slice_set text (start - 1) (48 + rest % 10)) ≡ decimal number
+digit_more number rest start text more small some within written =
     let step = decimal_step rest more (omega arith) in
     rw (digit_set start (48 + rest % 10) text some within)
     (sym (append_assoc (decimal (rest / 10)) ((48 + rest % 10) ∷ []) (drop start text)) ∙ ap (λ (l : List ℕ). l ++ drop start text) (sym step) ∙ written)
 
-pub last_digit : (all : List ℕ) (rest start : ℕ) (text : List ℕ) → rest < 10 → 1 ≤ start → start ≤ length text → decimal rest ++ drop start text ≡ all
-    → drop (start - 1) (slice_set text (start - 1) (48 + rest)) ≡ all
-last_digit all rest start text less some within written =
+pub last_digit : (number rest start : ℕ) (text : List ℕ) → rest < 10 → 1 ≤ start → start ≤ length text → decimal rest ++ drop start text ≡ decimal number
+    → drop (start - 1) (slice_set text (start - 1) (48 + rest)) ≡ decimal number
+last_digit number rest start text less some within written =
     digit_set start (48 + rest) text some within ∙ ap (λ (l : List ℕ). l ++ drop start text) (sym (decimal_digit rest less)) ∙ written

@@ -1,5 +1,5 @@
 //! Digits of numbers, and bytes in hexadecimal.
-ghost use Rattle.std.specs.Prelude.{◌≡◌, ◌*◌, ◌<◌, ◌≤◌, ◌++◌, length, drop, slice_index};
+ghost use Rattle.std.specs.Prelude.{◌≡◌, ◌*◌, ◌<◌, ◌≤◌, length, drop, slice_index};
 ghost use Rattle.std.specs.Fmt.{decimal};
 ghost use Rattle.hex.specs.Hex.{encode_lower, lower_digits};
 
@@ -28,20 +28,19 @@ pub fn encode(bytes: &[u8], text: &mut [u8])
     }
 }
 
-/// Writes the decimal digits of a number in front of the last byte of a line, and answers where they
-/// begin.
-pub(crate) fn decimal(number: u32, line: &mut [u8; 11]) -> usize
+/// Writes the decimal digits of a number at the end of a text, and answers where they begin.
+pub(crate) fn decimal(number: u32, text: &mut [u8; 10]) -> usize
     ensures within { result ≤ 10 }
-    ensures value { drop result line.new ≡ decimal number ++ drop 10 line.old }
+    ensures value { drop result text.new ≡ decimal number }
 {
     let mut start = 10;
     let mut rest = number;
     while rest >= 10 {
         start -= 1;
-        line[start] = b'0' + (rest % 10) as u8;
+        text[start] = b'0' + (rest % 10) as u8;
         rest /= 10;
     }
     start -= 1;
-    line[start] = b'0' + rest as u8;
+    text[start] = b'0' + rest as u8;
     start
 }

@@ -7,13 +7,20 @@ use crate::digits::decimal;
 use std::alloc::{AllocError, Allocator};
 use wasm_encoder::Fault;
 
-/// Appends the line of a number.
-fn push_number<A: Allocator>(text: &mut Vec<u8, A>, number: u32) -> Result<(), AllocError>
-    ensures { OnOk result (text.new.items ≡ text.old.items ++ line_of (decimal number)) }
+/// Appends a line that ends by a number.
+fn push_number<A: Allocator>(
+    text: &mut Vec<u8, A>,
+    word: &[u8],
+    number: u32,
+) -> Result<(), AllocError>
+    ensures { OnOk result
+        (text.new.items ≡ text.old.items ++ (word.now ++ line_of (decimal number))) }
 {
-    let mut line = [b'\n'; 11];
-    let start = decimal(number, &mut line);
-    text.extend_from_slice(&line[start..])
+    let mut digits = [0; 10];
+    let start = decimal(number, &mut digits);
+    text.extend_from_slice(word)?;
+    text.extend_from_slice(&digits[start..])?;
+    Ok(text.push(b'\n')?)
 }
 
 /// Appends the line of an answer.
@@ -25,11 +32,8 @@ fn push_answer<A: Allocator>(
 {
     match given {
         Ok(None) => text.extend_from_slice(b"-\n"),
-        Ok(Some(index)) => push_number(text, *index),
-        Err(fault) => {
-            text.extend_from_slice(b"refused ")?;
-            push_number(text, u32::from(fault.number()))
-        }
+        Ok(Some(index)) => push_number(text, b"", *index),
+        Err(fault) => push_number(text, b"refused ", u32::from(fault.number())),
     }
 }
 

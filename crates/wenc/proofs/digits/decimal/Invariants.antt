@@ -4,10 +4,9 @@ use Rattle.wenc.proofs.digits.decimal.Given as goal
 
 abbrev pub invariant-loop-rest : goal.invariant-loop-rest
 invariant-loop-rest l = record {
-  room : length l.line ≡ 11;
-  behind : length (drop 10 l.fn.line) ≡ 1;
+  room : length l.text ≡ 10;
   within : l.start ≤ 10;
-  written : decimal l.rest ++ drop l.start l.line ≡ decimal l.number ++ drop 10 l.fn.line;
+  written : decimal l.rest ++ drop l.start l.text ≡ decimal l.number;
 }
 
 abbrev pub decreases-loop-rest : goal.decreases-loop-rest
