@@ -1,6 +1,5 @@
 pub mod Parted
 pub mod Numbers
-pub mod Decimals
 pub mod Commands
 pub mod Lines
 pub mod Front

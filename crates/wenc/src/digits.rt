@@ -1,6 +1,5 @@
-//! Digits of numbers, and bytes in hexadecimal.
-ghost use Rattle.std.specs.Prelude.{◌≡◌, ◌*◌, ◌<◌, ◌≤◌, length, drop, slice_index};
-ghost use Rattle.std.specs.Fmt.{decimal};
+//! Bytes in hexadecimal.
+ghost use Rattle.std.specs.Prelude.{◌≡◌, ◌*◌, ◌<◌, length, slice_index};
 ghost use Rattle.hex.specs.Hex.{encode_lower, lower_digits};
 
 /// The digit of a number below 16.
@@ -26,21 +25,4 @@ pub fn encode(bytes: &[u8], text: &mut [u8])
         text[2 * i] = digit(byte >> 4);
         text[2 * i + 1] = digit(byte & 0x0f);
     }
-}
-
-/// Writes the decimal digits of a number at the end of a text, and answers where they begin.
-pub(crate) fn decimal(number: u32, text: &mut [u8; 10]) -> usize
-    ensures within { result ≤ 10 }
-    ensures value { drop result text.new ≡ decimal number }
-{
-    let mut start = 10;
-    let mut rest = number;
-    while rest >= 10 {
-        start -= 1;
-        text[start] = b'0' + (rest % 10) as u8;
-        rest /= 10;
-    }
-    start -= 1;
-    text[start] = b'0' + rest as u8;
-    start
 }
