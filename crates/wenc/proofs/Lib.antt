@@ -2,6 +2,8 @@ pub mod Parted
 pub mod Numbers
 pub mod Commands
 pub mod Lines
+pub mod Front
+pub mod Full
 pub mod Sent
 pub mod Ended
 pub mod ListArgs

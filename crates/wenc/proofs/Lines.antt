@@ -1,20 +1,17 @@
 -- What a line says by its words.
-use Rattle.std.proofs.Common.{◌≡◌, ℕ, Bool, true, false, cond, List, None, refl, ◌∙◌}
+use Rattle.std.proofs.Common.{◌≡◌, ℕ, Bool, true, false, cond, List, None, refl}
 use Rattle.std.specs.Str.{IsUtf8, is_utf8}
 use Rattle.std.proofs.lemmas.Str.{IsUtf8-from_is_utf8, is_utf8-from_IsUtf8}
 use Rattle.wenc.specs.Parts.{parted}
 use Rattle.wenc.specs.Script.{has_empty, command_of, line_command}
 
-false_utf8 : (b : Bool) (P : Type 0) → (b ≡ true → P) → ¬ P → b ≡ false
-false_utf8 true P h n = absurd (n (h refl))
-false_utf8 false P h n = refl
+pub false_without : (b : Bool) (P : Type 0) → (b ≡ true → P) → ¬ P → b ≡ false
+false_without true P h n = absurd (n (h refl))
+false_without false P h n = refl
 
 pub not_text : (line : List ℕ) → ¬ IsUtf8 line → line_command line ≡ None
-not_text line h = rw (false_utf8 (is_utf8 line) (IsUtf8 line) (IsUtf8-from_is_utf8 line) h) refl
+not_text line h = rw (false_without (is_utf8 line) (IsUtf8 line) (IsUtf8-from_is_utf8 line) h) refl
 
 -- of a text only the words count
-of_text : (line : List ℕ) → IsUtf8 line → line_command line ≡ cond (has_empty (parted 32 line)) None (command_of (parted 32 line))
+pub of_text : (line : List ℕ) → IsUtf8 line → line_command line ≡ cond (has_empty (parted 32 line)) None (command_of (parted 32 line))
 of_text line h = rw (is_utf8-from_IsUtf8 line h) refl
-
-pub worded : (line : List ℕ) (words : List (List ℕ)) → IsUtf8 line → parted 32 line ≡ words → has_empty words ≡ false → line_command line ≡ command_of words
-worded line words h e full = of_text line h ∙ rw (e, full) refl

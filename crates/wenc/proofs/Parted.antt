@@ -1,10 +1,7 @@
 -- Parting at the first separator.
-use Rattle.std.proofs.Common.{◌≡◌, ℕ, suc, ◌+◌, ◌-◌, ◌<◌, ◌⊎◌, eqb, not, List, [], ◌∷◌, length, take, drop, Some, None, refl, ◌∙◌, arith, inl, inr, length-drop}
+use Rattle.std.proofs.Common.{◌≡◌, ℕ, suc, ◌+◌, ◌<◌, eqb, List, [], ◌∷◌, length, take, drop, refl, arith, inl, inr}
 use Rattle.std.proofs.lemmas.Bool.Decides.{eqb_tells}
-use Rattle.std.proofs.lemmas.Bool.{cases_lt, le-ltb, lt-ltb}
-use Rattle.std.proofs.lemmas.List.{take_all}
-use Rattle.std.proofs.lemmas.List.Sums.{prefix_len-le-length}
-use Rattle.std.specs.List.{position_or_len, before_first, after_first, position}
+use Rattle.std.specs.List.{position_or_len, before_first, after_first}
 use Rattle.wenc.specs.Parts.{parted}
 
 pub parted_whole : (separator : ℕ) (s : List ℕ) → position_or_len (λ b. eqb b separator) s ≡ length s → parted separator s ≡ s ∷ []
@@ -17,10 +14,10 @@ parted_whole separator (b ∷ s) h =
           rw (t.0, parted_whole separator s e) refl
     ]
 
-take_one_more : (n b : ℕ) (s : List ℕ) → take (1 + n) (b ∷ s) ≡ b ∷ take n s
+pub take_one_more : (n b : ℕ) (s : List ℕ) → take (1 + n) (b ∷ s) ≡ b ∷ take n s
 take_one_more n b s = let e : 1 + n ≡ suc n = omega arith in rw e refl
 
-drop_one_more : (n b : ℕ) (s : List ℕ) → drop (1 + n + 1) (b ∷ s) ≡ drop (n + 1) s
+pub drop_one_more : (n b : ℕ) (s : List ℕ) → drop (1 + n + 1) (b ∷ s) ≡ drop (n + 1) s
 drop_one_more n b s = let e : 1 + n + 1 ≡ suc (n + 1) = omega arith in rw e refl
 
 pub parted_first : (separator : ℕ) (s : List ℕ) → position_or_len (λ b. eqb b separator) s < length s
@@ -33,33 +30,4 @@ parted_first separator (b ∷ s) h =
           let n = position_or_len (λ x. eqb x separator) s in
           let e : n < length s = omega (arith, rw t.0 at h) in
           rw (t.0, parted_first separator s e, take_one_more n b s, drop_one_more n b s) refl
-    ]
-
--- ---- the first line
-
-abbrev line_len : List ℕ → ℕ
-line_len = position_or_len (λ b. eqb b 10)
-
-line_cases : (s : List ℕ) → ((position (λ b. eqb b 10) s ≡ Some (line_len s)) × (line_len s < length s)) ⊎ ((position (λ b. eqb b 10) s ≡ None) × (line_len s ≡ length s))
-line_cases s =
-    elim (cases_lt (line_len s) (length s)) [
-      | inl h ↦ inl (rw (lt-ltb _ _ h) refl, h)
-      | inr h ↦ inr (rw (le-ltb _ _ h) refl, omega (arith, prefix_len-le-length (λ b. not (eqb b 10)) s))
-    ]
-
-pub line_ends : (s : List ℕ) (end : ℕ) → position (λ b. eqb b 10) s ≡ Some end → parted 10 s ≡ take end s ∷ parted 10 (take (length s - (end + 1)) (drop (end + 1) s))
-line_ends s end h =
-    elim (line_cases s) [
-      | inl t ↦
-          let e : end ≡ line_len s = cc in
-          let all : take (length s - (end + 1)) (drop (end + 1) s) ≡ drop (end + 1) s = take_all _ _ (omega (arith, length-drop (end + 1) s)) in
-          parted_first 10 s t.1 ∙ rw (all, e) refl
-      | inr t ↦ absurd cc
-    ]
-
-pub line_goes_on : (s : List ℕ) → position (λ b. eqb b 10) s ≡ None → parted 10 s ≡ s ∷ []
-line_goes_on s h =
-    elim (line_cases s) [
-      | inl t ↦ absurd cc
-      | inr t ↦ parted_whole 10 s t.1
     ]

@@ -1,3 +1,5 @@
 -- What private functions and proofs need alone: no contract of a public call reaches it.
 pub mod Steps
 pub mod ListSteps
+pub mod Lines
+pub mod Full

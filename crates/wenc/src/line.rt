@@ -3,23 +3,34 @@ ghost use Rattle.std.specs.Prelude.{◌≡◌, IfOk, option_map};
 ghost use Rattle.wasm_encoder.specs.Command.{command_view};
 ghost use Rattle.wenc.specs.Script.{import_command, export_command, alias_command, core_module_command, start_command, append_names_command, command_of, line_command};
 ghost use Rattle.wenc.specs.Words.{words_left};
+ghost use Rattle.wenc.specs.inside.Full.{of_full, kind_and_index};
 
 use crate::builtin::builtin;
 use crate::kind::{kind, reference};
 use crate::number::{bytes, number};
 use crate::words::Words;
 use std::alloc::{AllocError, Global};
-use wasm_encoder::{AliasTree, Command, NameTree};
+use wasm_encoder::{AliasTree, Command, ComponentExportKind, NameTree};
+
+/// What words say of the kind and the index of an item with a name, which isn't empty.
+fn kind_and_index(name: &str, word: &str, index: &str) -> Option<(ComponentExportKind, u32)>
+    ensures { result ≡ kind_and_index name.now word.now index.now }
+{
+    if name.is_empty() {
+        return None;
+    }
+    Some((kind(word)?, number(index)?))
+}
 
 /// `import NAME KIND I`
 fn import(alloc: Global, words: Words) -> Result<Option<Command>, AllocError>
     ensures { IfOk result
-        (λ c. option_map command_view c ≡ import_command (words_left words.entry)) }
+        (λ c. option_map command_view c ≡ of_full import_command (words_left words.entry)) }
 {
     let Some((name, word, index)) = words.three() else {
         return Ok(None);
     };
-    let (Some(kind), Some(index)) = (kind(word), number(index)) else {
+    let Some((kind, index)) = kind_and_index(name, word, index) else {
         return Ok(None);
     };
     let name = NameTree::from(String::from_str(alloc, name)?);
@@ -30,12 +41,12 @@ fn import(alloc: Global, words: Words) -> Result<Option<Command>, AllocError>
 /// `export NAME KIND I`
 fn export(alloc: Global, words: Words) -> Result<Option<Command>, AllocError>
     ensures { IfOk result
-        (λ c. option_map command_view c ≡ export_command (words_left words.entry)) }
+        (λ c. option_map command_view c ≡ of_full export_command (words_left words.entry)) }
 {
     let Some((name, word, index)) = words.three() else {
         return Ok(None);
     };
-    let (Some(kind), Some(index)) = (kind(word), number(index)) else {
+    let Some((kind, index)) = kind_and_index(name, word, index) else {
         return Ok(None);
     };
     let name = NameTree::from(String::from_str(alloc, name)?);
@@ -50,12 +61,12 @@ fn export(alloc: Global, words: Words) -> Result<Option<Command>, AllocError>
 /// `alias-export I KIND NAME`
 fn alias_export(alloc: Global, words: Words) -> Result<Option<Command>, AllocError>
     ensures { IfOk result
-        (λ c. option_map command_view c ≡ alias_command (words_left words.entry)) }
+        (λ c. option_map command_view c ≡ of_full alias_command (words_left words.entry)) }
 {
     let Some((instance, word, name)) = words.three() else {
         return Ok(None);
     };
-    let (Some(instance), Some(kind)) = (number(instance), kind(word)) else {
+    let Some((kind, instance)) = kind_and_index(name, word, instance) else {
         return Ok(None);
     };
     let debug_name = String::from_str(alloc, name)?;
@@ -73,12 +84,15 @@ fn alias_export(alloc: Global, words: Words) -> Result<Option<Command>, AllocErr
 /// `core-module HEX`
 fn core_module(alloc: Global, words: Words) -> Result<Option<Command>, AllocError>
     ensures { IfOk result
-        (λ c. option_map command_view c ≡ core_module_command (words_left words.entry)) }
+        (λ c. option_map command_view c ≡ of_full core_module_command (words_left words.entry)) }
 {
     let mut words = words;
     let (Some(word), None) = (words.next(), words.next()) else {
         return Ok(None);
     };
+    if word.is_empty() {
+        return Ok(None);
+    }
     match bytes(alloc, word)? {
         Some(bytes) => Ok(Some(Command::CoreModule {
             debug_name: None,
@@ -127,7 +141,8 @@ fn append_names(words: Words) -> Option<Command>
 
 /// The command that the words of a line say, if they say one.
 fn command_of(alloc: Global, words: Words) -> Result<Option<Command>, AllocError>
-    ensures { IfOk result (λ c. option_map command_view c ≡ command_of (words_left words.entry)) }
+    ensures { IfOk result
+        (λ c. option_map command_view c ≡ of_full command_of (words_left words.entry)) }
 {
     let mut words = words;
     let Some(verb) = words.next() else {
@@ -150,16 +165,19 @@ fn command_of(alloc: Global, words: Words) -> Result<Option<Command>, AllocError
     }
 }
 
+/// The command that a line of a text says, if it says one.
+pub(crate) fn text_command(alloc: Global, line: &str) -> Result<Option<Command>, AllocError>
+    ensures { IfOk result (λ c. option_map command_view c ≡ line_command line.now) }
+{
+    command_of(alloc, Words::of(line))
+}
+
 /// The command that a line says, if it says one.
 pub fn command(alloc: Global, line: &[u8]) -> Result<Option<Command>, AllocError>
     ensures { IfOk result (λ c. option_map command_view c ≡ line_command line.now) }
 {
-    let Ok(line) = str::from_utf8(line) else {
-        return Ok(None);
-    };
-    let words = Words::of(line);
-    if words.has_empty() {
-        return Ok(None);
+    match str::from_utf8(line) {
+        Ok(line) => text_command(alloc, line),
+        Err(_) => Ok(None),
     }
-    command_of(alloc, words)
 }

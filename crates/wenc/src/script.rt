@@ -1,31 +1,44 @@
 //! A script, as its commands.
-ghost use Rattle.std.specs.Prelude.{◌≡◌, ◌∷◌, ◌+◌, ◌≤◌, ◌<◌, length, IfSome, ◌==◌, position};
-ghost use Rattle.std.specs.Option.{option_copied};
-ghost use Rattle.wenc.specs.Parts.{parted, parted_rest};
+ghost use Rattle.std.specs.Prelude.{◌≡◌, ◌+◌, ◌<◌, map};
+ghost use Rattle.wasm_encoder.specs.Command.{command_view};
 ghost use Rattle.wenc.specs.Script.{script};
 ghost use Rattle.wenc.specs.Parsed.{Parses};
+ghost use Rattle.wenc.specs.inside.Lines.{IsTextInFront, ReadsLine};
 
 use crate::failure::Failure;
-use crate::line::command;
+use crate::line::text_command;
 use std::alloc::{Allocator, Global};
 use wasm_encoder::Command;
 
-/// Where the first line of a text ends, if it has an end.
-fn line_end(text: &[u8]) -> Option<usize>
-    ensures { result ≡ position (λ b. b == 10) text.now }
+/// The longest front of bytes that is a text, and whether that is all of them.
+fn text_in_front(bytes: &[u8]) -> (&str, bool)
+    ensures { IsTextInFront bytes.now result.0.now result.1 }
 {
-    text.iter().position(|byte| *byte == b'\n')
+    match str::from_utf8(bytes) {
+        Ok(text) => (text, true),
+        Err(error) => {
+            let front = &bytes[..error.valid_up_to()];
+            (str::from_utf8(front).unwrap_or(""), false)
+        }
+    }
 }
 
-/// The first line of a text, and what comes after its end.
-#[tactic(auto, using(crate::proofs::Parted::line_ends, crate::proofs::Parted::line_goes_on))]
-fn first_line(text: &[u8]) -> (&[u8], Option<&[u8]>)
-    ensures parts { parted 10 text.now ≡ result.0.now ∷ parted_rest 10 (option_copied result.1) }
-    ensures shorter { IfSome result.1 (λ rest. length rest.now < length text.now) }
+/// Appends the command that the line with this number says. An empty line says nothing.
+fn read_line<A: Allocator>(
+    commands: &mut Vec<Command, A>,
+    names: Global,
+    line: &str,
+    number: usize,
+) -> Result<(), Failure>
+    ensures { ReadsLine result number line.now (map command_view commands.old.items)
+        (map command_view commands.new.items) }
 {
-    match line_end(text) {
-        Some(end) => (&text[..end], Some(&text[end + 1..])),
-        None => (text, None),
+    if line.is_empty() {
+        return Ok(());
+    }
+    match text_command(names, line)? {
+        Some(command) => Ok(commands.push(command)?),
+        None => Err(Failure::BadLine(number)),
     }
 }
 
@@ -34,19 +47,19 @@ fn first_line(text: &[u8]) -> (&[u8], Option<&[u8]>)
 pub fn parse<A: Allocator>(alloc: A, names: Global, text: &[u8]) -> Result<Vec<Command, A>, Failure>
     ensures { Parses result (script text.now) }
 {
+    let (front, is_whole) = text_in_front(text);
     let mut commands = Vec::new(alloc);
-    let mut number = 0usize;
-    let mut rest = Some(text);
-    while let Some(lines) = rest {
-        let (line, behind) = first_line(lines);
+    let mut number = 1usize;
+    let mut last = front;
+    while let Some((line, behind)) = last.split_once('\n') {
+        read_line(&mut commands, names, line, number)?;
         number += 1;
-        if !line.is_empty() {
-            let Some(command) = command(names, line)? else {
-                return Err(Failure::BadLine(number));
-            };
-            commands.push(command)?;
-        }
-        rest = behind;
+        last = behind;
     }
+    // The last line goes on with bytes that are no text.
+    if !is_whole {
+        return Err(Failure::BadLine(number));
+    }
+    read_line(&mut commands, names, last, number)?;
     Ok(commands)
 }

@@ -1,16 +1,22 @@
-use Rattle.std.proofs.Common.{◌≡◌, ◌+◌, ◌≤◌, map, length}
-use Rattle.std.specs.Option.{option_copied}
+use Rattle.std.proofs.Common.{◌≡◌, ◌+◌, ◌≤◌, ◌++◌, ℕ, List, map, length, drop}
+use Rattle.std.specs.Str.{IsUtf8}
+use denote.Text.{Utf8}
+use denote.Shadow.{shadow}
+use Rattle.wenc.specs.Parts.{parted}
 use Rattle.wasm_encoder.specs.Command.{command_view}
-use Rattle.wenc.specs.Parts.{parted_rest}
 use Rattle.wenc.specs.Script.{script, commands_from}
-use Rattle.wenc.proofs.Commands.{put_before, size}
+use Rattle.wenc.proofs.Commands.{put_before}
 use Rattle.wenc.proofs.script.parse.Given as goal
 
-abbrev pub invariant-loop-rest : goal.invariant-loop-rest
-invariant-loop-rest g l = record {
-  said : put_before (map command_view l.commands.items) (commands_from (l.number + 1) (parted_rest 10 (option_copied l.rest))) ≡ script l.text;
-  counted : l.number + size (option_copied l.rest) ≤ length l.text + 1;
+abbrev pub invariant-loop-line : goal.invariant-loop-line
+invariant-loop-line g l = record {
+  is_text : shadow (Utf8 l.last);
+  said : put_before (map command_view l.commands.items) (commands_from l.number (parted 10 (l.last ++ drop (length l.initial.last) l.text))) ≡ script l.text;
+  counted : l.number + length l.last ≤ length l.text + 1;
+  done : List ℕ;
+  done_text : IsUtf8 done;
+  parts : l.initial.last ≡ done ++ l.last;
 }
 
-abbrev pub decreases-loop-rest : goal.decreases-loop-rest
-decreases-loop-rest g l = size (option_copied l.rest)
+abbrev pub decreases-loop-line : goal.decreases-loop-line
+decreases-loop-line g l = length l.last
