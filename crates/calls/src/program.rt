@@ -167,7 +167,6 @@ fn parts_of_words(rt: HostRuntime) {
     let words = Words::of("stream.cancel-read 9 1");
     yes(&rt, third(words) == Some(1));
     yes(&rt, second(words) == Some(9));
-    yes(&rt, !words.has_empty());
     is_said(&rt, function(words));
     is_said(&rt, flag("1"));
     yes(&rt, import() == Some(ComponentTypeRef::Func(1)));

@@ -1,7 +1,6 @@
 //! The words of a line.
 ghost use Rattle.std.specs.Prelude.{◌≡◌, ◌≢◌, ◌∷◌, [], length, MatchOption};
 ghost use Rattle.wenc.specs.Parts.{parted};
-ghost use Rattle.wenc.specs.Script.{has_empty};
 ghost use Rattle.wenc.specs.Words.{words_left};
 
 /// The words of a line that are left, parted by one space.
@@ -51,18 +50,5 @@ impl<'a> Words<'a> {
             None => Some(three),
             Some(_) => None,
         }
-    }
-
-    /// Whether a word is empty, as where two spaces follow one another.
-    pub fn has_empty(self) -> bool
-        ensures { result ≡ has_empty (words_left self.entry) }
-    {
-        let mut words = self;
-        while let Some(word) = words.next() {
-            if word.is_empty() {
-                return true;
-            }
-        }
-        false
     }
 }
