@@ -14,4 +14,4 @@ unfolding lib.Utf8.encode
 letter_is_text = (0x66 ∷ [], (refl, refl))
 
 pub returns-clause-older_name : goal.returns-clause-older_name
-returns-clause-older_name c = (_, inr (tt, refl), (_, (lit< tt, last (lit< tt)), (letter_is_text, refl)))
+returns-clause-older_name c = inr (tt, (_, refl, (_, (lit< tt, last (lit< tt)), (letter_is_text, refl))))
