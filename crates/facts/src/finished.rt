@@ -4,8 +4,7 @@ ghost use Rattle.std.specs.Prelude.{◌≡◌, ◌↔◌, ◌∷◌, [], List, I
 ghost use Rattle.wenc_base.specs.Piece.{Spelling};
 ghost use Rattle.wenc_builder.specs.Entry.{Entry, items};
 ghost use Rattle.wenc_builder.specs.Holds.{Holds};
-ghost use Rattle.wenc_builder.specs.Item.{collected};
-ghost use Rattle.wenc_builder.specs.Raw.{HasNoRaw};
+ghost use Rattle.wenc_builder.specs.Item.{collected, HasNoRaw};
 ghost use Rattle.wenc_builder.specs.Sections.{Reading, Run, Section};
 ghost use Rattle.wenc_builder.specs.Space.{defines, some_in};
 ghost use Rattle.wenc_builder.specs.declared.builder.space.Space.TheVariants as spaces;

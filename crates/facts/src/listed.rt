@@ -2,10 +2,10 @@
 ghost use Rattle.std.specs.Prelude.{◌≡◌, ◌⊎◌, ℕ, List, Option, Result, IfSome, MatchResult, map};
 ghost use Rattle.wasm_encoder.specs.Command.{CommandTree, command_view};
 ghost use Rattle.wasm_encoder.specs.Ran.{Ran};
-ghost use Rattle.wenc_builder.specs.Raw.{HasNoRaw, IsEncodable};
+ghost use Rattle.wenc_builder.specs.Item.{HasNoRaw};
 ghost use Rattle.wenc_base.specs.declared.fault.Fault.{Fault};
 ghost use Rattle.wenc_builder.specs.Entry.{Entry, items as items_of};
-ghost use Rattle.wenc_builder.specs.Sections.{runs, whole};
+ghost use Rattle.wenc_builder.specs.Sections.{runs, whole, IsEncodable};
 ghost use Rattle.wenc_list.specs.Items.{section_view};
 ghost use Rattle.wenc_list.specs.Listing.{AreWithin, IsFaultOf, IsMemoryOrTooDeep};
 ghost use Rattle.wenc_list.specs.declared.fault.ListFault.TheVariants.{Memory, TooDeep};

@@ -3,7 +3,7 @@ ghost use Rattle.facts.specs.Indexed.{IsIndexedAt};
 ghost use Rattle.std.specs.Prelude.{◌≡◌, ◌↔◌, ◌++◌, ◌∷◌, ℕ, List, map, length, IfSome, IfOk, IfErr, Ok, Some, Option as Optional, Result as Outcome};
 ghost use Rattle.wasm_encoder.specs.Command.{CommandTree, command_view};
 ghost use Rattle.wasm_encoder.specs.Ran.{Ran};
-ghost use Rattle.wenc_builder.specs.Raw.{HasNoRaw};
+ghost use Rattle.wenc_builder.specs.Item.{HasNoRaw};
 ghost use Rattle.wenc_base.specs.declared.fault.Fault.TheVariants.{Unfinished};
 ghost use Rattle.wenc_base.specs.declared.fault.Fault.{Fault as FaultSpec};
 ghost use Rattle.wenc_builder.specs.Entry.{Entry, items as items_of};

@@ -2,8 +2,7 @@
 use Rattle.std.proofs.Common.{◌≡◌, ℕ, List, [], ◌∷◌, length, Some, refl, ◌∙◌, ap, inl, inr, arith}
 use Rattle.std.specs.List.{AllByRecursion}
 use Rattle.std.proofs.lemmas.Bool.Decides.{eqb_tells}
-use Rattle.wenc_builder.specs.Item.{Item, RawItem, collected}
-use Rattle.wenc_builder.specs.Raw.{HasNoRaw, IsNoRaw}
+use Rattle.wenc_builder.specs.Item.{Item, RawItem, collected, HasNoRaw, IsNoRaw}
 use Rattle.wenc_builder.specs.Sections.{Run, joined, runs}
 use Rattle.wenc_builder.specs.Space.{defines, defined_in, number_in, some_in, next_index, space_number}
 use Rattle.wenc_builder.specs.declared.builder.space.Space.{Space}

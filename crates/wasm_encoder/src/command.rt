@@ -4,8 +4,8 @@ ghost use Rattle.std.specs.Option.{option_copied, option_map};
 ghost use Rattle.std.specs.String.{string_bytes};
 ghost use Rattle.wenc_base.specs.Fault.{IsMemory, NoCause};
 ghost use Rattle.wenc_base.specs.Piece.{Spelling};
-ghost use Rattle.wenc_builder.specs.Item.{Item};
-ghost use Rattle.wenc_builder.specs.Sections.{Section, runs, Reading, whole};
+ghost use Rattle.wenc_builder.specs.Item.{Item, HasNoRaw};
+ghost use Rattle.wenc_builder.specs.Sections.{Section, runs, Reading, whole, IsEncodable};
 ghost use Rattle.wenc_builder.specs.Enters.{EntersWithoutIndex};
 ghost use Rattle.wenc_builder.specs.Entry.{Entry, items, core_type_entry, type_entry, custom_entry};
 ghost use Rattle.wenc_builder.specs.Holds.{Holds};
@@ -14,7 +14,6 @@ ghost use Rattle.wenc_types.specs.TypeTrees.{type_view};
 ghost use Rattle.wasm_encoder.specs.Cause.{led, first_cause};
 ghost use Rattle.wasm_encoder.specs.Command.{Add, command_view, commands_view};
 ghost use Rattle.wasm_encoder.specs.Ran.{Ran, IsRefusal, IsStopped};
-ghost use Rattle.wenc_builder.specs.Raw.{HasNoRaw, IsEncodable};
 ghost use Rattle.wasm_encoder.specs.inside.Steps.{StepsRun, indexed as indexed_of, without_index as without_index_of};
 
 use std::alloc::{Allocator, Global};

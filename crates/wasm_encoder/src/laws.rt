@@ -15,8 +15,8 @@ ghost use Rattle.wenc_base.specs.Piece.{Spelling, Strict, Wide, ◌▸◌, refus
 ghost use Rattle.wenc_base.specs.Producers.{Producers, FieldCause, producers_field, producers_section, producers_held};
 ghost use Rattle.wenc_base.specs.declared.fault.Fault.{Fault};
 ghost use Rattle.wenc_base.specs.declared.fault.Fault.TheVariants.{Unfinished};
-ghost use Rattle.wenc_builder.specs.Item.{Item};
-ghost use Rattle.wenc_builder.specs.Sections.{Section, runs, component, Reading, whole};
+ghost use Rattle.wenc_builder.specs.Item.{Item, HasNoRaw};
+ghost use Rattle.wenc_builder.specs.Sections.{Section, runs, component, Reading, whole, SectionsHaveNoRaw, AreEncodable, IsEncodable};
 ghost use Rattle.wenc_canon.specs.Canonicals.{Builtin, row, Values, Adds};
 ghost use Rattle.wenc_types.specs.CoreTypes.{ModuleDeclaration, ModuleRecType, module_type, CoreType, core_type};
 ghost use Rattle.wenc_types.specs.ComponentTypes as component;
@@ -25,7 +25,6 @@ ghost use Rattle.wenc_types.specs.Declarations.{TypeState, NoneBegun, ModuleDecl
 ghost use Rattle.wenc_types.specs.declared.counts.Sort.TheVariants as sorts;
 ghost use Rattle.wenc_types.specs.declared.counts.Sort.{Sort};
 ghost use Rattle.wasm_encoder.specs.AllForms.{FormName, value_of, form_of};
-ghost use Rattle.wenc_builder.specs.Raw.{HasNoRaw, SectionsHaveNoRaw, AreEncodable, IsEncodable};
 
 mod of_builders;
 mod of_holders;

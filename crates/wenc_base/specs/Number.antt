@@ -5,7 +5,7 @@ use Rattle.std.specs.Prelude.{◌<◌, ◌≤◌, nat_lt, if◌then◌else◌, s
 use Rattle.std.specs.Prelude.{length, List, [], ◌∷◌, ◌++◌, map, FitsSigned}
 use Rattle.std.specs.Int.{w64}
 use Rattle.wenc_base.specs.Fault.{count_cause, size_cause}
-use Rattle.wenc_base.specs.Piece.{Form, Spelling, Strict, Wide, refused_for}
+use Rattle.wenc_base.specs.Piece.{Form, Spelling, Strict, Wide, refused_for, verbatim}
 
 -- A number below top is one byte. Another has its low seven bits first, in a byte from 128 on.
 -- At most `room` bytes come before the last.
@@ -52,10 +52,8 @@ pub data ReadsGroups (mode : Spelling) (top : ℕ) : ℕ → ℕ → List ℕ �
 -- A number below a bound, whose last byte is below top. Its text is the shortest; read are texts
 -- that have at most room bytes before the last.
 abbrev pub number : ℕ → ℕ → ℕ → Form ℕ
-number top room bound n = record {
+number top room bound n = record (verbatim (groups top 9 n)) {
   Fits = n < bound;
-  Cause = λ fault. ⊥;
-  text = groups top 9 n;
   Reads = λ mode bytes rest. (n < bound) × ReadsGroups mode top room n bytes rest;
 }
 
@@ -87,10 +85,8 @@ ReadsSigned (negsuc n) bytes rest =
 
 -- a signed number of 64 bits in at most ten bytes, which has no other spelling
 abbrev pub i64 : Form ℤ
-i64 z = record {
+i64 z = record (verbatim (signed_text z)) {
   Fits = FitsSigned w64 z;
-  Cause = λ fault. ⊥;
-  text = signed_text z;
   Reads = λ mode bytes rest. FitsSigned w64 z × ReadsSigned z bytes rest;
 }
 

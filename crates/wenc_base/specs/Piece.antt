@@ -5,8 +5,7 @@ use Rattle.wenc_base.specs.declared.fault.Fault.{Fault}
 
 -- Strict: only the text that is written. Wide: also the other spellings that are allowed.
 pub data Spelling : Type 0 where
-  Strict : Spelling
-  Wide : Spelling
+  Strict Wide : Spelling
 
 -- The other spellings are read too.
 abbrev pub IsWide : Spelling → Type 0
@@ -46,19 +45,15 @@ byte b = verbatim (b ∷ [])
 
 -- these bytes, of which P holds
 abbrev pub raw : (List ℕ → Type 0) → List ℕ → Piece
-raw P bs = record {
+raw P bs = record (verbatim bs) {
   Fits = P bs;
-  Cause = λ fault. ⊥;
-  text = bs;
   Reads = λ mode bytes rest. P bs × (bytes ≡ bs ++ rest);
 }
 
 -- a byte that says what comes, then that
 infixr 60 ◌▸◌
 abbrev pub ◌▸◌ : ℕ → Piece → Piece
-b ▸ p = record {
-  Fits = p.Fits;
-  Cause = p.Cause;
+b ▸ p = record p {
   text = b ∷ p.text;
   Reads = λ mode bytes rest. (middle : List ℕ) × (bytes ≡ b ∷ middle) × p.Reads mode middle rest;
 }
@@ -70,10 +65,7 @@ behind_bytes (b ∷ bs) p = b ▸ behind_bytes bs p
 
 -- a piece that is read widely in another piece's spelling too
 abbrev pub or_widely : Piece → Piece → Piece
-or_widely p q = record {
-  Fits = p.Fits;
-  Cause = p.Cause;
-  text = p.text;
+or_widely p q = record p {
   Reads = λ mode bytes rest. p.Reads mode bytes rest ⊎ (IsWide mode × q.Reads mode bytes rest);
 }
 
@@ -90,21 +82,14 @@ p ⨾ q = record {
 
 -- a piece that is allowed where a fact holds
 abbrev pub only_where : Type 0 → Piece → Piece
-only_where P p = record {
+only_where P p = record p {
   Fits = P × p.Fits;
-  Cause = p.Cause;
-  text = p.text;
   Reads = λ mode bytes rest. P × p.Reads mode bytes rest;
 }
 
 -- the piece, refused for this
 abbrev pub refused_for : (Fault → Type 0) → Piece → Piece
-refused_for cause p = record {
-  Fits = p.Fits;
-  Cause = cause;
-  text = p.text;
-  Reads = p.Reads;
-}
+refused_for cause p = record p { Cause = cause }
 
 -- what is read for each value, one after the other
 abbrev pub ReadsEach : {A : Type 0} → (A → List ℕ → List ℕ → Type 0) → List A → List ℕ → List ℕ

@@ -2,24 +2,22 @@
 use Rattle.std.specs.Prelude.{◌≡◌, ℕ, List, [], ◌∷◌, ◌++◌, ◌+◌, ◌≤◌, ◌^◌, ◌⊎◌, length, Option, Some}
 use Rattle.std.specs.Prelude.{None, false}
 use Rattle.wenc_base.specs.Number.{number_size}
-use Rattle.wenc_base.specs.Holder.{content_size}
 use Rattle.wenc_base.specs.declared.fault.Fault.{Fault}
 use Rattle.wenc_base.specs.declared.fault.Fault.TheVariants.{TooMany, TooLarge, Unfinished}
 use Rattle.wenc_builder.specs.Item.{item}
-use Rattle.wenc_builder.specs.Sections.{runs}
+use Rattle.wenc_builder.specs.Sections.{runs, OpenSection, open_of}
 use Rattle.wenc_builder.specs.Space.{Indices, defines}
-use Rattle.wenc_builder.specs.Entry.{Entry, items}
-use Rattle.wenc_builder.specs.Builder.{OpenSection, Namespace, namespace_at, Content, with_entry}
+use Rattle.wenc_builder.specs.Entry.{Entry, items, Namespace, namespace_of}
+use Rattle.wenc_builder.specs.Builder.{namespace_at, Content, with_entry}
 use Rattle.wenc_builder.specs.Builder.{State, builder_is_finished, Draft, draft_indices, item_begun}
 use Rattle.wenc_builder.specs.Builder.{content_of}
-use Rattle.wenc_builder.specs.Holds.{open_of, namespace_of}
 
 -- ---- too much of something
 
 -- too many items, or too many bytes with those of their number
 abbrev pub SectionCause : Option OpenSection → Fault → Type 0
 SectionCause (Some o) TooMany = 2 ^ 32 ≤ o.count
-SectionCause (Some o) TooLarge = 2 ^ 32 ≤ content_size o.count (length o.body)
+SectionCause (Some o) TooLarge = 2 ^ 32 ≤ number_size o.count + length o.body
 SectionCause current other = ⊥
 
 -- The open section, as it would be, is too large.

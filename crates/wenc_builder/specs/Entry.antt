@@ -1,7 +1,7 @@
 -- Items with their debug names.
 use Rattle.std.specs.Prelude.{ℕ, List, [], ◌∷◌, ◌++◌, ◌+◌, map, Option, Some, None, nat_eq}
-use Rattle.std.specs.Prelude.{if◌then◌else◌}
-use Rattle.wenc_base.specs.Names.{NameAssociation}
+use Rattle.std.specs.Prelude.{if◌then◌else◌, length}
+use Rattle.wenc_base.specs.Names.{NameAssociation, names_text}
 use Rattle.wenc_base.specs.declared.exports.ExportKind.{ExportKind}
 use Rattle.wenc_parts.specs.declared.exports.ComponentExportKind.{ComponentExportKind}
 use Rattle.wenc_parts.specs.declared.imports.ComponentTypeRef.{ComponentTypeRef}
@@ -16,7 +16,7 @@ use Rattle.wenc_types.specs.ComponentTypes.{DefType}
 use Rattle.wenc_builder.specs.Item.{Item, ModuleItem, CoreInstanceItem, CoreTypeItem, ComponentItem}
 use Rattle.wenc_builder.specs.Item.{InstanceItem, AliasItem, TypeItem, CanonItem, StartItem}
 use Rattle.wenc_builder.specs.Item.{ImportItem, ExportItem, CustomItem, RawItem}
-use Rattle.wenc_builder.specs.Space.{Indices, defines, defined_in}
+use Rattle.wenc_builder.specs.Space.{Indices, defines, defined_in, next_index}
 
 -- an item, with a debug name or none
 pub record Entry : Type 0 where
@@ -30,11 +30,11 @@ entry item name = record { item = item; name = name }
 
 -- an import and an export have the debug name that is their name
 abbrev pub import_entry : ExternName → ComponentTypeRef → Entry
-import_entry name what = entry (ImportItem (record { name = name; ty = what })) (Some name.name)
+import_entry name ty = entry (ImportItem (record { name = name; ty = ty })) (Some name.name)
 
 abbrev pub export_entry : ExternName → ComponentExportKind → ℕ → Option ComponentTypeRef → Entry
-export_entry name kind index what =
-    entry (ExportItem (record { name = name; kind = kind; index = index; ty = what }))
+export_entry name kind index ty =
+    entry (ExportItem (record { name = name; kind = kind; index = index; ty = ty }))
     (Some name.name)
 
 abbrev pub alias_entry : Option (List ℕ) → AliasOf → Entry
@@ -118,3 +118,18 @@ names_from k n (e ∷ es) =
 -- the indices and names of all named entries in space k
 abbrev pub names : List Entry → ℕ → List NameAssociation
 names es k = names_from k 0 es
+
+-- how many items a space has, how many of them have names, and the text of those names
+pub record Namespace : Type 0 where
+  pub count : ℕ
+  pub named : ℕ
+  pub names : List ℕ
+
+-- what these entries make of space k
+abbrev pub namespace_of : List Entry → ℕ → Namespace
+namespace_of es k =
+    record {
+      count = next_index (items es) k;
+      named = length (names es k);
+      names = names_text (names es k);
+    }

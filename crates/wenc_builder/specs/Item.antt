@@ -1,8 +1,9 @@
 -- Items: what the calls of a builder add to a component.
 use Rattle.std.specs.Prelude.{ℕ, List, ◌∷◌, Option, Some, None}
+use Rattle.std.specs.List.{AllByRecursion}
 use Rattle.wenc_base.specs.Custom.{Custom, custom}
 use Rattle.wenc_base.specs.Forms.{byte_list}
-use Rattle.wenc_base.specs.Piece.{Piece, Form, ◌▸◌}
+use Rattle.wenc_base.specs.Piece.{Piece, Form, ◌▸◌, verbatim}
 use Rattle.wenc_parts.specs.declared.component.ComponentSectionId.TheVariants as ids
 use Rattle.wenc_parts.specs.SectionIds.{section_number}
 use Rattle.wenc_parts.specs.Aliases.{AliasOf, alias}
@@ -46,12 +47,7 @@ collected other = None
 
 -- bytes that no reading is of
 abbrev pub unread : List ℕ → Piece
-unread bytes = record {
-  Fits = Unit {0};
-  Cause = λ fault. ⊥;
-  text = bytes;
-  Reads = λ mode all rest. ⊥;
-}
+unread bytes = record (verbatim bytes) { Reads = λ mode all rest. ⊥ }
 
 -- an item as it stands in its section or, where it is one, as that section
 abbrev pub item : Form Item
@@ -68,3 +64,12 @@ item (ImportItem i) = import_item i
 item (ExportItem e) = export_item e
 item (CustomItem c) = section_number ids.CoreCustom ▸ custom c
 item (RawItem bytes) = unread (section_number ids.CoreCustom ∷ bytes)
+
+-- the item is not a raw one
+abbrev pub IsNoRaw : Item → Type 0
+IsNoRaw (RawItem bytes) = ⊥
+IsNoRaw other = Unit {0}
+
+-- no item of the list is raw
+abbrev pub HasNoRaw : List Item → Type 0
+HasNoRaw = AllByRecursion IsNoRaw

@@ -3,7 +3,6 @@ pub mod Sections
 pub mod Space
 pub mod Entry
 pub mod Builder
-pub mod Raw
 pub mod Holds
 pub mod Cause
 pub mod Enters

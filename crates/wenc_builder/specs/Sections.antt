@@ -1,14 +1,14 @@
 -- Components: items cut into sections, and the sections' texts (component model, binary format,
 -- "Component Definitions").
 use Rattle.std.specs.Prelude.{◌≡◌, ℕ, ◌∷◌, [], List, Option, Some, None, Bool, IsTrue, nat_eq}
-use Rattle.std.specs.Prelude.{if◌then◌else◌}
-use Rattle.std.specs.List.{list_any}
+use Rattle.std.specs.Prelude.{if◌then◌else◌, length}
+use Rattle.std.specs.List.{list_any, flat_map, AllByRecursion}
 use Rattle.wenc_base.specs.Piece.{Spelling, Piece, Form, ◌▸◌, only_where, nothing, ◌⨾◌}
 use Rattle.wenc_base.specs.Forms.{counted}
 use Rattle.wenc_parts.specs.declared.component.ComponentSectionId.TheVariants as ids
 use Rattle.wenc_parts.specs.SectionIds.{section_number}
 pub use Rattle.wenc_parts.specs.Component.{preamble}
-use Rattle.wenc_builder.specs.Item.{Item, collected, item}
+use Rattle.wenc_builder.specs.Item.{Item, collected, item, HasNoRaw}
 
 -- neighbours of one collected kind, with their section's id; or an item that is a section of its
 -- own
@@ -33,6 +33,24 @@ joined (Some id) x (Run other ys ∷ ss) =
 abbrev pub runs : List Item → List Section
 runs [] = []
 runs (x ∷ xs) = joined (collected x) x (runs xs)
+
+-- no item of the sections is raw
+abbrev pub SectionsHaveNoRaw : List Section → Type 0
+SectionsHaveNoRaw = AllByRecursion (λ s. HasNoRaw (members s))
+
+-- the section that takes more items: its id, how many items it has, and their bytes
+pub record OpenSection : Type 0 where
+  pub id : ℕ
+  pub count : ℕ
+  pub body : List ℕ
+
+-- it is the last section, where that collects items
+abbrev pub open_of : List Section → Option OpenSection
+open_of [] = None
+open_of (Run id xs ∷ []) =
+    Some (record { id = id; count = length xs; body = flat_map (λ x. (item x).text) xs })
+open_of (Alone x ∷ []) = None
+open_of (s ∷ t ∷ ss) = open_of (t ∷ ss)
 
 -- ---- texts
 
@@ -69,3 +87,11 @@ Reading mode bytes ss = (component ss).Reads mode bytes []
 -- the bytes of the component with these items
 abbrev pub whole : List Item → List ℕ
 whole xs = (component (runs xs)).text
+
+-- Each section has the items that it collects, and nothing is past the format's limits.
+abbrev pub AreEncodable : List Section → Type 0
+AreEncodable ss = (component ss).Fits
+
+-- The sections into which the items are cut can be encoded.
+abbrev pub IsEncodable : List Item → Type 0
+IsEncodable xs = AreEncodable (runs xs)

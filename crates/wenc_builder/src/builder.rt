@@ -19,7 +19,7 @@ ghost use Rattle.wenc_builder.specs.Enters.{Enters, EntersListed, EntersWithoutI
 ghost use Rattle.wenc_builder.specs.inside.Takes.{TakesAlone, TakesNoIndex, AppendsListed, TakesListed, IsItemPiece};
 ghost use Rattle.wenc_builder.specs.Space.{indices_in, some_in, canonical_space};
 ghost use Rattle.wenc_builder.specs.LenderState.{is_whole};
-ghost use Rattle.wenc_builder.specs.Raw.{HasNoRaw};
+ghost use Rattle.wenc_builder.specs.Item.{HasNoRaw};
 ghost use Rattle.wenc_builder.specs.inside.Layout.{draft_of, kind_id};
 ghost use Rattle.wenc_builder.specs.Names.{AddsNames};
 

@@ -91,9 +91,9 @@ pub extern "C" fn wenc_type_export(
     of: u32,
     index: &mut u32,
 ) -> u32
-    ensures added { IsUtf8 name.now → (what : References) → type_ref_of reference of ≡ Some what
+    ensures added { IsUtf8 name.now → (ty : References) → type_ref_of reference of ≡ Some ty
         → ExportsAt types.old.session types.new.session (answer_of result index.new)
-        (plain_name name.now) what }
+        (plain_name name.now) ty }
     ensures malformed { ¬ (IsUtf8 name.now) → Refuses 5 result types.old.session types.new.session }
     ensures number { IsUtf8 name.now → type_ref_of reference of ≡ None
         → Refuses 7 result types.old.session types.new.session }

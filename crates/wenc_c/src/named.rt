@@ -27,9 +27,9 @@ pub extern "C" fn wenc_import(
     of: u32,
     index: &mut u32,
 ) -> u32
-    ensures added { IsUtf8 name.now → (what : References) → type_ref_of reference of ≡ Some what
+    ensures added { IsUtf8 name.now → (ty : References) → type_ref_of reference of ≡ Some ty
         → Adds builder.old.session builder.new.session (answer_of result index.new)
-        (import_entry (plain_name name.now) what) }
+        (import_entry (plain_name name.now) ty) }
     ensures malformed { ¬ (IsUtf8 name.now)
         → Refuses 5 result builder.old.session builder.new.session }
     ensures number { IsUtf8 name.now → type_ref_of reference of ≡ None
@@ -63,11 +63,11 @@ pub extern "C" fn wenc_import_named(
 ) -> u32
     ensures added { AreTexts name.now (given has_implements implements.now)
         (given has_version_suffix version_suffix.now) (given has_external_id external_id.now)
-        → (what : References) → type_ref_of reference of ≡ Some what
+        → (ty : References) → type_ref_of reference of ≡ Some ty
         → Adds builder.old.session builder.new.session (answer_of result index.new)
         (import_entry (name_with name.now (given has_implements implements.now)
         (given has_version_suffix version_suffix.now) (given has_external_id external_id.now))
-        what) }
+        ty) }
     ensures malformed { ¬ (AreTexts name.now (given has_implements implements.now)
         (given has_version_suffix version_suffix.now) (given has_external_id external_id.now))
         → Refuses 5 result builder.old.session builder.new.session }
@@ -107,9 +107,9 @@ pub extern "C" fn wenc_export(
     index: &mut u32,
 ) -> u32
     ensures added { IsUtf8 name.now → (k : Kinds) → kind_of kind_number ≡ Some k
-        → (what : Option References) → given_type_of reference of ≡ Some what
+        → (ty : Option References) → given_type_of reference of ≡ Some ty
         → Adds builder.old.session builder.new.session (answer_of result index.new)
-        (export_entry (plain_name name.now) k item what) }
+        (export_entry (plain_name name.now) k item ty) }
     ensures malformed { ¬ (IsUtf8 name.now)
         → Refuses 5 result builder.old.session builder.new.session }
     ensures kind { IsUtf8 name.now → kind_of kind_number ≡ None
@@ -150,11 +150,11 @@ pub extern "C" fn wenc_export_named(
     ensures added { AreTexts name.now (given has_implements implements.now)
         (given has_version_suffix version_suffix.now) (given has_external_id external_id.now)
         → (k : Kinds) → kind_of kind_number ≡ Some k
-        → (what : Option References) → given_type_of reference of ≡ Some what
+        → (ty : Option References) → given_type_of reference of ≡ Some ty
         → Adds builder.old.session builder.new.session (answer_of result index.new)
         (export_entry (name_with name.now (given has_implements implements.now)
         (given has_version_suffix version_suffix.now) (given has_external_id external_id.now))
-        k item what) }
+        k item ty) }
     ensures malformed { ¬ (AreTexts name.now (given has_implements implements.now)
         (given has_version_suffix version_suffix.now) (given has_external_id external_id.now))
         → Refuses 5 result builder.old.session builder.new.session }

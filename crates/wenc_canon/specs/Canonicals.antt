@@ -36,13 +36,7 @@ canonical_option Gc = byte 0x09
 -- an index, options, a flag, the byte 00, a core value type, a result list, the index of a slot of
 -- a task
 pub data Field : Type 0 where
-  Index : Field
-  Options : Field
-  Flag : Field
-  Zero : Field
-  CoreType : Field
-  Results : Field
-  Slot : Field
+  Index Options Flag Zero CoreType Results Slot : Field
 
 -- what a field of this kind holds
 abbrev pub Value : Field → Type 0
@@ -80,53 +74,15 @@ fields (f ∷ g ∷ fs) vs = field f vs.0 ⨾ fields (g ∷ fs) vs.1
 
 -- a function that the component model provides
 pub data Builtin : Type 0 where
-  ResourceNew : Builtin
-  ResourceDrop : Builtin
-  ResourceRep : Builtin
-  TaskCancel : Builtin
-  SubtaskCancel : Builtin
-  TaskReturn : Builtin
-  ContextGet : Builtin
-  ContextSet : Builtin
-  ThreadYield : Builtin
-  SubtaskDrop : Builtin
-  StreamNew : Builtin
-  StreamRead : Builtin
-  StreamWrite : Builtin
-  StreamCancelRead : Builtin
-  StreamCancelWrite : Builtin
-  StreamDropReadable : Builtin
-  StreamDropWritable : Builtin
-  FutureNew : Builtin
-  FutureRead : Builtin
-  FutureWrite : Builtin
-  FutureCancelRead : Builtin
-  FutureCancelWrite : Builtin
-  FutureDropReadable : Builtin
-  FutureDropWritable : Builtin
-  ErrorContextNew : Builtin
-  ErrorContextDebugMessage : Builtin
-  ErrorContextDrop : Builtin
-  WaitableSetNew : Builtin
-  WaitableSetWait : Builtin
-  WaitableSetPoll : Builtin
-  WaitableSetDrop : Builtin
-  WaitableJoin : Builtin
-  BackpressureInc : Builtin
-  BackpressureDec : Builtin
-  ThreadIndex : Builtin
-  ThreadNewIndirect : Builtin
-  ThreadResumeLater : Builtin
-  ThreadSuspend : Builtin
-  ThreadSuspendThenResume : Builtin
-  ThreadYieldThenResume : Builtin
-  ThreadSuspendThenPromote : Builtin
-  ThreadYieldThenPromote : Builtin
-  StreamForward : Builtin
-  FutureForward : Builtin
-  ThreadSpawnRef : Builtin
-  ThreadSpawnIndirect : Builtin
-  ThreadAvailableParallelism : Builtin
+  ResourceNew ResourceDrop ResourceRep TaskCancel SubtaskCancel TaskReturn ContextGet : Builtin
+  ContextSet ThreadYield SubtaskDrop StreamNew StreamRead StreamWrite StreamCancelRead : Builtin
+  StreamCancelWrite StreamDropReadable StreamDropWritable FutureNew FutureRead FutureWrite : Builtin
+  FutureCancelRead FutureCancelWrite FutureDropReadable FutureDropWritable ErrorContextNew : Builtin
+  ErrorContextDebugMessage ErrorContextDrop WaitableSetNew WaitableSetWait WaitableSetPoll : Builtin
+  WaitableSetDrop WaitableJoin BackpressureInc BackpressureDec ThreadIndex : Builtin
+  ThreadNewIndirect ThreadResumeLater ThreadSuspend ThreadSuspendThenResume : Builtin
+  ThreadYieldThenResume ThreadSuspendThenPromote ThreadYieldThenPromote StreamForward : Builtin
+  FutureForward ThreadSpawnRef ThreadSpawnIndirect ThreadAvailableParallelism : Builtin
 
 -- its name (component model, explainer, "Canonical Built-ins"), its opcode, its fields
 pub record Row : Type 0 where

@@ -57,9 +57,7 @@ plain_name name =
 
 -- an option of a name, with its text
 pub data NameOption : Type 0 where
-  Implements : (text : List ℕ) → NameOption
-  VersionSuffix : (text : List ℕ) → NameOption
-  ExternalId : (text : List ℕ) → NameOption
+  Implements VersionSuffix ExternalId : (text : List ℕ) → NameOption
 
 abbrev pub name_option : Form NameOption
 name_option (Implements text) = 0x00 ▸ name text

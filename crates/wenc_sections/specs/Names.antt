@@ -1,5 +1,5 @@
 -- The section of names (component model, binary format, "Name Section").
-use Rattle.std.specs.Prelude.{◌≡◌, ℕ, ◌+◌, ◌≤◌, ◌^◌, List, [], ◌∷◌, ◌++◌, length, Result, OnOk}
+use Rattle.std.specs.Prelude.{◌≡◌, ℕ, ◌+◌, ◌≤◌, ◌^◌, List, [], ◌∷◌, ◌++◌, length, Result, OnOk, codes}
 use Rattle.std.specs.List.{flat_map}
 use Rattle.wenc_base.specs.Piece.{Piece, Form, byte, ◌▸◌, ◌⨾◌, verbatim, refused_for}
 use Rattle.wenc_base.specs.Forms.{name, sized, byte_list}
@@ -65,11 +65,9 @@ name_subsections sorts = flat_map (λ p. item_names p.0 p.1) sorts
 
 -- ---- the section
 
--- "component-name"
+-- its name
 abbrev pub names_label : List ℕ
-names_label =
-    0x63 ∷ 0x6f ∷ 0x6d ∷ 0x70 ∷ 0x6f ∷ 0x6e ∷ 0x65 ∷ 0x6e ∷ 0x74 ∷ 0x2d ∷ 0x6e ∷ 0x61 ∷ 0x6d ∷
-    0x65 ∷ []
+names_label = codes "component-name"
 
 -- the custom section of that name, with these bytes after it
 abbrev pub names_custom : List ℕ → Custom

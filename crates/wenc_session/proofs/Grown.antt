@@ -10,7 +10,8 @@ use Rattle.wenc_base.specs.Number.{unsigned_text}
 use Rattle.wenc_base.specs.Piece.{AnyCause, Form}
 use Rattle.wenc_base.specs.declared.fault.Fault.{Fault}
 use Rattle.wenc_base.specs.declared.fault.Fault.TheVariants.{Memory, TooMany, TooLarge, Unfinished}
-use Rattle.wenc_builder.specs.Builder.{OpenSection, State, entered_at}
+use Rattle.wenc_builder.specs.Builder.{State, entered_at}
+use Rattle.wenc_builder.specs.Sections.{OpenSection}
 use Rattle.wenc_builder.specs.Cause.{EnterCause, SectionCause}
 use Rattle.wenc_builder.specs.Entry.{canonical_entry, core_instance_entry, instance_entry}
 use Rattle.wenc_canon.specs.Canonicals.{Lift, Lower, canonical, canonical_option}

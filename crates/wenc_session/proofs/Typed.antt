@@ -7,9 +7,12 @@ use Rattle.wenc_base.specs.Fault.{IsWarranted, NoCause, either}
 use Rattle.wenc_base.specs.declared.fault.Fault.{Fault}
 use Rattle.wenc_base.specs.declared.fault.Fault.TheVariants.{Memory, Unfinished}
 use Rattle.wenc_base.specs.laws.Serves.{still_warranted}
-use Rattle.wenc_builder.specs.Builder.{BegunItem, Namespace, Content, State, step, content_of, builder_is_finished, namespace_at, Draft, draft, draft_indices, item_begun, item_appended, item_ended, item_given_up}
+use Rattle.wenc_builder.specs.Builder.{BegunItem, Content, State, step, content_of}
+use Rattle.wenc_builder.specs.Builder.{builder_is_finished, namespace_at, Draft, draft}
+use Rattle.wenc_builder.specs.Builder.{draft_indices, item_begun, item_appended, item_ended}
+use Rattle.wenc_builder.specs.Builder.{item_given_up}
 use Rattle.wenc_builder.specs.Cause.{BeginCause, CallCause, EnterCause}
-use Rattle.wenc_builder.specs.Entry.{Entry, items}
+use Rattle.wenc_builder.specs.Entry.{Entry, items, Namespace}
 use Rattle.wenc_builder.specs.Enters.{Enters, IsCountAt}
 use Rattle.wenc_builder.specs.Holds.{Holds}
 use Rattle.wenc_builder.specs.Item.{item}

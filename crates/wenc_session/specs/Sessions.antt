@@ -9,7 +9,7 @@ use Rattle.wenc_builder.specs.Builder.{State, builder_is_finished, count_in, sec
 use Rattle.wenc_builder.specs.Entry.{Entry, items, component_entry, core_type_entry, type_entry}
 use Rattle.wenc_builder.specs.Enters.{Enters, EntersWithoutIndex}
 use Rattle.wenc_builder.specs.Holds.{Holds}
-use Rattle.wenc_builder.specs.Raw.{HasNoRaw}
+use Rattle.wenc_builder.specs.Item.{HasNoRaw}
 use Rattle.wenc_builder.specs.Sections.{Reading, Section, runs, whole}
 use Rattle.wenc_builder.specs.declared.builder.space.Space.{Space}
 use Rattle.wenc_parts.specs.Imports.{ExternName}

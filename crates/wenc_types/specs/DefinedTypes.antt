@@ -35,15 +35,12 @@ pub data DefValType : Type 0 where
   MapOf : (key value : ComponentValType) → DefValType
   FixedLengthList : (element : ComponentValType) (length : ℕ) → DefValType
   Tuple : (elements : List ComponentValType) → DefValType
-  Flags : (names : List (List ℕ)) → DefValType
-  Enumeration : (names : List (List ℕ)) → DefValType
+  Flags Enumeration : (names : List (List ℕ)) → DefValType
   OptionOf : (ty : ComponentValType) → DefValType
   ResultOf : (ok error : Option ComponentValType) → DefValType
   -- handles of the resource type with this index
-  Own : (number : ℕ) → DefValType
-  Borrow : (number : ℕ) → DefValType
-  Future : (ty : Option ComponentValType) → DefValType
-  Stream : (ty : Option ComponentValType) → DefValType
+  Own Borrow : (number : ℕ) → DefValType
+  Future Stream : (ty : Option ComponentValType) → DefValType
 
 abbrev pub def_val_type : Form DefValType
 def_val_type (Primitive p) = primitive p

@@ -8,8 +8,7 @@ ghost use Rattle.wenc_builder.specs.Builder.{State, Draft, item_begun, item_appe
 ghost use Rattle.wenc_builder.specs.Enters.{Enters, EntersWithoutIndex};
 ghost use Rattle.wenc_builder.specs.Entry.{Entry, items as items_of, names};
 ghost use Rattle.wenc_builder.specs.Holds.{Holds};
-ghost use Rattle.wenc_builder.specs.Item.{Item, collected};
-ghost use Rattle.wenc_builder.specs.Raw.{HasNoRaw};
+ghost use Rattle.wenc_builder.specs.Item.{Item, collected, HasNoRaw};
 ghost use Rattle.wenc_builder.specs.Sections.{Section, Run, runs, whole};
 ghost use Rattle.wenc_builder.specs.Space.{defines, some_in, next_index, space_number};
 ghost use Rattle.wenc_builder.specs.declared.builder.space.Space.{Space};

@@ -7,11 +7,11 @@ use Rattle.wenc_base.specs.declared.fault.Fault.{Fault}
 use Rattle.wenc_base.specs.declared.fault.Fault.TheVariants.{Unfinished}
 use Rattle.wenc_base.specs.laws.Serves.{still_warranted}
 use Rattle.wenc_builder.specs.Item.{Item, item}
-use Rattle.wenc_builder.specs.Sections.{runs}
+use Rattle.wenc_builder.specs.Sections.{runs, OpenSection, open_of}
 use Rattle.wenc_builder.specs.Space.{Indices, defines, IsIndexAt, IsIndexOf, next_index, index_of}
-use Rattle.wenc_builder.specs.Entry.{Entry, items}
-use Rattle.wenc_builder.specs.Builder.{OpenSection, Namespace, namespace_at, with_entry, State}
-use Rattle.wenc_builder.specs.Holds.{open_of, namespace_of, Holds}
+use Rattle.wenc_builder.specs.Entry.{Entry, items, Namespace, namespace_of}
+use Rattle.wenc_builder.specs.Builder.{namespace_at, with_entry, State}
+use Rattle.wenc_builder.specs.Holds.{Holds}
 use Rattle.wenc_builder.specs.Cause.{SectionCause, SpaceCause, IndexCause, AddingCause, EnterCause, EntryCause}
 use Rattle.wenc_builder.specs.Enters.{IsCountAt, EntersWith, Enters}
 use Rattle.wenc_builder.specs.laws.Caused.{adding_never_unfinished}

@@ -4,7 +4,11 @@ use Rattle.std.proofs.Math.Logic.{∥∥₁_map, ∥∥₁_elim, ∥∥₁_prop}
 use Rattle.std.proofs.lemmas.Bool.Decides.{eqb_tells}
 use Rattle.wenc_base.specs.Fault.{NoCause}
 use Rattle.wenc_base.specs.declared.fault.Fault.TheVariants.{Memory, TooMany, TooLarge, Unfinished}
-use Rattle.wenc_builder.specs.Builder.{OpenSection, entered, entered_at, BegunItem, Content, State, settled_in, builder_is_finished, with_entry, content_with, content_of, Draft, item_begun, begun_appended, item_appended, item_ended, item_given_up}
+use Rattle.wenc_builder.specs.Builder.{entered, entered_at, BegunItem, Content, State, settled_in}
+use Rattle.wenc_builder.specs.Builder.{builder_is_finished, with_entry, content_with, content_of}
+use Rattle.wenc_builder.specs.Builder.{Draft, item_begun, begun_appended, item_appended, item_ended}
+use Rattle.wenc_builder.specs.Builder.{item_given_up}
+use Rattle.wenc_builder.specs.Sections.{OpenSection}
 use Rattle.wenc_builder.specs.inside.Takes.{with_alone}
 use Rattle.wenc_builder.specs.Entry.{Entry, entry}
 use Rattle.wenc_builder.specs.Holds.{Holds}

@@ -10,10 +10,16 @@ use Rattle.wenc_base.specs.reading.Forms.{read_byte_list}
 use Rattle.wenc_base.specs.Readers.{Flaw, Bad, Lawful, Reader, go_on, ◌>>=◌, give, nowhere, pick, choose, made}
 use Rattle.wenc_base.specs.laws.Lawful.{LawfulWhole, row_lawful, row_byte, IsPast, Starts, past, last, only_where_lawful, then_whole, last_whole, to_end, at_end, before_end, deeper_whole, whole_once}
 use Rattle.wenc_base.specs.laws.Sections.{read_custom, custom_lawful}
-use Rattle.wenc_builder.specs.Item.{Item, ModuleItem, CoreInstanceItem, CoreTypeItem, ComponentItem, InstanceItem, AliasItem, TypeItem, CanonItem, StartItem, ImportItem, ExportItem, CustomItem, RawItem, collected, item}
+use Rattle.wenc_builder.specs.Item.{Item, ModuleItem, CoreInstanceItem, CoreTypeItem, ComponentItem}
+use Rattle.wenc_builder.specs.Item.{InstanceItem, AliasItem, TypeItem, CanonItem, StartItem}
+use Rattle.wenc_builder.specs.Item.{ImportItem, ExportItem, CustomItem, RawItem, collected, item}
+use Rattle.wenc_builder.specs.Item.{IsNoRaw, HasNoRaw}
 use Rattle.wenc_base.specs.declared.fault.Fault.TheVariants.{Unfinished}
 use Rattle.wenc_builder.specs.laws.Never.{never_unfinished}
-use Rattle.wenc_builder.specs.Sections.{Section, Run, Alone, members, joined, runs, collects, item_of, section_piece, sections, component, preamble, Reading, whole}
+use Rattle.wenc_builder.specs.Sections.{Section, Run, Alone, members, joined, runs, collects}
+use Rattle.wenc_builder.specs.Sections.{item_of, section_piece, sections, component, preamble}
+use Rattle.wenc_builder.specs.Sections.{Reading, whole, SectionsHaveNoRaw, AreEncodable}
+use Rattle.wenc_builder.specs.Sections.{IsEncodable}
 use Rattle.wenc_canon.specs.laws.Canonicals.{canonical_lawful}
 use Rattle.wenc_canon.specs.reading.Canonicals.{read_canonical}
 use Rattle.wenc_parts.specs.laws.Aliases.{alias_lawful}
@@ -24,7 +30,6 @@ use Rattle.wenc_types.specs.laws.ComponentTypes.{type_lawful}
 use Rattle.wenc_types.specs.reading.ComponentTypes.{read_type}
 use Rattle.wenc_types.specs.laws.CoreTypes.{core_type_lawful}
 use Rattle.wenc_types.specs.reading.CoreTypes.{read_core_type}
-use Rattle.wenc_builder.specs.Raw.{IsNoRaw, HasNoRaw, SectionsHaveNoRaw, AreEncodable, IsEncodable}
 
 -- what is never allowed is lawful
 vacuous : {A : Type 0} {P : Type 0} {p : Piece} {read : ℕ → Reader A} {v : A} → (p.Cause Unfinished → ⊥) → (P → ⊥) → Lawful (only_where P p) read v

@@ -19,7 +19,8 @@ pub struct Namespace<A: Allocator = Global> {
 }
 
 impl<A: Allocator> Model for Namespace<A> {
-    ghost use Rattle.wenc_builder.specs.Builder.{Namespace, space_view};
+    ghost use Rattle.wenc_builder.specs.Builder.{space_view};
+    ghost use Rattle.wenc_builder.specs.Entry.{Namespace};
     ghost use Rattle.wenc_builder.specs.inside.Spaces.{NamesFit};
 
     ghost Value = { Namespace };

@@ -21,7 +21,7 @@ pub import_lawful : (i : Import) → Lawful (import_item i) (λ fuel. read_impor
 import_lawful i = then _ (extern_name_lawful i.name) (last (imported i.name) (type_reference_lawful i.ty))
 
 pub import_sound : Sound import_item read_import
-import_sound = then_tells _ extern_name_sound (λ name. last_tells (imported name) type_reference_sound (λ what middle rest r bytes p. (middle, p, r)))
+import_sound = then_tells _ extern_name_sound (λ name. last_tells (imported name) type_reference_sound (λ ty middle rest r bytes p. (middle, p, r)))
 
 pub inline_export_lawful : (e : Export) → Lawful (export_item e) (λ fuel. read_inline_export) e
 inline_export_lawful e = then _ (extern_name_lawful e.name) (then _ (component_export_kind_lawful e.kind) (then _ (u32_lawful e.index) (last (ascribed e.name e.kind e.index) (option_lawful type_reference_lawful e.ty))))
@@ -29,7 +29,7 @@ inline_export_lawful e = then _ (extern_name_lawful e.name) (then _ (component_e
 pub inline_export_sound : Sound export_item read_inline_export
 inline_export_sound =
     then_tells _ extern_name_sound (λ name. then_tells _ component_export_kind_sound (λ kind. then_tells _ u32_sound (λ index. last_tells (ascribed name kind index) (option_sound type_reference_sound)
-    (λ what c rest r b q a p bytes o. (a, o, (b, p, (c, q, r)))))))
+    (λ ty c rest r b q a p bytes o. (a, o, (b, p, (c, q, r)))))))
 
 -- ---- instances of core modules
 

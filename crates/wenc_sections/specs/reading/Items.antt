@@ -20,18 +20,18 @@ use Rattle.wenc_sections.specs.Start.{Start, started}
 -- ---- imports and exports
 
 abbrev pub imported : ExternName → ComponentTypeRef → Import
-imported name what = record { name = name; ty = what }
+imported name ty = record { name = name; ty = ty }
 
 abbrev pub read_import : Reader Import
-read_import = read_extern_name >>= λ name. read_type_reference >>= λ what. give (imported name what)
+read_import = read_extern_name >>= λ name. read_type_reference >>= λ ty. give (imported name ty)
 
 abbrev pub ascribed : ExternName → ComponentExportKind → ℕ → Option ComponentTypeRef → Export
-ascribed name kind index what = record { name = name; kind = kind; index = index; ty = what }
+ascribed name kind index ty = record { name = name; kind = kind; index = index; ty = ty }
 
 abbrev pub read_inline_export : Reader Export
 read_inline_export =
     read_extern_name >>= λ name. read_component_export_kind >>= λ kind. read_u32 >>= λ index.
-    read_option read_type_reference >>= λ what. give (ascribed name kind index what)
+    read_option read_type_reference >>= λ ty. give (ascribed name kind index ty)
 
 -- ---- instances of core modules
 
