@@ -63,7 +63,8 @@ pub fn component_types()
     ensures component { (def_type (ComponentType
         (and_component (Declared (CoreTyped (Grouped (Single
         (record { is_final = false; supertype = None; composite = Func [] [] })))))
-        (and_component (Imported (plain_name (0x72 ∷ [])) (references.«Type» TypeBounds.SubResource))
+        (and_component (Imported (plain_name (0x72 ∷ []))
+        (references.«Type» TypeBounds.SubResource))
         (and_component (Declared (Aliased (Outer ComponentOuterAliasKind.CoreType 1 0)))
         no_component))))).text
         ≡ 0x41 ∷ 0x03 ∷ 0x00 ∷ 0x00 ∷ 0x50 ∷ 0x00 ∷ 0x60 ∷ 0x00 ∷ 0x00 ∷ 0x03 ∷ 0x00 ∷ 0x01 ∷ 0x72

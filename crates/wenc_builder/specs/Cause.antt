@@ -8,9 +8,8 @@ use Rattle.wenc_builder.specs.Item.{item}
 use Rattle.wenc_builder.specs.Sections.{runs, OpenSection, open_of}
 use Rattle.wenc_builder.specs.Space.{Indices, defines}
 use Rattle.wenc_builder.specs.Entry.{Entry, items, Namespace, namespace_of}
-use Rattle.wenc_builder.specs.Builder.{namespace_at, Content, with_entry}
+use Rattle.wenc_builder.specs.Builder.{namespace_at, Content, with_entry, content_of}
 use Rattle.wenc_builder.specs.Builder.{State, builder_is_finished, Draft, draft_indices, item_begun}
-use Rattle.wenc_builder.specs.Builder.{content_of}
 
 -- ---- too much of something
 

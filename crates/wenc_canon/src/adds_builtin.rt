@@ -93,14 +93,16 @@ pub trait AddsBuiltin: AddsRow {
     /// `thread.spawn-indirect`: starts a thread in a shared function of this type, by its index in
     /// a table.
     fn thread_spawn_indirect(&mut self, ty: u32, table: u32) -> Result<Self::Answer, Fault>
-        ensures { Self.adds self.old self.new result (OfBuiltin canon.ThreadSpawnIndirect (ty, table)) }
+        ensures { Self.adds self.old self.new result
+            (OfBuiltin canon.ThreadSpawnIndirect (ty, table)) }
     {
         self.add_row(rows::THREAD_SPAWN_INDIRECT, &(ty, table))
     }
 
     /// `thread.available-parallelism`: gives how many threads can run at once.
     fn thread_available_parallelism(&mut self) -> Result<Self::Answer, Fault>
-        ensures { Self.adds self.old self.new result (OfBuiltin canon.ThreadAvailableParallelism tt) }
+        ensures { Self.adds self.old self.new result
+            (OfBuiltin canon.ThreadAvailableParallelism tt) }
     {
         self.add_row(rows::THREAD_AVAILABLE_PARALLELISM, &())
     }
@@ -200,7 +202,8 @@ pub trait AddsBuiltin: AddsRow {
     /// `stream.cancel-read`: cancels a read from a stream of this type. `async_` says whether that
     /// may be answered later.
     fn stream_cancel_read(&mut self, ty: u32, async_: bool) -> Result<Self::Answer, Fault>
-        ensures { Self.adds self.old self.new result (OfBuiltin canon.StreamCancelRead (ty, async_)) }
+        ensures { Self.adds self.old self.new result
+            (OfBuiltin canon.StreamCancelRead (ty, async_)) }
     {
         self.add_row(rows::STREAM_CANCEL_READ, &(ty, async_))
     }
@@ -208,7 +211,8 @@ pub trait AddsBuiltin: AddsRow {
     /// `stream.cancel-write`: cancels a write to a stream of this type. `async_` says whether that
     /// may be answered later.
     fn stream_cancel_write(&mut self, ty: u32, async_: bool) -> Result<Self::Answer, Fault>
-        ensures { Self.adds self.old self.new result (OfBuiltin canon.StreamCancelWrite (ty, async_)) }
+        ensures { Self.adds self.old self.new result
+            (OfBuiltin canon.StreamCancelWrite (ty, async_)) }
     {
         self.add_row(rows::STREAM_CANCEL_WRITE, &(ty, async_))
     }
@@ -272,7 +276,8 @@ pub trait AddsBuiltin: AddsRow {
     /// `future.cancel-read`: cancels a read from a future of this type. `async_` says whether that
     /// may be answered later.
     fn future_cancel_read(&mut self, ty: u32, async_: bool) -> Result<Self::Answer, Fault>
-        ensures { Self.adds self.old self.new result (OfBuiltin canon.FutureCancelRead (ty, async_)) }
+        ensures { Self.adds self.old self.new result
+            (OfBuiltin canon.FutureCancelRead (ty, async_)) }
     {
         self.add_row(rows::FUTURE_CANCEL_READ, &(ty, async_))
     }
@@ -280,7 +285,8 @@ pub trait AddsBuiltin: AddsRow {
     /// `future.cancel-write`: cancels a write to a future of this type. `async_` says whether that
     /// may be answered later.
     fn future_cancel_write(&mut self, ty: u32, async_: bool) -> Result<Self::Answer, Fault>
-        ensures { Self.adds self.old self.new result (OfBuiltin canon.FutureCancelWrite (ty, async_)) }
+        ensures { Self.adds self.old self.new result
+            (OfBuiltin canon.FutureCancelWrite (ty, async_)) }
     {
         self.add_row(rows::FUTURE_CANCEL_WRITE, &(ty, async_))
     }
@@ -309,7 +315,8 @@ pub trait AddsBuiltin: AddsRow {
     /// `waitable-set.wait`: waits until something in a set happens, which is written to this
     /// memory.
     fn waitable_set_wait(&mut self, memory: u32) -> Result<Self::Answer, Fault>
-        ensures { Self.adds self.old self.new result (OfBuiltin canon.WaitableSetWait (tt, memory)) }
+        ensures { Self.adds self.old self.new result
+            (OfBuiltin canon.WaitableSetWait (tt, memory)) }
     {
         self.add_row(rows::WAITABLE_SET_WAIT, &(NotCancellable, memory))
     }
@@ -317,7 +324,8 @@ pub trait AddsBuiltin: AddsRow {
     /// `waitable-set.poll`: looks whether something in a set happened, which is written to this
     /// memory.
     fn waitable_set_poll(&mut self, memory: u32) -> Result<Self::Answer, Fault>
-        ensures { Self.adds self.old self.new result (OfBuiltin canon.WaitableSetPoll (tt, memory)) }
+        ensures { Self.adds self.old self.new result
+            (OfBuiltin canon.WaitableSetPoll (tt, memory)) }
     {
         self.add_row(rows::WAITABLE_SET_POLL, &(NotCancellable, memory))
     }
@@ -345,7 +353,8 @@ pub trait AddsBuiltin: AddsRow {
 
     /// `thread.new-indirect`: makes a thread of a function of this type, by its index in a table.
     fn thread_new_indirect(&mut self, ty: u32, table: u32) -> Result<Self::Answer, Fault>
-        ensures { Self.adds self.old self.new result (OfBuiltin canon.ThreadNewIndirect (ty, table)) }
+        ensures { Self.adds self.old self.new result
+            (OfBuiltin canon.ThreadNewIndirect (ty, table)) }
     {
         self.add_row(rows::THREAD_NEW_INDIRECT, &(ty, table))
     }

@@ -1,5 +1,5 @@
-//! A component, the trait `ComponentSection` of what it is made of, the ids of sections, and the bytes
-//! of sorts.
+//! A component, the trait `ComponentSection` of what it is made of, the ids of sections, and the
+//! bytes of sorts.
 ghost use Rattle.std.specs.Prelude.{◌≡◌, ℕ, IfOk, IfErr, OnOk};
 ghost use Rattle.wenc_base.specs.laws.Delimited.{itself};
 ghost use Rattle.wenc_base.specs.Encode.{Appends};

@@ -85,7 +85,8 @@ impl<A: Allocator> Counted<CoreInstances, A> {
         requires can { I.can_next exports }
         requires ends { IsFinite (I.remaining exports) }
         ensures { AddsListed I.next_gives exports
-            (λ vs. core_instance (CoreExports (map (core_export_of S.named) vs))) self.old self.new result }
+            (λ vs. core_instance (CoreExports (map (core_export_of S.named) vs)))
+            self.old self.new result }
     {
         let lead = Tagged(CORE_EXPORTS, &());
         self.items.add_listed(&lead, exports, &())
