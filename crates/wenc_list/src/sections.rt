@@ -1,5 +1,5 @@
 //! Sections, and what is in them.
-ghost use Rattle.std.specs.Prelude.{◌≡◌, ◌∷◌, [], map, IfOk, IfErr};
+ghost use Rattle.std.specs.Prelude.{◌≡◌, ◌⊎◌, ◌∷◌, [], map, IfOk, IfErr};
 ghost use Rattle.std.specs.String.{string_bytes};
 ghost use Rattle.wenc_base.specs.Forms.{AreBytes};
 ghost use Rattle.wenc_base.specs.Readers.{done};
@@ -83,9 +83,7 @@ fn single<A: Allocator>(alloc: A, item: ItemTree<A>) -> Result<Vec<ItemTree<A>, 
     Ok(items)
 }
 
-/// The item of a custom section. Neither this nor the next ones are inlined, since room for what
-/// they hold would be cleared at every section.
-#[inline(never)]
+/// The item of a custom section.
 fn custom_alone<A: Allocator + Copy>(
     alloc: A,
     content: &[u8],
@@ -97,7 +95,6 @@ fn custom_alone<A: Allocator + Copy>(
 }
 
 /// A core module.
-#[inline(never)]
 fn module_alone<A: Allocator + Copy>(
     alloc: A,
     content: &[u8],
@@ -108,7 +105,6 @@ fn module_alone<A: Allocator + Copy>(
 }
 
 /// A nested component.
-#[inline(never)]
 fn component_alone<A: Allocator + Copy>(
     alloc: A,
     content: &[u8],
@@ -119,7 +115,6 @@ fn component_alone<A: Allocator + Copy>(
 }
 
 /// A start.
-#[inline(never)]
 fn start_alone<A: Allocator + Copy>(
     alloc: A,
     content: &[u8],
@@ -135,6 +130,25 @@ fn start_alone<A: Allocator + Copy>(
     single(alloc, item)
 }
 
+/// The item of a section that collects none. It isn't inlined, since room for what it holds would be
+/// cleared at every section.
+#[inline(never)]
+fn alone<A: Allocator + Copy>(
+    alloc: A,
+    id: u8,
+    content: &[u8],
+) -> Result<Vec<ItemTree<A>, A>, Refusal>
+    requires { (id ≡ 0) ⊎ ((id ≡ 1) ⊎ ((id ≡ 4) ⊎ (id ≡ 9))) }
+    ensures { Gives (λ v. map item_view v.items) result (read_content 100 id content.now) }
+{
+    match id {
+        0 => custom_alone(alloc, content),
+        1 => module_alone(alloc, content),
+        4 => component_alone(alloc, content),
+        _ => start_alone(alloc, content),
+    }
+}
+
 /// The items that fill a section with this id.
 #[inline(always)]
 pub(crate) fn content<A: Allocator + Copy>(
@@ -145,15 +159,13 @@ pub(crate) fn content<A: Allocator + Copy>(
     ensures { GivesNested (λ v. map item_view v.items) result (read_content 100 id content.now) }
 {
     match id {
-        0 => Ok(custom_alone(alloc, content)?),
-        1 => Ok(module_alone(alloc, content)?),
-        4 => Ok(component_alone(alloc, content)?),
-        9 => Ok(start_alone(alloc, content)?),
+        0 | 1 | 4 | 9 => Ok(alone(alloc, id, content)?),
         _ => items(alloc, id, content),
     }
 }
 
 /// The id, at most 11, and the content of the section that begins here, and what is after it.
+#[inline(always)]
 pub(crate) fn frame(bytes: &[u8]) -> Result<((u8, &[u8]), &[u8]), Refusal>
     ensures { Gives (λ x. ((x.0.0, x.0.1.now), x.1.now)) result (read_frame bytes.now) }
 {
