@@ -135,6 +135,7 @@ impl<A: Allocator + Copy> Decode<A> for AliasTree<A> {
     ghost read = { read_alias };
 
     #[tactic(auto, unfolding(wenc_base::specs::Readers::choose))]
+    #[inline(always)]
     fn decode<'a>(alloc: A, bytes: &'a [u8]) -> Result<(AliasTree<A>, &'a [u8]), Refusal> {
         match byte(bytes)? {
             (0x00, rest) => core(alloc, rest),

@@ -15,6 +15,7 @@ impl<A: Allocator + Copy> Decode<A> for ComponentExportKind {
     ghost read = { read_component_export_kind };
 
     #[tactic(auto, unfolding(wenc_base::specs::Readers::choose))]
+    #[inline(always)]
     fn decode<'a>(_alloc: A, bytes: &'a [u8]) -> Result<(ComponentExportKind, &'a [u8]), Refusal> {
         match byte(bytes)? {
             (0x00, rest) => match byte(rest)? {

@@ -15,6 +15,7 @@ impl<A: Allocator + Copy> Decode<A> for TypeBounds {
     ghost read = { read_type_bounds };
 
     #[tactic(auto, unfolding(wenc_base::specs::Readers::choose))]
+    #[inline(always)]
     fn decode<'a>(alloc: A, bytes: &'a [u8]) -> Result<(TypeBounds, &'a [u8]), Refusal> {
         match byte(bytes)? {
             (0x00, rest) => {
@@ -38,6 +39,7 @@ impl<A: Allocator + Copy> Decode<A> for ComponentTypeRef {
     ghost read = { read_type_reference };
 
     #[tactic(auto, unfolding(wenc_base::specs::Readers::choose))]
+    #[inline(always)]
     fn decode<'a>(alloc: A, bytes: &'a [u8]) -> Result<(ComponentTypeRef, &'a [u8]), Refusal> {
         match byte(bytes)? {
             (0x00, rest) => match byte(rest)? {

@@ -17,6 +17,7 @@ impl<A: Allocator + Copy> Decode<A> for ModuleArg {
     ghost read = { read_module_argument };
 
     #[tactic(auto, unfolding(wenc_base::specs::Readers::choose))]
+    #[inline(always)]
     fn decode<'a>(alloc: A, bytes: &'a [u8]) -> Result<(ModuleArg, &'a [u8]), Refusal> {
         match byte(bytes)? {
             (0x12, rest) => {
@@ -40,6 +41,7 @@ impl<A: Allocator + Copy> Decode<A> for (String<A>, ModuleArg) {
 
     ghost read = { read_argument };
 
+    #[inline(always)]
     fn decode<'a>(
         alloc: A,
         bytes: &'a [u8],
@@ -62,6 +64,7 @@ impl<A: Allocator + Copy> Decode<A> for (String<A>, ExportKind, u32) {
 
     ghost read = { read_inline_core_export };
 
+    #[inline(always)]
     fn decode<'a>(
         alloc: A,
         bytes: &'a [u8],
@@ -85,6 +88,7 @@ impl<A: Allocator + Copy> Decode<A> for CoreInstanceTree<A> {
     ghost read = { read_core_instance };
 
     #[tactic(auto, unfolding(wenc_base::specs::Readers::choose))]
+    #[inline(always)]
     fn decode<'a>(alloc: A, bytes: &'a [u8]) -> Result<(CoreInstanceTree<A>, &'a [u8]), Refusal> {
         match byte(bytes)? {
             (0x00, rest) => {
@@ -113,6 +117,7 @@ impl<A: Allocator + Copy> Decode<A> for (String<A>, ComponentExportKind, u32) {
 
     ghost read = { read_given };
 
+    #[inline(always)]
     fn decode<'a>(
         alloc: A,
         bytes: &'a [u8],
@@ -136,6 +141,7 @@ impl<A: Allocator + Copy> Decode<A> for (NameTree<A>, ComponentExportKind, u32) 
 
     ghost read = { read_inline_exported };
 
+    #[inline(always)]
     fn decode<'a>(
         alloc: A,
         bytes: &'a [u8],
@@ -159,6 +165,7 @@ impl<A: Allocator + Copy> Decode<A> for InstanceTree<A> {
     ghost read = { read_instance };
 
     #[tactic(auto, unfolding(wenc_base::specs::Readers::choose))]
+    #[inline(always)]
     fn decode<'a>(alloc: A, bytes: &'a [u8]) -> Result<(InstanceTree<A>, &'a [u8]), Refusal> {
         match byte(bytes)? {
             (0x00, rest) => {

@@ -17,6 +17,7 @@ use wenc_read::{NestedRefusal, Refusal, byte, u32_of};
 use wenc_types::{ComponentDecl, CoreTypeTree, DefinedTree, InstanceDecl, TypeTree};
 
 /// The type of a function, after its first byte.
+#[inline(always)]
 fn function_type<A: Allocator + Copy>(
     alloc: A,
     is_async: bool,
