@@ -10,16 +10,10 @@ pub list_is_one : {A : Type 0} (args : List (String A)) → IsList args → leng
 list_is_one args h = sym (length-map args string_bytes) ∙ ap length h
 
 one_word : {A : Type 0} (args : List (String A)) (word : String A) → length args ≡ 1 → word ≡ get_or args 0 word → map string_bytes args ≡ string_bytes word ∷ []
-one_word [] word one is = absurd (omega (arith, one))
 one_word (x ∷ []) word one is = ap (λ w. string_bytes w ∷ []) (sym is)
-one_word (x ∷ y ∷ rest) word one is = absurd (omega (arith, one))
+one_word args word one is = absurd (omega (arith, one))
 
 -- the one word is `list` where its comparison says so
 pub told : {A : Type 0} (args : List (String A)) (word : String A) (text : List ℕ) (r : Bool) → length args ≡ 1 → word ≡ get_or args 0 word → text ≡ string_bytes word
     → r ≡ bytes_eq text (codes "list") → (r ≡ true → IsList args) × (IsList args → r ≡ true)
-told args word text r one is said tells =
-    let words = one_word args word one is in
-    let decides = bytes_eq-Decides text (codes "list") in (
-      λ t. words ∙ ap (λ w. w ∷ []) (sym said ∙ decides.0 (sym tells ∙ t)),
-      λ l. let same : string_bytes word ≡ codes "list" = cc (words, l) in tells ∙ decides.1 (said ∙ same),
-    )
+told args word text r one is said tells = grind (arith, one_word args word one is, bytes_eq-Decides text (codes "list"))

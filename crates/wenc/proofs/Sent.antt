@@ -6,10 +6,7 @@ use Rattle.hex.specs.Hex.{encode_with, encode_lower}
 use Rattle.wenc.specs.Run.{AppendsFront}
 
 pub appends_both : (a b c : Option (List ℕ)) (xs ys : List ℕ) → Appends a b xs → Appends b c ys → Appends a c (xs ++ ys)
-appends_both None b c xs ys p q = tt
-appends_both (Some x) None c xs ys p q = absurd p
-appends_both (Some x) (Some y) None xs ys p q = absurd q
-appends_both (Some x) (Some y) (Some z) xs ys p q = q ∙ ap (λ l. l ++ ys) p ∙ append_assoc x xs ys
+appends_both a b c xs ys p q = grind (arith, append_assoc {A = ℕ})
 
 -- a writer took n more bytes of a text
 pub sent_more : (a b c : Option (List ℕ)) (text sent rest : List ℕ) (n : ℕ) → n ≤ length rest → Appends a b sent → Appends b c (take n rest) → text ≡ sent ++ rest

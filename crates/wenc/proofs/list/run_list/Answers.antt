@@ -5,4 +5,4 @@ pub returns-in-Ok-clause-ends : goal.returns-in-Ok-clause-ends
 returns-in-Ok-clause-ends g c = listing_ends c.in-Ok.text _ _ _ _ _ _ c.in-Ok.ensures (rw c.as_slice.ensures.value at c.write_with_status.ensures)
 
 pub returns-in-Err-clause-ends : goal.returns-in-Err-clause-ends
-returns-in-Err-clause-ends g c = unlisted_ends _ c.in-Err.unlisted _ _ _ _ _ _ c.in-Err.ensures c.report_unlisted.ensures
+returns-in-Err-clause-ends g c = unlisted_ends _ _ _ _ _ _ _ c.in-Err.unlisted c.in-Err.ensures c.report_unlisted.ensures

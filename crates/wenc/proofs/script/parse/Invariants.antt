@@ -1,5 +1,4 @@
-use Rattle.std.proofs.Common.{◌≡◌, ◌+◌, ◌≤◌, ◌++◌, ℕ, List, map, length, drop}
-use Rattle.std.specs.Str.{IsUtf8}
+use Rattle.std.proofs.Common.{◌≡◌, ◌+◌, ◌≤◌, ◌++◌, map, length, drop}
 use denote.Text.{Utf8}
 use denote.Shadow.{shadow}
 use Rattle.wenc.specs.Parts.{parted}
@@ -13,9 +12,6 @@ invariant-loop-line g l = record {
   is_text : shadow (Utf8 l.last);
   said : put_before (map command_view l.commands.items) (commands_from l.number (parted 10 (l.last ++ drop (length l.initial.last) l.text))) ≡ script l.text;
   counted : l.number + length l.last ≤ length l.text + 1;
-  done : List ℕ;
-  done_text : IsUtf8 done;
-  parts : l.initial.last ≡ done ++ l.last;
 }
 
 abbrev pub decreases-loop-line : goal.decreases-loop-line
