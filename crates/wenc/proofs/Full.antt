@@ -4,7 +4,7 @@ use Rattle.std.proofs.lemmas.Grind.{common_steps}
 use Rattle.wenc_parts.specs.declared.exports.ComponentExportKind.{ComponentExportKind}
 use Rattle.wenc_canon.specs.Canonicals.{Field, Index, Flag, Zero, Builtin, row, builtins}
 use Rattle.wenc_parts.specs.Imports.{plain_name}
-use Rattle.wenc.specs.Fields.{number_word, number_before, numbers, flag_word, reference_word}
+use Rattle.wenc.specs.Fields.{numbers, reference_word}
 use Rattle.wenc.specs.Builtins.{said, word_is_over, values_said, one_of, builtin_said}
 use Rattle.wasm_encoder.specs.Command.{CommandTree, Add}
 use Rattle.wenc_builder.specs.Entry.{import_entry, alias_export_entry, canonical_tree_entry}
@@ -14,9 +14,6 @@ use Rattle.std.specs.Str.{bytes_eq}
 use Rattle.std.proofs.lemmas.Slice.Eq.{bytes_eq-Decides}
 use Rattle.wenc.specs.inside.Full.{of_full, kind_and_index}
 use Rattle.wenc.proofs.Lines.{false_without}
-
-cond_same : {A : Type 0} (b : Bool) (x : A) → cond b x x ≡ x
-cond_same b x = grind arith
 
 -- what says nothing where a word is empty says the same of full words
 full_same : {A : Type 0} (b : Bool) (x : Option A) → (b ≡ true → x ≡ None) → cond b None x ≡ x
@@ -37,10 +34,7 @@ full_alias i k name s h = grind (arith, common_steps)
 numbers_none : (words : List (List ℕ)) → has_empty words ≡ true → numbers words ≡ None
 numbers_none [] h = absurd cc
 numbers_none ([] ∷ words) h = refl
-numbers_none ((b ∷ word) ∷ words) h = rw (numbers_none words h) (no_number_before (number_word (b ∷ word)))
-  where
-    no_number_before : (n : Option ℕ) → number_before n None ≡ None
-    no_number_before n = grind arith
+numbers_none ((b ∷ word) ∷ words) h = grind (arith, numbers_none words h)
 
 start_none : (words : List (List ℕ)) → has_empty words ≡ true → start_command words ≡ None
 start_none words h = grind (arith, common_steps, numbers_none)
@@ -58,20 +52,15 @@ abbrev IsLeft : {T : Type 0} → Option (T × List (List ℕ)) → Type 0
 IsLeft None = Unit {0}
 IsLeft (Some s) = has_empty s.1 ≡ true
 
-left_behind : {A : Type 0} (o : Option A) (words : List (List ℕ)) → has_empty words ≡ true → IsLeft (option_map (λ (x : A). (x, words)) o)
-left_behind None words h = tt
-left_behind (Some x) words h = h
-
 said_left : (f : Field) (words : List (List ℕ)) → has_empty words ≡ true → IsLeft (said f words)
-said_left Index ((b ∷ word) ∷ words) h = left_behind (number_word (b ∷ word)) words h
-said_left Flag ((b ∷ word) ∷ words) h = left_behind (flag_word (b ∷ word)) words h
+said_left Index ((b ∷ word) ∷ words) h = grind arith
+said_left Flag ((b ∷ word) ∷ words) h = grind arith
 said_left Zero words h = h
 said_left f words h = tt
 
 then_none : {S T : Type 0} (o : Option (S × List (List ℕ))) (f : S × List (List ℕ) → Option T) → IsLeft o → ((s : S × List (List ℕ)) → has_empty s.1 ≡ true → f s ≡ None)
     → option_and_then f o ≡ None
-then_none None f h none = refl
-then_none (Some s) f h none = none s h
+then_none o f h none = grind arith
 
 over_none : {T : Type 0} (s : T × List (List ℕ)) → has_empty s.1 ≡ true → word_is_over s ≡ None
 over_none s h = grind arith
@@ -83,7 +72,7 @@ values_none (f ∷ g ∷ fs) words h = then_none (said f words) _ (said_left f w
 
 one_none : (is : List Builtin) (verb : List ℕ) (words : List (List ℕ)) → has_empty words ≡ true → one_of is verb words ≡ None
 one_none [] verb words h = refl
-one_none (i ∷ is) verb words h = rw (values_none (row i).fields words h, one_none is verb words h) (cond_same _ None)
+one_none (i ∷ is) verb words h = grind (arith, values_none (row i).fields words h, one_none is verb words h)
 
 differ : (a b : List ℕ) → ¬ (a ≡ b) → bytes_eq a b ≡ false
 differ a b h = false_without (bytes_eq a b) (a ≡ b) (bytes_eq-Decides a b).0 h
