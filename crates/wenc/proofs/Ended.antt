@@ -1,5 +1,5 @@
 -- What the steps of a run make of the whole.
-use Rattle.std.proofs.Common.{◌≡◌, ℕ, ◌+◌, List, [], ◌∷◌, ◌++◌, All, Any, IsOk, IsErr, Option, Some, Result, Ok, Err, refl, sym, ap, ◌∙◌, arith, inl, inr, append-nil, append_assoc, lit<}
+use Rattle.std.proofs.Common.{◌≡◌, ℕ, ◌+◌, List, [], ◌∷◌, ◌++◌, All, Any, IsOk, IsErr, Option, Some, Result, Ok, refl, sym, ap, ◌∙◌, arith, inl, append-nil, append_assoc, lit<}
 use Rattle.std.proofs.lemmas.Fmt.{decimal_digit}
 use Rattle.std.specs.Io.KnownBytes.{Appends, Keeps}
 use Rattle.hex.specs.Hex.{encode_lower}
@@ -11,7 +11,7 @@ use Rattle.wenc.specs.declared.failure.Failure.TheVariants.{Arguments, BadLine, 
 use Rattle.wenc.specs.declared.program.Printout.{Printout}
 use Rattle.wenc.specs.Script.{script}
 use Rattle.wenc.specs.Printed.{line_of, answer_line, answer_lines, printed}
-use Rattle.wenc.specs.Run.{Prints, PrintsFront, EndsRun, AppendsFront, Says, fault_report, no_memory, line_report}
+use Rattle.wenc.specs.Run.{Prints, PrintsFront, EndsRun, AppendsFront, Says, fault_report, no_memory}
 use Rattle.wenc.specs.inside.Steps.{text_of, Translation, IsWholeRun, Reads, NotTranslated, Reported}
 
 pub keeps_same : (a : Option (List ℕ)) → Keeps a a
@@ -30,28 +30,14 @@ lines_then_bytes [] bytes = refl
 lines_then_bytes (a ∷ answers) bytes = append_assoc (answer_line a) (answer_lines answers) (line_of (encode_lower bytes)) ∙ rw (lines_then_bytes answers bytes) refl
 
 prints_so : (P : List (Result (Option ℕ) FaultSpec) → Type 0) {A : Type 0} (p : Printout A) (text all old : List ℕ) (t : Translation p text) → P t.answers → text ≡ all → Prints P all old (old ++ text_of p)
-prints_so P p text all old t h e = record {
-  commands = t.commands;
-  answers = t.answers;
-  entries = t.entries;
-  says = rw (← e) t.says;
-  ran = t.ran;
-  accepted = h;
-  writes = ap (λ (x : List ℕ). old ++ x) t.prints;
-}
+prints_so P p text all old t h e =
+    let says : script all ≡ Ok t.commands = rw (← e) t.says in
+    search (t.ran, ap (λ (x : List ℕ). old ++ x) t.prints)
 
 front_so : {A : Type 0} (p : Printout A) (text all old : List ℕ) (before after : Option (List ℕ)) (t : Translation p text) (f : AppendsFront before after (text_of p)) → text ≡ all → PrintsFront all old (old ++ f.sent)
-front_so p text all old before after t f e = record {
-  commands = t.commands;
-  answers = t.answers;
-  entries = t.entries;
-  says = rw (← e) t.says;
-  ran = t.ran;
-  sent = f.sent;
-  missing = f.missing;
-  front = sym t.prints ∙ f.front;
-  writes = refl;
-}
+front_so p text all old before after t f e =
+    let says : script all ≡ Ok t.commands = rw (← e) t.says in
+    search (t.ran, sym t.prints ∙ f.front)
 
 -- what was printed was written, or a write failed
 pub ends_printed : {A : Type 0} (p : Printout A) (result : ℕ) (left ended before after errors : Option (List ℕ)) → Reads (Ok p) left ended → Says result p.status (text_of p) before after
@@ -63,7 +49,7 @@ ends_printed p result left ended before after errors r says =
       zero = λ s all old l b.
           let w : All IsOk t.answers × Appends before after (text_of p) = grind (arith, says, t.status) in
           (old ++ text_of p, appended_known before after old _ w.1 b, (known all l).1, prints_so (All IsOk) p r.0 all old t w.0 (known all l).0, keeps_same errors);
-      one = λ s. let none : ⊥ = grind (arith, says, t.status) in absurd none;
+      one = grind (arith, says, t.status);
       two = λ s all old l b.
           let w : Any IsErr t.answers × Appends before after (text_of p) = grind (arith, says, t.status) in
           (old ++ text_of p, appended_known before after old _ w.1 b, inl ((known all l).1, prints_so (Any IsErr) p r.0 all old t w.0 (known all l).0, keeps_same errors));
@@ -85,26 +71,10 @@ fault_reported TooMany number h = rw (h, decimal_digit 2 (lit< tt)) refl
 fault_reported TooLarge number h = rw (h, decimal_digit 3 (lit< tt)) refl
 fault_reported Unfinished number h = rw (h, decimal_digit 4 (lit< tt)) refl
 
-module _ (result : ℕ) (left ended before errors reported : Option (List ℕ)) where
-  -- status 4, and nothing was written
-  ends_with_4 : result ≡ 4 → EndsRun result left ended before before errors reported
-  ends_with_4 four = grind arith
-
-  -- status 2, and nothing was written
-  ends_without_memory : result ≡ 2 → Appends errors reported no_memory → EndsRun result left ended before before errors reported
-  ends_without_memory two app = grind arith
-
-  ends_at_line : (line : ℕ) (text : List ℕ) → IsWholeRun left ended text → script text ≡ Err line → result ≡ 1 → Appends errors reported (line_report line)
-      → EndsRun result left ended before before errors reported
-  ends_at_line line text h bad one app = grind (arith, whole_known left ended text h)
-
-  -- nothing was printed
-  pub ends_failed : (failure : Failure) → NotTranslated failure left ended → Reported result failure errors reported → EndsRun result left ended before before errors reported
-  ends_failed (BadLine line) r (inl (inl s)) = ends_at_line line r.0 r.1 r.2 s.0 s.1
-  ends_failed (BadLine line) r (inl (inr f)) = ends_with_4 f.0
-  ends_failed (BadLine line) r (inr (inl s)) = ends_without_memory s.0 s.1
-  ends_failed (BadLine line) r (inr (inr f)) = ends_with_4 f.0
-  ends_failed (Fault fault) r (inl s) = ends_without_memory s.0 (rw (fault_report_memory fault r) at s.1)
-  ends_failed (Fault fault) r (inr f) = ends_with_4 f.0
-  ends_failed Transfer r f = ends_with_4 f.0
-  ends_failed Arguments r says = absurd r
+-- nothing was printed
+pub ends_failed : (failure : Failure) (result : ℕ) (left ended before errors reported : Option (List ℕ)) → NotTranslated failure left ended → Reported result failure errors reported
+    → EndsRun result left ended before before errors reported
+ends_failed (BadLine line) result left ended before errors reported r says = grind (arith, whole_known left ended r.0 r.1)
+ends_failed (Fault fault) result left ended before errors reported r says = grind (arith, fault_report_memory fault r)
+ends_failed Transfer result left ended before errors reported r says = grind arith
+ends_failed Arguments result left ended before errors reported r says = absurd r

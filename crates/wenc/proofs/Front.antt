@@ -69,19 +69,23 @@ bad_first n [] lines bad = absurd (bad IsUtf8-nil)
 bad_first n (b ∷ line) lines bad = rw (not_text (b ∷ line) bad) refl
 
 -- the last line is bad, where more bytes follow the text
-pub ends_badly : (commands : List CommandTree) (n : ℕ) (bytes text last : List ℕ) (all : Result (List CommandTree) ℕ)
-    → put_before commands (commands_from n (parted 10 (last ++ drop (length text) bytes))) ≡ all → IsTextInFront bytes text false → IsUtf8 last
+pub ends_badly : (commands : List CommandTree) (n : ℕ) (bytes text last : List ℕ) (is_whole : Bool) (all : Result (List CommandTree) ℕ)
+    → put_before commands (commands_from n (parted 10 (last ++ drop (length text) bytes))) ≡ all → IsTextInFront bytes text is_whole → is_whole ≡ false → IsUtf8 last
     → position_or_len (λ b. eqb b 10) last ≡ length last → all ≡ Err n
-ends_badly commands n bytes text last all said front u no_end =
+ends_badly commands n bytes text last is_whole all said front no_more u no_end =
     let more : List ℕ = drop (length text) bytes in
     let f = first_part 10 more in
-    let none = no_text last _ u (no_text_behind text more (rw (front_and_behind bytes text false front) front.1)) in
+    let valid = rw no_more at front in
+    let none = no_text last _ u (no_text_behind text more (rw (front_and_behind bytes text is_whole front) valid.1)) in
     let line = parts_behind 10 last more _ f.0 (lacks 10 last (omega arith)) f.1 in
     sym said ∙ ap (λ lines. put_before commands (commands_from n lines)) line ∙ ap (put_before commands) (bad_first n _ f.0 none)
 
 -- the last line, where none do
-pub last_line : (bytes text last : List ℕ) → text ≡ bytes → position_or_len (λ b. eqb b 10) last ≡ length last → parted 10 (last ++ drop (length text) bytes) ≡ last ∷ []
-last_line bytes text last whole no_end = rw (none_behind bytes text whole, append-nil) (parted_whole 10 last (omega arith))
+pub last_line : (bytes text last : List ℕ) (is_whole : Bool) → IsTextInFront bytes text is_whole → is_whole ≡ true → position_or_len (λ b. eqb b 10) last ≡ length last
+    → parted 10 (last ++ drop (length text) bytes) ≡ last ∷ []
+last_line bytes text last is_whole front no_more no_end =
+    let whole = rw no_more at front in
+    rw (none_behind bytes text whole.0, append-nil) (parted_whole 10 last (omega arith))
 
 -- a text is cut at its first LF: what stands behind it is a text, which is shorter, and the line in front is read first
 pub next_line : (last line behind more : List ℕ) → (line ≡ before_first (λ b. eqb b 10) last) × (behind ≡ after_first (λ b. eqb b 10) last) × (position_or_len (λ b. eqb b 10) last < length last)

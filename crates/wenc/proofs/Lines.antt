@@ -1,13 +1,12 @@
 -- What a line says by its words.
-use Rattle.std.proofs.Common.{◌≡◌, ℕ, Bool, true, false, cond, List, None, refl}
+use Rattle.std.proofs.Common.{◌≡◌, ℕ, Bool, true, false, cond, List, None, refl, arith}
 use Rattle.std.specs.Str.{IsUtf8, is_utf8}
 use Rattle.std.proofs.lemmas.Str.{IsUtf8-from_is_utf8, is_utf8-from_IsUtf8}
 use Rattle.wenc.specs.Parts.{parted}
 use Rattle.wenc.specs.Script.{has_empty, command_of, line_command}
 
 pub false_without : (b : Bool) (P : Type 0) → (b ≡ true → P) → ¬ P → b ≡ false
-false_without true P h n = absurd (n (h refl))
-false_without false P h n = refl
+false_without b P h n = grind arith
 
 pub not_text : (line : List ℕ) → ¬ IsUtf8 line → line_command line ≡ None
 not_text line h = rw (false_without (is_utf8 line) (IsUtf8 line) (IsUtf8-from_is_utf8 line) h) refl

@@ -1,12 +1,12 @@
 -- What the steps of a run of `list` make of the whole.
-use Rattle.std.proofs.Common.{◌≡◌, ℕ, ◌⊎◌, List, [], ◌++◌, Option, Some, None, Result, Ok, Err, refl, sym, ap, ◌∙◌, arith, inl, inr}
+use Rattle.std.proofs.Common.{◌≡◌, ℕ, ◌⊎◌, List, [], ◌++◌, Option, Some, Result, Ok, Err, refl, sym, ap, ◌∙◌, arith, inl, inr}
 use Rattle.std.specs.Prelude.{Vec}
 use Rattle.std.specs.Io.KnownBytes.{Appends}
 use Rattle.wenc_list.specs.declared.fault.ListFault.{ListFault}
 use Rattle.wenc_list.specs.declared.fault.ListFault.TheVariants.{Memory}
 use Rattle.wenc.specs.declared.unlisted.Unlisted.{Unlisted}
 use Rattle.wenc.specs.declared.unlisted.Unlisted.TheVariants.{BadText, Fault, Transfer}
-use Rattle.wenc.specs.Listed.{text_bytes, listing_text, bad_text, fault_line}
+use Rattle.wenc.specs.Listed.{listing_text, fault_line}
 use Rattle.wenc.specs.ListRun.{IsFaultIn, PrintsListing, PrintsListingFront, EndsListing}
 use Rattle.wenc.specs.inside.ListSteps.{ListsText, ReadsListing, NotReadAndListed, ReportsUnlisted}
 use Rattle.wenc.specs.Run.{Says, AppendsFront}
@@ -42,14 +42,8 @@ listing_ends {A} printed result left ended before after errors r says =
     }
 
 module _ (A : Type 0) (result : ℕ) (left ended before errors reported : Option (List ℕ)) where
-  -- status 4, and nothing was written
   ends_with_4 : result ≡ 4 → EndsListing A result left ended before before errors reported
   ends_with_4 four = grind arith
-
-  -- status 1: the text says no bytes
-  ends_without_bytes : (text : List ℕ) → IsWholeRun left ended text → text_bytes text ≡ None → result ≡ 1 → Appends errors reported bad_text
-      → EndsListing A result left ended before before errors reported
-  ends_without_bytes text h none one app = grind (arith, whole_known left ended text h)
 
   whole_cause : (fault : ListFault) → (fault ≡ Memory) ⊎ ((text : List ℕ) × IsWholeRun left ended text × IsFaultIn text fault) → (all : List ℕ) → left ≡ Some all
       → (fault ≡ Memory) ⊎ ((ended ≡ Some []) × IsFaultIn all fault)
@@ -69,10 +63,9 @@ module _ (A : Type 0) (result : ℕ) (left ended before errors reported : Option
 
   -- nothing was printed
   pub unlisted_ends : (unlisted : Unlisted) → NotReadAndListed unlisted left ended → ReportsUnlisted result unlisted errors reported → EndsListing A result left ended before before errors reported
-  unlisted_ends BadText r (inl s) = ends_without_bytes r.0 r.1 r.2 s.0 s.1
-  unlisted_ends BadText r (inr f) = ends_with_4 f.0
+  unlisted_ends BadText r says = grind (arith, whole_known left ended r.0 r.1)
   unlisted_ends (Fault fault) r (inl (inl s)) = ends_with_fault fault r s.0 s.1
-  unlisted_ends (Fault fault) r (inl (inr f)) = ends_with_4 f.0
   unlisted_ends (Fault fault) r (inr (inl s)) = ends_with_fault Memory (inl refl) s.0 s.1
+  unlisted_ends (Fault fault) r (inl (inr f)) = ends_with_4 f.0
   unlisted_ends (Fault fault) r (inr (inr f)) = ends_with_4 f.0
   unlisted_ends Transfer r f = ends_with_4 f.0

@@ -1,16 +1,12 @@
 -- Numbers read from their first digit on.
-use Rattle.std.proofs.Common.{◌≡◌, ℕ, ◌++◌, Option, ◌+◌, ◌-◌, ◌*◌, ◌^◌, ◌<◌, ◌≤◌, Bool, false, cond, List, [], ◌∷◌, Some, None, refl, arith, length, drop, get_or, eqb}
+use Rattle.std.proofs.Common.{◌≡◌, ℕ, ◌++◌, Option, ◌+◌, ◌-◌, ◌*◌, ◌^◌, ◌<◌, ◌≤◌, false, List, [], ◌∷◌, Some, None, refl, arith, length, drop, get_or, eqb}
 use Rattle.std.proofs.lemmas.Bool.{le-ltb}
 use Rattle.std.proofs.lemmas.Grind.{common_steps}
-use Rattle.wenc.specs.Fields.{value_behind, at_most_32_bits, is_digit, number_word}
-
--- a digit more, or the end at another byte
-value_chosen : (is : Bool) (n m : ℕ) (bytes : List ℕ) → at_most_32_bits (value_behind m bytes) ≡ None → at_most_32_bits (cond is (value_behind m bytes) None) ≡ None
-value_chosen is n m bytes h = grind arith
+use Rattle.wenc.specs.Fields.{value_behind, at_most_32_bits, number_word}
 
 value_too_large : (n : ℕ) (bytes : List ℕ) → 2 ^ 32 ≤ n → at_most_32_bits (value_behind n bytes) ≡ None
 value_too_large n [] h = rw (le-ltb _ _ h) refl
-value_too_large n (b ∷ bytes) h = value_chosen (is_digit b) n _ bytes (value_too_large (n * 10 + (b - 48)) bytes (omega arith))
+value_too_large n (b ∷ bytes) h = grind (arith, value_too_large (n * 10 + (b - 48)) bytes (omega arith))
 
 -- the next digit makes the number too large, or isn't one
 pub number_stops : (word : List ℕ) (i n : ℕ) → i < length word → at_most_32_bits (value_behind 0 word) ≡ at_most_32_bits (value_behind n (drop i word))

@@ -77,13 +77,14 @@ next_untyped : (front : List CommandTree) (next : Entry) (rest : List CommandTre
 next_untyped [] next rest all = all.0
 next_untyped (c ∷ front) next rest all = next_untyped front next rest all.1
 
-pub only_memory : (text : List ℕ) (commands : List CommandTree) (fault : Fault) → script text ≡ Ok commands → IsMemory fault ⊎ IsStopped commands fault → IsMemory fault
+only_memory : (text : List ℕ) (commands : List CommandTree) (fault : Fault) → script text ≡ Ok commands → IsMemory fault ⊎ IsStopped commands fault → IsMemory fault
 only_memory text commands fault says (inl memory) = memory
 only_memory text commands fault says (inr stop) =
     let all : AllUntyped commands = subst SaysUntyped says (commands_untyped 1 (parted 10 text)) in
     absurd (next_untyped stop.front stop.next stop.rest (subst AllUntyped stop.split all) stop.typed)
 
 -- what was not translated, for want of memory
-pub not_translated : {A : Type 0} (r : Result (Printout A) Failure) (fault : Fault) (text : List ℕ) → IsErr r × IsErrAnd r (λ e. e ≡ failures.Fault fault) → IsMemory fault → Translates r text
-not_translated (Ok p) fault text h memory = absurd h.1
-not_translated (Err e) fault text h memory = rw h.1 memory
+pub not_translated : {A : Type 0} (r : Result (Printout A) Failure) (text : List ℕ) (commands : List CommandTree) (fault : Fault) → script text ≡ Ok commands → IsErr r × IsErrAnd r (λ e. e ≡ failures.Fault fault)
+    → IsMemory fault ⊎ IsStopped commands fault → Translates r text
+not_translated (Ok p) text commands fault says h stop = absurd h.1
+not_translated (Err e) text commands fault says h stop = rw h.1 (only_memory text commands fault says stop)

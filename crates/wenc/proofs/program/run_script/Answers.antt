@@ -5,4 +5,4 @@ pub returns-in-Ok-clause-ends : goal.returns-in-Ok-clause-ends
 returns-in-Ok-clause-ends g c = ends_printed c.in-Ok.printout _ _ _ _ _ _ c.in-Ok.ensures c.print.ensures
 
 pub returns-in-Err-clause-ends : goal.returns-in-Err-clause-ends
-returns-in-Err-clause-ends g c = ends_failed _ _ _ _ _ _ c.in-Err.failure c.in-Err.ensures c.report.ensures
+returns-in-Err-clause-ends g c = ends_failed c.in-Err.failure _ _ _ _ _ _ c.in-Err.ensures c.report.ensures

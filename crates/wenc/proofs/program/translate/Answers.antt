@@ -1,18 +1,13 @@
-use Rattle.std.proofs.Common.{◌≡◌, Ok, map}
+use Rattle.std.proofs.Common.{map}
 use Rattle.wasm_encoder.specs.Command.{command_view}
-use Rattle.wenc.specs.Script.{script}
 use Rattle.wenc.proofs.Ended.{lines_then_bytes}
-use Rattle.wenc.proofs.Untyped.{only_memory, not_translated}
+use Rattle.wenc.proofs.Untyped.{not_translated}
 use Rattle.wenc.proofs.program.translate.Goals as goal
 
 pub returns-in_err-built : goal.returns-in_err-built
 returns-in_err-built g c =
-    let fault = c.in_err-built.field-0.0 in
-    let text = c.args.text.items in
     let parsed = rw c.as_slice.ensures.value at c.in_ok-commands.ensures in
-    let says : script text ≡ Ok (map command_view c.as_slice-2.result.now) = rw c.as_slice-2.ensures.value parsed in
-    not_translated c.from_residual-in_err-built.result fault text c.from_residual-in_err-built.ensures
-    (only_memory text (map command_view c.as_slice-2.result.now) fault says c.in_err-built.ensures.refused)
+    not_translated c.from_residual-in_err-built.result c.args.text.items (map command_view c.as_slice-2.result.now) c.in_err-built.field-0.0 (rw c.as_slice-2.ensures.value parsed) c.from_residual-in_err-built.ensures c.in_err-built.ensures.refused
 
 pub returns : goal.returns
 returns g c =

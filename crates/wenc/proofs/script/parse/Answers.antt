@@ -17,36 +17,31 @@ loop-line-init g c =
 
 pub loop-line-preserved : goal.loop-line-preserved
 loop-line-preserved g c =
-    let now = c.loop-line.invariant in
     let more : List ℕ = drop (length c.text_in_front-is_whole.result.0.now) c.args.text.now in
-    let next = next_line c.loop-line.last.now c.in-Some.line.now c.in-Some.behind.now more (c.in-Some.ensures.byte (lit< tt) (λ w o f. f)) now.is_text in
+    let next = next_line c.loop-line.last.now c.in-Some.line.now c.in-Some.behind.now more (c.in-Some.ensures.byte (lit< tt) (λ w o f. f)) c.loop-line.invariant.is_text in
     record {
       is_text = next.0;
-      said = line_read _ c.loop-line.number _ _ _ _ next.2 now.said _ c.in_ok-read_line.ensures;
-      counted = omega (arith, now.counted, next.1);
+      said = line_read _ c.loop-line.number _ _ _ _ next.2 c.loop-line.invariant.said _ c.in_ok-read_line.ensures;
+      counted = omega (arith, c.loop-line.invariant.counted, next.1);
     }
 
 pub returns-in_err-read_line : goal.returns-in_err-read_line
 returns-in_err-read_line g c =
-    let now = c.loop-line.invariant in
     let more : List ℕ = drop (length c.text_in_front-is_whole.result.0.now) c.args.text.now in
-    let next = next_line c.loop-line.last.now c.in-Some.line.now c.in-Some.behind.now more (c.in-Some.ensures.byte (lit< tt) (λ w o f. f)) now.is_text in
-    read_failed _ c.loop-line.number _ _ _ _ next.2 now.said c.from_residual.result c.in_err-read_line.field-0.0 _ c.from_residual.ensures.1 c.in_err-read_line.ensures
+    let next = next_line c.loop-line.last.now c.in-Some.line.now c.in-Some.behind.now more (c.in-Some.ensures.byte (lit< tt) (λ w o f. f)) c.loop-line.invariant.is_text in
+    read_failed _ c.loop-line.number _ _ _ _ next.2 c.loop-line.invariant.said c.from_residual.result c.in_err-read_line.field-0.0 _ c.from_residual.ensures.1 c.in_err-read_line.ensures
 
 pub returns-then-not-is_whole : goal.returns-then-not-is_whole
 returns-then-not-is_whole g c =
     let now = c.loop-line.invariant in
-    let front = rw c.if-not-is_whole.true at c.text_in_front-is_whole.ensures in
-    ends_badly _ c.loop-line.number c.args.text.now _ c.loop-line.last.now _ now.said front now.is_text (c.in_default.ensures.byte (lit< tt) (λ w o f. f))
+    ends_badly _ c.loop-line.number c.args.text.now _ c.loop-line.last.now _ _ now.said c.text_in_front-is_whole.ensures c.if-not-is_whole.true now.is_text (c.in_default.ensures.byte (lit< tt) (λ w o f. f))
 
 pub returns-in_err-read_line-2 : goal.returns-in_err-read_line-2
 returns-in_err-read_line-2 g c =
-    let whole = rw c.if-not-is_whole.false at c.text_in_front-is_whole.ensures in
-    let line = last_line c.args.text.now _ c.loop-line.last.now whole.0 (c.in_default.ensures.byte (lit< tt) (λ w o f. f)) in
+    let line = last_line c.args.text.now _ c.loop-line.last.now _ c.text_in_front-is_whole.ensures c.if-not-is_whole.false (c.in_default.ensures.byte (lit< tt) (λ w o f. f)) in
     read_failed _ c.loop-line.number _ _ _ _ line c.loop-line.invariant.said c.from_residual-in_err-read_line-2.result c.in_err-read_line-2.field-0.0 _ c.from_residual-in_err-read_line-2.ensures.1 c.in_err-read_line-2.ensures
 
 pub returns : goal.returns
 returns g c =
-    let whole = rw c.if-not-is_whole.false at c.text_in_front-is_whole.ensures in
-    let line = last_line c.args.text.now _ c.loop-line.last.now whole.0 (c.in_default.ensures.byte (lit< tt) (λ w o f. f)) in
+    let line = last_line c.args.text.now _ c.loop-line.last.now _ c.text_in_front-is_whole.ensures c.if-not-is_whole.false (c.in_default.ensures.byte (lit< tt) (λ w o f. f)) in
     last_read _ c.loop-line.number _ _ _ line c.loop-line.invariant.said _ c.in_ok-read_line-2.ensures
