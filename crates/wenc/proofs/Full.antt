@@ -39,9 +39,6 @@ numbers_none ((b ∷ word) ∷ words) h = grind (arith, numbers_none words h)
 start_none : (words : List (List ℕ)) → has_empty words ≡ true → start_command words ≡ None
 start_none words h = grind (arith, common_steps, numbers_none)
 
-full_start : (words : List (List ℕ)) → of_full start_command words ≡ start_command words
-full_start words = full_same (has_empty words) (start_command words) (start_none words)
-
 full_names : (words : List (List ℕ)) → of_full append_names_command words ≡ append_names_command words
 full_names words = grind arith
 
@@ -85,7 +82,7 @@ none_said (b ∷ verb) words h = one_none builtins (b ∷ verb) words h
 
 module _ (all : List (List ℕ)) (verb : List ℕ) (words : List (List ℕ)) (is : all ≡ verb ∷ words) where
   pub start_said : verb ≡ codes "start" → of_full command_of all ≡ start_command words
-  start_said v = rw (is, v) (full_start words)
+  start_said v = rw (is, v) (full_same (has_empty words) (start_command words) (start_none words))
 
   pub names_said : verb ≡ codes "append-names" → of_full command_of all ≡ append_names_command words
   names_said v = rw (is, v) (full_names words)

@@ -1,5 +1,5 @@
 -- What a writer took of a text.
-use Rattle.std.proofs.Common.{◌≡◌, ℕ, ◌-◌, ◌≤◌, List, [], ◌∷◌, ◌++◌, length, take, drop, Option, Some, None, refl, sym, ap, ◌∙◌, append_assoc, append-nil, length-drop, arith}
+use Rattle.std.proofs.Common.{◌≡◌, ℕ, ◌-◌, ◌≤◌, List, [], ◌∷◌, ◌++◌, length, take, drop, Option, refl, ap, ◌∙◌, append_assoc, append-nil, length-drop, arith}
 use Rattle.std.proofs.lemmas.List.{take-append-drop, take_all}
 use Rattle.std.specs.Io.KnownBytes.{Appends}
 use Rattle.hex.specs.Hex.{encode_with, encode_lower}
@@ -34,8 +34,7 @@ encode_with-append t (x ∷ xs) ys = rw (encode_with-append t xs ys) refl
 
 pub nothing_sent : (a : Option (List ℕ)) → Appends a a (encode_lower [])
 unfolding encode_with
-nothing_sent None = tt
-nothing_sent (Some x) = sym (append-nil x)
+nothing_sent a = grind (arith, append-nil {A = ℕ})
 
 -- a writer took the text of one more piece of the bytes
 pub piece_more : (a b c : Option (List ℕ)) (bytes sent rest piece behind : List ℕ) → bytes ≡ sent ++ rest → rest ≡ piece ++ behind
