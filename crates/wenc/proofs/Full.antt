@@ -71,14 +71,14 @@ one_none : (is : List Builtin) (verb : List ℕ) (words : List (List ℕ)) → h
 one_none [] verb words h = refl
 one_none (i ∷ is) verb words h = grind (arith, values_none (row i).fields words h, one_none is verb words h)
 
-differ : (a b : List ℕ) → ¬ (a ≡ b) → bytes_eq a b ≡ false
-differ a b h = false_without (bytes_eq a b) (a ≡ b) (bytes_eq-Decides a b).0 h
-
 none_said : (verb : List ℕ) (words : List (List ℕ)) → has_empty (verb ∷ words) ≡ true → builtin_said verb words ≡ None
 none_said [] words h = refl
 none_said (b ∷ verb) words h = one_none builtins (b ∷ verb) words h
 
 -- ---- lines, by the first word
+
+differ : (a b : List ℕ) → ¬ (a ≡ b) → bytes_eq a b ≡ false
+differ a b h = false_without (bytes_eq a b) (a ≡ b) (bytes_eq-Decides a b).0 h
 
 module _ (all : List (List ℕ)) (verb : List ℕ) (words : List (List ℕ)) (is : all ≡ verb ∷ words) where
   pub start_said : verb ≡ codes "start" → of_full command_of all ≡ start_command words
