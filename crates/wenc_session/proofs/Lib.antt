@@ -6,5 +6,6 @@ pub mod OneRead
 pub mod Runs
 pub mod Settled
 pub mod Statuses
+pub mod Taken
 pub mod Typed
 pub mod Whole

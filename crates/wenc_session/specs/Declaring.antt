@@ -1,6 +1,7 @@
 -- Types of components, of instances and of core modules, while C declares what they have.
 use Rattle.std.specs.Prelude.{◌≡◌, ℕ, List, Option, Some, None, Result, IfOk}
-use Rattle.std.specs.Prelude.{option_map, nat_eq, if◌then◌else◌}
+use Rattle.std.specs.Prelude.{option_map, nat_eq, if◌then◌else◌, true, false}
+use Rattle.wenc_base.specs.Holder.{is_finished}
 use Rattle.wenc_base.specs.declared.fault.Fault.{Fault}
 use Rattle.wenc_builder.specs.Entry.{Entry}
 use Rattle.wenc_builder.specs.Item.{Item, AliasItem, CoreTypeItem, ImportItem, TypeItem}
@@ -10,10 +11,13 @@ use Rattle.wenc_parts.specs.Aliases.{Outer}
 use Rattle.wenc_parts.specs.declared.aliases.ComponentOuterAliasKind.TheVariants as outers
 use Rattle.wenc_session.specs.declared.declaring.Declaring.{Declaring}
 use Rattle.wenc_session.specs.declared.declaring.Declaring.TheVariants as declaring
-use Rattle.wenc_types.specs.ComponentTypes.{Aliased, ComponentDeclaration, CoreTyped, Declared}
-use Rattle.wenc_types.specs.ComponentTypes.{Imported, Typed}
-use Rattle.wenc_types.specs.CoreTypes.{Grouped, ModuleDeclaration, ModuleOuter, ModuleRecType}
+use Rattle.wenc_types.specs.ComponentTypes.{Aliased, ComponentDeclaration, ComponentType}
+use Rattle.wenc_types.specs.ComponentTypes.{CoreTyped, Declared, Imported, InstanceDeclaration}
+use Rattle.wenc_types.specs.ComponentTypes.{InstanceType, Typed, components_of, instances_of}
+use Rattle.wenc_types.specs.CoreTypes.{Grouped, Module, ModuleDeclaration, ModuleOuter}
+use Rattle.wenc_types.specs.CoreTypes.{ModuleRecType}
 use Rattle.wenc_types.specs.Declarations.{AddsToComponent, AddsToInstance, AddsToModule, TypeState}
+use Rattle.wenc_types.specs.Declarations.{ComponentDeclares, InstanceDeclares, ModuleDeclares}
 use Rattle.wenc_types.specs.Declarations.{component_sort, indexed_outcome, instance_sort}
 use Rattle.wenc_types.specs.Declarations.{module_sort, no_declarations}
 use Rattle.wenc_types.specs.declared.counts.Counts.{Counts}
@@ -62,6 +66,17 @@ declared_in (declaring.Module t) None = None
 abbrev pub declaration_of : Declaring → Entry → Option ComponentDeclaration
 declaration_of t x = declared_in t (declared_item x.item x.name)
 
+-- The type that is declared is this item: that of modules is a core type.
+abbrev pub IsTypeOf : Declaring → Item → Type 0
+IsTypeOf (declaring.Component t) x =
+    (ds : List ComponentDeclaration) × ComponentDeclares t ds
+    × (x ≡ TypeItem (ComponentType (components_of ds)))
+IsTypeOf (declaring.Instance t) x =
+    (ds : List InstanceDeclaration) × InstanceDeclares t ds
+    × (x ≡ TypeItem (InstanceType (instances_of ds)))
+IsTypeOf (declaring.Module t) x =
+    (ds : List ModuleDeclaration) × ModuleDeclares t ds × (x ≡ CoreTypeItem (Module ds))
+
 -- ---- indices
 
 -- the next index of this sort; 0 of what has none
@@ -106,3 +121,10 @@ DeclaresTo (declaring.Instance t) (declaring.Instance t') result (Declared d) =
 DeclaresTo (declaring.Module t) (declaring.Module t') result d =
     DeclaresInModule t t' result (in_module d)
 DeclaresTo old new result other = ⊥
+
+-- What a call does with a type that is declared: this with the item that it is. Where nothing of it
+-- is unfinished the call does this with some item; else it is refused.
+pub record TakesType (t : Declaring) (does : Item → Type 0) (refused : Type 0) : Type 0 where
+  pub done : (x : Item) → IsTypeOf t x → does x
+  pub finished : is_finished (state_of t).held ≡ true → ∥ ((x : Item) × does x) ∥₁
+  pub unfinished : is_finished (state_of t).held ≡ false → refused

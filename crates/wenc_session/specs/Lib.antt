@@ -9,3 +9,4 @@ pub mod Packed
 pub mod Reads
 pub mod Sessions
 pub mod Statuses
+pub mod inside

@@ -6,7 +6,7 @@ use Rattle.wenc_base.specs.Piece.{Spelling}
 use Rattle.wenc_base.specs.declared.fault.Fault.{Fault as Faults}
 use Rattle.wenc_base.specs.declared.fault.Fault.TheVariants.{Memory, TooMany, TooLarge, Unfinished}
 use Rattle.wenc_builder.specs.Builder.{State, builder_is_finished, count_in, sections_text}
-use Rattle.wenc_builder.specs.Entry.{Entry, items, component_entry, core_type_entry, type_entry}
+use Rattle.wenc_builder.specs.Entry.{Entry, entry, items, component_entry}
 use Rattle.wenc_builder.specs.Enters.{Enters, EntersWithoutIndex}
 use Rattle.wenc_builder.specs.Holds.{Holds}
 use Rattle.wenc_builder.specs.Item.{HasNoRaw}
@@ -14,13 +14,11 @@ use Rattle.wenc_builder.specs.Sections.{Reading, Section, runs, whole}
 use Rattle.wenc_builder.specs.declared.builder.space.Space.{Space}
 use Rattle.wenc_parts.specs.Imports.{ExternName}
 use Rattle.wenc_parts.specs.declared.imports.ComponentTypeRef.{ComponentTypeRef}
-use Rattle.wenc_types.specs.ComponentTypes.{ComponentDeclaration, ComponentType, Declared}
-use Rattle.wenc_types.specs.ComponentTypes.{Exported, InstanceType, components_of, instances_of}
-use Rattle.wenc_types.specs.CoreTypes.{Module, ModuleDeclaration}
-use Rattle.wenc_types.specs.Declarations.{AddsToModule, ComponentDeclares, InstanceDeclares}
-use Rattle.wenc_types.specs.Declarations.{ModuleDeclares, TypeState}
-use Rattle.wenc_session.specs.Declaring.{DeclaresTo, counted_by, declaration_of, declared_in}
-use Rattle.wenc_session.specs.Declaring.{state_of}
+use Rattle.wenc_types.specs.ComponentTypes.{ComponentDeclaration, Declared, Exported}
+use Rattle.wenc_types.specs.CoreTypes.{ModuleDeclaration}
+use Rattle.wenc_types.specs.Declarations.{AddsToModule}
+use Rattle.wenc_session.specs.Declaring.{DeclaresTo, TakesType, counted_by, declaration_of}
+use Rattle.wenc_session.specs.Declaring.{declared_in, state_of}
 use Rattle.wenc_session.specs.declared.declaring.Declaring.{Declaring}
 use Rattle.wenc_session.specs.declared.declaring.Declaring.TheVariants as declaring
 use Rattle.wenc_session.specs.declared.refused.Refused.{Refused as Refusals}
@@ -131,23 +129,10 @@ Nests name (sessions.Building inner) old new answer = Does (NestsTo name inner) 
 Nests name (sessions.Finished bytes) old new answer = (answer ≡ Err Finished) × (new ≡ old)
 Nests name (sessions.Declaring t) old new answer = (answer ≡ Err BadArgument) × (new ≡ old)
 
--- What a call does with a type that declares: it adds the entry with these declarations. One that
--- has something unfinished is refused, and nothing is changed.
-pub record AddsTypeOf {D : Type 0} (t : TypeState) (declares : TypeState → List D → Type 0)
-    (entry_of : List D → Entry) (old new : Session) (answer : Result ℕ Refusals) : Type 0 where
-  pub added : (ds : List D) → declares t ds → AddsTo old new answer (entry_of ds)
-  pub unfinished : is_finished t.held ≡ false → OnOk answer ⊥ × (new ≡ old)
-
 -- A type was added, that of modules as a core type; what is none is refused.
 abbrev pub AddsType : Option (List ℕ) → Session → Session → Session → Result ℕ Refusals → Type 0
-AddsType name (sessions.Declaring (declaring.Component t)) old new answer =
-    AddsTypeOf t ComponentDeclares (λ ds. type_entry name (ComponentType (components_of ds)))
-    old new answer
-AddsType name (sessions.Declaring (declaring.Instance t)) old new answer =
-    AddsTypeOf t InstanceDeclares (λ ds. type_entry name (InstanceType (instances_of ds)))
-    old new answer
-AddsType name (sessions.Declaring (declaring.Module t)) old new answer =
-    AddsTypeOf t ModuleDeclares (λ ds. core_type_entry name (Module ds)) old new answer
+AddsType name (sessions.Declaring t) old new answer =
+    TakesType t (λ x. AddsTo old new answer (entry x name)) (OnOk answer ⊥ × (new ≡ old))
 AddsType name other old new answer = (answer ≡ Err BadArgument) × (new ≡ old)
 
 -- A type declared this export, if it can; what is no type refuses it.

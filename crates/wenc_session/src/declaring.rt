@@ -1,23 +1,22 @@
 //! Types of components, of instances and of core modules, while C declares what they have.
-ghost use Rattle.std.specs.Prelude.{◌≡◌, Err, IfOk, List, OnOk, Some, false, true};
+ghost use Rattle.std.specs.Prelude.{◌≡◌, Err, IfErr, None, Ok, OnOk, Some, false, true};
 ghost use Rattle.wenc_base.specs.Composites.{rec_type_view};
-ghost use Rattle.wenc_base.specs.Encode.{Serves};
 ghost use Rattle.wenc_base.specs.Holder.{is_finished};
+ghost use Rattle.wenc_builder.specs.Item.{Item};
 ghost use Rattle.wenc_parts.specs.Aliases.{alias_view};
 ghost use Rattle.wenc_parts.specs.Imports.{extern_name_view};
 ghost use Rattle.wenc_session.specs.Cores.{function_group};
-ghost use Rattle.wenc_session.specs.Declaring.{DeclaresInModule, DeclaresTo, counted_by, counted_in, declared_in, new_type_of, next_of, state_of};
+ghost use Rattle.wenc_session.specs.Declaring.{DeclaresInModule, DeclaresTo, IsTypeOf, TakesType, counted_by, counted_in, declared_in, declared_item, new_type_of, next_of, state_of};
 ghost use Rattle.wenc_session.specs.Described.{described_view};
 ghost use Rattle.wenc_session.specs.Sessions.{DeclaresIfTo};
 ghost use Rattle.wenc_session.specs.Statuses.{Among, of_a_call, status_of};
 ghost use Rattle.wenc_session.specs.declared.declaring.Declaring.TheVariants as declaring;
-ghost use Rattle.wenc_types.specs.ComponentTypes.{Aliased, ComponentDeclaration, ComponentType as ComponentTypes, CoreTyped, Declared, Exported, Imported, InstanceDeclaration, InstanceType as InstanceTypes, Typed};
-ghost use Rattle.wenc_types.specs.ComponentTypes.{components_of, instance_declaration, instances_of};
-ghost use Rattle.wenc_types.specs.CoreTypes.{Grouped, Module as ModuleTypes, ModuleDeclaration, ModuleRecType};
+ghost use Rattle.wenc_session.specs.inside.Declaring.{DeclaresAs};
+ghost use Rattle.wenc_types.specs.ComponentTypes.{Aliased, CoreTyped, Declared, Exported, Imported, InstanceDeclaration, Typed};
+ghost use Rattle.wenc_types.specs.CoreTypes.{Grouped, ModuleRecType};
 ghost use Rattle.wenc_types.specs.CoreTypeTrees.{core_type_view};
-ghost use Rattle.wenc_types.specs.Declarations.{AddsDeclaration, ComponentDeclares, InstanceDeclares, ModuleDeclares, TypeState, indexed_outcome, type_given_up};
+ghost use Rattle.wenc_types.specs.Declarations.{type_given_up};
 ghost use Rattle.wenc_types.specs.TypeTrees.{type_view};
-ghost use Rattle.wenc_types.specs.declared.counts.Sort.TheVariants as sorts;
 
 use crate::cores::CoreFunction;
 use crate::described::Described;
@@ -56,12 +55,23 @@ fn next_of<K: DeclaringKind>(ty: &Declarations<K, Global>, sort: Option<Sort>) -
     }
 }
 
-/// Gives up the type that was being written when this fault was met.
-fn give_up<K: DeclaredKind>(ty: &mut Declarations<K, Global>, fault: Fault) -> Result<u32, Fault>
-    ensures { (result ≡ Err fault) × (ty.new ≡ type_given_up ty.old) }
+/// Answers the index of the type that was written. One that was refused is given up.
+fn ended<K: DeclaredKind>(
+    to: &mut Declarations<K, Global>,
+    index: u32,
+    written: Result<(), Fault>,
+) -> Result<u32, Fault>
+    ensures ok { OnOk written ((result ≡ Ok index) × (to.new ≡ to.old)) }
+    ensures err { IfErr written
+        (λ fault. (result ≡ Err fault) × (to.new ≡ type_given_up to.old)) }
 {
-    ty.discard_unfinished();
-    Err(fault)
+    match written {
+        Ok(()) => Ok(index),
+        Err(fault) => {
+            to.discard_unfinished();
+            Err(fault)
+        }
+    }
 }
 
 /// Declares a type, and answers its index. What is refused is given up.
@@ -69,66 +79,11 @@ fn declare_type<K: DeclaringKind>(
     to: &mut Declarations<K, Global>,
     ty: &TypeTree,
 ) -> Result<u32, Fault>
-    ensures declared { (d : K.Declaration)
-        → Serves (instance_declaration (Typed (type_view ty.now))) (K.form d)
-        → K.sort d ≡ Some sorts.«Type»
-        → AddsDeclaration K.form K.sort to.old to.new (indexed_outcome result) d }
-    ensures index { IfOk result (λ i. i ≡ to.old.counts.types) }
+    ensures { DeclaresAs K.form K.sort to.old to.new result (Typed (type_view ty.now)) }
 {
     let index = to.type_count();
-    match to.ty() {
-        Ok(encoder) => match encoder.tree(ty) {
-            Ok(()) => Ok(index),
-            Err(fault) => give_up(to, fault),
-        },
-        Err(fault) => Err(fault),
-    }
-}
-
-/// Declares a type of components, and answers its index. What is refused is given up.
-fn declare_component<K: DeclaringKind>(
-    to: &mut Declarations<K, Global>,
-    ty: &ComponentType,
-) -> Result<u32, Fault>
-    requires { is_finished ty.now.held ≡ true }
-    ensures declared { (ds : List ComponentDeclaration) → ComponentDeclares ty.now ds
-        → (d : K.Declaration)
-        → Serves (instance_declaration (Typed (ComponentTypes (components_of ds)))) (K.form d)
-        → K.sort d ≡ Some sorts.«Type»
-        → AddsDeclaration K.form K.sort to.old to.new (indexed_outcome result) d }
-    ensures index { IfOk result (λ i. i ≡ to.old.counts.types) }
-{
-    let index = to.type_count();
-    match to.ty() {
-        Ok(encoder) => match encoder.component(ty) {
-            Ok(()) => Ok(index),
-            Err(fault) => give_up(to, fault),
-        },
-        Err(fault) => Err(fault),
-    }
-}
-
-/// Declares a type of instances, and answers its index. What is refused is given up.
-fn declare_instance<K: DeclaringKind>(
-    to: &mut Declarations<K, Global>,
-    ty: &InstanceType,
-) -> Result<u32, Fault>
-    requires { is_finished ty.now.held ≡ true }
-    ensures declared { (ds : List InstanceDeclaration) → InstanceDeclares ty.now ds
-        → (d : K.Declaration)
-        → Serves (instance_declaration (Typed (InstanceTypes (instances_of ds)))) (K.form d)
-        → K.sort d ≡ Some sorts.«Type»
-        → AddsDeclaration K.form K.sort to.old to.new (indexed_outcome result) d }
-    ensures index { IfOk result (λ i. i ≡ to.old.counts.types) }
-{
-    let index = to.type_count();
-    match to.ty() {
-        Ok(encoder) => match encoder.instance(ty) {
-            Ok(()) => Ok(index),
-            Err(fault) => give_up(to, fault),
-        },
-        Err(fault) => Err(fault),
-    }
+    let written = to.ty()?.tree(ty);
+    ended(to, index, written)
 }
 
 /// Declares a core type, and answers its index. What is refused is given up.
@@ -136,42 +91,39 @@ fn declare_core_type<K: DeclaringKind>(
     to: &mut Declarations<K, Global>,
     ty: &CoreTypeTree,
 ) -> Result<u32, Fault>
-    ensures declared { (d : K.Declaration)
-        → Serves (instance_declaration (CoreTyped (core_type_view ty.now))) (K.form d)
-        → K.sort d ≡ Some sorts.CoreType
-        → AddsDeclaration K.form K.sort to.old to.new (indexed_outcome result) d }
-    ensures index { IfOk result (λ i. i ≡ to.old.counts.core_types) }
+    ensures { DeclaresAs K.form K.sort to.old to.new result (CoreTyped (core_type_view ty.now)) }
 {
     let index = to.core_type_count();
-    match to.core_type() {
-        Ok(encoder) => match encoder.tree(ty) {
-            Ok(()) => Ok(index),
-            Err(fault) => give_up(to, fault),
-        },
-        Err(fault) => Err(fault),
-    }
+    let written = to.core_type()?.tree(ty);
+    ended(to, index, written)
 }
 
-/// Declares a type of modules, and answers its index. What is refused is given up.
-fn declare_module<K: DeclaringKind>(
+/// Declares the type that another declares, and answers its index. What is refused is given up.
+fn declare_type_of<K: DeclaringKind>(
     to: &mut Declarations<K, Global>,
-    ty: &ModuleType,
+    types: &Declaring,
 ) -> Result<u32, Fault>
-    requires { is_finished ty.now.held ≡ true }
-    ensures declared { (ds : List ModuleDeclaration) → ModuleDeclares ty.now ds
-        → (d : K.Declaration)
-        → Serves (instance_declaration (CoreTyped (ModuleTypes ds))) (K.form d)
-        → K.sort d ≡ Some sorts.CoreType
-        → AddsDeclaration K.form K.sort to.old to.new (indexed_outcome result) d }
-    ensures index { IfOk result (λ i. i ≡ to.old.counts.core_types) }
+    requires { is_finished (state_of types.now).held ≡ true }
+    ensures { (x : Item) → IsTypeOf types.now x → (ty : InstanceDeclaration)
+        → declared_item x None ≡ Some (Declared ty)
+        → DeclaresAs K.form K.sort to.old to.new result ty }
 {
-    let index = to.core_type_count();
-    match to.core_type() {
-        Ok(encoder) => match encoder.module(ty) {
-            Ok(()) => Ok(index),
-            Err(fault) => give_up(to, fault),
-        },
-        Err(fault) => Err(fault),
+    match types {
+        Declaring::Component(ty) => {
+            let index = to.type_count();
+            let written = to.ty()?.component(ty);
+            ended(to, index, written)
+        }
+        Declaring::Instance(ty) => {
+            let index = to.type_count();
+            let written = to.ty()?.instance(ty);
+            ended(to, index, written)
+        }
+        Declaring::Module(ty) => {
+            let index = to.core_type_count();
+            let written = to.core_type()?.module(ty);
+            ended(to, index, written)
+        }
     }
 }
 
@@ -181,13 +133,8 @@ fn declare_group(to: &mut ModuleType, ty: &GroupTree) -> Result<u32, Fault>
         (Some (ModuleRecType (rec_type_view ty.now))) }
 {
     let index = to.type_count();
-    match to.ty() {
-        Ok(encoder) => match encoder.group(ty) {
-            Ok(()) => Ok(index),
-            Err(fault) => give_up(to, fault),
-        },
-        Err(fault) => Err(fault),
-    }
+    let written = to.ty()?.group(ty);
+    ended(to, index, written)
 }
 
 impl Declaring {
@@ -257,93 +204,29 @@ impl Declaring {
     }
 
     /// Declares the type that another declares, which is left as it is. A type of modules has none.
+    #[tactic(auto, using(crate::proofs::Statuses::fault_among))]
     pub fn type_of(&mut self, types: &Declaring) -> Result<u32, Refused>
-        ensures component { (t : TypeState) (ds : List ComponentDeclaration)
-            → types.now ≡ declaring.Component t → ComponentDeclares t ds
-            → DeclaresIfTo self.old self.new result (declared_in self.old
-            (Some (Declared (Typed (ComponentTypes (components_of ds)))))) }
-        ensures instance { (t : TypeState) (ds : List InstanceDeclaration)
-            → types.now ≡ declaring.Instance t → InstanceDeclares t ds
-            → DeclaresIfTo self.old self.new result (declared_in self.old
-            (Some (Declared (Typed (InstanceTypes (instances_of ds)))))) }
-        ensures module { (t : TypeState) (ds : List ModuleDeclaration)
-            → types.now ≡ declaring.Module t → ModuleDeclares t ds
-            → DeclaresIfTo self.old self.new result (declared_in self.old
-            (Some (Declared (CoreTyped (ModuleTypes ds))))) }
-        ensures unfinished { is_finished (state_of types.now).held ≡ false
-            → OnOk result ⊥ × (self.new ≡ self.old) }
+        ensures declared { TakesType types.now
+            (λ x. DeclaresIfTo self.old self.new result
+            (declared_in self.old (declared_item x None)))
+            (OnOk result ⊥ × (self.new ≡ self.old)) }
         ensures among { Among of_a_call (status_of result) }
     {
-        match types {
-            Declaring::Component(ty) => self.component(ty),
-            Declaring::Instance(ty) => self.instance(ty),
-            Declaring::Module(ty) => self.module(ty),
-        }
-    }
-
-    /// Declares a type of components.
-    #[tactic(auto, using(crate::proofs::Statuses::fault_among))]
-    fn component(&mut self, ty: &ComponentType) -> Result<u32, Refused>
-        ensures declared { (ds : List ComponentDeclaration) → ComponentDeclares ty.now ds
-            → DeclaresIfTo self.old self.new result (declared_in self.old
-            (Some (Declared (Typed (ComponentTypes (components_of ds)))))) }
-        ensures unfinished { is_finished ty.now.held ≡ false
-            → OnOk result ⊥ × (self.new ≡ self.old) }
-        ensures among { Among of_a_call (status_of result) }
-    {
-        if !ty.is_finished() {
+        if !types.is_finished() {
             return Err(Refused::Fault(Fault::Unfinished));
         }
         match self {
-            Declaring::Component(to) => by_builder(declare_component(to, ty)),
-            Declaring::Instance(to) => by_builder(declare_component(to, ty)),
+            Declaring::Component(to) => by_builder(declare_type_of(to, types)),
+            Declaring::Instance(to) => by_builder(declare_type_of(to, types)),
             Declaring::Module(_) => Err(Refused::BadArgument),
         }
     }
 
-    /// Declares a type of instances.
-    #[tactic(auto, using(crate::proofs::Statuses::fault_among))]
-    fn instance(&mut self, ty: &InstanceType) -> Result<u32, Refused>
-        ensures declared { (ds : List InstanceDeclaration) → InstanceDeclares ty.now ds
-            → DeclaresIfTo self.old self.new result (declared_in self.old
-            (Some (Declared (Typed (InstanceTypes (instances_of ds)))))) }
-        ensures unfinished { is_finished ty.now.held ≡ false
-            → OnOk result ⊥ × (self.new ≡ self.old) }
-        ensures among { Among of_a_call (status_of result) }
-    {
-        if !ty.is_finished() {
-            return Err(Refused::Fault(Fault::Unfinished));
-        }
-        match self {
-            Declaring::Component(to) => by_builder(declare_instance(to, ty)),
-            Declaring::Instance(to) => by_builder(declare_instance(to, ty)),
-            Declaring::Module(_) => Err(Refused::BadArgument),
-        }
-    }
-
-    /// Declares a type of modules.
-    #[tactic(auto, using(crate::proofs::Statuses::fault_among))]
-    fn module(&mut self, ty: &ModuleType) -> Result<u32, Refused>
-        ensures declared { (ds : List ModuleDeclaration) → ModuleDeclares ty.now ds
-            → DeclaresIfTo self.old self.new result (declared_in self.old
-            (Some (Declared (CoreTyped (ModuleTypes ds))))) }
-        ensures unfinished { is_finished ty.now.held ≡ false
-            → OnOk result ⊥ × (self.new ≡ self.old) }
-        ensures among { Among of_a_call (status_of result) }
-    {
-        if !ty.is_finished() {
-            return Err(Refused::Fault(Fault::Unfinished));
-        }
-        match self {
-            Declaring::Component(to) => by_builder(declare_module(to, ty)),
-            Declaring::Instance(to) => by_builder(declare_module(to, ty)),
-            Declaring::Module(_) => Err(Refused::BadArgument),
-        }
-    }
-
-    /// Whether no type is being written.
-    fn is_finished(&self) -> bool
-        ensures { result ≡ is_finished (state_of self.now).held }
+    /// Whether no type is being written. Then it has some declarations, whoever made which calls.
+    pub(crate) fn is_finished(&self) -> bool
+        ensures finished { result ≡ is_finished (state_of self.now).held }
+        ensures some { is_finished (state_of self.now).held ≡ true
+            → ∥ ((x : Item) × IsTypeOf self.now x) ∥₁ }
     {
         match self {
             Declaring::Component(ty) => ty.is_finished(),

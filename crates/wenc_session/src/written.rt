@@ -4,17 +4,15 @@ ghost use Rattle.std.specs.Prelude.{◌≡◌, Err, List, OnOk, false, true};
 ghost use Rattle.wenc_base.specs.Holder.{is_finished};
 ghost use Rattle.wenc_builder.specs.Builder.{builder_is_finished, item_given_up};
 ghost use Rattle.wenc_builder.specs.Enters.{Enters};
-ghost use Rattle.wenc_builder.specs.Entry.{Entry, canonical_entry, core_instance_entry, core_type_entry, instance_entry, type_entry};
+ghost use Rattle.wenc_builder.specs.Entry.{Entry, canonical_entry, core_instance_entry, core_type_entry, entry, instance_entry, type_entry};
 ghost use Rattle.wenc_builder.specs.Holds.{Holds};
 ghost use Rattle.wenc_session.specs.Cores.{function_group};
-ghost use Rattle.wenc_session.specs.Declaring.{state_of};
+ghost use Rattle.wenc_session.specs.Declaring.{TakesType};
 ghost use Rattle.wenc_session.specs.Described.{described_view};
-ghost use Rattle.wenc_session.specs.declared.declaring.Declaring.TheVariants as declaring;
 ghost use Rattle.wenc_session.specs.Packed.{core_instantiating, exporting, inline_exporting, instantiating, lifting, lowering};
-ghost use Rattle.wenc_types.specs.ComponentTypes.{ComponentDeclaration, ComponentType as ComponentTypes, InstanceDeclaration, InstanceType as InstanceTypes, components_of, instances_of};
 ghost use Rattle.wenc_types.specs.CoreTypes.{Grouped, Module as ModuleTypes, ModuleDeclaration};
 ghost use Rattle.wenc_types.specs.CoreTypeTrees.{core_type_view};
-ghost use Rattle.wenc_types.specs.Declarations.{ComponentDeclares, InstanceDeclares, ModuleDeclares, TypeState};
+ghost use Rattle.wenc_types.specs.Declarations.{ModuleDeclares};
 ghost use Rattle.wenc_types.specs.TypeTrees.{type_view};
 
 use crate::cores::CoreFunction;
@@ -70,10 +68,8 @@ pub(crate) fn write_described(
     if !builder.is_finished() {
         return Err(Fault::Unfinished);
     }
-    match ty.tree(alloc) {
-        Ok(tree) => write_type(builder, debug_name, &tree),
-        Err(failed) => Err(Fault::Memory(failed)),
-    }
+    let tree = ty.tree(alloc)?;
+    write_type(builder, debug_name, &tree)
 }
 
 /// Adds the type that is declared, with a debug name or none, and answers its index.
@@ -82,21 +78,13 @@ pub(crate) fn write_type_of(
     debug_name: Option<&str>,
     ty: &Declaring,
 ) -> Result<u32, Fault>
-    ensures component { (t : TypeState) (ds : List ComponentDeclaration)
-        → ty.now ≡ declaring.Component t → ComponentDeclares t ds
-        → Enters builder.old builder.new result
-        (type_entry (option_copied debug_name.entry) (ComponentTypes (components_of ds))) }
-    ensures instance { (t : TypeState) (ds : List InstanceDeclaration)
-        → ty.now ≡ declaring.Instance t → InstanceDeclares t ds
-        → Enters builder.old builder.new result
-        (type_entry (option_copied debug_name.entry) (InstanceTypes (instances_of ds))) }
-    ensures module { (t : TypeState) (ds : List ModuleDeclaration)
-        → ty.now ≡ declaring.Module t → ModuleDeclares t ds
-        → Enters builder.old builder.new result
-        (core_type_entry (option_copied debug_name.entry) (ModuleTypes ds)) }
-    ensures unfinished { is_finished (state_of ty.now).held ≡ false
-        → OnOk result ⊥ × (builder.new ≡ builder.old) }
+    ensures { TakesType ty.now
+        (λ x. Enters builder.old builder.new result (entry x (option_copied debug_name.entry)))
+        (OnOk result ⊥ × (builder.new ≡ builder.old)) }
 {
+    if !ty.is_finished() {
+        return Err(Fault::Unfinished);
+    }
     match ty {
         Declaring::Component(ty) => builder.type_component(debug_name, ty),
         Declaring::Instance(ty) => builder.type_instance(debug_name, ty),
@@ -144,10 +132,8 @@ pub(crate) fn write_core_function(
     if !builder.is_finished() {
         return Err(Fault::Unfinished);
     }
-    match function.tree(alloc) {
-        Ok(tree) => write_core_type(builder, debug_name, &CoreTypeTree::Group(tree)),
-        Err(failed) => Err(Fault::Memory(failed)),
-    }
+    let tree = function.tree(alloc)?;
+    write_core_type(builder, debug_name, &CoreTypeTree::Group(tree))
 }
 
 /// Adds a core type, with a debug name or none, and answers its index. What is refused is given up.
