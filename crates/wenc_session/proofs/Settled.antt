@@ -1,5 +1,7 @@
 -- No call leaves an item unfinished.
 use Rattle.std.proofs.Common.{◌≡◌, inl, inr, ℕ, Bool, true, false, true≢false, List, [], ◌∷◌, Option, Some, None, Result, Ok, Err, refl, sym, subst, ◌∙◌}
+use Rattle.std.proofs.Math.Bool.{Bool-set}
+use Rattle.std.proofs.Math.Logic.{∥∥₁_elim}
 use Rattle.wenc_base.specs.declared.fault.Fault.{Fault as Faults}
 use Rattle.wenc_base.specs.declared.fault.Fault.TheVariants.{Memory, TooMany, TooLarge, Unfinished}
 use Rattle.wenc_base.specs.Readers.{Flaw}
@@ -17,12 +19,12 @@ use Rattle.wenc_types.specs.CoreTypes.{Module, ModuleDeclaration, module_declara
 use Rattle.wenc_types.specs.Declarations.{AddsToModule, TypeState}
 use Rattle.wenc_types.specs.ComponentTypes.{ComponentDeclaration, ComponentType, Declared, Exported, Imported, InstanceDeclaration, InstanceType, and_component, and_instance, component_declaration, instance_declaration, no_component, no_instance}
 use Rattle.wenc_builder.specs.Enters.{EntersWith, Enters, EntersWithoutIndex}
-use Rattle.wenc_builder.specs.Entry.{Entry}
+use Rattle.wenc_builder.specs.Entry.{Entry, entry}
 use Rattle.wenc_builder.specs.Item.{CoreTypeItem, Item, TypeItem}
 use Rattle.wenc_builder.specs.Names.{AddsNames, none_named, kept_names}
 use Rattle.wenc_builder.specs.Space.{Indices}
 use Rattle.wenc_session.specs.Reads.{AddsReadTo, IsUnread, entry_of}
-use Rattle.wenc_session.specs.Sessions.{AddsIfTo, AddsTo, AddsWithoutIndexTo, Answered, DeclaresCore, DeclaresIfTo, Does, ExportsTo, Finishes, IsEmpty, IsSettled, Nests, NestsTo, StaysSettled}
+use Rattle.wenc_session.specs.Sessions.{AddsIfTo, AddsTo, AddsType, AddsWithoutIndexTo, Answered, DeclaresCore, DeclaresIfTo, Does, ExportsTo, Finishes, IsEmpty, IsSettled, Nests, NestsTo, StaysSettled}
 use Rattle.wenc_session.specs.declared.refused.Refused.{Refused as Refusals}
 use Rattle.wenc_session.specs.declared.refused.Refused.TheVariants.{BadArgument, Fault, Finished}
 use Rattle.wenc_session.specs.declared.session.Session.{Session}
@@ -219,6 +221,18 @@ pub nested_stays : (s t inner : Session) (answer : Result ℕ Refusals) (name : 
 nested_stays s t (sessions.Building inner) answer name f g a = does_stay (NestsTo name inner) (λ b c result h n. enters_keep _ b c result h (n.bytes g)) s t answer f a
 nested_stays s t (sessions.Finished bytes) answer name f g a = closed_stays t answer s f a.0 a.1
 nested_stays s t (sessions.Declaring d) answer name f g a = other_stays t answer s f a.0 a.1
+
+settled_once : (s : Session) (x y : IsSettled s) → x ≡ y
+settled_once (sessions.Building b) x y = Bool-set _ _ x y
+settled_once (sessions.Finished bytes) x y = refl
+settled_once (sessions.Declaring t) x y = Bool-set _ _ x y
+
+pub typed_stays : (s t types : Session) (answer : Result ℕ Refusals) (name : Option (List ℕ)) → IsSettled s → IsSettled types → AddsType name types s t answer → StaysSettled t answer
+typed_stays s t (sessions.Declaring d) answer name f g a =
+    let each : (x : Item) → AddsTo s t answer (entry x name) → StaysSettled t answer = λ x. added_stays s t answer (entry x name) f in
+    (∥∥₁_elim (a.finished g) (settled_once t) (λ x. (each x.0 x.1).0), λ h. ∥∥₁_elim (a.finished g) (λ x y. absurd x) (λ x. (each x.0 x.1).1 h))
+typed_stays s t (sessions.Building b) answer name f g a = other_stays t answer s f a.0 a.1
+typed_stays s t (sessions.Finished bytes) answer name f g a = other_stays t answer s f a.0 a.1
 
 pub finished_stays : (s t : Session) (answer : Result ℕ Refusals) → IsSettled s → Finishes s t answer → StaysSettled t answer
 finished_stays (sessions.Building b) (sessions.Finished bytes) (Ok size) f a = (tt, λ h. absurd cc)

@@ -9,7 +9,7 @@ ghost use Rattle.wenc_parts.specs.Imports.{ExternName};
 ghost use Rattle.wenc_parts.specs.declared.imports.ComponentTypeRef.{ComponentTypeRef as References};
 ghost use Rattle.wenc_types.specs.CoreTypes.{ModuleDeclaration};
 ghost use Rattle.wenc_session.specs.Reads.{AddsReadTo, IsReadAs, read_custom, read_one};
-ghost use Rattle.wenc_session.specs.Sessions.{AddsIfTo, AddsTo, AddsWithoutIndexTo, DeclaresCore, Does, ExportsTo, Finishes, IsEmpty, IsSettled, Nests, StaysSettled};
+ghost use Rattle.wenc_session.specs.Sessions.{AddsIfTo, AddsTo, AddsType, AddsWithoutIndexTo, DeclaresCore, Does, ExportsTo, Finishes, IsEmpty, IsSettled, Nests, StaysSettled};
 ghost use Rattle.wenc_session.specs.declared.refused.Refused.{Refused as Refusals};
 ghost use Rattle.wenc_session.specs.declared.session.Session.{Session as Sessions};
 ghost use Rattle.wenc_list.specs.Listing.{HasDepth};
@@ -35,6 +35,8 @@ pub fn nothing_stays_unfinished()
         → IsSettled s → AddsReadTo Enters s t answer name found → StaysSettled t answer }
     ensures nested { (s t inner : Sessions) (answer : Result ℕ Refusals) (name : Option (List ℕ))
         → IsSettled s → IsSettled inner → Nests name inner s t answer → StaysSettled t answer }
+    ensures typed { (s t types : Sessions) (answer : Result ℕ Refusals) (name : Option (List ℕ))
+        → IsSettled s → IsSettled types → AddsType name types s t answer → StaysSettled t answer }
     ensures exported { (s t : Sessions) (answer : Result ℕ Refusals) (name : ExternName)
         (ty : References) → IsSettled s → ExportsTo s t answer name ty → StaysSettled t answer }
     ensures declared { (s t : Sessions) (answer : Result (Unit {0}) Refusals)

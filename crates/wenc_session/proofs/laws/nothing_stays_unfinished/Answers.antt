@@ -1,4 +1,4 @@
-use Rattle.wenc_session.proofs.Settled.{empty_settled, added_stays, exported_stays, core_stays, added_if_stays, found_stays, nested_stays, without_index_stays, custom_stays, names_stay, finished_stays}
+use Rattle.wenc_session.proofs.Settled.{empty_settled, added_stays, exported_stays, core_stays, added_if_stays, found_stays, nested_stays, without_index_stays, custom_stays, names_stay, finished_stays, typed_stays}
 use Rattle.wenc_session.proofs.laws.nothing_stays_unfinished.Goals as goal
 
 pub returns-clause-begun : goal.returns-clause-begun
@@ -15,6 +15,9 @@ returns-clause-read c = found_stays
 
 pub returns-clause-nested : goal.returns-clause-nested
 returns-clause-nested c = nested_stays
+
+pub returns-clause-typed : goal.returns-clause-typed
+returns-clause-typed c = typed_stays
 
 pub returns-clause-exported : goal.returns-clause-exported
 returns-clause-exported c = exported_stays
