@@ -161,7 +161,7 @@ module _ (t : TypeState) (finished : is_finished t.held ≡ true) (piece : Piece
   own_due : (fault : Fault) → EncodeCause t.held fault → ⊥
   own_due fault c = let f = finished in let u = c.1 in cc
 
-  pub told_why : (fault : Fault) → IsWarranted (either Told.Cause refuses) fault → IsWarranted (either piece.Cause refuses) fault
+  told_why : (fault : Fault) → IsWarranted (either Told.Cause refuses) fault → IsWarranted (either piece.Cause refuses) fault
   told_why fault why = still_warranted (either Told.Cause refuses) (either piece.Cause refuses) due fault why
     where
       due : (f : Fault) → either Told.Cause refuses f → either piece.Cause refuses f

@@ -1,5 +1,5 @@
 -- What a call does with a type that is declared.
-use Rattle.std.proofs.Common.{◌≡◌, true, false, true≢false, ℕ, List, [], Option, Some, None, Result, Err, OnOk, refl, sym, ap, subst, ◌∙◌}
+use Rattle.std.proofs.Common.{◌≡◌, Bool, true, false, true≢false, ℕ, List, [], Option, Some, None, Result, Err, OnOk, refl, sym, ap, subst, ◌∙◌}
 use Rattle.std.proofs.Math.Logic.{∥∥₁_map}
 use Rattle.wenc_base.specs.Holder.{is_finished}
 use Rattle.wenc_base.specs.declared.fault.Fault.{Fault as Faults}
@@ -19,14 +19,8 @@ use Rattle.wenc_types.specs.CoreTypes.{CoreType, Module}
 use Rattle.wenc_types.specs.Declarations.{TypeState}
 use Rattle.wenc_session.proofs.Answers.{answered, still_refused}
 
--- what is a type is finished
-is_whole : (t : Declaring) (x : Item) → IsTypeOf t x → is_finished (state_of t).held ≡ true
-is_whole (declaring.Component t) x i = i.1.contained.finished
-is_whole (declaring.Instance t) x i = i.1.contained.finished
-is_whole (declaring.Module t) x i = i.1.contained.finished
-
 -- it is declared as a type or a core type, without a name
-pub as_declaration : (t : Declaring) (x : Item) → IsTypeOf t x → (ty : InstanceDeclaration) × (declared_item x None ≡ Some (Declared ty))
+as_declaration : (t : Declaring) (x : Item) → IsTypeOf t x → (ty : InstanceDeclaration) × (declared_item x None ≡ Some (Declared ty))
 as_declaration (declaring.Component t) x i = (Typed (ComponentType (components_of i.0)), rw i.2 refl)
 as_declaration (declaring.Instance t) x i = (Typed (InstanceType (instances_of i.0)), rw i.2 refl)
 as_declaration (declaring.Module t) x i = (CoreTyped (Module i.0), rw i.2 refl)
@@ -54,6 +48,13 @@ none_in (declaring.Component t) = refl
 none_in (declaring.Instance t) = refl
 none_in (declaring.Module t) = refl
 
+-- what is done with the declaration is done with the item
+pub declared_each : (t self new : Declaring) (answer : Result ℕ Refusals) (P : InstanceDeclaration → Type 0) → ((ty : InstanceDeclaration) → P ty → DeclaresIfTo self new answer (declared_in self (Some (Declared ty))))
+    → ((x : Item) → IsTypeOf t x → (ty : InstanceDeclaration) → declared_item x None ≡ Some (Declared ty) → P ty) → (x : Item) → IsTypeOf t x → DeclaresIfTo self new answer (declared_in self (declared_item x None))
+declared_each t self new answer P does each x i =
+    let d = as_declaration t x i in
+    subst (λ (o : Option ComponentDeclaration). DeclaresIfTo self new answer (declared_in self o)) (sym d.1) (does d.0 (each x i d.0 d.1))
+
 -- what can't be declared is refused
 unchanged : (t : Declaring) (d : Option ComponentDeclaration) → d ≡ None → DeclaresIfTo t t (Err BadArgument) d
 unchanged t d e = subst (λ (o : Option ComponentDeclaration). DeclaresIfTo t t (Err BadArgument) o) (sym e) (refl, refl)
@@ -65,18 +66,11 @@ named_refused : (to : Declaring) (x : Item) (name : List ℕ) → declared_item 
 named_refused to x name e = unchanged to (declared_in to (declared_item x (Some name))) (ap (declared_in to) e ∙ none_in to)
 
 module _ (t : Declaring) {does : Item → Type 0} {refused : Type 0} where
-  pub takes_finished : is_finished (state_of t).held ≡ true → ∥ ((x : Item) × IsTypeOf t x) ∥₁ → ((x : Item) → IsTypeOf t x → does x) → TakesType t does refused
-  takes_finished f some does_each = record {
+  pub takes_finished : (told : Bool) → told ≡ is_finished (state_of t).held → told ≡ true → (is_finished (state_of t).held ≡ true → ∥ ((x : Item) × IsTypeOf t x) ∥₁) → ((x : Item) → IsTypeOf t x → does x) → TakesType t does refused
+  takes_finished told is whole some does_each = record {
     done = does_each;
-    finished = λ h. ∥∥₁_map some (λ s. (s.0, does_each s.0 s.1));
-    unfinished = λ un. absurd (true≢false (sym f ∙ un));
-  }
-
-  pub takes_unfinished : is_finished (state_of t).held ≡ false → refused → TakesType t does refused
-  takes_unfinished un r = record {
-    done = λ x i. absurd (true≢false (sym (is_whole t x i) ∙ un));
-    finished = λ f. absurd (true≢false (sym f ∙ un));
-    unfinished = λ h. r;
+    finished = λ f. ∥∥₁_map (some f) (λ s. (s.0, does_each s.0 s.1));
+    unfinished = λ un. absurd (true≢false (sym whole ∙ (is ∙ un)));
   }
 
   -- whatever it is

@@ -22,8 +22,8 @@ pub fn what_is_found_is_read()
     ensures custom { (text : List ℕ) (x : Item) → read_custom text ≡ Ok x → IsReadAs 0 text x }
 {}
 
-/// No call leaves an item of a component unfinished. So none answers that one is, but `wenc_bytes`
-/// of what isn't finished.
+/// No call leaves an item of a component unfinished, or a type that is declared in another. So none
+/// answers that one is, but `wenc_bytes` of what isn't finished.
 pub fn nothing_stays_unfinished()
     ensures begun { (s : Sessions) → IsEmpty s → IsSettled s }
     ensures added { (s t : Sessions) (answer : Result ℕ Refusals) (x : Entry)
