@@ -1,5 +1,5 @@
 -- What a call does with a type that is declared.
-use Rattle.std.proofs.Common.{◌≡◌, Bool, true, false, true≢false, ℕ, List, [], Option, Some, None, Result, Err, OnOk, refl, sym, ap, subst, ◌∙◌}
+use Rattle.std.proofs.Common.{◌≡◌, Bool, true, false, true≢false, ℕ, List, [], Option, Some, None, Result, Err, OnOk, Bor, is_some, option_copied, refl, sym, ap, subst, ◌∙◌}
 use Rattle.std.proofs.Math.Logic.{∥∥₁_map}
 use Rattle.wenc_base.specs.Holder.{is_finished}
 use Rattle.wenc_base.specs.declared.fault.Fault.{Fault as Faults}
@@ -87,8 +87,9 @@ module _ (t : Declaring) {does : Item → Type 0} {refused : Type 0} where
 -- ---- of what a handle owns
 
 module _ (types : Declaring) where
-  pub named : (to : Declaring) (name : List ℕ) → AddsType (Some name) (sessions.Declaring types) (sessions.Declaring to) (sessions.Declaring to) (Err BadArgument)
-  named to name = takes_any types (ModuleItem []) (named_refused to (ModuleItem []) name refl) (λ x i. named_refused to x name (not_named types x name i)) (tt, refl)
+  pub named : (to : Declaring) (name : Option (Bor (List ℕ))) → is_some name ≡ true → AddsType (option_copied name) (sessions.Declaring types) (sessions.Declaring to) (sessions.Declaring to) (Err BadArgument)
+  named to None is = absurd (true≢false (sym is))
+  named to (Some name) is = takes_any types (ModuleItem []) (named_refused to (ModuleItem []) name.now refl) (λ x i. named_refused to x name.now (not_named types x name.now i)) (tt, refl)
 
   pub closed : (name : Option (List ℕ)) (bytes : _) → AddsType name (sessions.Declaring types) (sessions.Finished bytes) (sessions.Finished bytes) (Err Finished)
   closed name bytes = takes_any types (ModuleItem []) (refl, refl) (λ x i. (refl, refl)) (tt, refl)
@@ -97,6 +98,7 @@ module _ (types : Declaring) where
       → AddsType name (sessions.Declaring types) (sessions.Building old) (sessions.Building new) (of_builder result)
   built name old new result k = takes_as types (λ x e. answered (λ (r : Result ℕ Faults). Enters old new r (entry x name)) result e) (λ r. (still_refused result r.0, ap sessions.Building r.1)) k
 
-  pub declared : (old new : Declaring) (answer : Result ℕ Refusals) → TakesType types (λ x. DeclaresIfTo old new answer (declared_in old (declared_item x None))) (OnOk answer ⊥ × (new ≡ old))
-      → AddsType None (sessions.Declaring types) (sessions.Declaring old) (sessions.Declaring new) answer
-  declared old new answer k = takes_as types (λ x d. d) (λ r. (r.0, ap sessions.Declaring r.1)) k
+  pub declared : (old new : Declaring) (answer : Result ℕ Refusals) (name : Option (Bor (List ℕ))) → is_some name ≡ false → TakesType types (λ x. DeclaresIfTo old new answer (declared_in old (declared_item x None))) (OnOk answer ⊥ × (new ≡ old))
+      → AddsType (option_copied name) (sessions.Declaring types) (sessions.Declaring old) (sessions.Declaring new) answer
+  declared old new answer None is k = takes_as types (λ x d. d) (λ r. (r.0, ap sessions.Declaring r.1)) k
+  declared old new answer (Some name) is k = absurd (true≢false is)

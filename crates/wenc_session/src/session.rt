@@ -177,10 +177,8 @@ impl Session {
         match self {
             Session::Building(builder) => by_builder(builder.alias(debug_name, alias)),
             Session::Finished(_) => Err(Refused::Finished),
-            Session::Declaring(types) => match debug_name {
-                Some(_) => Err(Refused::BadArgument),
-                None => types.alias(alias),
-            },
+            Session::Declaring(types) if debug_name.is_none() => types.alias(alias),
+            Session::Declaring(_) => Err(Refused::BadArgument),
         }
     }
 
@@ -388,10 +386,8 @@ impl Session {
                 builder, alloc, debug_name, ty,
             )),
             Session::Finished(_) => Err(Refused::Finished),
-            Session::Declaring(types) => match debug_name {
-                Some(_) => Err(Refused::BadArgument),
-                None => types.ty(alloc, ty),
-            },
+            Session::Declaring(types) if debug_name.is_none() => types.ty(alloc, ty),
+            Session::Declaring(_) => Err(Refused::BadArgument),
         }
     }
 
@@ -412,10 +408,10 @@ impl Session {
                 builder, alloc, debug_name, function,
             )),
             Session::Finished(_) => Err(Refused::Finished),
-            Session::Declaring(types) => match debug_name {
-                Some(_) => Err(Refused::BadArgument),
-                None => types.core_function(alloc, function),
-            },
+            Session::Declaring(types) if debug_name.is_none() => types.core_function(
+                alloc, function,
+            ),
+            Session::Declaring(_) => Err(Refused::BadArgument),
         }
     }
 
@@ -431,10 +427,8 @@ impl Session {
         match self {
             Session::Building(builder) => by_builder(write_type_of(builder, debug_name, types)),
             Session::Finished(_) => Err(Refused::Finished),
-            Session::Declaring(to) => match debug_name {
-                Some(_) => Err(Refused::BadArgument),
-                None => to.type_of(types),
-            },
+            Session::Declaring(to) if debug_name.is_none() => to.type_of(types),
+            Session::Declaring(_) => Err(Refused::BadArgument),
         }
     }
 

@@ -8,8 +8,8 @@ returns-in-Building-clause-added c = rw (c.in-Declaring.is, c.in-Building.is, c.
 pub returns-in-Finished-clause-added : goal.returns-in-Finished-clause-added
 returns-in-Finished-clause-added c = rw (c.in-Declaring.is, c.in-Finished.is) (closed c.in-Declaring.types (option_copied c.args.debug_name) _)
 
-pub returns-in-Some-clause-added : goal.returns-in-Some-clause-added
-returns-in-Some-clause-added c = rw (c.in-Declaring.is, c.in-Declaring-self.is, c.in-Some.is) (named c.in-Declaring.types c.in-Declaring-self.to _)
+pub returns-in-Declaring-self-clause-added : goal.returns-in-Declaring-self-clause-added
+returns-in-Declaring-self-clause-added c = rw (c.in-Declaring.is, c.in-Declaring-self.is) (declared c.in-Declaring.types c.in-Declaring-self.to _ _ c.args.debug_name c.if-is_none.ensures c.type_of.ensures.declared)
 
-pub returns-in-None-clause-added : goal.returns-in-None-clause-added
-returns-in-None-clause-added c = rw (c.in-Declaring.is, c.in-Declaring-self.is, c.in-None.is) (declared c.in-Declaring.types c.in-Declaring-self.to _ _ c.type_of.ensures.declared)
+pub returns-in-Declaring-2-clause-added : goal.returns-in-Declaring-2-clause-added
+returns-in-Declaring-2-clause-added c = rw (c.in-Declaring.is, c.in-Declaring-self.is) (named c.in-Declaring.types c.in-Declaring-self.to c.args.debug_name c.if-is_none.ensures)
