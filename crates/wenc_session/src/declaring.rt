@@ -1,5 +1,5 @@
 //! Types of components, of instances and of core modules, while C declares what they have.
-ghost use Rattle.std.specs.Prelude.{◌≡◌, Err, IfErr, None, Ok, OnOk, Some, false, true};
+ghost use Rattle.std.specs.Prelude.{◌≡◌, Err, IfErr, None, Ok, OnOk, Some, true};
 ghost use Rattle.wenc_base.specs.Composites.{rec_type_view};
 ghost use Rattle.wenc_base.specs.Holder.{is_finished};
 ghost use Rattle.wenc_builder.specs.Item.{Item};
