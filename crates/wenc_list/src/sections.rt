@@ -130,8 +130,8 @@ fn start_alone<A: Allocator + Copy>(
     single(alloc, item)
 }
 
-/// The item of a section that collects none. It isn't inlined, since room for what it holds would be
-/// cleared at every section.
+/// The item of a section that collects none. It isn't inlined, since room for what it holds would
+/// be cleared at every section.
 #[inline(never)]
 fn alone<A: Allocator + Copy>(
     alloc: A,

@@ -101,8 +101,8 @@ abbrev pub AddsIf : State → State → Result ℕ Refusals → Option Entry →
 AddsIf old new answer (Some x) = Answered (λ result. Enters old new result x) answer
 AddsIf old new answer None = (answer ≡ Err BadArgument) × (new ≡ old)
 
--- The entry was added, where there is one (`AddsIf`); or the component is finished, or it is a type,
--- and nothing is changed.
+-- The entry was added, where there is one (`AddsIf`); or the component is finished, or it is a
+-- type, and nothing is changed.
 abbrev pub AddsIfTo : Session → Session → Result ℕ Refusals → Option Entry → Type 0
 AddsIfTo (sessions.Building b) (sessions.Building b') answer x = AddsIf b b' answer x
 AddsIfTo (sessions.Building b) (sessions.Finished bytes) answer x = ⊥

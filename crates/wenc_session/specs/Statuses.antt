@@ -24,8 +24,8 @@ abbrev pub Among : List ℕ → ℕ → Type 0
 Among [] n = ⊥
 Among (m ∷ ms) n = (n ≡ m) ⊎ Among ms n
 
--- what a builder's call may answer by a component: it is done, the builder refused it, the component
--- is finished, or it is a type, to which the call does nothing
+-- what a builder's call may answer by a component: it is done, the builder refused it, the
+-- component is finished, or it is a type, to which the call does nothing
 abbrev pub of_a_call : List ℕ
 of_a_call = 0 ∷ 1 ∷ 2 ∷ 3 ∷ 4 ∷ 8 ∷ 7 ∷ []
 

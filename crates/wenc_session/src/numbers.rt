@@ -123,8 +123,8 @@ pub fn core_value(number: u32) -> Option<ValType>
     }
 }
 
-/// A reference to any function, or to whatever the host refers to, by its byte in the binary format.
-/// It may be null.
+/// A reference to any function, or to whatever the host refers to, by its byte in the binary
+/// format. It may be null.
 pub fn core_reference(number: u32) -> Option<RefType>
     ensures { result ≡ core_reference_of number }
 {

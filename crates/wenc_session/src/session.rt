@@ -40,9 +40,9 @@ use wenc_parts::{
     Alias, ComponentExportKind, ComponentExternName, ComponentTypeRef, ComponentValType, ModuleArg,
 };
 
-/// A component, while it is built and when it is finished, or a type while it is declared. Each call
-/// is the builder's: a finished component refuses it, and so does a type that can't declare what is
-/// added. A refused call changes nothing.
+/// A component, while it is built and when it is finished, or a type while it is declared. Each
+/// call is the builder's: a finished component refuses it, and so does a type that can't declare
+/// what is added. A refused call changes nothing.
 #[derive(Drop)]
 pub enum Session {
     /// It takes more items.
