@@ -45,7 +45,7 @@ fn folders() -> BTreeMap<String, BTreeMap<String, Vec<u8>>> {
     for entry in fs::read_dir(&crates).expect("the folder can be read") {
         let folder = entry.expect("an entry").path();
         let name = folder.file_name().and_then(|name| name.to_str()).expect("a name");
-        for part in ["src", "specs", "proofs"] {
+        for part in ["src", "specs", "proofs", "must-fail"] {
             if folder.join(part).is_dir() {
                 let files = found.entry(format!("{name}/{part}")).or_default();
                 gather(&folder, part, files);
@@ -93,14 +93,18 @@ fn a_changed_source_has_another_digest() {
 }
 
 #[test]
-fn numbers_are_told() {
+fn numbers_are_those_of_the_files() {
     let number = |before: &str| {
         let line = wenc::PROOF.lines().find_map(|line| line.strip_prefix(before));
-        line.and_then(|number| number.parse::<u32>().ok()).unwrap_or_else(|| panic!("{before}?"))
+        line.and_then(|number| number.parse::<usize>().ok()).unwrap_or_else(|| panic!("{before}?"))
     };
-    assert!(wenc::PROOF.starts_with("kit: "));
+    assert!(wenc::PROOF.starts_with("logic: "));
+    assert!(wenc::PROOF.lines().any(|line| line.starts_with("kits: rattle-kit-")));
     assert!(number("functions proved: ") > 1000);
-    assert!(number("edits refused: ") > 50);
+    // In a package there are no edits.
+    let edits = folders().into_iter().filter(|(at, _)| at.ends_with("/must-fail"));
+    let edits = edits.map(|(_, files)| files.len()).sum::<usize>();
+    assert!(edits == 0 || edits == number("edits refused: "), "{edits} edits");
 }
 
 #[test]
