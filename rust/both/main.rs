@@ -162,7 +162,7 @@ fn side_by_side<T: Send>(number: usize, work: impl Fn(usize) -> T + Sync) -> Vec
     };
     thread::scope(|scope| {
         for _ in 0..thread::available_parallelism().map_or(1, |processors| processors.get()) {
-            scope.spawn(&take);
+            scope.spawn(take);
         }
     });
     let mut done = done.into_inner().expect("no thread panics with it");

@@ -1,5 +1,8 @@
 //! The program `wenc`: what it prints, its statuses, and what it says on standard error.
 
+#[cfg(unix)]
+#[path = "program/manual.rs"]
+mod manual;
 #[path = "program/scripts.rs"]
 mod scripts;
 

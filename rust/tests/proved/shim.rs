@@ -124,7 +124,7 @@ fn texts() {
     assert!(crate::proved::rt_std::format!(in &heap; "{}", 1).is_err());
     heap.refuse_none();
     text.push('é').expect("granted");
-    write!(text, "{:03}{}", 7, '!').expect("granted");
+    write!(text, "{:03}!", 7).expect("granted");
     assert_eq!((text.as_str(), text.to_string()), ("abé007!", "abé007!".into()));
     assert_eq!(text.try_clone().map(|copy| copy == text), Ok(true));
     assert_eq!(text.into_bytes().as_slice(), "abé007!".as_bytes());

@@ -132,10 +132,6 @@ fn doc_comments_show_the_proved_examples() {
 
 #[test]
 fn components_of_the_programs_for_c_are_valid() {
-    // the package hasn't these programs
-    if !path("c").exists() {
-        return;
-    }
     let linker = linker("programs for C");
     for name in ["c/example.stdout", "c/first.stdout"] {
         let components = hexadecimal(&text(name));

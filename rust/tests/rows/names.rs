@@ -1,6 +1,6 @@
 //! Debug names, and the section that they make.
 
-use crate::commands::{builds, exported, first, function, import, start};
+use crate::commands::{Call, builds, exported, first, function, import, start};
 use crate::hex::{COMPONENT_NAME, behind, behind_header};
 use wenc::tree::{CanonTree, Command};
 use wenc::{
@@ -9,7 +9,10 @@ use wenc::{
     ComponentTypeRef, Error, NameMap, PrimitiveValType,
 };
 
-const NAMES: fn() -> (Command, Result<Option<u32>, Error>) = || (Command::AppendNames, Ok(None));
+/// The section of the debug names so far is added, which takes no index.
+fn append_names() -> Call {
+    (Command::AppendNames, Ok(None))
+}
 
 /// A value of one byte.
 fn byte() -> ComponentTypeRef {
@@ -37,7 +40,7 @@ fn a_value_has_the_name_of_its_import() {
     let mut component = Component::new();
     component.section(&imports).section(&names);
     assert_eq!(behind(component.as_slice()), wanted);
-    builds([first(import("v", byte())), NAMES()], &wanted);
+    builds([first(import("v", byte())), append_names()], &wanted);
 }
 
 /// A function that the component model provides has this name: by the builder, by hand and by a
@@ -55,7 +58,7 @@ fn is_named(
     let mut component = Component::new();
     component.section(functions).section(&names);
     assert_eq!(behind(component.as_slice()), wanted);
-    builds([first(function(canon)), NAMES()], wanted);
+    builds([first(function(canon)), append_names()], wanted);
 }
 
 #[test]
@@ -72,7 +75,7 @@ fn a_function_that_drops_a_resource_has_its_own_name() {
     is_named(b, &functions, "resource.drop", CanonTree::ResourceDrop(0), &wanted);
     // Whatever the debug name is.
     let named = Command::Canon { debug_name: Some("q".into()), canon: CanonTree::ResourceDrop(0) };
-    builds([first(named), NAMES()], &wanted);
+    builds([first(named), append_names()], &wanted);
 }
 
 #[test]
@@ -124,7 +127,7 @@ fn names_are_appended_again() {
     let mut component = Component::new();
     component.section(&functions).section(&names).section(&names);
     assert_eq!(behind(component.as_slice()), wanted);
-    builds([first(function(CanonTree::ResourceDrop(0))), NAMES(), NAMES()], &wanted);
+    builds([first(function(CanonTree::ResourceDrop(0))), append_names(), append_names()], &wanted);
 }
 
 #[test]
@@ -132,7 +135,7 @@ fn where_there_are_no_names_nothing_is_appended() {
     let mut b = ComponentBuilder::default();
     b.append_names();
     assert_eq!(behind_header(b), "");
-    builds([NAMES()], "");
+    builds([append_names()], "");
 }
 
 #[test]
@@ -158,7 +161,10 @@ fn names_of_instances_stand_before_those_of_functions() {
     component.section(&aliases).section(&imports).section(&names);
     assert_eq!(behind(component.as_slice()), wanted);
     let instance = named_alias(0, kind, "i");
-    builds([first(instance), first(import("f", ComponentTypeRef::Func(0))), NAMES()], &wanted);
+    builds(
+        [first(instance), first(import("f", ComponentTypeRef::Func(0))), append_names()],
+        &wanted,
+    );
 }
 
 /// The alias of an export has that name as its debug name.
@@ -195,7 +201,7 @@ fn the_last_value_has_a_name() {
             first(start(0, [], 4294967294)),
             (named_alias(0, kind, "v"), Ok(Some(4294967294))),
             (import("w", byte()), Err(Error::TooMany)),
-            NAMES(),
+            append_names(),
         ],
         &wanted,
     );

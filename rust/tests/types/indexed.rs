@@ -51,7 +51,8 @@ fn component_types() {
     declare_each!(ty);
     assert_eq!(ty.import_instance("k", 0), 2);
     assert_eq!(ty.import_type("u", TypeBounds::SubResource), 6);
-    assert_eq!(ty.import_type(&String::from("v"), TypeBounds::Eq(6)), 7);
+    let name = &String::from("v");
+    assert_eq!(ty.import_type(name, TypeBounds::Eq(6)), 7);
     let imported = b"\x03\0\x01k\x05\0\x03\0\x01u\x03\x01\x03\0\x01v\x03\0\x06";
     assert_eq!(text(&ty), [b"\x41\x0e", DECLARED, imported].concat());
 }

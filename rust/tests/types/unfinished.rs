@@ -109,7 +109,7 @@ fn types_of_components() {
 fn types_of_instances() {
     let mut ty = InstanceType::new();
     ty.export("f", ComponentTypeRef::Func(0));
-    drop(ty.ty().function());
+    let _ = ty.ty().function();
     assert_eq!((ty.len(), ty.type_count(), ty.is_finished()), (2, 1, false));
     is_refused(&ty);
     assert_eq!(refusal(ty.try_core_type()), REFUSED);

@@ -301,7 +301,8 @@ fn component_types() {
     declare_all!(ty);
     ty.import("g", ComponentTypeRef::Func(0));
     ty.import(String::from("u"), ComponentTypeRef::Type(TypeBounds::Eq(6)));
-    ty.import(&String::from("w"), ComponentTypeRef::Instance(7));
+    let name = &String::from("w");
+    ty.import(name, ComponentTypeRef::Instance(7));
     assert_eq!((ty.core_type_count(), ty.type_count(), ty.instance_count()), (3, 6, 3));
     let imported = b"\x03\0\x01g\x01\0\x03\0\x01u\x03\0\x06\x03\0\x01w\x05\x07";
     let bytes = [b"\x41\x0f", DECLARED, imported].concat();

@@ -25,7 +25,7 @@ const SORTS: [(&str, Sort); 13] = [
 ];
 
 /// The names as text, and the bytes after them.
-fn told<'a, A: Allocator + Copy>(alloc: A, bytes: &'a [u8]) -> Result<(String, &'a [u8]), Refusal> {
+fn told<A: Allocator + Copy>(alloc: A, bytes: &[u8]) -> Result<(String, &[u8]), Refusal> {
     let (names, rest) = names_of(alloc, bytes)?;
     let text = match names {
         Names::Component(name) => format!("component {}", name.as_str()),

@@ -75,11 +75,11 @@ fn are<T: Copy + PartialEq + std::fmt::Debug>(
 
 #[test]
 fn numbers_and_flags() {
-    are(BYTES, |bytes| byte(bytes));
-    are(FLAGS, |bytes| flag_of(bytes));
-    are(SHORT, |bytes| u32_of(bytes));
-    are(LONG, |bytes| u64_of(bytes));
-    are(INDICES, |bytes| index_of(bytes));
+    are(BYTES, byte);
+    are(FLAGS, flag_of);
+    are(SHORT, u32_of);
+    are(LONG, u64_of);
+    are(INDICES, index_of);
 }
 
 /// Values that have no room are counted as none.
