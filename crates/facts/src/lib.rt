@@ -1,5 +1,5 @@
-//! Facts that are proved, of calls: the examples of the doc comments, callers of the laws, and what
-//! runs of commands tell.
+//! Facts that are proved, of calls and of values: the examples of the doc comments, callers of the
+//! laws, what runs of commands tell, worked texts, and types of a stranger's own.
 #![tactic(auto)]
 
 pub mod applied;
@@ -15,4 +15,6 @@ pub mod listed;
 pub mod read;
 pub mod rebuilt;
 pub mod runs;
+pub mod strangers;
+pub mod values;
 pub mod wrapping;
