@@ -1,12 +1,13 @@
 //! Each public function and method of the proved crates is called by a test of the proved calls
-//! (`rust/tests/proved`): this reads the sources, as the build script erases them, and those tests,
-//! and fails where one has no caller.
+//! (`rust/tests/proved`), and each law, which does nothing, by `facts`: this reads the sources, as
+//! the build script erases them, and those tests, and fails where one has no caller.
 //!
 //! It goes by names. A function is called where its name stands outside of a `use`; a method where
 //! its name follows a dot or `::` in a file that names its type, an alias of it, or a method that
-//! lends it. It doesn't see which of two types of one file has a method of that name called, nor
-//! impls for references, tuples and type parameters, nor what `derive` writes. A trait's method
-//! counts for each type that implements it, and is called by the generic helpers in `HELPERS` too.
+//! lends it. A trait's method counts for each type that implements it, and is called by the generic
+//! helpers in `HELPERS` too. It doesn't see which of two types of one file has a method of that
+//! name called, whether the line runs, impls for tuples and type parameters, the standard library's
+//! traits but for `From`, and what `derive` writes.
 
 #[path = "called/calls.rs"]
 mod calls;
@@ -18,7 +19,7 @@ mod parser;
 mod sources;
 
 use calls::Calls;
-use sources::Sources;
+use sources::{Function, Sources};
 use std::fs;
 use std::path::{Path, PathBuf};
 
@@ -60,14 +61,23 @@ fn sources() -> Sources {
 
 #[test]
 fn each_public_function_is_called() {
-    let sources = sources();
+    let mut sources = sources();
     let tests = files(&Path::new(env!("CARGO_MANIFEST_DIR")).join("rust/tests/proved"));
-    let calls: Vec<Calls> = tests.iter().map(|(_, text)| Calls::of(text, &sources)).collect();
+    let facts = files(&Path::new(env!("OUT_DIR")).join("proved/facts"));
+    tests.iter().for_each(|(_, text)| sources.add_aliases(text));
+    let calls_of = |files: &[(PathBuf, String)]| -> Vec<Calls> {
+        files.iter().map(|(_, text)| Calls::of(text, &sources)).collect()
+    };
+    let (calls, proved_calls) = (calls_of(&tests), calls_of(&facts));
     let functions = sources.functions();
     assert!(functions.len() > 500, "only {} functions are found", functions.len());
-    let is_called = |function| calls.iter().any(|calls| calls.call(function));
+    let is_called = |function: &Function| {
+        let is_law = function.module.starts_with("::laws");
+        let mut callers = if is_law { &proved_calls } else { &calls }.iter();
+        callers.any(|calls| calls.call(function))
+    };
     let missing: Vec<String> =
-        functions.values().filter(|f| !is_called(f)).map(|f| f.path()).collect();
+        functions.values().filter(|f| !is_called(f)).map(Function::path).collect();
     assert!(missing.is_empty(), "{} have no test:\n{}", missing.len(), missing.join("\n"));
 }
 

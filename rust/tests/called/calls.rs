@@ -60,4 +60,10 @@ impl Calls {
 }
 
 /// Generic functions of the tests that call a trait's method for the type that they are given.
-const HELPERS: [(&str, &[&str]); 1] = [("encode", &["check", "check_all"])];
+const HELPERS: [(&str, &[&str]); 5] = [
+    ("encode", &["again", "check", "check_all", "is", "sweep_encode"]),
+    ("decode", &["again"]),
+    ("append_to", &["check_section", "module_section_is"]),
+    ("append_to_component", &["check_section", "section_is"]),
+    ("id", &["check_section", "module_section_is", "section_is"]),
+];

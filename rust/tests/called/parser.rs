@@ -135,12 +135,15 @@ impl<'a> Parser<'a> {
         self.seek(";");
     }
 
-    /// Reads the front of an impl up to its `{`: its trait, and its type, each by its last word.
+    /// Reads the front of an impl up to its `{`: its trait, and its type, each by its last word. A
+    /// tuple, and a parameter of the impl, has none.
     fn header(&mut self) -> Head {
         self.at += 1;
+        let begin = self.at;
         if self.text(self.at) == "<" {
             self.skip("<", ">");
         }
+        let parameters = begin..self.at;
         let (mut of_trait, mut name) = (None, "");
         while !["{", "where", ""].contains(&self.text(self.at)) {
             match self.text(self.at) {
@@ -149,12 +152,19 @@ impl<'a> Parser<'a> {
                     continue;
                 }
                 "for" => of_trait = Some(std::mem::take(&mut name).to_owned()),
+                "(" => {
+                    self.skip("(", ")");
+                    continue;
+                }
                 word if is_word(word) => name = word,
                 _ => {}
             }
             self.at += 1;
         }
         self.seek("{");
+        if parameters.into_iter().any(|at| self.text(at) == name) {
+            name = "";
+        }
         Head::Impl(of_trait, name.to_owned())
     }
 

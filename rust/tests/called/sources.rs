@@ -9,6 +9,7 @@ use std::path::{Path, PathBuf};
 #[derive(Debug)]
 pub struct Function {
     pub krate: String,
+    pub module: String,
     pub ty: Option<String>,
     pub name: String,
 }
@@ -55,6 +56,16 @@ impl Sources {
         }
     }
 
+    /// Adds the aliases that a file of tests gives to others.
+    pub fn add_aliases(&mut self, test: &str) {
+        let tokens = lex(test);
+        let mut parser = Parser::new(&tokens);
+        parser.blocks();
+        let public = public_names(&tokens);
+        let is_public = |name: &String| public.iter().any(|(word, _)| word == name);
+        self.aliases.extend(parser.aliases().into_iter().filter(|(name, _)| is_public(name)));
+    }
+
     /// Notes the modules that are reached from the root, and the names that these give.
     fn reach(&mut self, krate: &str, files: &BTreeMap<String, Vec<Token>>) {
         let mut open = vec![String::new()];
@@ -78,26 +89,27 @@ impl Sources {
     /// reached, and of traits that are, for each type that implements them.
     pub fn functions(&self) -> BTreeMap<String, Function> {
         let mut found = BTreeMap::new();
-        let mut add = |krate: &str, ty: Option<&str>, name: &str| {
-            let ty = ty.map(|ty| self.stands_for(ty).to_owned());
-            let function = Function { krate: krate.to_owned(), ty, name: name.to_owned() };
-            found.insert(function.path(), function);
-        };
         for (krate, module, block) in &self.blocks {
+            let mut add = |ty: Option<&str>, name: &str| {
+                let ty = ty.map(|ty| self.stands_for(ty).to_owned());
+                let (krate, module, name) = (krate.clone(), module.clone(), name.to_owned());
+                let function = Function { krate, module, ty, name };
+                found.insert(function.path(), function);
+            };
             let public = block.functions.iter().filter(|f| f.is_public);
             match &block.head {
                 Head::Free if self.is_reached(krate, module) => {
-                    public.for_each(|f| add(krate, None, &f.name));
+                    public.for_each(|f| add(None, &f.name));
                 }
                 Head::Free => {
                     let named = public.filter(|f| self.is_reached(krate, &f.name));
-                    named.for_each(|f| add(krate, None, &f.name));
+                    named.for_each(|f| add(None, &f.name));
                 }
                 Head::Impl(None, ty) if self.is_reached(krate, ty) => {
-                    public.for_each(|f| add(krate, Some(ty), &f.name));
+                    public.for_each(|f| add(Some(ty), &f.name));
                 }
                 Head::Impl(Some(name), ty) if self.has_type(ty) => {
-                    self.of_trait(name, block).for_each(|f| add(krate, Some(ty), f));
+                    self.of_trait(name, block).for_each(|f| add(Some(ty), f));
                 }
                 Head::Impl(..) | Head::Trait(_) => {}
             }
@@ -107,6 +119,9 @@ impl Sources {
 
     /// A type that is reached in a crate, or one of the standard library that has a name.
     fn has_type(&self, ty: &str) -> bool {
+        if ty.is_empty() {
+            return false;
+        }
         let is_declared = |(_, _, block): &(String, String, Block)| block.types.contains(ty);
         let ty = self.stands_for(ty);
         self.reached.iter().any(|(_, word)| word == ty) || !self.blocks.iter().any(is_declared)
