@@ -6,6 +6,7 @@ pub mod applied;
 pub mod built;
 pub mod by_hand;
 pub mod callers;
+pub mod concrete;
 pub mod encoders;
 pub mod examples;
 pub mod finished;

@@ -11,6 +11,8 @@ use crate::proved::wasm_encoder::{
     TypeTree, ValType, build, list, producers_command,
 };
 use crate::proved::wenc_base::ProducersSection;
+use crate::proved::wenc_decode::Decode;
+use crate::proved::wenc_list::ItemName;
 use std::borrow::ToOwned;
 use std::format;
 use std::vec;
@@ -123,6 +125,12 @@ fn listed() {
         panic!("it is an import");
     };
     assert_eq!(name.name.as_str(), "f");
+}
+
+#[test]
+fn names_are_read() {
+    let (item, rest) = ItemName::decode(Global, b"\x02\x01g\x00").unwrap();
+    assert_eq!((item.index, item.name.as_str(), rest), (2, "g", b"\x00".as_slice()));
 }
 
 #[test]
