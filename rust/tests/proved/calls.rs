@@ -10,8 +10,10 @@ mod lenders;
 mod modules;
 mod parts;
 mod program;
+mod reading;
 mod sections;
 mod types;
+mod values;
 
 use crate::proved::rt_std::alloc::Global;
 use crate::proved::rt_std::vec::Vec;
