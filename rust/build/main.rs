@@ -26,8 +26,9 @@ const PROGRAMS: [&str; 2] = ["wenc", "driven"];
 /// The crates behind the calls for C.
 const FOR_C: [&str; 2] = ["wenc_session", "wenc_c"];
 
-/// What the tests call beside those: proved callers, the examples of the documentation, and types of a stranger's own.
-const TESTS: [&str; 3] = ["facts", "strangers", "values"];
+/// What the tests call beside those: proved callers, the examples of the documentation, and types
+/// of a stranger's own.
+const TESTS: [&str; 1] = ["facts"];
 
 /// What `src/proved` has in the place of a crate.
 const BY_HAND: [&str; 1] = ["hex"];

@@ -5,3 +5,5 @@ pub mod IndexedRuns
 pub mod Kept
 pub mod PassedOn
 mod Anew
+pub mod DefinedEqualities
+pub mod Equalities

@@ -1,11 +1,12 @@
-//! Facts that are proved, of calls: the examples of the doc comments, callers of the laws, and what
-//! runs of commands tell.
+//! Facts that are proved, of calls and of values: the examples of the doc comments, callers of the
+//! laws, what runs of commands tell, worked texts, and types of a stranger's own.
 #![tactic(auto)]
 
 pub mod applied;
 pub mod built;
 pub mod by_hand;
 pub mod callers;
+pub mod concrete;
 pub mod encoders;
 pub mod examples;
 pub mod finished;
@@ -15,4 +16,6 @@ pub mod listed;
 pub mod read;
 pub mod rebuilt;
 pub mod runs;
+pub mod strangers;
+pub mod values;
 pub mod wrapping;

@@ -41,7 +41,7 @@ pub const WAYS: [&str; 33] = [
     "unsafe of a block left out",
 ];
 
-const CRATES: [&str; 18] = [
+const CRATES: [&str; 16] = [
     "wenc_base",
     "wenc_parts",
     "wenc_types",
@@ -57,8 +57,6 @@ const CRATES: [&str; 18] = [
     "wenc_c",
     "driven",
     "facts",
-    "strangers",
-    "values",
     "hex",
 ];
 

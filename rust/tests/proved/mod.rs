@@ -5,6 +5,7 @@
 #![allow(clippy::type_complexity)]
 
 mod builder;
+mod calls;
 mod examples;
 mod hex;
 mod listing;

@@ -1,8 +1,8 @@
 //! Components and modules, section by section.
 
 use super::checks::are;
+use crate::proved::facts::strangers::own::{Large, Own};
 use crate::proved::rt_std::alloc::Global;
-use crate::proved::strangers::own::{Large, Own};
 use crate::proved::wenc_base::{Fault, Module, RawCustomSection};
 use crate::proved::wenc_parts::Component;
 use crate::proved::wenc_sections::ComponentAliasSection;

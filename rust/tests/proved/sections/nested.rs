@@ -1,8 +1,8 @@
 //! Nested modules and components, and starts.
 
 use super::checks::alone;
+use crate::proved::facts::strangers::own::Own;
 use crate::proved::rt_std::alloc::Global;
-use crate::proved::strangers::own::Own;
 use crate::proved::wenc_base::{CustomSection, Module};
 use crate::proved::wenc_parts::Component;
 use crate::proved::wenc_sections::{ComponentStartSection, ModuleSection, NestedComponentSection};

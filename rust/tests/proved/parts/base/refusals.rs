@@ -1,7 +1,7 @@
 //! Values that are refused.
 
+use crate::proved::facts::strangers::own::Item;
 use crate::proved::rt_std::vec::Vec;
-use crate::proved::strangers::own::Item;
 use crate::proved::tests::parts::checks::check;
 use crate::proved::wenc_base::{Encode, Fault, Tagged, encode_list};
 use crate::proved::wenc_parts::ComponentSection;

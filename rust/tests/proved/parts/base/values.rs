@@ -1,9 +1,9 @@
 //! Numbers, texts, lists, and values that are made of others.
 
+use crate::proved::facts::strangers::own::{Light, write_all};
 use crate::proved::rt_std::alloc::{AllocError, Global};
 use crate::proved::rt_std::string::String;
 use crate::proved::rt_std::vec::Vec;
-use crate::proved::strangers::own::{Light, write_all};
 use crate::proved::tests::parts::checks::{check, check_all};
 use crate::proved::wenc_base::{
     ByRef, Encode, ExportKind, Fault, Short, Tagged, Verbatim, WithSize, encode_byte, encode_list,

@@ -1,8 +1,8 @@
 //! Sections in a core module and in a component: custom ones, raw ones, those of producers, and one
 //! that neither the component model nor WebAssembly names; and core modules.
 
+use crate::proved::facts::strangers::own::Own;
 use crate::proved::rt_std::alloc::Global;
-use crate::proved::strangers::own::Own;
 use crate::proved::tests::parts::checks::{check, check_section};
 use crate::proved::wenc_base::{
     CustomSection, Module, ProducersField, ProducersSection, RawCustomSection, RawSection,

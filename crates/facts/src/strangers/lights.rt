@@ -1,0 +1,35 @@
+//! The laws of forms at a stranger's type, in a list and in an option too.
+ghost use Rattle.std.specs.Prelude.{◌≡◌, ◌++◌, ℕ, List, true};
+ghost use Rattle.std.specs.Cmp.Lexicographic.{pointwise};
+ghost use Rattle.std.specs.Option.{option_eq};
+ghost use Rattle.wenc_base.specs.FormLaws.{FormLaws};
+ghost use Rattle.wenc_base.specs.Forms.{list, option};
+ghost use Rattle.facts.specs.Own.{light};
+
+use crate::strangers::own::Light;
+use wasm_encoder::laws::{texts_tell_equals, values_are_lawful};
+
+/// What is true of each form of the format is true of a stranger's.
+pub fn lights_are_lawful()
+    ensures { FormLaws light }
+{
+    values_are_lawful::<Light>();
+}
+
+/// The text of a list of lights, and of what follows it, tells the lights, and what follows.
+pub fn lights_are_told(a: &&[Light], b: &&[Light])
+    ensures { (list light a.now.now).Fits → (list light b.now.now).Fits → (r s : List ℕ)
+        → (list light a.now.now).text ++ r ≡ (list light b.now.now).text ++ s
+        → (pointwise ⟦<Light as PartialEq>⟧.eq a.now.now b.now.now ≡ true) × (r ≡ s) }
+{
+    texts_tell_equals(a, b);
+}
+
+/// Equal texts tell lights that may be there, which nothing keeps from being encoded.
+pub fn optional_lights_are_told(a: &Option<Light>, b: &Option<Light>)
+    ensures { (r s : List ℕ)
+        → (option light a.now).text ++ r ≡ (option light b.now).text ++ s
+        → (option_eq ⟦<Light as PartialEq>⟧.eq a.now b.now ≡ true) × (r ≡ s) }
+{
+    texts_tell_equals(a, b);
+}

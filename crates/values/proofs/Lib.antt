@@ -1,2 +1,0 @@
-pub mod DefinedEqualities
-pub mod Equalities

@@ -1,0 +1,51 @@
+//! What lends itself to encoders, by the calls that encoders make.
+
+use super::{is, section_is};
+use crate::proved::rt_std::alloc::Global;
+use crate::proved::tests::hex::digits;
+use crate::proved::wenc_base::{Fault, Lender, Verbatim};
+use crate::proved::wenc_builder::ComponentBuilder;
+use crate::proved::wenc_parts::{ComponentValType, PrimitiveValType};
+use crate::proved::wenc_sections::ComponentTypeSection;
+use crate::proved::wenc_types::InstanceType;
+
+const STRING: ComponentValType = ComponentValType::Primitive(PrimitiveValType::String);
+
+/// Writes an option, flags and an enum, each where `open` begins a type of values.
+fn lend<L: Lender>(of: &mut L, open: fn(&mut L)) -> Result<(), Fault> {
+    open(of);
+    of.append_value(&Verbatim(&[0x6b]))?;
+    of.end_with(&STRING)?;
+    open(of);
+    of.append_list(&[0x6e], ["a", "bc"].into_iter())?;
+    of.end_member();
+    open(of);
+    of.end_with_list(&[0x6d], ["a"].into_iter())
+}
+
+/// The section of these types.
+const SECTION: &str = "070e036b736e0201610262636d010161";
+
+#[test]
+fn builder() {
+    let mut builder: ComponentBuilder = ComponentBuilder::new(Global).unwrap();
+    lend(&mut builder, |builder| drop(builder.type_defined(None).unwrap())).unwrap();
+    assert!(builder.is_finished());
+    assert_eq!(digits(&builder.finish().unwrap()[8..]), SECTION);
+}
+
+#[test]
+fn section() {
+    let mut section: ComponentTypeSection = ComponentTypeSection::new(Global);
+    lend(&mut section, |section| drop(section.defined_type().unwrap())).unwrap();
+    assert!(section.is_finished());
+    section_is(&section, 7, SECTION);
+}
+
+#[test]
+fn declarations() {
+    let mut ty: InstanceType = InstanceType::new(Global);
+    lend(&mut ty, |ty| drop(ty.type_defined().unwrap())).unwrap();
+    assert!(ty.is_finished());
+    is(&ty, "4203016b73016e020161026263016d010161");
+}
