@@ -58,6 +58,15 @@ fn main() {
         }
     }
     write(&out.join("crates.rs"), &declared);
+    name_shared_library();
+}
+
+/// Has the shared library for C bear the name that programs find it by.
+fn name_shared_library() {
+    let is_set = |name| std::env::var_os(name).is_some();
+    if is_set("CARGO_FEATURE_CAPI") && variable("CARGO_CFG_TARGET_OS") == "linux" {
+        println!("cargo::rustc-link-arg=-Wl,-soname,libwenc.so.0");
+    }
 }
 
 fn variable(name: &str) -> String {
