@@ -1,20 +1,17 @@
 /* Makes each call that example.c doesn't, and hands in what is refused as a bad argument. It prints
  * how many items there are in each space, and the component. */
-#include "wenc.h"
-
 #include <stdio.h>
 #include <stdlib.h>
 #include <string.h>
 
-#define TEXT(text) (const uint8_t *)(text), strlen(text)
-#define UNNAMED false, TEXT("")
-#define NAMED(text) true, TEXT(text)
+#include "wenc.h"
+
 #define ALL(parts) (parts), sizeof(parts) / sizeof((parts)[0])
-#define NONE(parts) (parts), 0
+#define NONE NULL, 0
 
 static void check(enum wenc_status status) {
   if (status != WENC_DONE) {
-    fprintf(stderr, "refused: %u\n", (unsigned)status);
+    fprintf(stderr, "refused: %s\n", wenc_status_text(status));
     exit(1);
   }
 }
@@ -28,104 +25,117 @@ static void refused(enum wenc_status status) {
 
 static const uint8_t module_bytes[] = {0x00, 0x61, 0x73, 0x6d, 0x01, 0x00, 0x00, 0x00};
 
-static void build_instances(wenc_builder *builder) {
-  static const wenc_part exports[] = {{6, WENC_CORE_MEMORY, 0}};
-  static const wenc_part args[] = {{3, 0, 0}, {4, 0, 7}};
+static void build_instances(wenc_handle *builder) {
+  static const wenc_part exports[] = {{WENC_TEXT("memory"), WENC_CORE_MEMORY, 0}};
+  static const wenc_part args[] = {{WENC_TEXT("env"), 0, 0}, {WENC_TEXT("wasi"), 0, 7}};
   uint32_t index;
-  check(wenc_core_module(builder, NAMED("m"), ALL(module_bytes), &index));
-  check(wenc_core_exports(builder, UNNAMED, TEXT("memory"), ALL(exports), &index));
-  check(wenc_core_instantiate(builder, NAMED("main"), 0, TEXT("envwasi"), ALL(args), &index));
+  check(wenc_core_module(builder, WENC_NAMED("m"), ALL(module_bytes), &index));
+  check(wenc_core_exports(builder, WENC_UNNAMED, ALL(exports), &index));
+  check(wenc_core_instantiate(builder, WENC_NAMED("main"), 0, ALL(args), &index));
 }
 
 /* The types of which the others are made have the indices 2 and 9. */
-static void build_values(wenc_builder *builder) {
-  static const wenc_part cases[] = {
-      {4, WENC_REF_NONE, 0}, {6, WENC_REF_PRIMITIVE, WENC_U32}, {4, WENC_REF_VALUE, 2}};
-  static const wenc_part elements[] = {{0, WENC_REF_PRIMITIVE, WENC_BOOL}, {0, WENC_REF_VALUE, 2}};
-  static const wenc_part flags[] = {{4, 0, 0}, {5, 0, 0}};
-  static const wenc_part colors[] = {{3, 0, 0}, {5, 0, 0}, {4, 0, 0}};
+static void build_values(wenc_handle *builder) {
+  static const wenc_part cases[] = {{WENC_TEXT("none"), WENC_REF_NONE, 0},
+                                    {WENC_TEXT("number"), WENC_REF_PRIMITIVE, WENC_U32},
+                                    {WENC_TEXT("file"), WENC_REF_VALUE, 2}};
+  static const wenc_pair elements[] = {{WENC_REF_PRIMITIVE, WENC_BOOL}, {WENC_REF_VALUE, 2}};
+  static const wenc_part flags[] = {{WENC_TEXT("read"), 0, 0}, {WENC_TEXT("write"), 0, 0}};
+  static const wenc_part colors[] = {
+      {WENC_TEXT("red"), 0, 0}, {WENC_TEXT("green"), 0, 0}, {WENC_TEXT("blue"), 0, 0}};
   uint32_t file, other, own, list, index;
-  check(wenc_type_resource(builder, NAMED("file"), true, 3, &file));
-  check(wenc_type_resource(builder, UNNAMED, false, 0, &other));
-  check(wenc_type_own(builder, NAMED("own"), file, &own));
-  check(wenc_type_borrow(builder, UNNAMED, other, &index));
-  check(wenc_type_variant(builder, NAMED("v"), TEXT("nonenumberfile"), ALL(cases), &index));
-  check(wenc_type_tuple(builder, UNNAMED, ALL(elements), &index));
-  check(wenc_type_flags(builder, UNNAMED, TEXT("readwrite"), ALL(flags), &index));
-  check(wenc_type_enum(builder, UNNAMED, TEXT("redgreenblue"), ALL(colors), &index));
-  check(wenc_type_primitive(builder, UNNAMED, WENC_CHAR, &index));
-  check(wenc_type_list(builder, UNNAMED, WENC_REF_PRIMITIVE, WENC_STRING, &list));
-  check(wenc_type_fixed_length_list(builder, UNNAMED, WENC_REF_PRIMITIVE, WENC_U8, 300, &index));
-  check(wenc_type_map(builder, UNNAMED, WENC_REF_PRIMITIVE, WENC_STRING, WENC_REF_VALUE, list,
+  check(wenc_type_resource(builder, WENC_NAMED("file"), true, 3, &file));
+  check(wenc_type_resource(builder, WENC_UNNAMED, false, 0, &other));
+  check(wenc_type_own(builder, WENC_NAMED("own"), file, &own));
+  check(wenc_type_borrow(builder, WENC_UNNAMED, other, &index));
+  check(wenc_type_variant(builder, WENC_NAMED("v"), ALL(cases), &index));
+  check(wenc_type_tuple(builder, WENC_UNNAMED, ALL(elements), &index));
+  check(wenc_type_flags(builder, WENC_UNNAMED, ALL(flags), &index));
+  check(wenc_type_enum(builder, WENC_UNNAMED, ALL(colors), &index));
+  check(wenc_type_primitive(builder, WENC_UNNAMED, WENC_CHAR, &index));
+  check(wenc_type_list(builder, WENC_UNNAMED, WENC_REF_PRIMITIVE, WENC_STRING, &list));
+  check(
+      wenc_type_fixed_length_list(builder, WENC_UNNAMED, WENC_REF_PRIMITIVE, WENC_U8, 300, &index));
+  check(wenc_type_map(builder, WENC_UNNAMED, WENC_REF_PRIMITIVE, WENC_STRING, WENC_REF_VALUE, list,
                       &index));
-  check(wenc_type_option(builder, UNNAMED, WENC_REF_VALUE, list, &index));
-  check(wenc_type_result(builder, UNNAMED, WENC_REF_PRIMITIVE, WENC_F64, WENC_REF_NONE, 0, &index));
-  check(wenc_type_result(builder, UNNAMED, WENC_REF_NONE, 0, WENC_REF_VALUE, list, &index));
-  check(wenc_type_future(builder, UNNAMED, WENC_REF_PRIMITIVE, WENC_S64, &index));
-  check(wenc_type_stream(builder, UNNAMED, WENC_REF_NONE, 0, &index));
+  check(wenc_type_option(builder, WENC_UNNAMED, WENC_REF_VALUE, list, &index));
+  check(wenc_type_result(builder, WENC_UNNAMED, WENC_REF_PRIMITIVE, WENC_F64, WENC_REF_NONE, 0,
+                         &index));
+  check(wenc_type_result(builder, WENC_UNNAMED, WENC_REF_NONE, 0, WENC_REF_VALUE, list, &index));
+  check(wenc_type_future(builder, WENC_UNNAMED, WENC_REF_PRIMITIVE, WENC_S64, &index));
+  check(wenc_type_stream(builder, WENC_UNNAMED, WENC_REF_NONE, 0, &index));
   if (own != 2 || list != 9) exit(1);
 }
 
 /* The answer is the type of its functions. */
-static uint32_t build_functions(wenc_builder *builder) {
-  static const wenc_part params[] = {{4, WENC_REF_PRIMITIVE, WENC_STRING}};
-  static const wenc_part lifting[] = {
-      {0, WENC_OPTION_UTF8, 0},        {0, WENC_OPTION_MEMORY, 0}, {0, WENC_OPTION_REALLOC, 1},
-      {0, WENC_OPTION_POST_RETURN, 2}, {0, WENC_OPTION_ASYNC, 0},  {0, WENC_OPTION_CALLBACK, 200}};
-  static const wenc_part lowering[] = {{0, WENC_OPTION_UTF16, 0},
-                                       {0, WENC_OPTION_COMPACT_UTF16, 0},
-                                       {0, WENC_OPTION_CORE_TYPE, 4},
-                                       {0, WENC_OPTION_GC, 0}};
-  wenc_part args[] = {{4, WENC_FUNC, 0}, {4, WENC_TYPE, 0}};
-  wenc_part items[] = {{21, WENC_INSTANCE, 0}, {1, WENC_MODULE, 0}, {1, WENC_COMPONENT, 0},
-                       {1, WENC_VALUE, 0}};
+static uint32_t build_functions(wenc_handle *builder) {
+  static const wenc_part params[] = {{WENC_TEXT("path"), WENC_REF_PRIMITIVE, WENC_STRING}};
+  static const wenc_pair lifting[] = {{WENC_OPTION_UTF8, 0},    {WENC_OPTION_MEMORY, 0},
+                                      {WENC_OPTION_REALLOC, 1}, {WENC_OPTION_POST_RETURN, 2},
+                                      {WENC_OPTION_ASYNC, 0},   {WENC_OPTION_CALLBACK, 200}};
+  static const wenc_pair lowering[] = {{WENC_OPTION_UTF16, 0},
+                                       {WENC_OPTION_COMPACT_UTF16, 0},
+                                       {WENC_OPTION_CORE_TYPE, 4},
+                                       {WENC_OPTION_GC, 0}};
+  wenc_part args[] = {{WENC_TEXT("open"), WENC_FUNC, 0}, {WENC_TEXT("file"), WENC_TYPE, 0}};
+  wenc_part items[] = {{WENC_TEXT("wasi:io/streams@0.2.0"), WENC_INSTANCE, 0},
+                       {WENC_TEXT("m"), WENC_MODULE, 0},
+                       {WENC_TEXT("c"), WENC_COMPONENT, 0},
+                       {WENC_TEXT("v"), WENC_VALUE, 0}};
   uint32_t ty, index;
-  check(wenc_type_function(builder, UNNAMED, false, TEXT("path"), ALL(params), WENC_REF_VALUE, 2,
-                           &ty));
-  check(wenc_lift(builder, NAMED("open"), 0, ty, ALL(lifting), &args[0].number));
-  check(wenc_lift(builder, UNNAMED, 5, ty, NONE(lifting), &index));
-  check(wenc_lower(builder, NAMED("lowered"), args[0].number, ALL(lowering), &index));
-  check(wenc_instantiate(builder, NAMED("inner"), 0, TEXT("openfile"), ALL(args),
-                         &items[0].number));
-  check(wenc_export_items(builder, NAMED("world"), TEXT("wasi:io/streams@0.2.0mcv"), ALL(items),
-                          &index));
+  check(wenc_type_function(builder, WENC_UNNAMED, false, ALL(params), WENC_REF_VALUE, 2, &ty));
+  check(wenc_lift(builder, WENC_NAMED("open"), 0, ty, ALL(lifting), &args[0].number));
+  check(wenc_lift(builder, WENC_UNNAMED, 5, ty, NONE, &index));
+  check(wenc_lower(builder, WENC_NAMED("lowered"), args[0].number, ALL(lowering), &index));
+  check(wenc_instantiate(builder, WENC_NAMED("inner"), 0, ALL(args), &items[0].number));
+  check(wenc_export_items(builder, WENC_NAMED("world"), ALL(items), &index));
   return ty;
 }
 
-static void build_components(wenc_builder *builder) {
+static void build_components(wenc_handle *builder) {
   static const uint8_t component[] = {0x00, 0x61, 0x73, 0x6d, 0x0d, 0x00, 0x01, 0x00};
-  wenc_builder nested = {NULL};
+  wenc_handle nested = {NULL};
   uint32_t index;
-  check(wenc_component_bytes(builder, NAMED("bytes"), ALL(component), &index));
+  check(wenc_component_bytes(builder, WENC_NAMED("bytes"), ALL(component), &index));
   check(wenc_new(&nested));
-  check(wenc_import(&nested, TEXT("r"), WENC_REF_RESOURCE, 0, &index));
-  check(wenc_component_ref(builder, UNNAMED, &nested, &index));
+  check(wenc_import(&nested, WENC_TEXT("r"), WENC_REF_RESOURCE, 0, &index));
+  check(wenc_component_ref(builder, WENC_UNNAMED, &nested, &index));
   wenc_free(&nested);
-  check(wenc_alias_export(builder, NAMED("a"), 0, WENC_FUNC, TEXT("open"), &index));
-  check(wenc_alias_outer(builder, UNNAMED, WENC_OUTER_CORE_TYPE, 1, 200, &index));
-  check(wenc_alias_outer(builder, NAMED("o"), WENC_OUTER_COMPONENT, 2, 3, &index));
+  check(wenc_alias_instance_export(builder, WENC_NAMED("a"), 0, WENC_FUNC, WENC_TEXT("open"),
+                                   &index));
+  check(wenc_alias_outer(builder, WENC_UNNAMED, WENC_OUTER_CORE_TYPE, 1, 200, &index));
+  check(wenc_alias_outer(builder, WENC_NAMED("o"), WENC_OUTER_COMPONENT, 2, 3, &index));
 }
 
 /* `ty` is the type of the function 0. */
-static void build_named(wenc_builder *builder, uint32_t ty) {
+static void build_named(wenc_handle *builder, uint32_t ty) {
   static const uint32_t args[] = {0, 1};
   static const uint8_t data[] = {1, 2, 3};
   static const uint8_t raw[] = {3, 1, 0x79, 0x2b};
+  wenc_name name;
   uint32_t index;
-  check(wenc_import_named(builder, TEXT("wasi:io/poll@0.2"), NAMED("x:y/z"), NAMED(".6"),
-                          NAMED("id"), WENC_REF_FUNC, ty, &index));
-  check(wenc_import_named(builder, TEXT("plain"), UNNAMED, UNNAMED, UNNAMED, WENC_REF_COMPONENT, 18,
-                          &index));
-  check(wenc_export_named(builder, TEXT("w"), UNNAMED, NAMED("v"), UNNAMED, WENC_FUNC, 0,
-                          WENC_REF_FUNC, ty, &index));
-  check(wenc_item(builder, WENC_SECTION_TYPE, NAMED("t"), (const uint8_t *)"\x42\x00", 2, &index));
+  memset(&name, 0, sizeof name);
+  name.name = "wasi:io/poll@0.2", name.name_len = 16;
+  name.has_implements = true, name.implements = "x:y/z", name.implements_len = 5;
+  name.has_version_suffix = true, name.version_suffix = ".6", name.version_suffix_len = 2;
+  name.has_external_id = true, name.external_id = "id", name.external_id_len = 2;
+  check(wenc_import_named(builder, &name, WENC_REF_FUNC, ty, &index));
+  memset(&name, 0, sizeof name);
+  name.name = "plain", name.name_len = 5;
+  check(wenc_import_named(builder, &name, WENC_REF_COMPONENT, 18, &index));
+  name.name = "w", name.name_len = 1;
+  name.has_version_suffix = true, name.version_suffix = "v", name.version_suffix_len = 1;
+  check(wenc_export_named(builder, &name, WENC_FUNC, 0, WENC_REF_FUNC, ty, &index));
+  check(wenc_item(builder, WENC_SECTION_TYPE, WENC_NAMED("t"), (const uint8_t *)"\x42\x00", 2,
+                  &index));
   check(wenc_start(builder, 0, ALL(args), 2, &index));
-  check(wenc_custom_section(builder, TEXT("notes"), ALL(data)));
-  check(wenc_item(builder, WENC_SECTION_CUSTOM, UNNAMED, TEXT("\x01x*"), &index));
+  check(wenc_custom_section(builder, WENC_TEXT("notes"), ALL(data)));
+  check(
+      wenc_item(builder, WENC_SECTION_CUSTOM, WENC_UNNAMED, (const uint8_t *)"\x01x*", 3, &index));
   check(wenc_raw_custom_section(builder, ALL(raw)));
 }
 
-static void print_counts(wenc_builder *builder) {
+static void print_counts(wenc_handle *builder) {
   uint32_t count;
   int space;
   for (space = 0; space < WENC_SPACES; space++) {
@@ -135,44 +145,38 @@ static void print_counts(wenc_builder *builder) {
   putchar('\n');
 }
 
-/* No number stands for anything here, or a part has a name where there is none. */
-static void refuse(wenc_builder *builder) {
-  static const wenc_part part[] = {{1, 1, 0}};
-  static const wenc_part unnamed[] = {{0, 10, 0}};
-  static const wenc_part unknown[] = {{1, 6, 0}};
+/* No number stands for anything here. */
+static void refuse(wenc_handle *builder) {
+  static const wenc_pair unnamed[] = {{10, 0}};
+  static const wenc_part unknown[] = {{WENC_TEXT("a"), 6, 0}};
   uint32_t index;
-  refused(wenc_core_instantiate(builder, UNNAMED, 0, TEXT("a"), ALL(part), &index));
-  refused(wenc_instantiate(builder, UNNAMED, 0, TEXT("a"), ALL(unknown), &index));
-  refused(wenc_export_items(builder, UNNAMED, TEXT("a"), ALL(unknown), &index));
-  refused(wenc_lift(builder, UNNAMED, 0, 0, ALL(unnamed), &index));
-  refused(wenc_lift(builder, UNNAMED, 0, 0, ALL(part), &index));
-  refused(wenc_lower(builder, UNNAMED, 0, ALL(unnamed), &index));
-  refused(wenc_type_variant(builder, UNNAMED, TEXT("a"), ALL(unknown), &index));
-  refused(wenc_type_tuple(builder, UNNAMED, ALL(unnamed), &index));
-  refused(wenc_type_flags(builder, UNNAMED, TEXT("a"), ALL(part), &index));
-  refused(wenc_type_enum(builder, UNNAMED, TEXT("ab"), ALL(part), &index));
-  refused(wenc_type_primitive(builder, UNNAMED, 0, &index));
-  refused(wenc_type_list(builder, UNNAMED, WENC_REF_NONE, 0, &index));
-  refused(wenc_type_fixed_length_list(builder, UNNAMED, WENC_REF_FUNC, 0, 1, &index));
-  refused(wenc_type_map(builder, UNNAMED, WENC_REF_NONE, 0, WENC_REF_VALUE, 0, &index));
-  refused(wenc_type_map(builder, UNNAMED, WENC_REF_VALUE, 0, WENC_REF_NONE, 0, &index));
-  refused(wenc_type_option(builder, UNNAMED, WENC_REF_PRIMITIVE, 0, &index));
-  refused(wenc_type_result(builder, UNNAMED, WENC_REF_TYPE, 0, WENC_REF_NONE, 0, &index));
-  refused(wenc_type_result(builder, UNNAMED, WENC_REF_NONE, 0, WENC_REF_TYPE, 0, &index));
-  refused(wenc_type_future(builder, UNNAMED, WENC_REF_FUNC, 0, &index));
-  refused(wenc_type_stream(builder, UNNAMED, WENC_REF_FUNC, 0, &index));
-  refused(wenc_alias_outer(builder, UNNAMED, (enum wenc_outer_kind)4, 0, 0, &index));
-  refused(wenc_import_named(builder, TEXT("a"), UNNAMED, UNNAMED, UNNAMED, WENC_REF_NONE, 0,
-                            &index));
-  refused(wenc_item(builder, (enum wenc_section)12, UNNAMED, TEXT("a"), &index));
+  refused(wenc_instantiate(builder, WENC_UNNAMED, 0, ALL(unknown), &index));
+  refused(wenc_export_items(builder, WENC_UNNAMED, ALL(unknown), &index));
+  refused(wenc_lift(builder, WENC_UNNAMED, 0, 0, ALL(unnamed), &index));
+  refused(wenc_lower(builder, WENC_UNNAMED, 0, ALL(unnamed), &index));
+  refused(wenc_type_variant(builder, WENC_UNNAMED, ALL(unknown), &index));
+  refused(wenc_type_tuple(builder, WENC_UNNAMED, ALL(unnamed), &index));
+  refused(wenc_type_primitive(builder, WENC_UNNAMED, 0, &index));
+  refused(wenc_type_list(builder, WENC_UNNAMED, WENC_REF_NONE, 0, &index));
+  refused(wenc_type_fixed_length_list(builder, WENC_UNNAMED, WENC_REF_FUNC, 0, 1, &index));
+  refused(wenc_type_map(builder, WENC_UNNAMED, WENC_REF_NONE, 0, WENC_REF_VALUE, 0, &index));
+  refused(wenc_type_map(builder, WENC_UNNAMED, WENC_REF_VALUE, 0, WENC_REF_NONE, 0, &index));
+  refused(wenc_type_option(builder, WENC_UNNAMED, WENC_REF_PRIMITIVE, 0, &index));
+  refused(wenc_type_result(builder, WENC_UNNAMED, WENC_REF_TYPE, 0, WENC_REF_NONE, 0, &index));
+  refused(wenc_type_result(builder, WENC_UNNAMED, WENC_REF_NONE, 0, WENC_REF_TYPE, 0, &index));
+  refused(wenc_type_future(builder, WENC_UNNAMED, WENC_REF_FUNC, 0, &index));
+  refused(wenc_type_stream(builder, WENC_UNNAMED, WENC_REF_FUNC, 0, &index));
+  refused(wenc_alias_outer(builder, WENC_UNNAMED, (enum wenc_outer_kind)4, 0, 0, &index));
+  refused(wenc_import_named(builder, NULL, WENC_REF_FUNC, 0, &index));
+  refused(wenc_item(builder, (enum wenc_section)12, WENC_UNNAMED, module_bytes, 1, &index));
   refused(wenc_count(builder, (enum wenc_space)13, &index));
 }
 
 int main(void) {
-  wenc_builder builder = {NULL};
+  wenc_handle builder = {NULL};
+  const uint8_t *bytes;
   size_t len, k;
   uint32_t ty;
-  uint8_t *bytes;
   check(wenc_new(&builder));
   build_instances(&builder);
   build_values(&builder);
@@ -182,13 +186,9 @@ int main(void) {
   refuse(&builder);
   print_counts(&builder);
   check(wenc_append_names(&builder));
-  check(wenc_finish(&builder, &len));
-  bytes = malloc(len);
-  if (bytes == NULL) return 1;
-  check(wenc_bytes(&builder, bytes, len));
-  wenc_free(&builder);
+  check(wenc_finish(&builder, &bytes, &len));
   for (k = 0; k < len; k++) printf("%02x", bytes[k]);
   putchar('\n');
-  free(bytes);
+  wenc_free(&builder);
   return 0;
 }

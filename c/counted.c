@@ -2,20 +2,17 @@
  * wenc_free, or by wenc_component, which gives the nested builder up; also where a call is refused,
  * and where each request for memory is refused in turn.
  *
- *     ./c/archive
- *     gcc -Wl,--wrap=malloc,--wrap=realloc,--wrap=free -o counted c/counted.c c/out/libwenc.a
- *     ./counted */
-#include "wenc.h"
-
+ *     cargo rustc --profile c --no-default-features --features capi --lib --crate-type staticlib
+ *     gcc -Wl,--wrap=malloc,--wrap=calloc,--wrap=realloc,--wrap=free c/counted.c target/c/libwenc.a
+ *     ./a.out */
 #include <stdio.h>
 #include <stdlib.h>
 #include <string.h>
 
-/* A text, and how many bytes it has. */
-#define TEXT(text) (const uint8_t *)(text), sizeof(text) - 1
+#include "wenc.h"
+
 /* A debug name. */
-#define NAMED true, TEXT("a debug name that is longer than a first growth")
-#define UNNAMED false, TEXT("")
+#define NAMED WENC_NAMED("a debug name that is longer than a first growth")
 /* Ends the program where this isn't so. */
 #define REQUIRE(what) require((what), #what, __LINE__)
 
@@ -33,6 +30,7 @@ static void require(bool is_so, const char *what, int line) {
 void *__real_malloc(size_t len);
 void __real_free(void *at);
 void *__wrap_malloc(size_t len);
+void *__wrap_calloc(size_t count, size_t len);
 void *__wrap_realloc(void *at, size_t len);
 void __wrap_free(void *at);
 
@@ -58,6 +56,11 @@ void __wrap_free(void *at) {
   __real_free((uint8_t *)at - FRONT);
 }
 
+void *__wrap_calloc(size_t count, size_t len) {
+  void *at = __wrap_malloc(count * len);
+  return at == NULL ? NULL : memset(at, 0, count * len);
+}
+
 void *__wrap_realloc(void *at, size_t len) {
   size_t before = 0;
   void *to = __wrap_malloc(len);
@@ -75,32 +78,34 @@ static size_t held(void) { return taken - given; }
 
 static const uint8_t bytes[200];
 
-static const wenc_part parts[] = {{1, WENC_REF_PRIMITIVE, WENC_S32}, {4, WENC_REF_VALUE, 0}};
+static const wenc_part parts[] = {{WENC_TEXT("x"), WENC_REF_PRIMITIVE, WENC_S32},
+                                  {WENC_TEXT("yyyy"), WENC_REF_VALUE, 0}};
 
 /* The calls that declare a type by a handle, add it, and free the handle. */
-static uint32_t declare(wenc_builder *to) {
-  wenc_builder types = {NULL};
+static uint32_t declare(wenc_handle *to) {
+  wenc_handle types = {NULL};
   uint32_t index, status = wenc_types_new(&types, WENC_INSTANCE);
+  if (status == WENC_DONE) status = wenc_type_record(&types, WENC_UNNAMED, parts, 2, &index);
   if (status == WENC_DONE)
-    status = wenc_type_record(&types, UNNAMED, TEXT("xyyyy"), parts, 2, &index);
-  if (status == WENC_DONE)
-    status = wenc_type_export(&types, TEXT("an export"), WENC_REF_TYPE, 0, &index);
+    status = wenc_type_export(&types, WENC_TEXT("an export"), WENC_REF_TYPE, 0, &index);
   if (status == WENC_DONE) status = wenc_type(to, NAMED, &types, &index);
   wenc_free(&types);
   return status;
 }
 
 /* The same of a type of modules. */
-static uint32_t declare_module(wenc_builder *to) {
-  static const uint32_t params[] = {WENC_CORE_I32, WENC_CORE_EXTERNREF};
-  static const wenc_entity function = {.kind = WENC_CORE_FUNC};
-  wenc_builder types = {NULL};
+static uint32_t declare_module(wenc_handle *to) {
+  static const wenc_pair params[] = {{WENC_CORE_I32, 0}, {WENC_CORE_EXTERNREF, 0}};
+  static const wenc_entity function = {0, 0, WENC_CORE_FUNC, 0, 0, false, false, false};
+  wenc_handle types = {NULL};
   uint32_t index, status = wenc_types_new(&types, WENC_MODULE);
   if (status == WENC_DONE)
-    status = wenc_core_type_function(&types, UNNAMED, params, 2, params, 1, &index);
+    status = wenc_core_type_function(&types, WENC_UNNAMED, params, 2, params, 1, &index);
   if (status == WENC_DONE)
-    status = wenc_core_type_import(&types, TEXT("a module"), TEXT("an import"), &function);
-  if (status == WENC_DONE) status = wenc_core_type_export(&types, TEXT("an export"), &function);
+    status =
+        wenc_core_type_import(&types, WENC_TEXT("a module"), WENC_TEXT("an import"), &function);
+  if (status == WENC_DONE)
+    status = wenc_core_type_export(&types, WENC_TEXT("an export"), &function);
   if (status == WENC_DONE) status = wenc_type(to, NAMED, &types, &index);
   wenc_free(&types);
   return status;
@@ -109,29 +114,29 @@ static uint32_t declare_module(wenc_builder *to) {
 /* The call with this number, of CALLS. */
 #define CALLS 19
 
-static uint32_t call(wenc_builder *to, int number) {
-  static const wenc_part exports[] = {{5, WENC_CORE_FUNC, 0}};
+static uint32_t call(wenc_handle *to, int number) {
+  static const wenc_part exports[] = {{WENC_TEXT("a run"), WENC_CORE_FUNC, 0}};
   static const uint32_t args[] = {0, 0, 0, 0, 0, 0, 0, 0};
-  static const uint32_t params[] = {WENC_CORE_I32, WENC_CORE_V128};
-  static const char type[] = "\x42\x02\x00\x60\x00\x00\x01\x6b\x73";
+  static const wenc_pair params[] = {{WENC_CORE_I32, 0}, {WENC_CORE_V128, 0}};
+  static const uint8_t type[] = {0x42, 0x02, 0x00, 0x60, 0x00, 0x00, 0x01, 0x6b, 0x73};
+  static const uint8_t import[] = {0x00, 0x01, 0x66, 0x01, 0x00};
   uint32_t index;
   switch (number) {
-    case 0: return wenc_type_record(to, NAMED, TEXT("xyyyy"), parts, 2, &index);
-    case 1:
-      return wenc_type_function(to, NAMED, true, TEXT("xyyyy"), parts, 2, WENC_REF_NONE, 0, &index);
-    case 2: return wenc_import(to, TEXT("an import"), WENC_REF_FUNC, 1, &index);
-    case 3: return wenc_export(to, TEXT("an export"), WENC_FUNC, 0, WENC_REF_NONE, 0, &index);
-    case 4: return wenc_alias_export(to, NAMED, 0, WENC_INSTANCE, TEXT("an alias"), &index);
-    case 5: return wenc_alias_core_export(to, NAMED, 0, WENC_CORE_FUNC, TEXT("run"), &index);
+    case 0: return wenc_type_record(to, NAMED, parts, 2, &index);
+    case 1: return wenc_type_function(to, NAMED, true, parts, 2, WENC_REF_NONE, 0, &index);
+    case 2: return wenc_import(to, WENC_TEXT("an import"), WENC_REF_FUNC, 1, &index);
+    case 3: return wenc_export(to, WENC_TEXT("an export"), WENC_FUNC, 0, WENC_REF_NONE, 0, &index);
+    case 4: return wenc_alias_export(to, 0, WENC_INSTANCE, WENC_TEXT("an alias"), &index);
+    case 5: return wenc_alias_core_export(to, NAMED, 0, WENC_CORE_FUNC, WENC_TEXT("run"), &index);
     case 6: return wenc_alias_outer(to, NAMED, WENC_OUTER_TYPE, 1, 0, &index);
     case 7: return wenc_core_module(to, NAMED, bytes, sizeof bytes, &index);
     case 8: return wenc_component_bytes(to, NAMED, bytes, sizeof bytes, &index);
     case 9: return wenc_start(to, 0, args, 8, 1, &index);
-    case 10: return wenc_builtin(to, 0x02, 0, 0, &index);
-    case 11: return wenc_core_exports(to, NAMED, TEXT("a run"), exports, 1, &index);
-    case 12: return wenc_item(to, WENC_SECTION_TYPE, NAMED, TEXT(type), &index);
-    case 13: return wenc_item(to, WENC_SECTION_IMPORT, NAMED, TEXT("\x00\x01\x66\x01\x00"), &index);
-    case 14: return wenc_custom_section(to, TEXT("custom"), bytes, sizeof bytes);
+    case 10: return wenc_builtin(to, WENC_RESOURCE_NEW, 0, 0, &index);
+    case 11: return wenc_core_exports(to, NAMED, exports, 1, &index);
+    case 12: return wenc_item(to, WENC_SECTION_TYPE, NAMED, type, sizeof type, &index);
+    case 13: return wenc_item(to, WENC_SECTION_IMPORT, NAMED, import, sizeof import, &index);
+    case 14: return wenc_custom_section(to, WENC_TEXT("custom"), bytes, sizeof bytes);
     case 15: return declare(to);
     case 16: return declare_module(to);
     case 17: return wenc_core_type_function(to, NAMED, params, 2, params, 1, &index);
@@ -151,8 +156,8 @@ static bool is_done(uint32_t status) {
 }
 
 /* A builder that has an item of each call. One that wants memory is made once more. */
-static wenc_builder filled(void) {
-  wenc_builder builder = {NULL};
+static wenc_handle filled(void) {
+  wenc_handle builder = {NULL};
   int number;
   if (!is_done(wenc_new(&builder))) REQUIRE(builder.at == NULL && is_done(wenc_new(&builder)));
   for (number = 0; number < CALLS; number++)
@@ -162,7 +167,7 @@ static wenc_builder filled(void) {
 }
 
 /* Frees it, and once more, which does nothing. */
-static void give_back(wenc_builder *builder) {
+static void give_back(wenc_handle *builder) {
   size_t before;
   wenc_free(builder);
   before = given;
@@ -171,17 +176,17 @@ static void give_back(wenc_builder *builder) {
 }
 
 /* Finishes it, and copies its bytes: neither takes memory. */
-static void finish(wenc_builder *builder) {
+static void finish(wenc_handle *builder) {
   static uint8_t copy[16384];
   size_t len, before = requests;
-  REQUIRE(wenc_finish(builder, &len) == WENC_DONE && len > 0 && len <= sizeof copy);
+  REQUIRE(wenc_finish(builder, NULL, &len) == WENC_DONE && len > 0 && len <= sizeof copy);
   REQUIRE(wenc_bytes(builder, copy, len) == WENC_DONE);
   REQUIRE(requests == before);
 }
 
 /* A builder is freed empty, with items, with an item that was refused, and finished. */
 static void freed(void) {
-  wenc_builder builder = {NULL};
+  wenc_handle builder = {NULL};
   uint32_t index;
   REQUIRE(wenc_new(&builder) == WENC_DONE && builder.at != NULL && held() > 0);
   give_back(&builder);
@@ -190,7 +195,7 @@ static void freed(void) {
   give_back(&builder);
   REQUIRE(held() == 0);
   builder = filled();
-  REQUIRE(wenc_item(&builder, WENC_SECTION_TYPE, NAMED, TEXT("\x72\x02"), &index) ==
+  REQUIRE(wenc_item(&builder, WENC_SECTION_TYPE, NAMED, (const uint8_t *)"\x72\x02", 2, &index) ==
           WENC_MALFORMED);
   REQUIRE(wenc_new(&builder) == WENC_BAD_ARGUMENT);
   finish(&builder);
@@ -202,7 +207,7 @@ static void freed(void) {
 /* What is held of a component once the builder of one in it was given up: as much as where that was
  * lent and then freed. */
 static void given_up(void) {
-  wenc_builder outer = filled(), nested = filled();
+  wenc_handle outer = filled(), nested = filled();
   uint32_t index;
   size_t after;
   REQUIRE(wenc_component(&outer, NAMED, &nested, &index) == WENC_DONE && nested.at == NULL);
@@ -222,14 +227,14 @@ static void given_up(void) {
 
 /* A nested builder that isn't taken stays as it was. */
 static void not_given_up(void) {
-  wenc_builder outer = filled(), nested = filled(), none = {NULL};
+  wenc_handle outer = filled(), nested = filled(), none = {NULL};
   uint32_t index;
   size_t before;
   finish(&nested);
   before = held();
   REQUIRE(wenc_component(&outer, NAMED, &nested, &index) == WENC_FINISHED && nested.at != NULL);
-  REQUIRE(wenc_component(&outer, NAMED, &none, &index) == WENC_NO_BUILDER);
-  REQUIRE(wenc_component(&none, NAMED, &outer, &index) == WENC_NO_BUILDER && outer.at != NULL);
+  REQUIRE(wenc_component(&outer, NAMED, &none, &index) == WENC_NO_HANDLE);
+  REQUIRE(wenc_component(&none, NAMED, &outer, &index) == WENC_NO_HANDLE && outer.at != NULL);
   REQUIRE(held() == before);
   give_back(&outer);
   give_back(&nested);
@@ -238,24 +243,27 @@ static void not_given_up(void) {
 
 /* What a listing takes it gives back, also where the bytes are no component's. */
 static void listed(void) {
-  static const char component[] =
-      "\x00\x61\x73\x6d\x0d\x00\x01\x00\x0a\x06\x01\x00\x01\x66\x01\x00\x07\x02\x01";
-  wenc_listed sections[4];
-  uint64_t counts[WENC_SPACES];
-  size_t number, before = taken;
-  uint32_t status =
-      wenc_list((const uint8_t *)component, 16, sections, 4, counts, WENC_SPACES, &number);
-  if (is_done(status)) REQUIRE(number == 1 && counts[WENC_FUNCS] == 1 && taken > before);
+  static const uint8_t component[] = {0x00, 0x61, 0x73, 0x6d, 0x0d, 0x00, 0x01, 0x00, 0x0a, 0x06,
+                                      0x01, 0x00, 0x01, 0x66, 0x01, 0x00, 0x07, 0x02, 0x01};
+  wenc_handle listing = {NULL};
+  wenc_unread unread;
+  size_t before = taken;
+  uint32_t status = wenc_list(&listing, component, 16, &unread), functions;
+  if (is_done(status)) {
+    REQUIRE(wenc_count(&listing, WENC_FUNCS, &functions) == WENC_DONE && functions == 1);
+    REQUIRE(taken > before);
+  }
+  wenc_free(&listing);
   REQUIRE(held() == 0);
-  status = wenc_list((const uint8_t *)component, 19, sections, 4, counts, WENC_SPACES, &number);
-  REQUIRE((status == WENC_BAD_SECTION && number == 16) || !is_done(status));
-  REQUIRE(held() == 0);
+  status = wenc_list(&listing, component, 19, &unread);
+  REQUIRE((status == WENC_BAD_SECTION && unread.section == 16) || !is_done(status));
+  REQUIRE(listing.at == NULL && held() == 0);
 }
 
 /* A component in another, listed; where the nested one isn't taken for want of memory, it is lent
  * then, and freed. */
 static void worked(void) {
-  wenc_builder outer = filled(), nested = filled();
+  wenc_handle outer = filled(), nested = filled();
   uint32_t index;
   if (!is_done(wenc_component(&outer, NAMED, &nested, &index))) {
     REQUIRE(nested.at != NULL && is_done(wenc_component_ref(&outer, NAMED, &nested, &index)));

@@ -1,17 +1,13 @@
 /* A component that imports a function, has a nested component and a core module, and exports what it
  * lifts from that module: its bytes in hexadecimal, and its sections.
  *
- *     ./c/archive
- *     gcc -Wall -Wextra -Werror -o example c/example.c c/out/libwenc.a && ./example */
+ *     cargo rustc --profile c --no-default-features --features capi --lib --crate-type staticlib
+ *     gcc -Wall -Wextra -Werror -o example c/example.c target/c/libwenc.a && ./example */
 #include "wenc.h"
 
 #include <stdio.h>
 #include <stdlib.h>
 
-/* A text, and how many bytes it has. */
-#define TEXT(text) (const uint8_t *)(text), sizeof(text) - 1
-/* No debug name. */
-#define UNNAMED false, (const uint8_t *)"", 0
 /* An array, and how many there are in it. */
 #define ALL(array) array, sizeof(array) / sizeof(array)[0]
 
@@ -23,80 +19,82 @@ static const uint8_t module[] = {
 
 static void check(enum wenc_status status) {
   if (status != WENC_DONE) {
-    fprintf(stderr, "refused: %u\n", (unsigned)status);
+    fprintf(stderr, "refused: %s\n", wenc_status_text(status));
     exit(1);
   }
 }
 
 /* A component that imports a type, a point, and a function that takes one and gives a text. */
-static void build_nested(wenc_builder *builder) {
-  static const wenc_part fields[] = {{1, WENC_REF_PRIMITIVE, WENC_S32},
-                                     {1, WENC_REF_PRIMITIVE, WENC_S32}};
-  wenc_part params[] = {{2, WENC_REF_VALUE, 0}};
-  uint32_t index, record, ty;
-  check(wenc_type_record(builder, true, TEXT("point"), TEXT("xy"), ALL(fields), &record));
-  check(wenc_import(builder, TEXT("point"), WENC_REF_TYPE, record, &params[0].number));
-  check(wenc_type_function(builder, UNNAMED, false, TEXT("at"), ALL(params), WENC_REF_PRIMITIVE,
-                      WENC_STRING, &ty));
-  check(wenc_import(builder, TEXT("f"), WENC_REF_FUNC, ty, &index));
+static void build_nested(wenc_handle *builder) {
+  static const wenc_part fields[] = {{WENC_TEXT("x"), WENC_REF_PRIMITIVE, WENC_S32},
+                                     {WENC_TEXT("y"), WENC_REF_PRIMITIVE, WENC_S32}};
+  wenc_part params[] = {{WENC_TEXT("at"), WENC_REF_VALUE, 0}};
+  uint32_t record, ty;
+  check(wenc_type_record(builder, WENC_NAMED("point"), ALL(fields), &record));
+  check(wenc_import(builder, WENC_TEXT("point"), WENC_REF_TYPE, record, &params[0].number));
+  check(wenc_type_function(builder, WENC_UNNAMED, false, ALL(params), WENC_REF_PRIMITIVE,
+                           WENC_STRING, &ty));
+  check(wenc_import(builder, WENC_TEXT("f"), WENC_REF_FUNC, ty, NULL));
 }
 
-static void build(wenc_builder *builder) {
+static void build(wenc_handle *builder) {
   uint32_t index, ty, instance, run;
-  wenc_part exports[] = {{3, WENC_CORE_FUNC, 0}, {3, WENC_CORE_FUNC, 0}};
-  wenc_builder nested = {NULL};
+  wenc_part exports[] = {{WENC_TEXT("run"), WENC_CORE_FUNC, 0},
+                         {WENC_TEXT("inc"), WENC_CORE_FUNC, 0}};
+  wenc_handle nested = {NULL};
 
   check(wenc_new(&nested));
   build_nested(&nested);
-  check(wenc_component(builder, UNNAMED, &nested, &index));
+  check(wenc_component(builder, WENC_UNNAMED, &nested, NULL));
 
   /* A function that takes and gives nothing is imported. */
-  check(wenc_type_function(builder, UNNAMED, false, TEXT(""), exports, 0, WENC_REF_NONE, 0, &ty));
-  check(wenc_import(builder, TEXT("log"), WENC_REF_FUNC, ty, &index));
+  check(wenc_type_function(builder, WENC_UNNAMED, false, NULL, 0, WENC_REF_NONE, 0, &ty));
+  check(wenc_import(builder, WENC_TEXT("log"), WENC_REF_FUNC, ty, NULL));
 
   /* The core module is instantiated without arguments. */
-  check(wenc_core_module(builder, UNNAMED, module, sizeof module, &index));
-  check(wenc_core_instantiate(builder, UNNAMED, index, TEXT(""), exports, 0, &instance));
+  check(wenc_core_module(builder, WENC_UNNAMED, module, sizeof module, &index));
+  check(wenc_core_instantiate(builder, WENC_UNNAMED, index, NULL, 0, &instance));
 
   /* Its function and `backpressure.inc` are exported by another core instance. */
-  check(wenc_alias_core_export(builder, UNNAMED, instance, WENC_CORE_FUNC, TEXT("run"),
+  check(wenc_alias_core_export(builder, WENC_UNNAMED, instance, WENC_CORE_FUNC, WENC_TEXT("run"),
                                &exports[0].number));
   check(wenc_builtin(builder, WENC_BACKPRESSURE_INC, 0, 0, &exports[1].number));
-  check(wenc_core_exports(builder, UNNAMED, TEXT("runinc"), ALL(exports), &index));
+  check(wenc_core_exports(builder, WENC_UNNAMED, ALL(exports), NULL));
 
   /* Its function is lifted, without options, and exported. */
-  check(wenc_lift(builder, UNNAMED, exports[0].number, ty, exports, 0, &run));
-  check(wenc_export(builder, TEXT("run"), WENC_FUNC, run, WENC_REF_NONE, 0, &index));
+  check(wenc_lift(builder, WENC_UNNAMED, exports[0].number, ty, NULL, 0, &run));
+  check(wenc_export(builder, WENC_TEXT("run"), WENC_FUNC, run, WENC_REF_NONE, 0, NULL));
   check(wenc_append_names(builder));
 }
 
 static void list(const uint8_t *bytes, size_t len) {
-  wenc_listed sections[16];
-  uint64_t counts[WENC_SPACES];
+  wenc_handle listing = {NULL};
+  wenc_listed_section section;
   size_t number, k;
-  check(wenc_list(bytes, len, sections, 16, counts, WENC_SPACES, &number));
-  for (k = 0; k < number && k < 16; k++)
-    printf("%u %zu at %zu\n", sections[k].id, sections[k].items, sections[k].place);
-  printf("%llu functions\n", (unsigned long long)counts[WENC_FUNCS]);
+  uint32_t functions;
+  check(wenc_list(&listing, bytes, len, NULL));
+  check(wenc_len(&listing, &number));
+  for (k = 0; k < number; k++) {
+    check(wenc_section_at(&listing, k, &section));
+    printf("%u %zu at %zu\n", (unsigned)section.id, section.items, section.place);
+  }
+  check(wenc_count(&listing, WENC_FUNCS, &functions));
+  printf("%u functions\n", (unsigned)functions);
+  wenc_free(&listing);
 }
 
 int main(void) {
-  wenc_builder builder = {NULL};
+  wenc_handle builder = {NULL};
+  const uint8_t *bytes;
   size_t len, k;
-  uint8_t *bytes;
 
   if (wenc_version() != WENC_VERSION) return 1;
   check(wenc_new(&builder));
   build(&builder);
-  check(wenc_finish(&builder, &len));
-  bytes = malloc(len);
-  if (bytes == NULL) return 1;
-  check(wenc_bytes(&builder, bytes, len));
-  wenc_free(&builder);
-
+  check(wenc_finish(&builder, &bytes, &len));
   for (k = 0; k < len; k++) printf("%02x", bytes[k]);
   putchar('\n');
   list(bytes, len);
-  free(bytes);
+  wenc_free(&builder);
   return 0;
 }

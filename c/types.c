@@ -2,15 +2,12 @@
  * what these refuse; then adds the functions that have options or slots, and two items by their
  * texts. It prints the component that has all these, and then one of core types, with that of a
  * module. */
-#include "wenc.h"
-
 #include <stdio.h>
 #include <stdlib.h>
 #include <string.h>
 
-#define TEXT(text) (const uint8_t *)(text), strlen(text)
-#define UNNAMED false, TEXT("")
-#define NAMED(text) true, TEXT(text)
+#include "wenc.h"
+
 #define ALL(parts) (parts), sizeof(parts) / sizeof((parts)[0])
 
 static void require(bool so, const char *what) {
@@ -23,71 +20,70 @@ static void require(bool so, const char *what) {
 #define REQUIRE(so) require(so, #so)
 
 /* The call is accepted and answers this index. */
-#define ADDS(call, wanted) \
-  do {                     \
-    uint32_t index = 99;   \
+#define ADDS(call, wanted)                             \
+  do {                                                 \
+    uint32_t index = 99;                               \
     REQUIRE((call) == WENC_DONE && index == (wanted)); \
   } while (0)
 
 /* An interface: a resource, a record, and a function of both. */
-static void declare_interface(wenc_builder *types) {
-  static const wenc_part fields[] = {{2, WENC_REF_VALUE, 1}, {4, WENC_REF_PRIMITIVE, WENC_STRING}};
-  static const wenc_part params[] = {{4, WENC_REF_VALUE, 3}};
-  static const wenc_part cases[] = {{2, 0, 0}, {3, 0, 0}};
+static void declare_interface(wenc_handle *types) {
+  static const wenc_part fields[] = {{WENC_TEXT("of"), WENC_REF_VALUE, 1},
+                                     {WENC_TEXT("name"), WENC_REF_PRIMITIVE, WENC_STRING}};
+  static const wenc_part params[] = {{WENC_TEXT("open"), WENC_REF_VALUE, 3}};
+  static const wenc_part cases[] = {{WENC_TEXT("up"), 0, 0}, {WENC_TEXT("off"), 0, 0}};
   REQUIRE(wenc_types_new(types, WENC_INSTANCE) == WENC_DONE);
-  ADDS(wenc_type_export(types, TEXT("file"), WENC_REF_RESOURCE, 0, &index), 0);
-  ADDS(wenc_type_own(types, UNNAMED, 0, &index), 1);
-  ADDS(wenc_type_record(types, UNNAMED, TEXT("ofname"), ALL(fields), &index), 2);
-  ADDS(wenc_type_export(types, TEXT("entry"), WENC_REF_TYPE, 2, &index), 3);
-  ADDS(wenc_type_enum(types, UNNAMED, TEXT("upoff"), ALL(cases), &index), 4);
-  ADDS(wenc_type_function(types, UNNAMED, true, TEXT("open"), ALL(params), WENC_REF_VALUE, 1, &index),
-       5);
-  ADDS(wenc_type_export(types, TEXT("open"), WENC_REF_FUNC, 5, &index), 0);
-  ADDS(wenc_alias_outer(types, UNNAMED, WENC_OUTER_TYPE, 1, 0, &index), 6);
-  ADDS(wenc_type_list(types, UNNAMED, WENC_REF_VALUE, 6, &index), 7);
+  ADDS(wenc_type_export(types, WENC_TEXT("file"), WENC_REF_RESOURCE, 0, &index), 0);
+  ADDS(wenc_type_own(types, WENC_UNNAMED, 0, &index), 1);
+  ADDS(wenc_type_record(types, WENC_UNNAMED, ALL(fields), &index), 2);
+  ADDS(wenc_type_export(types, WENC_TEXT("entry"), WENC_REF_TYPE, 2, &index), 3);
+  ADDS(wenc_type_enum(types, WENC_UNNAMED, ALL(cases), &index), 4);
+  ADDS(wenc_type_function(types, WENC_UNNAMED, true, ALL(params), WENC_REF_VALUE, 1, &index), 5);
+  ADDS(wenc_type_export(types, WENC_TEXT("open"), WENC_REF_FUNC, 5, &index), 0);
+  ADDS(wenc_alias_outer(types, WENC_UNNAMED, WENC_OUTER_TYPE, 1, 0, &index), 6);
+  ADDS(wenc_type_list(types, WENC_UNNAMED, WENC_REF_VALUE, 6, &index), 7);
 }
 
 /* A component that imports the interface and exports it, with a type of its own in front. */
-static void declare_component(wenc_builder *types, wenc_builder *interface) {
+static void declare_component(wenc_handle *types, wenc_handle *interface) {
   REQUIRE(wenc_types_new(types, WENC_COMPONENT) == WENC_DONE);
-  ADDS(wenc_type_primitive(types, UNNAMED, WENC_U32, &index), 0);
-  ADDS(wenc_type(types, UNNAMED, interface, &index), 1);
-  ADDS(wenc_import(types, TEXT("from"), WENC_REF_INSTANCE, 1, &index), 0);
-  ADDS(wenc_alias_export(types, UNNAMED, 0, WENC_TYPE, TEXT("file"), &index), 2);
-  ADDS(wenc_type_borrow(types, UNNAMED, 2, &index), 3);
-  ADDS(wenc_type_export(types, TEXT("to"), WENC_REF_INSTANCE, 1, &index), 1);
+  ADDS(wenc_type_primitive(types, WENC_UNNAMED, WENC_U32, &index), 0);
+  ADDS(wenc_type(types, WENC_UNNAMED, interface, &index), 1);
+  ADDS(wenc_import(types, WENC_TEXT("from"), WENC_REF_INSTANCE, 1, &index), 0);
+  ADDS(wenc_alias_export(types, 0, WENC_TYPE, WENC_TEXT("file"), &index), 2);
+  ADDS(wenc_type_borrow(types, WENC_UNNAMED, 2, &index), 3);
+  ADDS(wenc_type_export(types, WENC_TEXT("to"), WENC_REF_INSTANCE, 1, &index), 1);
 }
 
 /* What a type of an instance can't declare, and what is no type. */
-static void hand_in_others(wenc_builder *types, wenc_builder *builder) {
+static void hand_in_others(wenc_handle *types, wenc_handle *builder) {
   uint32_t index = 7;
   size_t len;
-  wenc_builder none = {NULL};
-  REQUIRE(wenc_import(types, TEXT("f"), WENC_REF_FUNC, 0, &index) == WENC_BAD_ARGUMENT);
-  REQUIRE(wenc_type_own(types, NAMED("n"), 0, &index) == WENC_BAD_ARGUMENT);
-  REQUIRE(wenc_core_module(types, UNNAMED, TEXT(""), &index) == WENC_BAD_ARGUMENT);
-  REQUIRE(wenc_export(types, TEXT("f"), WENC_FUNC, 0, WENC_REF_NONE, 0, &index) ==
+  wenc_handle none = {NULL};
+  REQUIRE(wenc_import(types, WENC_TEXT("f"), WENC_REF_FUNC, 0, &index) == WENC_BAD_ARGUMENT);
+  REQUIRE(wenc_type_own(types, WENC_NAMED("n"), 0, &index) == WENC_BAD_ARGUMENT);
+  REQUIRE(wenc_core_module(types, WENC_UNNAMED, NULL, 0, &index) == WENC_BAD_ARGUMENT);
+  REQUIRE(wenc_export(types, WENC_TEXT("f"), WENC_FUNC, 0, WENC_REF_NONE, 0, &index) ==
           WENC_BAD_ARGUMENT);
-  REQUIRE(wenc_component_ref(builder, UNNAMED, types, &index) == WENC_BAD_ARGUMENT);
-  REQUIRE(wenc_finish(types, &len) == WENC_BAD_ARGUMENT);
+  REQUIRE(wenc_component_ref(builder, WENC_UNNAMED, types, &index) == WENC_BAD_ARGUMENT);
+  REQUIRE(wenc_finish(types, NULL, &len) == WENC_BAD_ARGUMENT);
   REQUIRE(wenc_count(types, WENC_FUNCS, &index) == WENC_BAD_ARGUMENT);
   REQUIRE(wenc_types_new(types, WENC_INSTANCE) == WENC_BAD_ARGUMENT);
   REQUIRE(wenc_types_new(&none, WENC_FUNC) == WENC_BAD_ARGUMENT && none.at == NULL);
-  REQUIRE(wenc_type_export(builder, TEXT("f"), WENC_REF_FUNC, 0, &index) == WENC_BAD_ARGUMENT);
-  REQUIRE(wenc_type(builder, UNNAMED, &none, &index) == WENC_NO_BUILDER);
+  REQUIRE(wenc_type_export(builder, WENC_TEXT("f"), WENC_REF_FUNC, 0, &index) == WENC_BAD_ARGUMENT);
+  REQUIRE(wenc_type(builder, WENC_UNNAMED, &none, &index) == WENC_NO_HANDLE);
   REQUIRE(index == 7);
 }
 
-static void count(wenc_builder *types, enum wenc_space space, uint32_t wanted) {
+static void count(wenc_handle *types, enum wenc_space space, uint32_t wanted) {
   uint32_t number;
   REQUIRE(wenc_count(types, space, &number) == WENC_DONE && number == wanted);
 }
 
 /* Functions that the component model provides with options, and of slots. */
-static void add_functions(wenc_builder *builder) {
-  static const wenc_part options[] = {{0, WENC_OPTION_UTF8, 0}, {0, WENC_OPTION_MEMORY, 2}};
-  static const wenc_part named[] = {{1, WENC_OPTION_UTF8, 0}};
-  static const wenc_part unknown[] = {{0, 10, 0}};
+static void add_functions(wenc_handle *builder) {
+  static const wenc_pair options[] = {{WENC_OPTION_UTF8, 0}, {WENC_OPTION_MEMORY, 2}};
+  static const wenc_pair unknown[] = {{10, 0}};
   uint32_t index = 7;
   ADDS(wenc_builtin_with(builder, WENC_STREAM_READ, 0, ALL(options), &index), 0);
   ADDS(wenc_builtin_with(builder, WENC_STREAM_WRITE, 1, options, 1, &index), 1);
@@ -99,111 +95,119 @@ static void add_functions(wenc_builder *builder) {
   ADDS(wenc_task_return(builder, WENC_REF_NONE, 0, options, 0, &index), 7);
   ADDS(wenc_context(builder, WENC_CONTEXT_GET, WENC_CORE_I32, 0, &index), 8);
   ADDS(wenc_context(builder, WENC_CONTEXT_SET, WENC_CORE_I64, 200, &index), 9);
-  REQUIRE(wenc_builtin_with(builder, WENC_STREAM_READ, 0, ALL(named), &index) == WENC_BAD_ARGUMENT);
   REQUIRE(wenc_builtin_with(builder, WENC_STREAM_READ, 0, ALL(unknown), &index) ==
           WENC_BAD_ARGUMENT);
-  REQUIRE(wenc_builtin_with(builder, (enum wenc_function_with)WENC_STREAM_NEW, 0, options, 0,
-                            &index) == WENC_BAD_ARGUMENT);
+  REQUIRE(wenc_builtin_with(builder, (enum wenc_function_with)7, 0, options, 0, &index) ==
+          WENC_BAD_ARGUMENT);
   REQUIRE(wenc_task_return(builder, WENC_REF_FUNC, 0, options, 0, &index) == WENC_BAD_ARGUMENT);
-  REQUIRE(wenc_context(builder, WENC_CONTEXT_GET, (enum wenc_core_type)0x70, 0, &index) ==
+  REQUIRE(wenc_context(builder, WENC_CONTEXT_GET, WENC_CORE_FUNCREF, 0, &index) ==
           WENC_BAD_ARGUMENT);
   REQUIRE(index == 7);
 }
 
 /* A core instance that exports a function, and a function that is lifted, with a padded index. */
-static void add_by_texts(wenc_builder *builder) {
+static void add_by_texts(wenc_handle *builder) {
   static const uint8_t exports[] = {0x01, 0x01, 0x01, 'f', 0x00, 0x09};
   static const uint8_t lifted[] = {0x00, 0x00, 0x89, 0x00, 0x01, 0x00, 0x01};
-  ADDS(wenc_item(builder, WENC_SECTION_CORE_INSTANCE, UNNAMED, ALL(exports), &index), 0);
-  ADDS(wenc_item(builder, WENC_SECTION_CANON, NAMED("lifted"), ALL(lifted), &index), 0);
+  ADDS(wenc_item(builder, WENC_SECTION_CORE_INSTANCE, WENC_UNNAMED, ALL(exports), &index), 0);
+  ADDS(wenc_item(builder, WENC_SECTION_CANON, WENC_NAMED("lifted"), ALL(lifted), &index), 0);
 }
 
 /* A module with a type of its own and one of the component around it. */
-static void declare_module(wenc_builder *types) {
-  static const uint32_t params[] = {WENC_CORE_I32};
-  static const wenc_entity function = {.kind = WENC_CORE_FUNC, .type = 1};
-  static const wenc_entity memory = {
-      .kind = WENC_CORE_MEMORY, .minimum = 1, .has_maximum = true, .maximum = 200, .is_shared = true};
-  static const wenc_entity table = {
-      .kind = WENC_CORE_TABLE, .type = WENC_CORE_FUNCREF, .minimum = 3, .maximum = 9, .is_long = true};
+static void declare_module(wenc_handle *types) {
+  static const wenc_pair params[] = {{WENC_CORE_I32, 0}};
+  static const wenc_entity function = {0, 0, WENC_CORE_FUNC, 1, 0, false, false, false};
+  static const wenc_entity memory = {1, 200, WENC_CORE_MEMORY, 0, 0, true, false, true};
+  static const wenc_entity table = {3,    9,    WENC_CORE_TABLE, WENC_CORE_FUNCREF, 0, false,
+                                    true, false};
   static const wenc_entity global = {
-      .kind = WENC_CORE_GLOBAL, .type = WENC_CORE_F64, .is_mutable = true};
-  static const wenc_entity tag = {.kind = WENC_CORE_TAG, .type = 0};
-  static const wenc_entity exported = {.kind = WENC_CORE_FUNC, .type = 0};
+      0, 0, WENC_CORE_GLOBAL, WENC_CORE_F64 | WENC_CORE_MUTABLE, 0, false, false, false};
+  static const wenc_entity tag = {0, 0, WENC_CORE_TAG, 0, 0, false, false, false};
+  static const wenc_entity exported = {0, 0, WENC_CORE_FUNC, 0, 0, false, false, false};
   REQUIRE(wenc_types_new(types, WENC_MODULE) == WENC_DONE);
-  ADDS(wenc_core_type_function(types, UNNAMED, ALL(params), params, 0, &index), 0);
-  ADDS(wenc_alias_outer(types, UNNAMED, WENC_OUTER_CORE_TYPE, 1, 0, &index), 1);
-  REQUIRE(wenc_core_type_import(types, TEXT("env"), TEXT("f"), &function) == WENC_DONE);
-  REQUIRE(wenc_core_type_import(types, TEXT("env"), TEXT("memory"), &memory) == WENC_DONE);
-  REQUIRE(wenc_core_type_import(types, TEXT("env"), TEXT("table"), &table) == WENC_DONE);
-  REQUIRE(wenc_core_type_import(types, TEXT("env"), TEXT("global"), &global) == WENC_DONE);
-  REQUIRE(wenc_core_type_export(types, TEXT("tag"), &tag) == WENC_DONE);
-  REQUIRE(wenc_core_type_export(types, TEXT("main"), &exported) == WENC_DONE);
+  ADDS(wenc_core_type_function(types, WENC_UNNAMED, ALL(params), params, 0, &index), 0);
+  ADDS(wenc_alias_outer(types, WENC_UNNAMED, WENC_OUTER_CORE_TYPE, 1, 0, &index), 1);
+  REQUIRE(wenc_core_type_import(types, WENC_TEXT("env"), WENC_TEXT("f"), &function) == WENC_DONE);
+  REQUIRE(wenc_core_type_import(types, WENC_TEXT("env"), WENC_TEXT("memory"), &memory) ==
+          WENC_DONE);
+  REQUIRE(wenc_core_type_import(types, WENC_TEXT("env"), WENC_TEXT("table"), &table) == WENC_DONE);
+  REQUIRE(wenc_core_type_import(types, WENC_TEXT("env"), WENC_TEXT("global"), &global) ==
+          WENC_DONE);
+  REQUIRE(wenc_core_type_export(types, WENC_TEXT("tag"), &tag) == WENC_DONE);
+  REQUIRE(wenc_core_type_export(types, WENC_TEXT("main"), &exported) == WENC_DONE);
 }
 
 /* What a type of a module can't declare, and what can't be in one. */
-static void hand_in_to_module(wenc_builder *types, wenc_builder *builder) {
-  static const uint32_t known[] = {WENC_CORE_I32}, unknown[] = {WENC_CORE_I32, 0x71};
-  static const wenc_entity function = {.kind = WENC_CORE_FUNC};
-  static const wenc_entity kind = {.kind = 5};
-  static const wenc_entity table = {.kind = WENC_CORE_TABLE, .type = WENC_CORE_I32};
-  static const wenc_entity global = {.kind = WENC_CORE_GLOBAL, .type = 0x71};
+static void hand_in_to_module(wenc_handle *types, wenc_handle *builder) {
+  static const wenc_pair known[] = {{WENC_CORE_I32, 0}};
+  static const wenc_pair unknown[] = {{WENC_CORE_I32, 0}, {0x71, 0}};
+  static const wenc_entity function = {0, 0, WENC_CORE_FUNC, 0, 0, false, false, false};
+  static const wenc_entity kind = {0, 0, 5, 0, 0, false, false, false};
+  static const wenc_entity table = {0, 0, WENC_CORE_TABLE, WENC_CORE_I32, 0, false, false, false};
+  static const wenc_entity global = {0, 0, WENC_CORE_GLOBAL, 0x71, 0, false, false, false};
   uint32_t index = 7;
-  wenc_builder none = {NULL}, other = {NULL};
+  wenc_handle none = {NULL}, other = {NULL};
   REQUIRE(wenc_types_new(&other, WENC_INSTANCE) == WENC_DONE);
-  REQUIRE(wenc_import(types, TEXT("f"), WENC_REF_FUNC, 0, &index) == WENC_BAD_ARGUMENT);
-  REQUIRE(wenc_type_export(types, TEXT("f"), WENC_REF_FUNC, 0, &index) == WENC_BAD_ARGUMENT);
-  REQUIRE(wenc_type_own(types, UNNAMED, 0, &index) == WENC_BAD_ARGUMENT);
-  REQUIRE(wenc_type(types, UNNAMED, &other, &index) == WENC_BAD_ARGUMENT);
-  REQUIRE(wenc_alias_outer(types, UNNAMED, WENC_OUTER_TYPE, 1, 0, &index) == WENC_BAD_ARGUMENT);
-  REQUIRE(wenc_alias_export(types, UNNAMED, 0, WENC_TYPE, TEXT("t"), &index) == WENC_BAD_ARGUMENT);
-  REQUIRE(wenc_core_type_function(types, NAMED("n"), ALL(known), ALL(known), &index) ==
+  REQUIRE(wenc_import(types, WENC_TEXT("f"), WENC_REF_FUNC, 0, &index) == WENC_BAD_ARGUMENT);
+  REQUIRE(wenc_type_export(types, WENC_TEXT("f"), WENC_REF_FUNC, 0, &index) == WENC_BAD_ARGUMENT);
+  REQUIRE(wenc_type_own(types, WENC_UNNAMED, 0, &index) == WENC_BAD_ARGUMENT);
+  REQUIRE(wenc_type(types, WENC_UNNAMED, &other, &index) == WENC_BAD_ARGUMENT);
+  REQUIRE(wenc_alias_outer(types, WENC_UNNAMED, WENC_OUTER_TYPE, 1, 0, &index) ==
           WENC_BAD_ARGUMENT);
-  REQUIRE(wenc_core_type_function(types, UNNAMED, ALL(unknown), ALL(known), &index) ==
+  REQUIRE(wenc_alias_export(types, 0, WENC_TYPE, WENC_TEXT("t"), &index) == WENC_BAD_ARGUMENT);
+  REQUIRE(wenc_core_type_function(types, WENC_NAMED("n"), ALL(known), ALL(known), &index) ==
           WENC_BAD_ARGUMENT);
-  REQUIRE(wenc_core_type_function(types, UNNAMED, ALL(known), ALL(unknown), &index) ==
+  REQUIRE(wenc_core_type_function(types, WENC_UNNAMED, ALL(unknown), ALL(known), &index) ==
+          WENC_BAD_ARGUMENT);
+  REQUIRE(wenc_core_type_function(types, WENC_UNNAMED, ALL(known), ALL(unknown), &index) ==
           WENC_BAD_ARGUMENT);
   REQUIRE(wenc_count(types, WENC_TYPES, &index) == WENC_BAD_ARGUMENT);
-  REQUIRE(wenc_core_type_import(types, TEXT("m"), TEXT("n"), &kind) == WENC_BAD_ARGUMENT);
-  REQUIRE(wenc_core_type_import(types, TEXT("m"), TEXT("n"), &table) == WENC_BAD_ARGUMENT);
-  REQUIRE(wenc_core_type_export(types, TEXT("n"), &global) == WENC_BAD_ARGUMENT);
-  REQUIRE(wenc_core_type_import(types, TEXT("m"), TEXT("\xff"), &function) == WENC_MALFORMED);
-  REQUIRE(wenc_core_type_import(&other, TEXT("m"), TEXT("n"), &function) == WENC_BAD_ARGUMENT);
-  REQUIRE(wenc_core_type_export(builder, TEXT("n"), &function) == WENC_BAD_ARGUMENT);
-  REQUIRE(wenc_core_type_export(&none, TEXT("n"), &function) == WENC_NO_BUILDER);
+  REQUIRE(wenc_core_type_import(types, WENC_TEXT("m"), WENC_TEXT("n"), &kind) == WENC_BAD_ARGUMENT);
+  REQUIRE(wenc_core_type_import(types, WENC_TEXT("m"), WENC_TEXT("n"), &table) ==
+          WENC_BAD_ARGUMENT);
+  REQUIRE(wenc_core_type_export(types, WENC_TEXT("n"), &global) == WENC_BAD_ARGUMENT);
+  REQUIRE(wenc_core_type_import(types, WENC_TEXT("m"), WENC_TEXT("\xff"), &function) ==
+          WENC_MALFORMED);
+  REQUIRE(wenc_core_type_import(&other, WENC_TEXT("m"), WENC_TEXT("n"), &function) ==
+          WENC_BAD_ARGUMENT);
+  REQUIRE(wenc_core_type_export(builder, WENC_TEXT("n"), &function) == WENC_BAD_ARGUMENT);
+  REQUIRE(wenc_core_type_export(&none, WENC_TEXT("n"), &function) == WENC_NO_HANDLE);
   REQUIRE(index == 7);
   wenc_free(&other);
 }
 
 /* An instance that exports a module, and a component that imports one, each after a core type. */
-static void declare_around(wenc_builder *instance, wenc_builder *component, wenc_builder *module) {
-  static const uint32_t of_instance[] = {WENC_CORE_F32}, of_component[] = {WENC_CORE_FUNCREF};
+static void declare_around(wenc_handle *instance, wenc_handle *component, wenc_handle *module) {
+  static const wenc_pair of_instance[] = {{WENC_CORE_F32, 0}};
+  static const wenc_pair of_component[] = {{WENC_CORE_FUNCREF, 0}};
   REQUIRE(wenc_types_new(instance, WENC_INSTANCE) == WENC_DONE);
-  ADDS(wenc_core_type_function(instance, UNNAMED, of_instance, 0, ALL(of_instance), &index), 0);
-  ADDS(wenc_type(instance, UNNAMED, module, &index), 1);
-  ADDS(wenc_type_export(instance, TEXT("made"), WENC_REF_MODULE, 1, &index), 0);
+  ADDS(wenc_core_type_function(instance, WENC_UNNAMED, of_instance, 0, ALL(of_instance), &index),
+       0);
+  ADDS(wenc_type(instance, WENC_UNNAMED, module, &index), 1);
+  ADDS(wenc_type_export(instance, WENC_TEXT("made"), WENC_REF_MODULE, 1, &index), 0);
   REQUIRE(wenc_types_new(component, WENC_COMPONENT) == WENC_DONE);
-  ADDS(wenc_core_type_function(component, UNNAMED, ALL(of_component), of_component, 0, &index), 0);
-  ADDS(wenc_type(component, UNNAMED, module, &index), 1);
-  ADDS(wenc_alias_outer(component, UNNAMED, WENC_OUTER_CORE_TYPE, 1, 0, &index), 2);
-  ADDS(wenc_import(component, TEXT("from"), WENC_REF_MODULE, 1, &index), 0);
+  ADDS(wenc_core_type_function(component, WENC_UNNAMED, ALL(of_component), of_component, 0, &index),
+       0);
+  ADDS(wenc_type(component, WENC_UNNAMED, module, &index), 1);
+  ADDS(wenc_alias_outer(component, WENC_UNNAMED, WENC_OUTER_CORE_TYPE, 1, 0, &index), 2);
+  ADDS(wenc_import(component, WENC_TEXT("from"), WENC_REF_MODULE, 1, &index), 0);
 }
 
 /* A component with these types. */
-static void add_core_types(wenc_builder *builder) {
-  static const uint32_t params[] = {WENC_CORE_I32, WENC_CORE_EXTERNREF};
-  static const uint32_t results[] = {WENC_CORE_I64, WENC_CORE_V128};
-  wenc_builder module = {NULL}, instance = {NULL}, component = {NULL};
+static void add_core_types(wenc_handle *builder) {
+  static const wenc_pair params[] = {{WENC_CORE_I32, 0}, {WENC_CORE_EXTERNREF, 0}};
+  static const wenc_pair results[] = {{WENC_CORE_I64, 0}, {WENC_CORE_V128, 0}};
+  wenc_handle module = {NULL}, instance = {NULL}, component = {NULL};
   declare_module(&module);
   hand_in_to_module(&module, builder);
   count(&module, WENC_CORE_TYPES, 2);
   declare_around(&instance, &component, &module);
   count(&component, WENC_CORE_TYPES, 3);
-  ADDS(wenc_core_type_function(builder, NAMED("two"), ALL(params), ALL(results), &index), 0);
-  ADDS(wenc_type(builder, NAMED("module"), &module, &index), 1);
-  ADDS(wenc_type(builder, UNNAMED, &instance, &index), 0);
-  ADDS(wenc_type(builder, UNNAMED, &component, &index), 1);
-  ADDS(wenc_import(builder, TEXT("given"), WENC_REF_MODULE, 1, &index), 0);
+  ADDS(wenc_core_type_function(builder, WENC_NAMED("two"), ALL(params), ALL(results), &index), 0);
+  ADDS(wenc_type(builder, WENC_NAMED("module"), &module, &index), 1);
+  ADDS(wenc_type(builder, WENC_UNNAMED, &instance, &index), 0);
+  ADDS(wenc_type(builder, WENC_UNNAMED, &component, &index), 1);
+  ADDS(wenc_import(builder, WENC_TEXT("given"), WENC_REF_MODULE, 1, &index), 0);
   REQUIRE(wenc_append_names(builder) == WENC_DONE);
   wenc_free(&module);
   wenc_free(&instance);
@@ -211,20 +215,17 @@ static void add_core_types(wenc_builder *builder) {
 }
 
 /* Finishes the component, prints it, and frees the builder. */
-static void print(wenc_builder *builder) {
+static void print(wenc_handle *builder) {
+  const uint8_t *bytes;
   size_t len, i;
-  uint8_t *bytes;
-  REQUIRE(wenc_finish(builder, &len) == WENC_DONE);
-  bytes = malloc(len);
-  REQUIRE(bytes != NULL && wenc_bytes(builder, bytes, len) == WENC_DONE);
-  wenc_free(builder);
+  REQUIRE(wenc_finish(builder, &bytes, &len) == WENC_DONE);
   for (i = 0; i < len; i++) printf("%02x", bytes[i]);
   printf("\n");
-  free(bytes);
+  wenc_free(builder);
 }
 
 int main(void) {
-  wenc_builder builder = {NULL}, interface = {NULL}, world = {NULL};
+  wenc_handle builder = {NULL}, interface = {NULL}, world = {NULL};
   REQUIRE(wenc_new(&builder) == WENC_DONE);
   declare_interface(&interface);
   hand_in_others(&interface, &builder);
@@ -232,10 +233,10 @@ int main(void) {
   count(&interface, WENC_TYPES, 8);
   count(&world, WENC_INSTANCES, 2);
   count(&world, WENC_CORE_TYPES, 0);
-  ADDS(wenc_type_primitive(&builder, UNNAMED, WENC_U8, &index), 0);
-  ADDS(wenc_type(&builder, NAMED("interface"), &interface, &index), 1);
-  ADDS(wenc_type(&builder, UNNAMED, &world, &index), 2);
-  ADDS(wenc_import(&builder, TEXT("host"), WENC_REF_INSTANCE, 1, &index), 0);
+  ADDS(wenc_type_primitive(&builder, WENC_UNNAMED, WENC_U8, &index), 0);
+  ADDS(wenc_type(&builder, WENC_NAMED("interface"), &interface, &index), 1);
+  ADDS(wenc_type(&builder, WENC_UNNAMED, &world, &index), 2);
+  ADDS(wenc_import(&builder, WENC_TEXT("host"), WENC_REF_INSTANCE, 1, &index), 0);
   add_functions(&builder);
   add_by_texts(&builder);
   wenc_free(&interface);

@@ -5,20 +5,16 @@
 //!
 //! - *leaves out*: clauses (`requires`, `ensures`), `ghost` items and fields with their comments,
 //!   the examples of documentation (they are Rattle), the attributes `tactic`, `cycle` and `error`,
-//!   `Drop` among derives and bounds, `use thiserror::Error`, the modules that `src/proved` has by
-//!   hand ([`known::BY_HAND`]), `#[unsafe(no_mangle)]` and `extern "C"` of what C calls, and
-//!   `unsafe` in front of a block, in which only what rustc takes as safe is left;
+//!   `Drop` among derives and bounds, and `use thiserror::Error`;
 //! - *renames*: the roots of paths, so that `crate::` and `wenc_base::` are modules of
-//!   `crate::proved`, as is one by hand, and `std::` is `crate::proved::rt_std`, which has what the
+//!   `crate::proved`, and `std::` is `crate::proved::rt_std`, which has what the
 //!   sources use of Rattle's library; `Clone` and `clone`, which may be refused there, to
 //!   `TryClone` and `try_clone`; the methods of [`ALLOCATING`], to those with `_using` after their
 //!   names; `derive_where` to `derive`; `pub` of the methods that are not for a user ([`NARROWED`])
 //!   to `pub(crate)`;
 //! - *adds*: the names that stand in scope without being named, in front of a file's first item;
 //!   what a user of Rust expects of a tree ([`known::TREES`], [`known::PRINTED`]); `Display` and
-//!   `Error` after an enum that derives `Error`; `pub` to `main`; `pub(crate)` to the modules of
-//!   [`known::OPENED`];
-//!   `#[inline]` to the methods `encode` of types, which are short and call each other;
+//!   `Error` after an enum that derives `Error`; `pub` to `main`; `#[inline]` to the methods `encode` of types, which are short and call each other;
 //! - *refuses*: everything else that it doesn't know. Better no crate than one that does something
 //!   else than was proved.
 //!
@@ -32,7 +28,7 @@ mod known;
 #[path = "erase/lexer.rs"]
 mod lexer;
 
-use known::{ALLOCATING, BY_HAND, EXPORTED, HANDED, KEYWORDS, NARROWED, OPENED, PLAIN, SHARED};
+use known::{ALLOCATING, HANDED, KEYWORDS, NARROWED, PLAIN, SHARED};
 use lexer::{Kind, Token, tokens};
 use std::borrow::Cow;
 
@@ -45,11 +41,6 @@ pub fn erase(name: &str, crates: &[&str], source: &str) -> Result<String, Refuse
     let mut eraser = Eraser::new(name, crates, &tokens);
     eraser.run()?;
     Ok(eraser.finish())
-}
-
-/// Whether a module of the crate `name` is by hand, so that it isn't erased.
-pub fn is_by_hand(name: &str, module: &str) -> bool {
-    BY_HAND.contains(&(name, module))
 }
 
 /// A file that is being erased.
@@ -160,23 +151,10 @@ impl<'a> Eraser<'a> {
             "mod" if self.is_taken(self.at(i + 1)) => {
                 return Err((self.line(i), "a module with the name of a crate"));
             }
-            "mod" if is_by_hand(self.name, self.at(i + 1)) => {
-                if self.at(i + 2) != ";" || !["", ";", "}"].contains(&self.before(i, 1)) {
-                    return Err((self.line(i), "a module by hand that is no private file"));
-                }
-                self.leave_out(i..i + 3);
-            }
-            "mod" if OPENED.contains(&self.name) && self.is_private_file(i) => {
-                self.put(i, "pub(crate) mod");
-            }
             "extern" if self.at(i + 1) != "crate" => {
-                if !i.checked_sub(8).is_some_and(|i| self.stands(i, EXPORTED)) {
-                    return Err((self.line(i), "an `extern` that is not known"));
-                }
-                self.leave_out(i..i + 2);
+                return Err((self.line(i), "an `extern` that is not known"));
             }
-            "unsafe" if self.at(i + 1) == "{" => self.leave_out(i..i + 1),
-            "unsafe" => return Err((self.line(i), "an `unsafe` that is no block")),
+            "unsafe" => return Err((self.line(i), "an `unsafe`")),
             "pub" if self.is_narrowed(i) => self.put(i, "pub(crate)"),
             "Clone" => self.put(i, "TryClone"),
             "clone" => self.put(i, "try_clone"),
@@ -195,11 +173,6 @@ impl<'a> Eraser<'a> {
             _ => {}
         }
         Ok(())
-    }
-
-    /// Whether a module is declared here that is a file, and that only its crate sees.
-    fn is_private_file(&self, i: usize) -> bool {
-        self.at(i + 2) == ";" && !["pub", ")"].contains(&self.before(i, 1))
     }
 
     /// Whether a method begins here that stays in this crate.
@@ -295,7 +268,6 @@ impl<'a> Eraser<'a> {
             self.put(i, format!("in crate::proved::{}", self.name));
         } else if self.stands(i + 1, ": :") && self.before(i, 1) != ":" {
             let becomes = match word {
-                "crate" if is_by_hand(self.name, self.at(i + 3)) => "crate::proved".into(),
                 "crate" => format!("crate::proved::{}", self.name),
                 "std" => "crate::proved::rt_std".into(),
                 _ if self.crates.contains(&word) => format!("crate::proved::{word}"),

@@ -23,9 +23,6 @@ const LIBRARY: [&str; 10] = [
 /// The crates behind the programs.
 const PROGRAMS: [&str; 2] = ["wenc", "driven"];
 
-/// The crates behind the calls for C.
-const FOR_C: [&str; 2] = ["wenc_session", "wenc_c"];
-
 /// What the tests call beside those: proved callers, the examples of the documentation, and types
 /// of a stranger's own.
 const TESTS: [&str; 1] = ["facts"];
@@ -41,7 +38,7 @@ const ALLOWED: &str = "#[allow(clippy::all, dead_code, missing_docs, unused_brac
 
 fn main() {
     println!("cargo::rerun-if-changed=rust/build");
-    let known: Vec<&str> = [&LIBRARY[..], &PROGRAMS, &FOR_C, &TESTS, &BY_HAND].concat();
+    let known: Vec<&str> = [&LIBRARY[..], &PROGRAMS, &TESTS, &BY_HAND].concat();
     let out = PathBuf::from(variable("OUT_DIR")).join("proved");
     let sources = PathBuf::from(variable("CARGO_MANIFEST_DIR")).join("crates");
     let _ = fs::remove_dir_all(&out);
@@ -49,7 +46,6 @@ fn main() {
     let parts = [
         (&LIBRARY[..], ""),
         (&PROGRAMS, "#[cfg(feature = \"std\")]\n"),
-        (&FOR_C, "#[cfg(feature = \"capi\")]\n"),
         (&TESTS, "#[cfg(all(test, feature = \"std\"))]\n"),
     ];
     for (names, condition) in parts {
@@ -63,6 +59,15 @@ fn main() {
         }
     }
     write(&out.join("crates.rs"), &declared);
+    name_shared_library();
+}
+
+/// Has the shared library for C bear the name that programs find it by.
+fn name_shared_library() {
+    let is_set = |name| std::env::var_os(name).is_some();
+    if is_set("CARGO_FEATURE_CAPI") && variable("CARGO_CFG_TARGET_OS") == "linux" {
+        println!("cargo::rustc-link-arg=-Wl,-soname,libwenc.so.0");
+    }
 }
 
 fn variable(name: &str) -> String {
@@ -77,11 +82,8 @@ fn erase_folder(name: &str, known: &[&str], from: &Path, to: &Path) {
     for entry in entries.unwrap_or_else(|error| panic!("{}: {error}", from.display())) {
         let path = entry.expect("the folder can be read").path();
         let target = to.join(path.file_name().expect("it has a name"));
-        let is_by_hand = |stem| erase::is_by_hand(name, stem);
         if path.is_dir() {
             erase_folder(name, known, &path, &target);
-        } else if path.file_stem().and_then(|stem| stem.to_str()).is_some_and(is_by_hand) {
-            continue;
         } else if path.extension().is_some_and(|extension| extension == "rt") {
             let text = fs::read_to_string(&path);
             let text = text.unwrap_or_else(|error| panic!("{}: {error}", path.display()));

@@ -1,11 +1,9 @@
 //! The proved sources, as the build script erases them, and what stands for Rattle's standard
-//! library, for crates of the kit, and for modules of its pointers. Nothing here but trees is for a
-//! user: the erased calls owe what contracts demand, and nothing tests that.
+//! library and for crates of the kit. Nothing here but trees is for a user: the erased calls owe
+//! what contracts demand, and nothing tests that.
 
 #[cfg(all(test, feature = "std"))]
 mod for_tests;
-#[cfg(feature = "capi")]
-pub mod handle;
 #[cfg(feature = "std")]
 pub mod hex;
 pub mod rt_std;

@@ -47,7 +47,6 @@ fn code_stays() {
     stays("fn g() { if !matches!(1, 0..=9) && 1 != 2 { return !0; } }\n");
     stays("#[inline(always)]\n#[cold]\n#[inline]\n#[inline(never)]\nfn f() {}\n");
     stays("#[repr(u8)]\nenum E { A = 1 }\n");
-    stays("#[repr(C)]\nstruct S;\n");
     becomes("", "");
 }
 
@@ -183,49 +182,6 @@ fn programs_have_the_runtime() {
     becomes("fn main(rt: HostRuntime) {}\n", "pub fn main(rt: HostRuntime) {}\n");
 }
 
-/// What the words become in the crate for C.
-#[track_caller]
-fn becomes_for_c(source: &str, wanted: &str) {
-    let erased = erase::erase("wenc_c", &CRATES, source);
-    assert_eq!(erased.map(|rust| rust.replacen(PRELUDE, "", 1)), Ok(wanted.into()));
-}
-
-#[test]
-fn what_c_calls_is_a_function() {
-    becomes(
-        "#[unsafe(no_mangle)]\npub extern \"C\" fn f(x: u32) -> u32 { x }\n",
-        "\npub   fn f(x: u32) -> u32 { x }\n",
-    );
-    becomes(
-        "/// One.\n#[unsafe(no_mangle)]\npub extern \"C\" fn f() {}\n",
-        "/// One.\n\npub   fn f() {}\n",
-    );
-}
-
-#[test]
-fn blocks_are_safe() {
-    becomes("fn f() { unsafe { g() } }\n", "fn f() {  { g() } }\n");
-}
-
-#[test]
-fn modules_of_the_crate_for_c() {
-    assert!(erase::is_by_hand("wenc_c", "handle") && erase::is_by_hand("wenc_c", "placed"));
-    assert!(!erase::is_by_hand("wenc_c", "texts") && !erase::is_by_hand("wenc_parts", "handle"));
-    becomes_for_c(
-        "mod a;\nmod handle;\nmod placed;\nmod b;\n",
-        "pub(crate) mod a;\n\n\npub(crate) mod b;\n",
-    );
-    becomes_for_c("pub mod a;\n", "pub mod a;\n");
-    becomes_for_c("pub(crate) mod a;\n", "pub(in crate::proved::wenc_c) mod a;\n");
-    becomes_for_c("mod a { fn f() {} }\n", "mod a { fn f() {} }\n");
-    becomes_for_c(
-        "use crate::handle::Handle;\nuse crate::texts::text;\n",
-        "use crate::proved::handle::Handle;\nuse crate::proved::wenc_c::texts::text;\n",
-    );
-    stays("mod a;\nmod handle;\n");
-    becomes("use crate::handle::Handle;\n", "use crate::proved::wenc_parts::handle::Handle;\n");
-}
-
 #[test]
 fn macros_of_other_files() {
     becomes(
@@ -320,19 +276,15 @@ fn uses_of_drop_that_are_no_bounds() {
 }
 
 #[test]
-fn what_is_not_rust_for_c() {
+fn what_calls_c_or_is_unsafe() {
     let why = "an `extern` that is not known";
     refuses("\npub extern \"C\" fn f() {}\n", 2, why);
-    refuses("#[inline]\npub extern \"C\" fn f() {}\n", 2, why);
     refuses("extern \"C\" { fn f(); }\n", 1, why);
     refuses("fn f(g: extern \"C\" fn()) {}\n", 1, why);
-    let why = "an `unsafe` that is no block";
+    let why = "an `unsafe`";
+    refuses("fn f() { unsafe { g() } }\n", 1, why);
     refuses("\nunsafe impl Send for S {}\n", 2, why);
     refuses("unsafe fn f() {}\n", 1, why);
-    let why = "a module by hand that is no private file";
-    for source in ["pub mod handle;", "mod handle {}", "pub(crate) mod placed;"] {
-        assert_eq!(erase::erase("wenc_c", &CRATES, source), Err((1, why)));
-    }
 }
 
 #[test]

@@ -8,9 +8,8 @@ mod lexer;
 mod reader;
 
 use lexer::{Token, lex};
-use reader::{BY_HAND, FOR_C, NARROWED, PRINTED, TREES, WAYS, compare, read};
+use reader::{NARROWED, PRINTED, TREES, WAYS, compare, read};
 use std::collections::BTreeMap;
-use std::ffi::OsStr;
 use std::fs;
 use std::path::{Path, PathBuf};
 
@@ -38,15 +37,9 @@ fn gather(name: &str, from: &Path, to: &Path, found: &mut Vec<(String, PathBuf, 
         names.sort();
         names.iter().map(|path| path.file_name().expect("a name").to_owned()).collect::<Vec<_>>()
     };
-    let is_by_hand = |file: &OsStr| name == FOR_C && BY_HAND.iter().any(|module| file == *module);
-    let mut wanted = names(from);
-    wanted.retain(|file| !is_by_hand(file));
-    assert_eq!(wanted, names(to), "each file has its Rust, and no other is there");
+    assert_eq!(names(from), names(to), "each file has its Rust, and no other is there");
     for entry in fs::read_dir(from).expect("the folder can be read") {
         let path = entry.expect("an entry").path();
-        if path.file_stem().is_some_and(is_by_hand) {
-            continue;
-        }
         let rust = to.join(path.file_name().expect("a name"));
         if path.is_dir() {
             gather(name, &path, &rust, found);
@@ -74,8 +67,6 @@ fn erased_sources_are_the_sources() {
     assert_eq!(counts["derive of a tree"], TREES.len());
     assert_eq!(counts["derive of what is printed"], PRINTED.len());
     assert_eq!(counts["method that stays in this crate"], NARROWED.len());
-    assert_eq!(counts["module by hand left out"], BY_HAND.len());
-    assert_eq!(counts["name for the linker left out"], counts["calling convention left out"]);
 }
 
 /// A source with most of the ways in which the two may part.
@@ -165,74 +156,6 @@ fn each_change_is_found() {
     }
     assert!(read(&RUST[..RUST.len() - 2]).is_err(), "an end that is missing");
     assert!(read(&format!("{RUST}fn g() {{}}")).is_err(), "an item that came in");
-}
-
-/// A source of the crate for C, with the ways that it alone has.
-const SOURCE_FOR_C: &str = "\
-mod handle;
-mod texts;
-pub mod laws;
-use crate::handle::Handle;
-use crate::texts::text;
-#[unsafe(no_mangle)]
-pub extern \"C\" fn wenc_free(builder: &mut Handle) {
-    let name = unsafe { checked(builder) };
-}
-";
-
-/// What it has to be erased to.
-const RUST_FOR_C: &str = "\
-use crate::proved::rt_std::prelude::*;
-pub(crate) mod texts;
-pub mod laws;
-use crate::proved::handle::Handle;
-use crate::proved::wenc_c::texts::text;
-
-pub   fn wenc_free(builder: &mut Handle) {
-    let name =  { checked(builder) };
-}
-";
-
-/// Changes of that Rust: each is to be found.
-const CHANGES_FOR_C: [(&str, &str, &str); 10] = [
-    ("a module by hand that stays", "*;\n", "*; mod handle;\n"),
-    ("a module that only its crate sees", "pub(crate) mod", "mod"),
-    ("a module that all see", "pub(crate) mod", "pub mod"),
-    ("a module that is dropped", "pub mod laws;", ""),
-    ("a handle of the crate", "proved::handle", "proved::wenc_c::handle"),
-    ("a text by hand", "proved::wenc_c::texts", "proved::texts"),
-    ("a name for the linker", "\n\npub", "\n#[unsafe(no_mangle)]\npub"),
-    ("a calling convention", "pub   fn", "pub extern \"C\" fn"),
-    ("a function that is unsafe", "pub   fn", "pub unsafe fn"),
-    ("a block that is unsafe", "{ checked", "unsafe { checked"),
-];
-
-#[test]
-fn each_change_of_the_crate_for_c_is_found() {
-    let read = |old: &str, new: &str| read(FOR_C, old, new, &mut BTreeMap::new());
-    assert_eq!(read(SOURCE_FOR_C, RUST_FOR_C), Ok(()));
-    for (what, from, to) in CHANGES_FOR_C {
-        assert!(RUST_FOR_C.contains(from), "{what}");
-        assert!(
-            read(SOURCE_FOR_C, &RUST_FOR_C.replacen(from, to, 1)).is_err(),
-            "{what} is not found"
-        );
-    }
-    // What is left out is just these words: others stay.
-    for (what, from, to) in [
-        ("another attribute", "#[unsafe(no_mangle)]", "#[unsafe(naked)]"),
-        ("a convention without a name", "#[unsafe(no_mangle)]", "#[inline]"),
-        ("another convention", "\"C\"", "\"system\""),
-        ("an unsafe function", "extern \"C\"", "unsafe extern \"C\""),
-        ("a module by hand that all see", "mod handle", "pub mod handle"),
-        ("another module", "mod handle", "mod handles"),
-    ] {
-        assert!(SOURCE_FOR_C.contains(from), "{what}");
-        assert!(
-            read(&SOURCE_FOR_C.replacen(from, to, 1), RUST_FOR_C).is_err(),
-            "{what} is left out"
-        );
-    }
 }
 
 /// In one file in five, if it is short: each token left out, changed, and another put in after it.

@@ -1,6 +1,6 @@
 //! Attributes, and what the eraser writes in their place.
 
-use super::known::{ATTRIBUTES, DERIVED, EXPORTED, OF_COMPARED_TREES, OF_TREES, PRINTED, TREES};
+use super::known::{ATTRIBUTES, DERIVED, OF_COMPARED_TREES, OF_TREES, PRINTED, TREES};
 use super::{Eraser, Refused};
 
 impl Eraser<'_> {
@@ -15,7 +15,6 @@ impl Eraser<'_> {
         match (self.at(open + 1), self.at(open + 2)) {
             ("tactic", "(") => self.leave_out(i..end),
             ("cycle", "(") if !is_inner => self.leave_out(i..end),
-            ("unsafe", "(") if self.stands(i, EXPORTED) => self.leave_out(i..end),
             ("derive", "(") if !is_inner => self.derive(i, end)?,
             ("derive_where", "(") if !is_inner => {
                 self.derived(i, end)?;

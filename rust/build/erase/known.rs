@@ -24,12 +24,11 @@ pub const DERIVED: [&str; 8] =
     ["Clone", "Copy", "Debug", "Eq", "Hash", "Ord", "PartialEq", "PartialOrd"];
 
 /// Attributes that mean the same there and here, as they are written.
-pub const ATTRIBUTES: [&str; 6] = [
+pub const ATTRIBUTES: [&str; 5] = [
     "# [ cold ]",
     "# [ inline ( always ) ]",
     "# [ inline ( never ) ]",
     "# [ inline ]",
-    "# [ repr ( C ) ]",
     "# [ repr ( u8 ) ]",
 ];
 
@@ -72,14 +71,3 @@ pub const PRINTED: [&str; 1] = ["Alias"];
 /// Methods of trees that stay in this crate: their contracts ask for what nothing tests, or they
 /// answer what the facade has in another shape.
 pub const NARROWED: [(&str, &str); 2] = [("FuncType", "new"), ("NameTree", "as_name")];
-
-/// What stands in front of a function that C calls, whose arguments cross as only the kit makes
-/// them cross.
-pub const EXPORTED: &str = "# [ unsafe ( no_mangle ) ] pub extern \"C\" fn";
-
-/// Crates whose private modules the facade calls.
-pub const OPENED: [&str; 1] = ["wenc_c"];
-
-/// Modules that are made of the kit's pointers, by their crate: `src/proved` has what stands for
-/// them.
-pub const BY_HAND: [(&str, &str); 2] = [("wenc_c", "handle"), ("wenc_c", "placed")];

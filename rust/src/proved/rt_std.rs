@@ -32,25 +32,10 @@ pub mod marker {
     pub trait Model {}
 }
 
-#[cfg(feature = "capi")]
-pub mod mem {
-    //! Values in their places.
-
-    pub use core::mem::replace;
-}
-
 pub mod str {
     //! Texts that are lent.
 
     pub use core::str::from_utf8;
-
-    /// The text that these bytes are. They are one, by what Rattle's call of this name demands; here
-    /// that is tested, and the program ends where it isn't so.
-    #[cfg(feature = "capi")]
-    #[inline]
-    pub fn from_utf8_unchecked(bytes: &[u8]) -> &str {
-        from_utf8(bytes).expect("a text in UTF-8")
-    }
 }
 
 #[cfg(feature = "std")]

@@ -5,7 +5,7 @@ use super::lexer::{Token, lex};
 use std::collections::BTreeMap;
 
 /// The ways, each of which some source takes.
-pub const WAYS: [&str; 33] = [
+pub const WAYS: [&str; 27] = [
     "kept",
     "prelude",
     "ghost use left out",
@@ -33,12 +33,6 @@ pub const WAYS: [&str; 33] = [
     "macro that is handed an allocator",
     "main is pub",
     "method that is inlined",
-    "module by hand left out",
-    "root of a module by hand",
-    "module that the facade calls",
-    "name for the linker left out",
-    "calling convention left out",
-    "unsafe of a block left out",
 ];
 
 const CRATES: [&str; 16] = [
@@ -53,8 +47,6 @@ const CRATES: [&str; 16] = [
     "wenc_list",
     "wasm_encoder",
     "wenc",
-    "wenc_session",
-    "wenc_c",
     "driven",
     "facts",
     "hex",
@@ -90,10 +82,6 @@ pub const TREES: [&str; 23] = [
 /// Types that are printed, and methods of trees that only this crate calls.
 pub const PRINTED: [&str; 1] = ["Alias"];
 pub const NARROWED: [(&str, &str); 2] = [("FuncType", "new"), ("NameTree", "as_name")];
-
-/// The crate for C: its modules that are by hand in Rust.
-pub const FOR_C: &str = "wenc_c";
-pub const BY_HAND: [&str; 2] = ["handle", "placed"];
 
 /// What both have next: the way, how many tokens of the source, and the tokens of the Rust.
 struct Step {
@@ -274,10 +262,6 @@ impl<'a> Source<'a> {
         match self.text(open + 1) {
             "tactic" | "cycle" => Some(step("attribute of the prover left out", len, "")),
             "error" => Some(step("text of an error left out", len, "")),
-            "unsafe" if self.stands_at(len, "pub extern \"C\" fn") => {
-                let is_name = self.stands("# [ unsafe ( no_mangle ) ]");
-                is_name.then(|| step("name for the linker left out", len, ""))
-            }
             "derive_where" => {
                 Some(step("derive_where is derive", len, self.shown(len).replacen("_where", "", 1)))
             }
@@ -361,11 +345,6 @@ impl<'a> Source<'a> {
             "pub" if NARROWED.contains(&(self.owner(), self.text(2))) => {
                 Some(step("method that stays in this crate", 1, "pub(crate)"))
             }
-            "mod" if self.crate_name == FOR_C && self.text(2) == ";" => self.module(),
-            "extern" if self.stands("extern \"C\" fn") && self.is_named_for_the_linker() => {
-                Some(step("calling convention left out", 2, ""))
-            }
-            "unsafe" if next == "{" => Some(step("unsafe of a block left out", 1, "")),
             "fn" if next == "main" => Some(step("main is pub", 2, "pub fn main")),
             "fn" if next == "encode" && self.is_bare_method() => {
                 Some(step("method that is inlined", 2, "#[inline] fn encode"))
@@ -381,21 +360,6 @@ impl<'a> Source<'a> {
             }
             _ => self.root(),
         }
-    }
-
-    /// A file of the crate for C that is declared here.
-    fn module(&self) -> Option<Step> {
-        match self.before(1) {
-            "pub" => None,
-            _ if BY_HAND.contains(&self.text(1)) => Some(step("module by hand left out", 3, "")),
-            _ => Some(step("module that the facade calls", 1, "pub(crate) mod")),
-        }
-    }
-
-    /// Whether the attribute that names a function for the linker stands in front of its `pub`.
-    fn is_named_for_the_linker(&self) -> bool {
-        let words = ["pub", "]", ")", "no_mangle", "(", "unsafe", "[", "#"];
-        words.iter().enumerate().all(|(back, word)| self.before(back + 1) == *word)
     }
 
     /// Whether a method of a type begins here, and not one that a trait asks for, and no attribute stands in front of it but
@@ -440,9 +404,6 @@ impl<'a> Source<'a> {
             return None;
         }
         match self.text(0) {
-            "crate" if self.crate_name == FOR_C && BY_HAND.contains(&self.text(3)) => {
-                Some(step("root of a module by hand", 1, "crate::proved"))
-            }
             "crate" => {
                 let root = format!("crate::proved::{}", self.crate_name);
                 Some(step("root of the crate", 1, root))

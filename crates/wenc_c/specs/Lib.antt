@@ -1,3 +1,0 @@
-pub mod Handles
-pub mod Lists
-pub mod Owned

@@ -1,2 +1,0 @@
--- What private functions and proofs need alone: no contract of a public call reaches it.
-pub mod Declaring

@@ -1,0 +1,179 @@
+//! Arguments of C: texts, lists, and the structures of the header.
+
+use super::numbers;
+use super::{Answer, Status};
+use crate::proved::rt_std::borrow::CowStr;
+use crate::proved::wasm_encoder::{ComponentExternName, EntityType};
+use core::{slice, str};
+
+/// A `bool` of C. Whatever isn't 0 is true.
+#[derive(Clone, Copy)]
+#[repr(transparent)]
+pub struct Flag(pub u8);
+
+impl Flag {
+    pub fn is_set(self) -> bool {
+        self.0 != 0
+    }
+}
+
+/// `wenc_part`: a member of a list of names.
+#[derive(Clone, Copy)]
+#[repr(C)]
+pub struct Part {
+    pub name: *const u8,
+    pub name_len: usize,
+    pub sort: u32,
+    pub number: u32,
+}
+
+/// `wenc_pair`: a member of a list without names.
+#[derive(Clone, Copy)]
+#[repr(C)]
+pub struct Pair {
+    pub sort: u32,
+    pub number: u32,
+}
+
+/// `wenc_name`: a name with what may go with it.
+#[repr(C)]
+pub struct Name {
+    pub name: *const u8,
+    pub name_len: usize,
+    pub implements: *const u8,
+    pub implements_len: usize,
+    pub version_suffix: *const u8,
+    pub version_suffix_len: usize,
+    pub external_id: *const u8,
+    pub external_id_len: usize,
+    pub has_implements: Flag,
+    pub has_version_suffix: Flag,
+    pub has_external_id: Flag,
+}
+
+/// `wenc_entity`: what a core module imports or exports.
+#[derive(Clone, Copy)]
+#[repr(C)]
+pub struct Entity {
+    pub minimum: u64,
+    pub maximum: u64,
+    pub kind: u32,
+    pub ty: u32,
+    pub index: u32,
+    pub has_maximum: Flag,
+    pub is_long: Flag,
+    pub is_shared: Flag,
+}
+
+/// `wenc_subtype`: a core type with its place among the others.
+#[repr(C)]
+pub struct Subtype {
+    pub fields: *const Pair,
+    pub fields_len: usize,
+    pub results: *const Pair,
+    pub results_len: usize,
+    pub kind: u32,
+    pub supertype: u32,
+    pub has_supertype: Flag,
+    pub is_final: Flag,
+}
+
+/// `wenc_producer`: a tool, and what it did.
+#[repr(C)]
+pub struct Producer {
+    pub field: *const u8,
+    pub field_len: usize,
+    pub tool: *const u8,
+    pub tool_len: usize,
+    pub version: *const u8,
+    pub version_len: usize,
+}
+
+/// `wenc_index_name`: the name of an item.
+#[repr(C)]
+pub struct IndexName {
+    pub name: *const u8,
+    pub name_len: usize,
+    pub index: u32,
+}
+
+/// So many values, of which none is read where there are none.
+pub unsafe fn list<'a, T>(at: *const T, len: usize) -> &'a [T] {
+    if len == 0 { &[] } else { unsafe { slice::from_raw_parts(at, len) } }
+}
+
+/// A text in UTF-8. Most are ASCII, which is seen faster.
+pub unsafe fn text<'a>(at: *const u8, len: usize) -> Answer<&'a str> {
+    let bytes = unsafe { list(at, len) };
+    if bytes.is_ascii() {
+        return Ok(unsafe { str::from_utf8_unchecked(bytes) });
+    }
+    str::from_utf8(bytes).map_err(|_| Status::Malformed)
+}
+
+/// A text that isn't read where the flag isn't set.
+pub unsafe fn optional<'a>(has: Flag, at: *const u8, len: usize) -> Answer<Option<&'a str>> {
+    if has.is_set() { unsafe { text(at, len) }.map(Some) } else { Ok(None) }
+}
+
+impl Name {
+    /// The name, with what goes with it.
+    pub unsafe fn read<'a>(&self) -> Answer<ComponentExternName<'a>> {
+        let option = |has, at, len| -> Answer<Option<CowStr<'a>>> {
+            Ok(unsafe { optional(has, at, len) }?.map(CowStr::Borrowed))
+        };
+        Ok(ComponentExternName {
+            name: CowStr::Borrowed(unsafe { text(self.name, self.name_len) }?),
+            implements: option(self.has_implements, self.implements, self.implements_len)?,
+            version_suffix: option(
+                self.has_version_suffix,
+                self.version_suffix,
+                self.version_suffix_len,
+            )?,
+            external_id: option(self.has_external_id, self.external_id, self.external_id_len)?,
+        })
+    }
+}
+
+impl Entity {
+    /// The type of what is imported or exported.
+    pub fn read(&self) -> Answer<EntityType> {
+        numbers::entity(self).ok_or(Status::BadArgument)
+    }
+}
+
+/// Values with their names, which are read one by one. All of them are looked at before: so what
+/// is written of them is all of them.
+///
+/// # Errors
+///
+/// A name isn't UTF-8, or a pair of numbers stands for nothing.
+pub unsafe fn named<'a, T>(
+    parts: &'a [Part],
+    of: impl Fn(u32, u32) -> Option<T> + 'a,
+) -> Answer<impl Iterator<Item = (&'a str, T)>> {
+    for part in parts {
+        unsafe { text(part.name, part.name_len) }?;
+        of(part.sort, part.number).ok_or(Status::BadArgument)?;
+    }
+    Ok(parts.iter().filter_map(move |part| {
+        let name = unsafe { str::from_utf8_unchecked(list(part.name, part.name_len)) };
+        Some((name, of(part.sort, part.number)?))
+    }))
+}
+
+/// Values without names, as [`named`].
+pub fn unnamed<'a, T>(
+    pairs: &'a [Pair],
+    of: impl Fn(u32, u32) -> Option<T> + 'a,
+) -> Answer<impl Iterator<Item = T>> {
+    if pairs.iter().any(|pair| of(pair.sort, pair.number).is_none()) {
+        return Err(Status::BadArgument);
+    }
+    Ok(pairs.iter().filter_map(move |pair| of(pair.sort, pair.number)))
+}
+
+/// Names alone, as [`named`]: the numbers that go with them aren't looked at.
+pub unsafe fn names<'a>(parts: &'a [Part]) -> Answer<impl Iterator<Item = &'a str>> {
+    Ok(unsafe { named(parts, |_, _| Some(())) }?.map(|(name, ())| name))
+}
