@@ -113,10 +113,10 @@ pub unsafe extern "C" fn wenc_names_new(handle: *mut Handle) -> Status {
 /// `wenc_unread`: what isn't read of a component.
 #[repr(C)]
 pub struct UnreadPart {
-    section: usize,
-    place: usize,
-    part: u32,
-    item: u32,
+    pub section: usize,
+    pub place: usize,
+    pub part: u32,
+    pub item: u32,
 }
 
 #[unsafe(no_mangle)]
