@@ -291,7 +291,9 @@ fn core_types(random: &mut Random, two: &mut Two) {
             let (mut subtypes, mut types, mut lists) = (Vec::new(), Vec::new(), Vec::new());
             for _ in 0..random.below(4) {
                 let (subtype, ty, pairs) = random.subtype();
-                (subtypes.push(subtype), types.push(ty), lists.push(pairs));
+                subtypes.push(subtype);
+                types.push(ty);
+                lists.push(pairs);
             }
             let wanted = two.facade.core_type(name, |to| to.rec(types));
             let (at, len) = (subtypes.as_ptr(), subtypes.len());
