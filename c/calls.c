@@ -156,7 +156,7 @@ static void refuse(wenc_handle *builder) {
   refused(wenc_lower(builder, WENC_UNNAMED, 0, ALL(unnamed), &index));
   refused(wenc_type_variant(builder, WENC_UNNAMED, ALL(unknown), &index));
   refused(wenc_type_tuple(builder, WENC_UNNAMED, ALL(unnamed), &index));
-  refused(wenc_type_primitive(builder, WENC_UNNAMED, 0, &index));
+  refused(wenc_type_primitive(builder, WENC_UNNAMED, (enum wenc_primitive)0, &index));
   refused(wenc_type_list(builder, WENC_UNNAMED, WENC_REF_NONE, 0, &index));
   refused(wenc_type_fixed_length_list(builder, WENC_UNNAMED, WENC_REF_FUNC, 0, 1, &index));
   refused(wenc_type_map(builder, WENC_UNNAMED, WENC_REF_NONE, 0, WENC_REF_VALUE, 0, &index));

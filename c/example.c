@@ -1,21 +1,20 @@
-/* A component that imports a function, has a nested component and a core module, and exports what it
- * lifts from that module: its bytes in hexadecimal, and its sections.
+/* A component that imports a function, has a nested component and a core module, and exports what
+ * it lifts from that module: its bytes in hexadecimal, and its sections.
  *
  *     cargo rustc --profile c --no-default-features --features capi --lib --crate-type staticlib
  *     gcc -Wall -Wextra -Werror -o example c/example.c target/c/libwenc.a && ./example */
-#include "wenc.h"
-
 #include <stdio.h>
 #include <stdlib.h>
+
+#include "wenc.h"
 
 /* An array, and how many there are in it. */
 #define ALL(array) array, sizeof(array) / sizeof(array)[0]
 
 /* The core module that exports the function "run", which takes and gives nothing. */
-static const uint8_t module[] = {
-    0x00, 0x61, 0x73, 0x6d, 0x01, 0x00, 0x00, 0x00, 0x01, 0x04, 0x01, 0x60, 0x00, 0x00, 0x03,
-    0x02, 0x01, 0x00, 0x07, 0x07, 0x01, 0x03, 0x72, 0x75, 0x6e, 0x00, 0x00, 0x0a, 0x04, 0x01,
-    0x02, 0x00, 0x0b};
+static const uint8_t module[] = {0x00, 0x61, 0x73, 0x6d, 0x01, 0x00, 0x00, 0x00, 0x01, 0x04, 0x01,
+                                 0x60, 0x00, 0x00, 0x03, 0x02, 0x01, 0x00, 0x07, 0x07, 0x01, 0x03,
+                                 0x72, 0x75, 0x6e, 0x00, 0x00, 0x0a, 0x04, 0x01, 0x02, 0x00, 0x0b};
 
 static void check(enum wenc_status status) {
   if (status != WENC_DONE) {
@@ -76,10 +75,11 @@ static void list(const uint8_t *bytes, size_t len) {
   check(wenc_len(&listing, &number));
   for (k = 0; k < number; k++) {
     check(wenc_section_at(&listing, k, &section));
-    printf("%u %zu at %zu\n", (unsigned)section.id, section.items, section.place);
+    printf("%lu %lu at %lu\n", (unsigned long)section.id, (unsigned long)section.items,
+           (unsigned long)section.place);
   }
   check(wenc_count(&listing, WENC_FUNCS, &functions));
-  printf("%u functions\n", (unsigned)functions);
+  printf("%lu functions\n", (unsigned long)functions);
   wenc_free(&listing);
 }
 

@@ -67,7 +67,8 @@
 //! # Features
 //!
 //! Without the feature `std`, which brings the program `wenc`, the crate is `no_std` and needs
-//! `alloc`. The feature `capi` brings the functions of `c/wenc.h`, for C.
+//! `alloc`. The feature `capi` brings the functions of `c/wenc.h`, for C; without `std`, in a
+//! profile that aborts, they are a library on C's memory alone.
 #![no_std]
 #![cfg_attr(not(feature = "capi"), forbid(unsafe_code))]
 #![deny(missing_docs)]

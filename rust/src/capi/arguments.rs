@@ -174,6 +174,6 @@ pub fn unnamed<'a, T>(
 }
 
 /// Names alone, as [`named`]: the numbers that go with them aren't looked at.
-pub unsafe fn names<'a>(parts: &'a [Part]) -> Answer<impl Iterator<Item = &'a str>> {
+pub unsafe fn names(parts: &[Part]) -> Answer<impl Iterator<Item = &str>> {
     Ok(unsafe { named(parts, |_, _| Some(())) }?.map(|(name, ())| name))
 }

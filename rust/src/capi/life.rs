@@ -9,8 +9,8 @@ use crate::proved::rt_std::vec::Vec;
 use crate::proved::wasm_encoder::{
     CanonicalFunctionSection, Component, ComponentAliasSection, ComponentBuilder,
     ComponentExportKind, ComponentExportSection, ComponentImportSection, ComponentInstanceSection,
-    ComponentNameSection, ComponentSectionId, ComponentType, ComponentTypeSection,
-    CoreTypeSection, InstanceSection, InstanceType, ListFault, ModuleType, Unread, first_unread,
+    ComponentNameSection, ComponentSectionId, ComponentType, ComponentTypeSection, CoreTypeSection,
+    InstanceSection, InstanceType, ListFault, ModuleType, Unread, first_unread,
 };
 use alloc::boxed::Box;
 use core::ffi::{CStr, c_char};
@@ -113,10 +113,10 @@ pub unsafe extern "C" fn wenc_names_new(handle: *mut Handle) -> Status {
 /// `wenc_unread`: what isn't read of a component.
 #[repr(C)]
 pub struct UnreadPart {
-    section: usize,
-    place: usize,
-    part: u32,
-    item: u32,
+    pub section: usize,
+    pub place: usize,
+    pub part: u32,
+    pub item: u32,
 }
 
 #[unsafe(no_mangle)]
@@ -225,9 +225,8 @@ unsafe fn counted<T>(at: *mut T, count: Answer<T>) -> Status {
 
 #[unsafe(no_mangle)]
 pub unsafe extern "C" fn wenc_count(handle: *mut Handle, space: u32, count: *mut u32) -> Status {
-    let counts = |session: &mut Session| {
-        session.count(numbers::space(space).ok_or(Status::BadArgument)?)
-    };
+    let counts =
+        |session: &mut Session| session.count(numbers::space(space).ok_or(Status::BadArgument)?);
     unsafe { counted(count, session(handle).and_then(counts)) }
 }
 

@@ -118,23 +118,23 @@ fn bytes_in(item: &ItemTree) -> Option<&[u8]> {
 /// `wenc_listed_section`: a section that was read.
 #[repr(C)]
 pub struct SectionRow {
-    place: usize,
-    len: usize,
-    items: usize,
-    id: u32,
+    pub place: usize,
+    pub len: usize,
+    pub items: usize,
+    pub id: u32,
 }
 
 /// `wenc_listed_item`: an item that was read.
 #[repr(C)]
 pub struct ItemRow {
-    index: u64,
-    name: *const u8,
-    name_len: usize,
-    bytes: *const u8,
-    bytes_len: usize,
-    section: u32,
-    space: u32,
-    indices: u32,
+    pub index: u64,
+    pub name: *const u8,
+    pub name_len: usize,
+    pub bytes: *const u8,
+    pub bytes_len: usize,
+    pub section: u32,
+    pub space: u32,
+    pub indices: u32,
 }
 
 /// What a handle has that a component was read by.

@@ -232,7 +232,8 @@ pub fn field(number: u32, index: u32) -> Option<FieldType> {
 
 /// What a core module imports or exports.
 pub fn entity(entity: &Entity) -> Option<EntityType> {
-    let (minimum, maximum) = (entity.minimum, entity.has_maximum.is_set().then_some(entity.maximum));
+    let (minimum, maximum) =
+        (entity.minimum, entity.has_maximum.is_set().then_some(entity.maximum));
     Some(match core_kind(entity.kind)? {
         ExportKind::Func => EntityType::Function(entity.ty),
         ExportKind::Table => EntityType::Table(TableType {

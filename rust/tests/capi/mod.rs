@@ -1,1 +1,5 @@
-//! Tests of the calls for C.
+//! Tests of the calls for C, which are made as C makes them.
+
+mod edges;
+mod same;
+mod values;

@@ -1,0 +1,405 @@
+/* Random calls in random order with any arguments, while requests for memory are refused at random.
+ * A call that is accepted is made once more, with the same arguments and all memory, by a second
+ * handle: both have the same indices and the same bytes at the end. So a refused call changed
+ * nothing. All memory is given back.
+ *
+ *     c/fuzz.py >cases.h
+ *     cargo rustc --profile c --no-default-features --features capi --lib --crate-type staticlib
+ *     gcc -I c -I . -g -fsanitize=address,undefined -Wl,--wrap=malloc,--wrap=calloc \
+ *         -Wl,--wrap=realloc,--wrap=free -o fuzz c/fuzz.c target/c/libwenc.a
+ *     ./fuzz FIRST HOW_MANY */
+#include <stdio.h>
+#include <stdlib.h>
+#include <string.h>
+
+#include "wenc.h"
+
+/* The sequence of calls that is made, by its seed, and the call in it. */
+static uint64_t seed, state;
+static const char *name;
+
+#define REQUIRE(so) require((so), #so, __LINE__)
+
+static void require(bool is_so, const char *what, int line) {
+  if (is_so) return;
+  fprintf(stderr, "fuzz.c:%d: sequence %lu, %s: not so: %s\n", line, (unsigned long)seed, name,
+          what);
+  abort();
+}
+
+/* ---- memory: of what the library asks for, blocks are counted, and one request may be refused. */
+
+void *__real_malloc(size_t len);
+void *__real_calloc(size_t count, size_t len);
+void *__real_realloc(void *at, size_t len);
+void __real_free(void *at);
+void *__wrap_malloc(size_t len);
+void *__wrap_calloc(size_t count, size_t len);
+void *__wrap_realloc(void *at, size_t len);
+void __wrap_free(void *at);
+
+static bool is_inside, was_refused;
+static long blocks, until_refusal = -1;
+
+static bool is_refused(void) {
+  if (!is_inside || until_refusal < 0 || until_refusal-- > 0) return false;
+  return was_refused = true;
+}
+
+static void *counted(void *at) {
+  if (is_inside && at != NULL) blocks++;
+  return at;
+}
+
+void *__wrap_malloc(size_t len) { return is_refused() ? NULL : counted(__real_malloc(len)); }
+
+void *__wrap_calloc(size_t count, size_t len) {
+  return is_refused() ? NULL : counted(__real_calloc(count, len));
+}
+
+void *__wrap_realloc(void *at, size_t len) {
+  if (is_refused()) return NULL;
+  return at == NULL ? counted(__real_realloc(at, len)) : __real_realloc(at, len);
+}
+
+void __wrap_free(void *at) {
+  if (is_inside && at != NULL) blocks--;
+  __real_free(at);
+}
+
+/* ---- random arguments. Each stands in a block of its own length, so that what is read behind it
+ * is seen. */
+
+static uint32_t below(uint32_t limit) {
+  uint64_t mixed;
+  state += 0x9e3779b97f4a7c15u;
+  mixed = (state ^ state >> 30) * 0xbf58476d1ce4e5b9u;
+  mixed = (mixed ^ mixed >> 27) * 0x94d049bb133111ebu;
+  return (uint32_t)(mixed >> 32) % limit;
+}
+
+static void *kept[256];
+static size_t kept_len;
+
+static void *keep(const void *from, size_t len) {
+  void *at = len == 0 && below(2) ? NULL : __real_malloc(len);
+  if (len > 0) memcpy(at, from, len);
+  REQUIRE(kept_len < sizeof kept / sizeof kept[0]);
+  return kept[kept_len++] = at;
+}
+
+static void drop_kept(void) {
+  while (kept_len > 0) __real_free(kept[--kept_len]);
+}
+
+static bool a_flag(void) { return below(2) == 1; }
+
+static uint32_t a_number(void) {
+  switch (below(8)) {
+    case 0: return below(UINT32_MAX);
+    case 1: return below(UINT32_MAX) >> below(32);
+    case 2: return UINT32_MAX;
+    default: return below(4);
+  }
+}
+
+/* Mostly what stands for something. */
+static uint32_t a_kind(void) { return below(40) == 0 ? a_number() : below(below(4) ? 9 : 45); }
+
+static size_t a_size(void) { return below(10) == 0 ? SIZE_MAX - below(3) : below(3); }
+
+#define LIST(type, kind) \
+  typedef struct {       \
+    const type *at;      \
+    size_t len;          \
+  } list_of_##kind;
+
+LIST(char, text)
+LIST(uint8_t, bytes)
+LIST(uint32_t, numbers)
+LIST(wenc_part, part)
+LIST(wenc_pair, pair)
+LIST(wenc_name, name)
+LIST(wenc_entity, entity)
+LIST(wenc_subtype, subtype)
+LIST(wenc_producer, producer)
+LIST(wenc_index_name, index_name)
+
+static list_of_text some_text(void) {
+  static const char *const characters[] = {
+      "a", "b", "-", "\xc3\xa9", "\xe2\x82\xac", "\xf0\x9f\x98\x80"};
+  char text[100] = "";
+  list_of_text list;
+  uint32_t k = below(4) ? below(6) : below(20);
+  while (k-- > 0) strcat(text, characters[below(6)]);
+  if (below(60) == 0) strcat(text, "\xff");
+  list.len = strlen(text);
+  list.at = (const char *)keep(text, list.len);
+  return list;
+}
+
+typedef struct {
+  bool is_there;
+  list_of_text text;
+} option;
+
+/* What isn't there may be anywhere. */
+static option an_option(void) {
+  option o = {false, {(const char *)1, SIZE_MAX}};
+  o.is_there = below(3) == 0;
+  if (o.is_there) o.text = some_text();
+  return o;
+}
+
+static list_of_bytes some_bytes(void) {
+  /* Items, as wenc_item reads them. */
+  static const char *const items[] = {
+      "\x01"
+      "cd",
+      "\x6b\x73",
+      "\x05",
+      "\x7f",
+      "\x01\x6d\x73",
+      ""};
+  uint8_t bytes[300];
+  const char *item = items[below(6)];
+  list_of_bytes list;
+  size_t k;
+  list.len = below(4) ? strlen(item) : below(sizeof bytes);
+  for (k = 0; k < list.len; k++)
+    bytes[k] = (uint8_t)(k < strlen(item) ? (uint8_t)item[k] : below(256));
+  if (list.len > 0 && below(5) == 0) bytes[below((uint32_t)list.len)] ^= (uint8_t)below(256);
+  list.at = (const uint8_t *)keep(bytes, list.len);
+  return list;
+}
+
+/* A list of so many values, each of which `value` makes. */
+#define SOME(type, kind, value)                                    \
+  static list_of_##kind some_##kind(void) {                        \
+    type values[8];                                                \
+    list_of_##kind list;                                           \
+    uint32_t k, sort = a_kind();                                   \
+    (void)sort;                                                    \
+    list.len = below(5);                                           \
+    for (k = 0; k < list.len; k++) values[k] = value;              \
+    list.at = (const type *)keep(values, list.len * sizeof(type)); \
+    return list;                                                   \
+  }
+
+static wenc_part a_part(uint32_t sort) {
+  list_of_text text = some_text();
+  wenc_part part = {NULL, 0, 0, 0};
+  part.name = text.at;
+  part.name_len = text.len;
+  part.sort = below(30) == 0 ? a_kind() : sort;
+  part.number = sort == WENC_REF_PRIMITIVE ? 1 + below(14) : a_number();
+  return part;
+}
+
+static wenc_pair a_pair(uint32_t sort) {
+  wenc_pair pair = {0, 0};
+  pair.sort = (below(30) == 0 ? a_kind() : sort) | (below(6) == 0 ? 0x100u << below(2) : 0);
+  pair.number = sort == WENC_REF_PRIMITIVE ? 1 + below(14) : a_number();
+  return pair;
+}
+
+static wenc_producer a_producer(void) {
+  wenc_producer producer = {NULL, 0, NULL, 0, NULL, 0};
+  list_of_text field = some_text(), tool = some_text(), version = some_text();
+  producer.field = field.at, producer.field_len = field.len;
+  producer.tool = tool.at, producer.tool_len = tool.len;
+  producer.version = version.at, producer.version_len = version.len;
+  return producer;
+}
+
+static wenc_index_name an_index_name(void) {
+  wenc_index_name named = {NULL, 0, 0};
+  list_of_text text = some_text();
+  named.name = text.at, named.name_len = text.len;
+  named.index = a_number();
+  return named;
+}
+
+SOME(uint32_t, numbers, a_number())
+SOME(wenc_part, part, a_part(sort))
+SOME(wenc_pair, pair, a_pair(sort))
+SOME(wenc_producer, producer, a_producer())
+SOME(wenc_index_name, index_name, an_index_name())
+
+static wenc_subtype a_subtype(void) {
+  wenc_subtype type = {NULL, 0, (const wenc_pair *)1, SIZE_MAX, 0, 0, false, false};
+  list_of_pair fields = some_pair(), results;
+  type.kind = below(20) == 0 ? a_number() : 1 + below(3);
+  type.fields = fields.at, type.fields_len = fields.len;
+  if (type.kind == WENC_CORE_FUNCTION) {
+    results = some_pair();
+    type.results = results.at, type.results_len = results.len;
+  }
+  type.has_supertype = a_flag(), type.is_final = a_flag();
+  type.supertype = a_number();
+  return type;
+}
+
+SOME(wenc_subtype, subtype, a_subtype())
+
+/* One value, or NULL. */
+#define ONE(type, kind, value)                                          \
+  static list_of_##kind one_##kind(void) {                              \
+    type one = value;                                                   \
+    list_of_##kind list = {NULL, 1};                                    \
+    if (below(20) != 0) list.at = (const type *)keep(&one, sizeof one); \
+    return list;                                                        \
+  }
+
+static wenc_name a_name(void) {
+  wenc_name whole;
+  list_of_text text = some_text();
+  option implements = an_option(), suffix = an_option(), id = an_option();
+  whole.name = text.at, whole.name_len = text.len;
+  whole.has_implements = implements.is_there;
+  whole.implements = implements.text.at, whole.implements_len = implements.text.len;
+  whole.has_version_suffix = suffix.is_there;
+  whole.version_suffix = suffix.text.at, whole.version_suffix_len = suffix.text.len;
+  whole.has_external_id = id.is_there;
+  whole.external_id = id.text.at, whole.external_id_len = id.text.len;
+  return whole;
+}
+
+static wenc_entity an_entity(void) {
+  wenc_entity entity;
+  memset(&entity, 0, sizeof entity);
+  entity.minimum = a_number();
+  entity.maximum = (uint64_t)a_number() << 31;
+  entity.kind = below(20) == 0 ? a_number() : below(5);
+  entity.type = a_kind() | (a_flag() ? WENC_CORE_NULLABLE : 0);
+  entity.index = a_number();
+  entity.has_maximum = a_flag(), entity.is_long = a_flag(), entity.is_shared = a_flag();
+  return entity;
+}
+
+ONE(wenc_name, name, a_name())
+ONE(wenc_entity, entity, an_entity())
+ONE(wenc_subtype, subtype, a_subtype())
+
+#include "cases.h"
+
+/* ---- sequences of calls */
+
+/* A handle, and the one that makes the same calls with all memory. */
+typedef struct {
+  wenc_handle handle, shadow;
+} two;
+
+#define HANDLES 5
+
+static unsigned long calls, accepted, refusals, compared;
+
+/* Begins something: what is decided by a number. */
+static enum wenc_status begin(uint32_t number, wenc_handle *handle) {
+  static const uint8_t component[] = {0, 'a', 's', 'm', 13, 0, 1, 0, 10, 6, 1, 0, 1, 'f', 1, 0};
+  static const enum wenc_kind kinds[] = {WENC_MODULE, WENC_COMPONENT, WENC_INSTANCE};
+  if (number < 12) return wenc_new(handle);
+  if (number < 18) return wenc_types_new(handle, kinds[number % 3]);
+  if (number < 30) return wenc_section_new(handle, (enum wenc_section)(number - 18));
+  if (number < 32) return wenc_names_new(handle);
+  if (number < 34) return wenc_list(handle, component, sizeof component, NULL);
+  return wenc_by_hand_new(handle);
+}
+
+/* What a call may return. */
+static void check_status(enum wenc_status status) {
+  REQUIRE((unsigned)status <= WENC_NO_HANDLE && status != WENC_UNFINISHED);
+  REQUIRE(status != WENC_NO_MEMORY || was_refused);
+  if (status == WENC_NO_MEMORY) refusals++;
+}
+
+static void begin_two(two *one) {
+  uint32_t number = below(36);
+  enum wenc_status status;
+  name = "begin";
+  status = begin(number, &one->handle);
+  check_status(status);
+  REQUIRE((status == WENC_DONE) == (one->handle.at != NULL));
+  until_refusal = -1;
+  if (status == WENC_DONE) REQUIRE(begin(number, &one->shadow) == WENC_DONE);
+}
+
+static void finish(two *one) {
+  const uint8_t *bytes, *wanted;
+  size_t len = 77, wanted_len;
+  enum wenc_status status = wenc_finish(&one->handle, &bytes, &len);
+  name = "finish";
+  until_refusal = -1;
+  REQUIRE(status == WENC_DONE || (status == WENC_BAD_ARGUMENT && len == 77));
+  if (status != WENC_DONE) return;
+  REQUIRE(wenc_finish(&one->shadow, &wanted, &wanted_len) == WENC_DONE);
+  REQUIRE(len == wanted_len && memcmp(bytes, wanted, len) == 0);
+  compared++;
+}
+
+/* Makes a call, and the same once more where it is accepted. */
+static void call_two(two *one, two *other) {
+  uint32_t number = below(CASES), index = 77, wanted = 77;
+  bool is_put = below(8) != 0;
+  uint64_t before = state, after;
+  enum wenc_status status = call(number, &one->handle, &other->handle, is_put ? &index : NULL);
+  after = state;
+  calls++;
+  check_status(status);
+  until_refusal = -1;
+  if (status != WENC_DONE) {
+    REQUIRE(index == 77);
+    return;
+  }
+  accepted++;
+  state = before;
+  REQUIRE(call(number, &one->shadow, &other->shadow, is_put ? &wanted : NULL) == WENC_DONE);
+  REQUIRE(index == wanted && state == after);
+  REQUIRE((other->handle.at == NULL) == (other->shadow.at == NULL));
+}
+
+static void run(void) {
+  two handles[HANDLES];
+  uint32_t k, length = 5 + below(40);
+  bool refuses = a_flag();
+  memset(handles, 0, sizeof handles);
+  while (length-- > 0) {
+    two *one = &handles[below(HANDLES)], *other = &handles[below(HANDLES)];
+    until_refusal = refuses && below(3) == 0 ? (long)below(6) : -1;
+    was_refused = false;
+    is_inside = true;
+    if (one->handle.at == NULL && below(8) != 0) {
+      begin_two(one);
+    } else if (below(30) == 0) {
+      wenc_free(&one->handle);
+      wenc_free(&one->shadow);
+    } else if (one->handle.at != NULL && below(40) == 0) {
+      finish(one);
+    } else {
+      call_two(one, other);
+    }
+    is_inside = false;
+    drop_kept();
+  }
+  is_inside = true;
+  for (k = 0; k < HANDLES; k++) {
+    until_refusal = -1;
+    if (handles[k].handle.at != NULL) finish(&handles[k]);
+    wenc_free(&handles[k].handle);
+    wenc_free(&handles[k].shadow);
+  }
+  is_inside = false;
+  REQUIRE(blocks == 0);
+}
+
+int main(int argc, char **argv) {
+  uint64_t first = argc > 1 ? strtoul(argv[1], NULL, 10) : 1;
+  uint64_t count = argc > 2 ? strtoul(argv[2], NULL, 10) : 1000;
+  for (seed = first; seed < first + count; seed++) {
+    state = seed * 0x2545f4914f6cdd1du;
+    run();
+  }
+  printf("%lu calls, %lu accepted, %lu without memory, %lu components compared\n", calls, accepted,
+         refusals, compared);
+  return accepted > count && compared > count && refusals > 0 ? 0 : 1;
+}
