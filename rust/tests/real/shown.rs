@@ -116,7 +116,9 @@ fn bare(code: &str) -> String {
 
 #[test]
 fn doc_comments_show_the_proved_examples() {
-    let proved = files(&path("crates/facts/src/examples"), "rt");
+    let mut proved = files(&path("crates/facts/src/examples"), "rt");
+    // Two long ones are run alone.
+    proved.push(path("rust/tests/proved/examples.rs"));
     let proved: String = proved.iter().map(|file| bare(&read(file))).collect();
     let crates = std::fs::read_dir(path("crates")).expect("the crates are there");
     let sources = crates.map(|folder| folder.expect("it is told").path().join("src"));

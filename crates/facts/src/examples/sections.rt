@@ -9,12 +9,11 @@ ghost use Rattle.wenc_sections.specs.Start.{started, start as start_form};
 
 use std::alloc::{Allocator, Global};
 use wasm_encoder::{
-    AddsBuiltin, Alias, CanonicalFunctionSection, Component, ComponentAliasSection,
-    ComponentExportKind, ComponentExportSection, ComponentExternName, ComponentImportSection,
-    ComponentInstanceSection, ComponentNameSection, ComponentOuterAliasKind, ComponentStartSection,
+    Alias, Component, ComponentAliasSection, ComponentExportKind, ComponentExportSection,
+    ComponentImportSection, ComponentNameSection, ComponentOuterAliasKind, ComponentStartSection,
     ComponentTypeRef, ComponentTypeSection, ComponentValType, CoreTypeSection, CustomSection,
-    ExportKind, Fault, Holder, InstanceSection, Module, ModuleArg, ModuleSection, NameMap,
-    NestedComponentSection, PrimitiveValType, TypeBounds, ValType,
+    Fault, Holder, Module, ModuleSection, NameMap, NestedComponentSection, PrimitiveValType,
+    TypeBounds, ValType,
 };
 
 /// `Component`.
@@ -102,45 +101,6 @@ pub fn imports(alloc: Global) -> Result<Vec<u8>, Fault> {
 
     let mut component = Component::new(alloc)?;
     component.section(&imports)?;
-    let bytes = component.finish();
-    Ok(bytes)
-}
-
-/// `InstanceSection`.
-pub fn core_instances(alloc: Global) -> Result<Vec<u8>, Fault> {
-    let module = Module::new(alloc)?;
-    let mut functions = CanonicalFunctionSection::new(alloc);
-    functions.task_cancel()?;
-    let mut instances = InstanceSection::new(alloc);
-    instances.export_items([("cancel", ExportKind::Func, 0)].into_iter())?;
-    instances.instantiate(0, [("env", ModuleArg::Instance(0))].into_iter())?;
-
-    let mut component = Component::new(alloc)?;
-    component.section(&ModuleSection(&module))?;
-    component.section(&functions)?;
-    component.section(&instances)?;
-    let bytes = component.finish();
-    Ok(bytes)
-}
-
-/// `ComponentInstanceSection`.
-pub fn instances(alloc: Global) -> Result<Vec<u8>, Fault> {
-    let mut imports = ComponentImportSection::new(alloc);
-    imports.import(
-        "file".into(),
-        ComponentTypeRef::Type(TypeBounds::SubResource),
-    )?;
-    let nested = Component::new(alloc)?;
-    let mut instances = ComponentInstanceSection::new(alloc);
-    let name: ComponentExternName = "file".into();
-    instances.export_items([(name, ComponentExportKind::Type, 0)].into_iter())?;
-    let files = ("files", ComponentExportKind::Instance, 0);
-    instances.instantiate(0, [files].into_iter())?;
-
-    let mut component = Component::new(alloc)?;
-    component.section(&imports)?;
-    component.section(&NestedComponentSection(&nested))?;
-    component.section(&instances)?;
     let bytes = component.finish();
     Ok(bytes)
 }
