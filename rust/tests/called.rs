@@ -23,9 +23,6 @@ use sources::{Function, Sources};
 use std::fs;
 use std::path::{Path, PathBuf};
 
-/// The crates whose functions others call: the program, and what C calls.
-const ELSEWHERE: [&str; 3] = ["wenc_c", "wenc_program", "wenc_session"];
-
 /// All files of a folder and of those in it, with their paths below it.
 fn files(folder: &Path) -> Vec<(PathBuf, String)> {
     fn gather(top: &Path, folder: &Path, found: &mut Vec<(PathBuf, String)>) {
@@ -52,7 +49,7 @@ fn sources() -> Sources {
     for entry in fs::read_dir(erased).expect("the build script ran") {
         let folder = entry.expect("an entry").path();
         let name = folder.file_name().expect("a name").to_string_lossy().into_owned();
-        if folder.is_dir() && name.starts_with('w') && !ELSEWHERE.contains(&name.as_str()) {
+        if folder.is_dir() && name.starts_with('w') {
             sources.add_crate(&name, &files(&folder));
         }
     }
