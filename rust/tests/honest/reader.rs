@@ -35,7 +35,7 @@ pub const WAYS: [&str; 27] = [
     "method that is inlined",
 ];
 
-const CRATES: [&str; 16] = [
+const CRATES: [&str; 14] = [
     "wenc_base",
     "wenc_parts",
     "wenc_types",
