@@ -2,5 +2,6 @@
 pub mod Canonicals
 pub mod CoreTypes
 pub mod Entities
+pub mod Pairs
 pub mod Tables
 pub mod Types

@@ -3,9 +3,11 @@ ghost use Rattle.wenc_base.specs.Readers.{pick, nowhere};
 ghost use Rattle.wenc_sections.specs.CanonTrees.{canon_view};
 ghost use Rattle.wenc_canon.specs.reading.Canonicals.{read_lifted, read_lowered, rows};
 ghost use Rattle.wenc_decode.specs.inside.Canonicals.{read_zero, stream_rows, future_rows, error_context_rows, thread_rows, forward_rows};
+ghost use Rattle.wenc_decode.specs.inside.Canonicals.{read_ty_and_options, read_waited_memory};
 ghost use Rattle.wenc_read.specs.Gives.{Gives};
 
 use crate::decode::Decode;
+use crate::pairs::both;
 use std::alloc::Allocator;
 use wenc_base::ValType;
 use wenc_canon::CanonicalOption;
@@ -103,6 +105,28 @@ fn lowered<A: Allocator + Copy>(alloc: A, bytes: &[u8]) -> Result<(CanonTree<A>,
     }
 }
 
+/// An index of a type and options.
+#[inline(always)]
+fn ty_and_options<A: Allocator + Copy>(
+    alloc: A,
+    bytes: &[u8],
+) -> Result<(u32, Vec<CanonicalOption, A>, &[u8]), Refusal>
+    ensures { Gives (λ x. ((x.0, x.1.items), x.2.now)) result (read_ty_and_options bytes.now) }
+{
+    let (ty, rest) = u32::decode(alloc, bytes)?;
+    let (options, rest) = Vec::decode(alloc, rest)?;
+    Ok((ty, options, rest))
+}
+
+/// The byte `00` and an index of a memory.
+#[inline(always)]
+fn waited_memory<A: Allocator + Copy>(alloc: A, bytes: &[u8]) -> Result<(u32, &[u8]), Refusal>
+    ensures { Gives (λ x. ((tt, x.0), x.1.now)) result (read_waited_memory bytes.now) }
+{
+    let (_, rest) = zero(bytes)?;
+    u32::decode(alloc, rest)
+}
+
 // What a row has for fields, after its opcode.
 
 macro_rules! plain {
@@ -134,32 +158,28 @@ macro_rules! cancellable {
 
 macro_rules! waiting {
     ($alloc:ident, $bytes:ident, $function:ident) => {{
-        let (_, rest) = zero($bytes)?;
-        let (memory, rest) = u32::decode($alloc, rest)?;
+        let (memory, rest) = waited_memory($alloc, $bytes)?;
         Ok((CanonTree::$function(memory), rest))
     }};
 }
 
 macro_rules! cancelled {
     ($alloc:ident, $bytes:ident, $function:ident) => {{
-        let (ty, rest) = u32::decode($alloc, $bytes)?;
-        let (async_, rest) = bool::decode($alloc, rest)?;
+        let (ty, async_, rest) = both($alloc, $bytes)?;
         Ok((CanonTree::$function { ty, async_ }, rest))
     }};
 }
 
 macro_rules! in_table {
     ($alloc:ident, $bytes:ident, $function:ident) => {{
-        let (ty, rest) = u32::decode($alloc, $bytes)?;
-        let (table, rest) = u32::decode($alloc, rest)?;
+        let (ty, table, rest) = both($alloc, $bytes)?;
         Ok((CanonTree::$function { ty, table }, rest))
     }};
 }
 
 macro_rules! in_context {
     ($alloc:ident, $bytes:ident, $function:ident) => {{
-        let (ty, rest) = ValType::decode($alloc, $bytes)?;
-        let (slot, rest) = u32::decode($alloc, rest)?;
+        let (ty, slot, rest) = both($alloc, $bytes)?;
         Ok((CanonTree::$function { ty, slot }, rest))
     }};
 }
@@ -173,8 +193,7 @@ macro_rules! of_options {
 
 macro_rules! with_options {
     ($alloc:ident, $bytes:ident, $function:ident) => {{
-        let (ty, rest) = u32::decode($alloc, $bytes)?;
-        let (options, rest) = Vec::decode($alloc, rest)?;
+        let (ty, options, rest) = ty_and_options($alloc, $bytes)?;
         Ok((CanonTree::$function { ty, options }, rest))
     }};
 }

@@ -17,6 +17,7 @@ pub mod exports;
 pub mod imports;
 pub mod instances;
 pub mod names;
+mod pairs;
 pub mod type_tree;
 pub mod types;
 

@@ -1,11 +1,20 @@
--- A byte that has one value, and the table of opcodes in parts.
-use Rattle.std.specs.Prelude.{ℕ, List, drop}
+-- A byte that has one value, two fields of a row, and the table of opcodes in parts.
+use Rattle.std.specs.Prelude.{ℕ, List, [], ◌∷◌, drop}
 use Rattle.wenc_base.specs.Readers.{Reader}
-use Rattle.wenc_canon.specs.Canonicals.{Canonical, Zero}
-use Rattle.wenc_canon.specs.reading.Canonicals.{read_field, rows}
+use Rattle.wenc_canon.specs.Canonicals.{Index, Options, Zero, Values}
+use Rattle.wenc_canon.specs.Canonicals.{Canonical}
+use Rattle.wenc_canon.specs.reading.Canonicals.{read_field, read_fields, rows}
 
 abbrev pub read_zero : Reader (Unit {0})
 read_zero = read_field Zero
+
+-- two fields of a row
+
+abbrev pub read_ty_and_options : Reader (Values (Index ∷ Options ∷ []))
+read_ty_and_options = read_fields (Index ∷ Options ∷ [])
+
+abbrev pub read_waited_memory : Reader (Values (Zero ∷ Index ∷ []))
+read_waited_memory = read_fields (Zero ∷ Index ∷ [])
 
 -- the table from the rows of streams on
 abbrev pub stream_rows : List (ℕ × Reader Canonical)
