@@ -195,15 +195,19 @@ macro_rules! call {
             $($rest)*
         }
     };
-    ($f:ident $i:tt $s:ident $b:expr, [$($c:tt)*] [$($r:tt)*] $a:ident[$l:ident]: text, $($rest:tt)*)
-    => {
+    (
+        $f:ident $i:tt $s:ident $b:expr, [$($c:tt)*] [$($r:tt)*]
+        $a:ident[$l:ident]: text, $($rest:tt)*
+    ) => {
         $crate::capi::call! {
             $f $i $s $b, [$($c)* $a: *const u8, $l: usize,]
             [$($r)* let $a = $crate::capi::arguments::text($a, $l)?;] $($rest)*
         }
     };
-    ($f:ident $i:tt $s:ident $b:expr, [$($c:tt)*] [$($r:tt)*] $a:ident[$l:ident]: $t:ty, $($rest:tt)*)
-    => {
+    (
+        $f:ident $i:tt $s:ident $b:expr, [$($c:tt)*] [$($r:tt)*]
+        $a:ident[$l:ident]: $t:ty, $($rest:tt)*
+    ) => {
         $crate::capi::call! {
             $f $i $s $b, [$($c)* $a: *const $t, $l: usize,]
             [$($r)* let $a = $crate::capi::arguments::list($a, $l);] $($rest)*

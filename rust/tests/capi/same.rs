@@ -41,7 +41,9 @@ impl Drop for Two {
 macro_rules! named {
     ($two:ident, $debug_name:ident, $wanted:expr, $call:ident($($arg:expr),*)) => {{
         let mut index = UNTOUCHED;
-        let (at, len) = $debug_name.map_or((ptr::dangling(), 9), |name: &str| (name.as_ptr(), name.len()));
+        let name: &str = $debug_name.unwrap_or_default();
+        let at = if $debug_name.is_some() { name.as_ptr() } else { ptr::dangling() };
+        let len = if $debug_name.is_some() { name.len() } else { 9 };
         let flag = Flag($debug_name.is_some().into());
         let status = unsafe { $call(&mut $two.handle, flag, at, len, $($arg,)* &mut index) };
         same(stringify!($call), status, index, $wanted);
