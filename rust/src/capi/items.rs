@@ -8,7 +8,7 @@ use crate::proved::wasm_encoder::{
     ComponentStartSection, ModuleArg, RawSection, ValType,
 };
 
-/// What a number stands for, or a refusal.
+/// The value of a number, or `BadArgument`.
 fn known<T>(value: Option<T>) -> Answer<T> {
     value.ok_or(Status::BadArgument)
 }
@@ -172,7 +172,7 @@ fn add_component(session: &mut Session, debug_name: Option<&str>, bytes: &[u8]) 
     }
 }
 
-/// Adds the component of another handle, which stays as it is.
+/// Adds the component of another handle, which keeps it.
 fn nest(session: &mut Session, debug_name: Option<&str>, nested: &Session) -> Answer<u32> {
     match nested {
         Session::Building(nested) => Ok(session.builder()?.component_ref(debug_name, nested)?),
@@ -181,7 +181,7 @@ fn nest(session: &mut Session, debug_name: Option<&str>, nested: &Session) -> An
     }
 }
 
-/// A flag that is handed over as a number.
+/// A flag that is passed as a number.
 fn flag(number: u32) -> Answer<bool> {
     match number {
         0 => Ok(false),
