@@ -294,7 +294,7 @@ enum wenc_composite {
   WENC_CORE_ARRAY = 3
 };
 
-/* Sections. */
+/* Sections, by their ids. */
 enum wenc_section {
   WENC_SECTION_CUSTOM = 0,
   WENC_SECTION_CORE_MODULE = 1,
@@ -493,8 +493,8 @@ const char *wenc_status_text(enum wenc_status status);
 enum wenc_status wenc_new(wenc_handle *handle);
 
 /* Begins a component, section by section. It takes wenc_section and wenc_raw_section, and what
- * adds a custom section, a core module, a component by its bytes, or a start: each of these is a
- * section. */
+ * adds a custom section, producers, a core module, a component, or a start: each of these is a
+ * section, without an index (`*index` is 0). */
 enum wenc_status wenc_by_hand_new(wenc_handle *handle);
 
 /* Begins the type of a component, an instance or a core module, which declares nothing.
@@ -591,11 +591,12 @@ enum wenc_status wenc_component_bytes(wenc_handle *handle, bool named, const cha
                                       size_t debug_name_len, const uint8_t *bytes, size_t len,
                                       uint32_t *index);
 
-/* Adds the component that another handle makes, and frees that one, which is {NULL} then. */
+/* Adds the component that another handle makes, and frees that one, which is {NULL} then. A
+ * component that is made section by section takes only one that is made so too. */
 enum wenc_status wenc_component(wenc_handle *handle, bool named, const char *debug_name,
                                 size_t debug_name_len, wenc_handle *nested, uint32_t *index);
 
-/* Adds the component that another handle makes, and leaves that one as it is. */
+/* Adds the component that another handle makes, as wenc_component, and leaves that one as it is. */
 enum wenc_status wenc_component_ref(wenc_handle *handle, bool named, const char *debug_name,
                                     size_t debug_name_len, wenc_handle *nested, uint32_t *index);
 
@@ -840,7 +841,9 @@ enum wenc_status wenc_names_items(wenc_handle *handle, enum wenc_space space,
 /* Appends a subsection with this id and these bytes to a section of names. Nothing checks them. */
 enum wenc_status wenc_names_raw(wenc_handle *names, uint8_t id, const uint8_t *bytes, size_t len);
 
-/* ---- components that are read */
+/* ---- components that are read
+ *
+ * wenc_section_at and wenc_item_at return WENC_BAD_ARGUMENT, WENC_FINISHED, WENC_NO_HANDLE. */
 
 /* Reads a component, and keeps no pointer to its bytes. WENC_NOT_A_COMPONENT, WENC_BAD_SECTION,
  * WENC_BAD_ITEM and WENC_TOO_DEEP say why it can't be read, and `*unread` which part can't. Also
@@ -850,11 +853,11 @@ enum wenc_status wenc_names_raw(wenc_handle *names, uint8_t id, const uint8_t *b
 enum wenc_status wenc_list(wenc_handle *listing, const uint8_t *bytes, size_t len,
                            wenc_unread *unread);
 
-/* Writes the section with this number to `*section`, from 0 on: WENC_BAD_ARGUMENT where there is
- * none. */
+/* Writes the section with this number, from 0 on, to `*section`: WENC_BAD_ARGUMENT where there
+ * is none. */
 enum wenc_status wenc_section_at(wenc_handle *listing, size_t number, wenc_listed_section *section);
 
-/* Writes the item with this number of a section to `*item`, from 0 on: WENC_BAD_ARGUMENT where
+/* Writes the item of a section with this number, from 0 on, to `*item`: WENC_BAD_ARGUMENT where
  * there is none. */
 enum wenc_status wenc_item_at(wenc_handle *listing, size_t section, size_t number,
                               wenc_listed_item *item);
