@@ -83,8 +83,8 @@ enum wenc_status {
   WENC_MALFORMED = 5,
   /* Types of components and instances nest more than 100 deep. */
   WENC_TOO_DEEP = 6,
-  /* A number that stands for nothing, a handle that the call doesn't take, a handle twice, or a
-   * structure that is NULL. */
+  /* A number that stands for nothing, a handle that the call doesn't take, a handle twice, NULL
+   * where something has to be, or a length that nothing has. */
   WENC_BAD_ARGUMENT = 7,
   /* The component is finished, and takes only wenc_finish, wenc_bytes and wenc_free. */
   WENC_FINISHED = 8,

@@ -209,7 +209,7 @@ macro_rules! call {
     ) => {
         $crate::capi::call! {
             $f $i $s $b, [$($c)* $a: *const $t, $l: usize,]
-            [$($r)* let $a = $crate::capi::arguments::list($a, $l);] $($rest)*
+            [$($r)* let $a = $crate::capi::arguments::list($a, $l)?;] $($rest)*
         }
     };
     ($f:ident $i:tt $s:ident $b:expr, [$($c:tt)*] [$($r:tt)*] &$a:ident: $t:ty, $($rest:tt)*) => {

@@ -98,13 +98,23 @@ pub struct IndexName {
 }
 
 /// An array. Where it is empty the pointer isn't used.
-pub unsafe fn list<'a, T>(at: *const T, len: usize) -> &'a [T] {
-    if len == 0 { &[] } else { unsafe { slice::from_raw_parts(at, len) } }
+///
+/// # Errors
+///
+/// The pointer is NULL, or no array is as long.
+pub unsafe fn list<'a, T>(at: *const T, len: usize) -> Answer<&'a [T]> {
+    if len == 0 {
+        Ok(&[])
+    } else if at.is_null() || len > isize::MAX as usize / size_of::<T>() {
+        Err(Status::BadArgument)
+    } else {
+        Ok(unsafe { slice::from_raw_parts(at, len) })
+    }
 }
 
 /// A text in UTF-8. Most are ASCII, which is faster to check.
 pub unsafe fn text<'a>(at: *const u8, len: usize) -> Answer<&'a str> {
-    let bytes = unsafe { list(at, len) };
+    let bytes = unsafe { list(at, len) }?;
     if bytes.is_ascii() {
         return Ok(unsafe { str::from_utf8_unchecked(bytes) });
     }
@@ -156,7 +166,7 @@ pub unsafe fn named<'a, T>(
         of(part.sort, part.number).ok_or(Status::BadArgument)?;
     }
     Ok(parts.iter().filter_map(move |part| {
-        let name = unsafe { str::from_utf8_unchecked(list(part.name, part.name_len)) };
+        let name = unsafe { str::from_utf8_unchecked(list(part.name, part.name_len).ok()?) };
         Some((name, of(part.sort, part.number)?))
     }))
 }

@@ -83,10 +83,10 @@ calls! {
 impl Subtype {
     /// The type, with copies of its lists.
     unsafe fn read(&self) -> Answer<SubType> {
-        let fields = unsafe { list(self.fields, self.fields_len) };
+        let fields = unsafe { list(self.fields, self.fields_len) }?;
         let composite_type = match self.kind {
             1 => {
-                let results = unsafe { list(self.results, self.results_len) };
+                let results = unsafe { list(self.results, self.results_len) }?;
                 CompositeType::Func(FuncType::new(
                     Global,
                     unnamed(fields, numbers::core_value)?,

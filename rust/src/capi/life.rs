@@ -126,13 +126,15 @@ pub unsafe extern "C" fn wenc_list(
     len: usize,
     unread: *mut UnreadPart,
 ) -> Status {
-    let bytes = unsafe { super::arguments::list(bytes, len) };
-    let make = || match Listed::read(bytes)? {
-        Ok(listed) => Ok(Session::Listed(listed)),
-        Err(fault) => {
-            let (status, part) = unread_part(bytes, fault);
-            unsafe { put(unread, part) };
-            Err(status)
+    let make = || {
+        let bytes = unsafe { super::arguments::list(bytes, len) }?;
+        match Listed::read(bytes)? {
+            Ok(listed) => Ok(Session::Listed(listed)),
+            Err(fault) => {
+                let (status, part) = unread_part(bytes, fault);
+                unsafe { put(unread, part) };
+                Err(status)
+            }
         }
     };
     unsafe { begin(handle, make) }.into()
@@ -209,7 +211,7 @@ pub unsafe extern "C" fn wenc_finish(
 pub unsafe extern "C" fn wenc_bytes(handle: *mut Handle, bytes: *mut u8, len: usize) -> Status {
     match unsafe { session(handle) } {
         Ok(Session::Building(_) | Session::ByHand(_)) => Status::Unfinished,
-        Ok(Session::Finished(whole)) if whole.len() == len => {
+        Ok(Session::Finished(whole)) if whole.len() == len && !bytes.is_null() => {
             unsafe { ptr::copy_nonoverlapping(whole.as_ptr(), bytes, len) };
             Status::Done
         }

@@ -104,6 +104,30 @@ fn null_is_empty_or_nothing() {
 }
 
 #[test]
+fn null_and_impossible_lengths_are_refused() {
+    let (mut builder, mut nothing, none) = (Held::builder(), Held::nothing(), ptr::null_mut());
+    let (at, a) = (builder.at(), b"a".as_ptr());
+    let (pair, most) = (Pair { sort: 0, number: 0 }, usize::MAX);
+    let statuses = unsafe {
+        [
+            wenc_import(at, EMPTY, 5, 7, 0, none),
+            wenc_import(at, a, most, 7, 0, none),
+            wenc_type_own(at, YES, EMPTY, 1, 0, none),
+            wenc_type_tuple(at, NO, EMPTY, 0, ptr::null(), 1, none),
+            wenc_type_tuple(at, NO, EMPTY, 0, &pair, most / 8, none),
+            wenc_core_module(at, NO, EMPTY, 0, EMPTY, 8, none),
+            wenc_start(at, 0, ptr::null(), 1, 0, none),
+            wenc_producers(at, ptr::null(), 1),
+            wenc_list(nothing.at(), EMPTY, 8, ptr::null_mut()),
+        ]
+    };
+    assert_eq!(statuses, [Status::BadArgument; 9]);
+    assert_eq!(unsafe { wenc_finish(at, ptr::null_mut(), ptr::null_mut()) }, Status::Done);
+    assert_eq!(unsafe { wenc_bytes(at, ptr::null_mut(), 8) }, Status::BadArgument);
+    assert_eq!(builder.finished().len(), 8);
+}
+
+#[test]
 fn structures_are_not_null() {
     let (mut builder, mut module) = (Held::builder(), Held::types(0));
     let none = ptr::null_mut();
