@@ -2,7 +2,6 @@
  * how many items there are in each space, and the component. */
 #include <stdio.h>
 #include <stdlib.h>
-#include <string.h>
 
 #include "wenc.h"
 
@@ -112,20 +111,21 @@ static void build_named(wenc_handle *builder, uint32_t ty) {
   static const uint32_t args[] = {0, 1};
   static const uint8_t data[] = {1, 2, 3};
   static const uint8_t raw[] = {3, 1, 0x79, 0x2b};
-  wenc_name name;
+  static const wenc_name poll = {WENC_TEXT("wasi:io/poll@0.2"),
+                                 WENC_TEXT("x:y/z"),
+                                 WENC_TEXT(".6"),
+                                 WENC_TEXT("id"),
+                                 true,
+                                 true,
+                                 true};
+  static const wenc_name plain = {
+      WENC_TEXT("plain"), NULL, 0, NULL, 0, NULL, 0, false, false, false};
+  static const wenc_name versioned = {WENC_TEXT("w"), NULL, 0,    WENC_TEXT("v"), NULL, 0,
+                                      false,          true, false};
   uint32_t index;
-  memset(&name, 0, sizeof name);
-  name.name = "wasi:io/poll@0.2", name.name_len = 16;
-  name.has_implements = true, name.implements = "x:y/z", name.implements_len = 5;
-  name.has_version_suffix = true, name.version_suffix = ".6", name.version_suffix_len = 2;
-  name.has_external_id = true, name.external_id = "id", name.external_id_len = 2;
-  check(wenc_import_named(builder, &name, WENC_REF_FUNC, ty, &index));
-  memset(&name, 0, sizeof name);
-  name.name = "plain", name.name_len = 5;
-  check(wenc_import_named(builder, &name, WENC_REF_COMPONENT, 18, &index));
-  name.name = "w", name.name_len = 1;
-  name.has_version_suffix = true, name.version_suffix = "v", name.version_suffix_len = 1;
-  check(wenc_export_named(builder, &name, WENC_FUNC, 0, WENC_REF_FUNC, ty, &index));
+  check(wenc_import_named(builder, &poll, WENC_REF_FUNC, ty, &index));
+  check(wenc_import_named(builder, &plain, WENC_REF_COMPONENT, 18, &index));
+  check(wenc_export_named(builder, &versioned, WENC_FUNC, 0, WENC_REF_FUNC, ty, &index));
   check(wenc_item(builder, WENC_SECTION_TYPE, WENC_NAMED("t"), (const uint8_t *)"\x42\x00", 2,
                   &index));
   check(wenc_start(builder, 0, ALL(args), 2, &index));

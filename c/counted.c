@@ -111,8 +111,45 @@ static uint32_t declare_module(wenc_handle *to) {
   return status;
 }
 
+/* The calls that add a section of names by a handle, and free the handle. */
+static uint32_t name(wenc_handle *to) {
+  static const wenc_index_name functions[] = {{WENC_TEXT("a name that is long"), 5}};
+  wenc_handle names = {NULL};
+  uint32_t status = wenc_names_new(&names);
+  if (status == WENC_DONE) status = wenc_names_component(&names, WENC_TEXT("a component"));
+  if (status == WENC_DONE) status = wenc_names_items(&names, WENC_FUNCS, functions, 1);
+  if (status == WENC_DONE) status = wenc_section(to, &names);
+  wenc_free(&names);
+  return status;
+}
+
+/* The calls that read a component, and add its item. */
+static uint32_t copy(wenc_handle *to) {
+  static const uint8_t component[] = {0x00, 0x61, 0x73, 0x6d, 0x0d, 0x00, 0x01, 0x00,
+                                      0x0a, 0x06, 0x01, 0x00, 0x01, 0x66, 0x01, 0x00};
+  wenc_handle listing = {NULL};
+  uint32_t index, status = wenc_list(&listing, component, sizeof component, NULL);
+  if (status == WENC_DONE) status = wenc_copy(to, NAMED, &listing, 0, 0, &index);
+  wenc_free(&listing);
+  return status;
+}
+
+/* A group of core types, and the tools that made the component. */
+static uint32_t group(wenc_handle *to) {
+  static const wenc_pair pairs[] = {{WENC_CORE_I32, 0}, {WENC_CORE_EXTERNREF, 0}};
+  static const wenc_subtype subtypes[] = {{pairs, 2, NULL, 0, WENC_CORE_STRUCT, 0, false, true},
+                                          {pairs, 1, pairs, 2, WENC_CORE_FUNCTION, 0, false, true}};
+  uint32_t index;
+  return wenc_core_type_group(to, NAMED, subtypes, 2, &index);
+}
+
+static uint32_t produce(wenc_handle *to) {
+  static const wenc_producer kit[] = {{WENC_TEXT("sdk"), WENC_TEXT("kit"), WENC_TEXT("1")}};
+  return wenc_producers(to, kit, 1);
+}
+
 /* The call with this number, of CALLS. */
-#define CALLS 19
+#define CALLS 23
 
 static uint32_t call(wenc_handle *to, int number) {
   static const wenc_part exports[] = {{WENC_TEXT("a run"), WENC_CORE_FUNC, 0}};
@@ -140,6 +177,10 @@ static uint32_t call(wenc_handle *to, int number) {
     case 15: return declare(to);
     case 16: return declare_module(to);
     case 17: return wenc_core_type_function(to, NAMED, params, 2, params, 1, &index);
+    case 18: return name(to);
+    case 19: return copy(to);
+    case 20: return group(to);
+    case 21: return produce(to);
     default: return wenc_append_names(to);
   }
 }

@@ -81,9 +81,10 @@ static uint32_t below(uint32_t limit) {
 static void *kept[256];
 static size_t kept_len;
 
+/* Now and then it is NULL, also where it may not be. */
 static void *keep(const void *from, size_t len) {
-  void *at = len == 0 && below(2) ? NULL : __real_malloc(len);
-  if (len > 0) memcpy(at, from, len);
+  void *at = below(len == 0 ? 2 : 200) == 0 ? NULL : __real_malloc(len);
+  if (at != NULL) memcpy(at, from, len);
   REQUIRE(kept_len < sizeof kept / sizeof kept[0]);
   return kept[kept_len++] = at;
 }

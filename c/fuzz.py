@@ -38,8 +38,8 @@ def arguments(declared):
         elif ty.startswith("enum"):
             hands.append(f"({ty})a_kind()")
         else:
-            hands.append({"bool": "a_flag()", "size_t": "a_size()", "uint8_t": "(uint8_t)a_number()"}
-                         .get(ty, "a_number()"))
+            made = {"bool": "a_flag()", "size_t": "a_size()", "uint8_t": "(uint8_t)a_number()"}
+            hands.append(made.get(ty, "a_number()"))
     return " ".join(declares), ", ".join(hands)
 
 

@@ -3,35 +3,36 @@
  * README.md tells how the library is made, in "From C". Of the C library it needs malloc,
  * realloc, free and abort, and memcpy, memmove, memset and bcmp or memcmp.
  *
- * A handle has one thing, which lies on the heap: a component that is made item by item
- * (wenc_new) or section by section (wenc_by_hand_new), the type of a component, an instance or a
- * core module (wenc_types_new), a section (wenc_section_new, wenc_names_new), or a component
- * that was read (wenc_list).
+ * A handle owns one thing on the heap: a component that is made item by item (wenc_new) or
+ * section by section (wenc_by_hand_new), the type of a component, an instance or a core module
+ * (wenc_types_new), a section (wenc_section_new, wenc_names_new), or a component that was read
+ * (wenc_list).
  *
  *  - Each call but wenc_free, wenc_version and wenc_status_text returns a status, which is
- *    WENC_DONE or says why the call is refused. A call that is refused has changed nothing:
- *    neither what its handles have, nor what its arguments point to. Only wenc_list then puts
- *    out what it didn't read.
+ *    WENC_DONE or says why the call failed. A call that failed has changed nothing: neither
+ *    what its handles own, nor what its arguments point to. Only wenc_list then writes which
+ *    part it can't read.
  *
  *  - A text is UTF-8, without a 0 at its end; bytes are any bytes. Both are a pointer and a
- *    number of bytes, and the call keeps neither. Where the number is 0 the pointer may be
- *    NULL. WENC_TEXT makes a text of a literal.
+ *    number of bytes, and the call keeps no pointer to them. Where the number is 0 the pointer
+ *    may be NULL. WENC_TEXT makes a text of a literal.
  *
  *  - A debug name, and each option of a wenc_name, is a flag and a text. Where the flag is
- *    false there is none, and the text isn't looked at. WENC_NAMED makes one of a literal,
+ *    false there is none, and the text isn't read. WENC_NAMED makes one of a literal,
  *    WENC_UNNAMED none.
  *
- *  - What a call puts out goes to its last pointers. Where one is NULL it isn't put out.
+ *  - Results are written to the last pointers of a call. Where such a pointer is NULL, the
+ *    result is left out.
  *
- *  - An index is what a call put into `*index`: the number of items that its index space had
+ *  - An index is what a call wrote to `*index`: the number of items that its index space had
  *    before. Indices are taken as they are: nothing checks that there is an item with them,
  *    nor that the component is valid.
  *
  * What no call can check:
  *
  *  - A handle is {NULL}, or one that a call filled. A copy is the same handle: once what one
- *    of them has is freed or given up, the others are no handles. Calls that take two handles
- *    refuse the same one twice.
+ *    of them owns is freed or given to another, the others are invalid. Calls that take two
+ *    handles fail where both are the same.
  *
  *  - A pointer that isn't NULL points to as much as its number says, aligned as its type is.
  *    What a call writes to overlaps nothing else that it is given.
@@ -61,7 +62,7 @@ extern "C" {
 #define WENC_NAMED(literal) true, WENC_TEXT(literal)
 #define WENC_UNNAMED false, NULL, 0
 
-/* A handle, which has one thing or nothing. Begin with {NULL}. */
+/* A handle, which owns one thing or nothing. Begin with {NULL}. */
 typedef struct {
   void *at;
 } wenc_handle;
@@ -82,12 +83,12 @@ enum wenc_status {
   WENC_MALFORMED = 5,
   /* Types of components and instances nest more than 100 deep. */
   WENC_TOO_DEEP = 6,
-  /* A number that stands for nothing, a handle that the call doesn't take, a handle twice, or a
-   * structure that is NULL. */
+  /* A number that stands for nothing, a handle that the call doesn't take, a handle twice, NULL
+   * where something has to be, or a length that nothing has. */
   WENC_BAD_ARGUMENT = 7,
   /* The component is finished, and takes only wenc_finish, wenc_bytes and wenc_free. */
   WENC_FINISHED = 8,
-  /* The handle has nothing, or is NULL. */
+  /* The handle owns nothing, or is NULL. */
   WENC_NO_HANDLE = 9,
   /* wenc_list: the bytes don't begin with the header of a component. */
   WENC_NOT_A_COMPONENT = 10,
@@ -109,7 +110,7 @@ enum wenc_kind {
 
 /* What is imported, or the type of a value or an export. It goes with a number, `of`. */
 enum wenc_ref {
-  /* Nothing, where that may be. `of` isn't looked at. */
+  /* Nothing, where that is allowed. `of` isn't used. */
   WENC_REF_NONE = 0,
   /* A core module or a function: `of` is the index of its type. */
   WENC_REF_MODULE = 1,
@@ -121,7 +122,7 @@ enum wenc_ref {
   /* A component or an instance: `of` is the index of its type. */
   WENC_REF_COMPONENT = 5,
   WENC_REF_INSTANCE = 6,
-  /* A fresh resource type. `of` isn't looked at. */
+  /* A fresh resource type. `of` isn't used. */
   WENC_REF_RESOURCE = 7,
   /* A value of a primitive type: `of` is one of wenc_primitive. */
   WENC_REF_PRIMITIVE = 8
@@ -164,7 +165,7 @@ enum wenc_outer_kind {
 
 /* Functions that the component model provides, for wenc_builtin. Behind each stands what `first`
  * and `second` are: the index of a type, a core table or a core memory, or whether the call may
- * be answered later (0 or 1). What isn't told isn't looked at. */
+ * be answered later (0 or 1). What isn't mentioned isn't used. */
 enum wenc_function {
   /* `first` is a type. */
   WENC_RESOURCE_NEW = 1,
@@ -235,8 +236,7 @@ enum wenc_context_function {
   WENC_CONTEXT_SET = 2
 };
 
-/* Options of functions. What stands before one says what goes with it: else nothing is looked
- * at. */
+/* Options of functions. The comment before one says what goes with it; without one nothing does. */
 enum wenc_option {
   WENC_OPTION_UTF8 = 0,
   WENC_OPTION_UTF16 = 1,
@@ -294,7 +294,7 @@ enum wenc_composite {
   WENC_CORE_ARRAY = 3
 };
 
-/* Sections. */
+/* Sections, by their ids. */
 enum wenc_section {
   WENC_SECTION_CUSTOM = 0,
   WENC_SECTION_CORE_MODULE = 1,
@@ -329,7 +329,7 @@ enum wenc_space {
   WENC_SPACES = 13
 };
 
-/* What isn't read of a section. */
+/* The part of a section that can't be read. */
 enum wenc_unread_part {
   /* The section, or its header. */
   WENC_UNREAD_SECTION = 0,
@@ -382,7 +382,7 @@ typedef struct {
   bool has_external_id;
 } wenc_name;
 
-/* What a core module imports or exports. What its kind has nothing of isn't looked at. */
+/* What a core module imports or exports. What its kind doesn't have isn't used. */
 typedef struct {
   /* How many elements a table has at first, or how many pages a memory; and how many at most, where
    * `has_maximum` is true. */
@@ -437,11 +437,11 @@ typedef struct {
   uint32_t index;
 } wenc_index_name;
 
-/* What wenc_list doesn't read. */
+/* The part of a component that wenc_list can't read. */
 typedef struct {
   /* The byte offset of the section. */
   size_t section;
-  /* That of the part of it that isn't read. */
+  /* That of the part of it that can't be read. */
   size_t place;
   /* One of wenc_unread_part: WENC_UNREAD_SECTION also where there was no memory to look for it. */
   uint32_t part;
@@ -486,25 +486,25 @@ const char *wenc_status_text(enum wenc_status status);
 
 /* ---- handles
  *
- * The calls that begin something ask for a handle that has nothing: else they return
+ * The calls that begin something take a handle that owns nothing: else they return
  * WENC_BAD_ARGUMENT, and WENC_NO_HANDLE where the pointer is NULL. Also WENC_NO_MEMORY. */
 
 /* Begins a component, item by item. */
 enum wenc_status wenc_new(wenc_handle *handle);
 
 /* Begins a component, section by section. It takes wenc_section and wenc_raw_section, and what
- * adds a custom section, a core module, a component by its bytes, or a start: each of these is a
- * section. */
+ * adds a custom section, producers, a core module, a component, or a start: each of these is a
+ * section, without an index (`*index` is 0). */
 enum wenc_status wenc_by_hand_new(wenc_handle *handle);
 
 /* Begins the type of a component, an instance or a core module, which declares nothing.
  *
- * On it these calls declare what the type has, and refuse a debug name as a bad argument: of a
- * component's type wenc_import and wenc_import_named; of that and of an instance's wenc_alias_
- * and wenc_type_, and the calls that add core types; of a module's type those that add core
- * types, wenc_core_type_import, wenc_core_type_export, and wenc_alias_outer of
- * WENC_OUTER_CORE_TYPE. Indices in it are its own: `*index` is that of the type, core type or
- * instance that was declared, and 0 of anything else, which isn't counted. */
+ * On it these calls declare what the type has; a debug name is a bad argument: of a component's
+ * type wenc_import and wenc_import_named; of that and of an instance's wenc_alias_ and
+ * wenc_type_, and the calls that add core types; of a module's type those that add core types,
+ * wenc_core_type_import, wenc_core_type_export, and wenc_alias_outer of WENC_OUTER_CORE_TYPE.
+ * Indices in it are its own: `*index` is that of the type, core type or instance that was
+ * declared, and 0 of anything else, which isn't counted. */
 enum wenc_status wenc_types_new(wenc_handle *handle, enum wenc_kind kind);
 
 /* Begins a section of core instances, core types, instances, aliases, types, functions, imports
@@ -515,11 +515,11 @@ enum wenc_status wenc_section_new(wenc_handle *handle, enum wenc_section section
 /* Begins a section of names. */
 enum wenc_status wenc_names_new(wenc_handle *handle);
 
-/* Frees what the handle has, which has nothing then. NULL may be freed too. */
+/* Frees what the handle owns: nothing where it is {NULL} or NULL. It is {NULL} then. */
 void wenc_free(wenc_handle *handle);
 
 /* Finishes a component, which is at `*bytes` then until the handle is freed, and has `*len`
- * bytes. It takes no memory. Made again it puts out the same. WENC_BAD_ARGUMENT, WENC_NO_HANDLE. */
+ * bytes. It allocates nothing, and may be called again. WENC_BAD_ARGUMENT, WENC_NO_HANDLE. */
 enum wenc_status wenc_finish(wenc_handle *handle, const uint8_t **bytes, size_t *len);
 
 /* Copies a finished component to `bytes`, where `len` is the number of its bytes: else
@@ -537,7 +537,7 @@ enum wenc_status wenc_len(wenc_handle *handle, size_t *len);
 
 /* ---- items
  *
- * Each of these calls adds an item, and puts its index into `*index`. They return
+ * Each of these calls adds an item, and writes its index to `*index`. They return
  * WENC_NO_MEMORY, WENC_TOO_MANY, WENC_TOO_LARGE, WENC_MALFORMED, WENC_BAD_ARGUMENT,
  * WENC_FINISHED, WENC_NO_HANDLE. */
 
@@ -591,11 +591,12 @@ enum wenc_status wenc_component_bytes(wenc_handle *handle, bool named, const cha
                                       size_t debug_name_len, const uint8_t *bytes, size_t len,
                                       uint32_t *index);
 
-/* Adds the component that another handle makes, and frees that one, which has nothing then. */
+/* Adds the component that another handle makes, and frees that one, which is {NULL} then. A
+ * component that is made section by section takes only one that is made so too. */
 enum wenc_status wenc_component(wenc_handle *handle, bool named, const char *debug_name,
                                 size_t debug_name_len, wenc_handle *nested, uint32_t *index);
 
-/* Adds the component that another handle makes, and leaves that one as it is. */
+/* Adds the component that another handle makes, as wenc_component, and leaves that one as it is. */
 enum wenc_status wenc_component_ref(wenc_handle *handle, bool named, const char *debug_name,
                                     size_t debug_name_len, wenc_handle *nested, uint32_t *index);
 
@@ -633,7 +634,7 @@ enum wenc_status wenc_lower(wenc_handle *handle, bool named, const char *debug_n
                             size_t options_len, uint32_t *index);
 
 /* Adds an instance of a core module, which is given core instances under names: `number` of each
- * part is its index, `sort` isn't looked at. */
+ * part is its index, `sort` isn't used. */
 enum wenc_status wenc_core_instantiate(wenc_handle *handle, bool named, const char *debug_name,
                                        size_t debug_name_len, uint32_t module,
                                        const wenc_part *args, size_t args_len, uint32_t *index);
@@ -658,8 +659,8 @@ enum wenc_status wenc_export_items(wenc_handle *handle, bool named, const char *
 /* ---- types
  *
  * These add a type of values or of functions. `sort` and `number` of each part are one of
- * wenc_ref and its `of`: WENC_REF_VALUE or WENC_REF_PRIMITIVE, and where it is said
- * WENC_REF_NONE. The same are `ref` and `of`. Refused as the items above. */
+ * wenc_ref and its `of`: WENC_REF_VALUE or WENC_REF_PRIMITIVE, and where a call says so
+ * WENC_REF_NONE. So are `ref` and `of`. The statuses are those of items. */
 
 /* A type of resources, which numbers of 32 bits represent, with the core function that is called
  * when one is dropped, or none. */
@@ -710,12 +711,12 @@ enum wenc_status wenc_type_tuple(wenc_handle *handle, bool named, const char *de
                                  size_t debug_name_len, const wenc_pair *elements,
                                  size_t elements_len, uint32_t *index);
 
-/* A set of flags, by their names: `sort` and `number` aren't looked at. */
+/* A set of flags, by their names: `sort` and `number` aren't used. */
 enum wenc_status wenc_type_flags(wenc_handle *handle, bool named, const char *debug_name,
                                  size_t debug_name_len, const wenc_part *flags, size_t flags_len,
                                  uint32_t *index);
 
-/* One of several names: `sort` and `number` aren't looked at. */
+/* One of several names: `sort` and `number` aren't used. */
 enum wenc_status wenc_type_enum(wenc_handle *handle, bool named, const char *debug_name,
                                 size_t debug_name_len, const wenc_part *cases, size_t cases_len,
                                 uint32_t *index);
@@ -764,7 +765,7 @@ enum wenc_status wenc_type_export_named(wenc_handle *types, const wenc_name *nam
 /* ---- core types
  *
  * These add a core type: to a component, a section of core types, or the type of a component, an
- * instance or a core module. Refused as the items above. */
+ * instance or a core module. The statuses are those of items. */
 
 /* A type of functions. It is final: no type may be declared below it. */
 enum wenc_status wenc_core_type_function(wenc_handle *handle, bool named, const char *debug_name,
@@ -803,7 +804,7 @@ enum wenc_status wenc_core_type_export(wenc_handle *types, const char *name, siz
 
 /* ---- sections
  *
- * What these add has no index. Refused as the items above. */
+ * What these add has no index. The statuses are those of items. */
 
 /* Adds a custom section with this name and data. */
 enum wenc_status wenc_custom_section(wenc_handle *handle, const char *name, size_t name_len,
@@ -840,22 +841,24 @@ enum wenc_status wenc_names_items(wenc_handle *handle, enum wenc_space space,
 /* Appends a subsection with this id and these bytes to a section of names. Nothing checks them. */
 enum wenc_status wenc_names_raw(wenc_handle *names, uint8_t id, const uint8_t *bytes, size_t len);
 
-/* ---- components that are read */
-
-/* Reads the component that these bytes are, of which nothing is kept. WENC_NOT_A_COMPONENT,
- * WENC_BAD_SECTION, WENC_BAD_ITEM and WENC_TOO_DEEP say why it isn't read, and `*unread` what
- * isn't. Also WENC_NO_MEMORY, WENC_TOO_LARGE, WENC_BAD_ARGUMENT, WENC_NO_HANDLE.
+/* ---- components that are read
  *
- * wenc_len tells how many sections it has, wenc_count how many items. Modules and nested
- * components are bytes. */
+ * wenc_section_at and wenc_item_at return WENC_BAD_ARGUMENT, WENC_FINISHED, WENC_NO_HANDLE. */
+
+/* Reads a component, and keeps no pointer to its bytes. WENC_NOT_A_COMPONENT, WENC_BAD_SECTION,
+ * WENC_BAD_ITEM and WENC_TOO_DEEP say why it can't be read, and `*unread` which part can't. Also
+ * WENC_NO_MEMORY, WENC_TOO_LARGE, WENC_BAD_ARGUMENT, WENC_NO_HANDLE.
+ *
+ * wenc_len counts its sections, wenc_count its items. Modules and nested components are bytes. */
 enum wenc_status wenc_list(wenc_handle *listing, const uint8_t *bytes, size_t len,
                            wenc_unread *unread);
 
-/* Puts out the section with this number, from 0 on: WENC_BAD_ARGUMENT where there is none. */
+/* Writes the section with this number, from 0 on, to `*section`: WENC_BAD_ARGUMENT where there
+ * is none. */
 enum wenc_status wenc_section_at(wenc_handle *listing, size_t number, wenc_listed_section *section);
 
-/* Puts out the item of the section with this number, from 0 on: WENC_BAD_ARGUMENT where there is
- * none. */
+/* Writes the item of a section with this number, from 0 on, to `*item`: WENC_BAD_ARGUMENT where
+ * there is none. */
 enum wenc_status wenc_item_at(wenc_handle *listing, size_t section, size_t number,
                               wenc_listed_item *item);
 
@@ -871,7 +874,7 @@ enum wenc_status wenc_copy(wenc_handle *handle, bool named, const char *debug_na
  *
  * An import, an export and a function that the component model provides have their own debug
  * name, and a start and a custom section none: `debug_name` isn't used. A custom section has no
- * index: it puts out 0. */
+ * index: `*index` is 0. */
 enum wenc_status wenc_item(wenc_handle *handle, enum wenc_section section, bool named,
                            const char *debug_name, size_t debug_name_len, const uint8_t *bytes,
                            size_t len, uint32_t *index);

@@ -1,10 +1,9 @@
-//! The functions of `c/wenc.h`: what numbers, pointers and lengths of C stand for, and the calls
-//! that are made of the proved sources with them.
+//! The functions of `c/wenc.h`: they read the numbers, pointers and lengths of C, and call the
+//! proved sources.
 //!
-//! A call reads its arguments before anything is changed, and a list is read whole before the
-//! first of it is written: so a refused call changes nothing. What is behind a length of 0 or a
-//! false flag isn't looked at. A pointer that isn't NULL is taken to be what the header asks for:
-//! nothing can check that.
+//! A call reads its arguments before it changes anything, and a whole list before it writes the
+//! first member: so a call that fails changes nothing. What is behind a length of 0 or a false flag
+//! isn't read. A pointer that isn't NULL has to be as the header says: nothing can check that.
 #![allow(unsafe_code)]
 
 mod arguments;
@@ -28,7 +27,7 @@ use crate::proved::wenc_read::{NestedRefusal, Refusal};
 use core::ptr;
 use session::Session;
 
-/// What a call returns: `enum wenc_status`.
+/// `enum wenc_status`: why a call failed, or `Done`.
 #[derive(Clone, Copy, Debug, PartialEq, Eq)]
 #[repr(u32)]
 pub enum Status {
@@ -47,7 +46,7 @@ pub enum Status {
     BadItem,
 }
 
-/// What a call gives, or the status that it is refused with.
+/// The result of a call, or the status with which it fails.
 type Answer<T> = Result<T, Status>;
 
 impl From<Fault> for Status {
@@ -97,20 +96,20 @@ impl From<Answer<()>> for Status {
     }
 }
 
-/// `wenc_handle`: what a handle has lies on the heap, or it has nothing.
+/// `wenc_handle`: owns a session on the heap, or nothing.
 #[derive(Debug)]
 #[repr(C)]
 pub struct Handle {
     at: *mut Session,
 }
 
-/// What a handle has.
+/// The session of a handle.
 unsafe fn session<'a>(handle: *mut Handle) -> Answer<&'a mut Session> {
     let handle = unsafe { handle.as_ref() }.ok_or(Status::NoHandle)?;
     unsafe { handle.at.as_mut() }.ok_or(Status::NoHandle)
 }
 
-/// What a second handle has, which isn't what the first one has.
+/// The session of a second handle, which has to be another one than that of the first.
 unsafe fn other<'a>(session: &Session, handle: *mut Handle) -> Answer<&'a mut Session> {
     let at = unsafe { handle.as_ref() }.map_or(ptr::null_mut(), |handle| handle.at);
     if ptr::eq(at, session) {
@@ -119,14 +118,14 @@ unsafe fn other<'a>(session: &Session, handle: *mut Handle) -> Answer<&'a mut Se
     unsafe { at.as_mut() }.ok_or(Status::NoHandle)
 }
 
-/// Puts a value where C asks for it, if it does.
+/// Writes a value to where C wants it, unless that is NULL.
 unsafe fn put<T>(at: *mut T, value: T) {
     if !at.is_null() {
         unsafe { at.write(value) };
     }
 }
 
-/// Makes a call that adds an item, and puts the item's index where C asks for it.
+/// Makes a call that adds an item, and writes the item's index to where C wants it.
 unsafe fn indexed(
     handle: *mut Handle,
     index: *mut u32,
@@ -141,19 +140,19 @@ unsafe fn indexed(
     }
 }
 
-/// Makes a call that gives nothing.
+/// Makes a call without a result.
 unsafe fn made(handle: *mut Handle, call: impl FnOnce(&mut Session) -> Answer<()>) -> Status {
     unsafe { session(handle) }.and_then(call).into()
 }
 
-/// Writes functions of C, each with what its arguments are read as:
+/// Defines functions of C. Their arguments are
 ///
-/// - `name: T` as it is, and `&name: T` by a pointer;
-/// - `name[name_len]: text`, a text in UTF-8, and `list[list_len]: T`, values one after the other;
+/// - `name: T`, a `T`, or `&name: T`, a pointer to one;
+/// - `name[name_len]: text`, a text in UTF-8, or `list[list_len]: T`, an array;
 /// - `debug_name: name`, a flag and a text.
 ///
-/// In front of them stands the handle, and behind them, after `->`, where the index is put. The
-/// body takes what the handle has, and the arguments by their names.
+/// Before them comes the handle, and after them, with `-> index`, where to write the index. The
+/// body takes the session and the arguments.
 macro_rules! calls {
     ($(
         $name:ident($($argument:tt)*) $(-> $index:ident)? = |$session:ident| $body:expr;
@@ -162,8 +161,8 @@ macro_rules! calls {
     };
 }
 
-/// Writes one function: after its body stand the parameters of C, how they are read, and the
-/// arguments that aren't taken yet.
+/// Defines one function. After its body come the parameters of C, the statements that read them,
+/// and the arguments that are still to be taken.
 macro_rules! call {
     ($f:ident [$index:ident] $s:ident $body:expr, [$($c:tt)*] [$($read:tt)*] $(,)?) => {
         #[unsafe(no_mangle)]
@@ -195,18 +194,22 @@ macro_rules! call {
             $($rest)*
         }
     };
-    ($f:ident $i:tt $s:ident $b:expr, [$($c:tt)*] [$($r:tt)*] $a:ident[$l:ident]: text, $($rest:tt)*)
-    => {
+    (
+        $f:ident $i:tt $s:ident $b:expr, [$($c:tt)*] [$($r:tt)*]
+        $a:ident[$l:ident]: text, $($rest:tt)*
+    ) => {
         $crate::capi::call! {
             $f $i $s $b, [$($c)* $a: *const u8, $l: usize,]
             [$($r)* let $a = $crate::capi::arguments::text($a, $l)?;] $($rest)*
         }
     };
-    ($f:ident $i:tt $s:ident $b:expr, [$($c:tt)*] [$($r:tt)*] $a:ident[$l:ident]: $t:ty, $($rest:tt)*)
-    => {
+    (
+        $f:ident $i:tt $s:ident $b:expr, [$($c:tt)*] [$($r:tt)*]
+        $a:ident[$l:ident]: $t:ty, $($rest:tt)*
+    ) => {
         $crate::capi::call! {
             $f $i $s $b, [$($c)* $a: *const $t, $l: usize,]
-            [$($r)* let $a = $crate::capi::arguments::list($a, $l);] $($rest)*
+            [$($r)* let $a = $crate::capi::arguments::list($a, $l)?;] $($rest)*
         }
     };
     ($f:ident $i:tt $s:ident $b:expr, [$($c:tt)*] [$($r:tt)*] &$a:ident: $t:ty, $($rest:tt)*) => {

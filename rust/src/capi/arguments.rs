@@ -1,4 +1,4 @@
-//! Arguments of C: texts, lists, and the structures of the header.
+//! Arguments of C: texts, arrays, and the structures of the header.
 
 use super::numbers;
 use super::{Answer, Status};
@@ -97,21 +97,31 @@ pub struct IndexName {
     pub index: u32,
 }
 
-/// So many values, of which none is read where there are none.
-pub unsafe fn list<'a, T>(at: *const T, len: usize) -> &'a [T] {
-    if len == 0 { &[] } else { unsafe { slice::from_raw_parts(at, len) } }
+/// An array. Where it is empty the pointer isn't used.
+///
+/// # Errors
+///
+/// The pointer is NULL, or no array is as long.
+pub unsafe fn list<'a, T>(at: *const T, len: usize) -> Answer<&'a [T]> {
+    if len == 0 {
+        Ok(&[])
+    } else if at.is_null() || len > isize::MAX as usize / size_of::<T>() {
+        Err(Status::BadArgument)
+    } else {
+        Ok(unsafe { slice::from_raw_parts(at, len) })
+    }
 }
 
-/// A text in UTF-8. Most are ASCII, which is seen faster.
+/// A text in UTF-8. Most are ASCII, which is faster to check.
 pub unsafe fn text<'a>(at: *const u8, len: usize) -> Answer<&'a str> {
-    let bytes = unsafe { list(at, len) };
+    let bytes = unsafe { list(at, len) }?;
     if bytes.is_ascii() {
         return Ok(unsafe { str::from_utf8_unchecked(bytes) });
     }
     str::from_utf8(bytes).map_err(|_| Status::Malformed)
 }
 
-/// A text that isn't read where the flag isn't set.
+/// A text that is there if the flag is set. Else the pointer isn't used.
 pub unsafe fn optional<'a>(has: Flag, at: *const u8, len: usize) -> Answer<Option<&'a str>> {
     if has.is_set() { unsafe { text(at, len) }.map(Some) } else { Ok(None) }
 }
@@ -142,12 +152,11 @@ impl Entity {
     }
 }
 
-/// Values with their names, which are read one by one. All of them are looked at before: so what
-/// is written of them is all of them.
+/// An iterator over values with their names. All of them are checked here, so that it yields all.
 ///
 /// # Errors
 ///
-/// A name isn't UTF-8, or a pair of numbers stands for nothing.
+/// Fails where a name isn't UTF-8, or a pair of numbers isn't known to `of`.
 pub unsafe fn named<'a, T>(
     parts: &'a [Part],
     of: impl Fn(u32, u32) -> Option<T> + 'a,
@@ -157,7 +166,7 @@ pub unsafe fn named<'a, T>(
         of(part.sort, part.number).ok_or(Status::BadArgument)?;
     }
     Ok(parts.iter().filter_map(move |part| {
-        let name = unsafe { str::from_utf8_unchecked(list(part.name, part.name_len)) };
+        let name = unsafe { str::from_utf8_unchecked(list(part.name, part.name_len).ok()?) };
         Some((name, of(part.sort, part.number)?))
     }))
 }
@@ -173,7 +182,7 @@ pub fn unnamed<'a, T>(
     Ok(pairs.iter().filter_map(move |pair| of(pair.sort, pair.number)))
 }
 
-/// Names alone, as [`named`]: the numbers that go with them aren't looked at.
+/// Names alone, as [`named`]: the numbers with them aren't used.
 pub unsafe fn names(parts: &[Part]) -> Answer<impl Iterator<Item = &str>> {
     Ok(unsafe { named(parts, |_, _| Some(())) }?.map(|(name, ())| name))
 }

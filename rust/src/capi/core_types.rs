@@ -7,8 +7,7 @@ use crate::proved::rt_std::alloc::Global;
 use crate::proved::rt_std::vec::Vec;
 use crate::proved::wasm_encoder::{ArrayType, CompositeType, FuncType, StructType, SubType};
 
-/// Has the encoder of a core type write it: that of a builder, a type that is declared, or a
-/// section.
+/// Writes a core type by the encoder of a builder, a declared type or a section.
 macro_rules! write_core_type {
     ($session:ident, $debug_name:ident, |$encoder:ident| $write:expr) => {
         match $session {
@@ -82,12 +81,12 @@ calls! {
 }
 
 impl Subtype {
-    /// The type, whose lists are copied.
+    /// The type, with copies of its lists.
     unsafe fn read(&self) -> Answer<SubType> {
-        let fields = unsafe { list(self.fields, self.fields_len) };
+        let fields = unsafe { list(self.fields, self.fields_len) }?;
         let composite_type = match self.kind {
             1 => {
-                let results = unsafe { list(self.results, self.results_len) };
+                let results = unsafe { list(self.results, self.results_len) }?;
                 CompositeType::Func(FuncType::new(
                     Global,
                     unnamed(fields, numbers::core_value)?,

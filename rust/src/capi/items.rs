@@ -8,7 +8,7 @@ use crate::proved::wasm_encoder::{
     ComponentStartSection, ModuleArg, RawSection, ValType,
 };
 
-/// What a number stands for, or a refusal.
+/// The value of a number, or `BadArgument`.
 fn known<T>(value: Option<T>) -> Answer<T> {
     value.ok_or(Status::BadArgument)
 }
@@ -38,13 +38,15 @@ calls! {
             _ => session.alias(None, Alias::InstanceExport { instance, kind, name }),
         }
     };
-    wenc_alias_instance_export(debug_name: name, instance: u32, kind: u32, name[name_len]: text) -> index
-        = |session| {
+    wenc_alias_instance_export(
+        debug_name: name, instance: u32, kind: u32, name[name_len]: text
+    ) -> index = |session| {
         let kind = known(numbers::kind(kind))?;
         session.alias(debug_name, Alias::InstanceExport { instance, kind, name })
     };
-    wenc_alias_core_export(debug_name: name, instance: u32, kind: u32, name[name_len]: text) -> index
-        = |session| {
+    wenc_alias_core_export(
+        debug_name: name, instance: u32, kind: u32, name[name_len]: text
+    ) -> index = |session| {
         let kind = known(numbers::core_kind(kind))?;
         session.alias(debug_name, Alias::CoreInstanceExport { instance, kind, name })
     };
@@ -65,7 +67,8 @@ calls! {
             _ => session.append(&ComponentStartSection { function_index: function, args, results }),
         }
     };
-    wenc_lift(debug_name: name, function: u32, ty: u32, options[options_len]: Pair) -> index = |session| {
+    wenc_lift(debug_name: name, function: u32, ty: u32, options[options_len]: Pair) -> index
+        = |session| {
         let options = unnamed(options, numbers::option)?;
         match session {
             Session::Building(to) => Ok(to.lift_func(debug_name, function, ty, options)?),
@@ -113,7 +116,8 @@ calls! {
             _ => Err(session.refusal()),
         }
     };
-    wenc_core_instantiate(debug_name: name, module: u32, args[args_len]: Part) -> index = |session| {
+    wenc_core_instantiate(debug_name: name, module: u32, args[args_len]: Part) -> index
+        = |session| {
         let args = named(args, |_, instance| Some(ModuleArg::Instance(instance)))?;
         match session {
             Session::Building(to) => Ok(to.core_instantiate(debug_name, module, args)?),
@@ -168,7 +172,7 @@ fn add_component(session: &mut Session, debug_name: Option<&str>, bytes: &[u8]) 
     }
 }
 
-/// Adds the component of another handle, which stays as it is.
+/// Adds the component of another handle, which keeps it.
 fn nest(session: &mut Session, debug_name: Option<&str>, nested: &Session) -> Answer<u32> {
     match nested {
         Session::Building(nested) => Ok(session.builder()?.component_ref(debug_name, nested)?),
@@ -177,7 +181,7 @@ fn nest(session: &mut Session, debug_name: Option<&str>, nested: &Session) -> An
     }
 }
 
-/// A flag that is handed over as a number.
+/// A flag that is passed as a number.
 fn flag(number: u32) -> Answer<bool> {
     match number {
         0 => Ok(false),
@@ -197,10 +201,7 @@ fn add_builtin<B: AddsBuiltin>(
         1 => to.resource_new(first),
         2 => to.resource_drop(first),
         3 => to.resource_rep(first),
-        4 => to.task_cancel(),
         5 => to.subtask_cancel(flag(first)?),
-        6 => to.thread_yield(),
-        7 => to.subtask_drop(),
         8 => to.stream_new(first),
         9 => to.stream_cancel_read(first, flag(second)?),
         10 => to.stream_cancel_write(first, flag(second)?),
@@ -211,26 +212,37 @@ fn add_builtin<B: AddsBuiltin>(
         15 => to.future_cancel_write(first, flag(second)?),
         16 => to.future_drop_readable(first),
         17 => to.future_drop_writable(first),
-        18 => to.error_context_drop(),
-        19 => to.waitable_set_new(),
         20 => to.waitable_set_wait(first),
         21 => to.waitable_set_poll(first),
+        27 => to.thread_new_indirect(first, second),
+        34 => to.stream_forward(first),
+        35 => to.future_forward(first),
+        36 => to.thread_spawn_ref(first),
+        37 => to.thread_spawn_indirect(first, second),
+        _ => return add_plain_builtin(to, function),
+    };
+    Ok(added?)
+}
+
+/// Adds one of `enum wenc_function` that takes no number.
+fn add_plain_builtin<B: AddsBuiltin>(to: &mut B, function: u32) -> Answer<B::Answer> {
+    let added = match function {
+        4 => to.task_cancel(),
+        6 => to.thread_yield(),
+        7 => to.subtask_drop(),
+        18 => to.error_context_drop(),
+        19 => to.waitable_set_new(),
         22 => to.waitable_set_drop(),
         23 => to.waitable_join(),
         24 => to.backpressure_inc(),
         25 => to.backpressure_dec(),
         26 => to.thread_index(),
-        27 => to.thread_new_indirect(first, second),
         28 => to.thread_resume_later(),
         29 => to.thread_suspend(),
         30 => to.thread_suspend_then_resume(),
         31 => to.thread_yield_then_resume(),
         32 => to.thread_suspend_then_promote(),
         33 => to.thread_yield_then_promote(),
-        34 => to.stream_forward(first),
-        35 => to.future_forward(first),
-        36 => to.thread_spawn_ref(first),
-        37 => to.thread_spawn_indirect(first, second),
         38 => to.thread_available_parallelism(),
         _ => return Err(Status::BadArgument),
     };

@@ -1,4 +1,4 @@
-//! What a library without Rust's `std` needs of C: memory, and an end for what can't go on.
+//! What a library without Rust's `std` takes from C: its allocator, and `abort`.
 
 use core::alloc::{GlobalAlloc, Layout};
 use core::ffi::c_void;
@@ -11,10 +11,10 @@ unsafe extern "C" {
     fn abort() -> !;
 }
 
-/// What each block of `malloc` is aligned to.
+/// The alignment of each block of `malloc`.
 const ALIGNED: usize = 2 * size_of::<usize>();
 
-/// The memory of C. What is to be aligned further than its blocks is refused: nothing here is.
+/// C's allocator. A request for a larger alignment fails: nothing here makes one.
 struct Memory;
 
 unsafe impl GlobalAlloc for Memory {

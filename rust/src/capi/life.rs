@@ -1,4 +1,4 @@
-//! The calls that begin, finish and free what handles have.
+//! The calls that begin, finish and free what handles own.
 
 use super::listing::Listed;
 use super::session::Session;
@@ -24,7 +24,7 @@ pub extern "C" fn wenc_version() -> u32 {
     VERSION
 }
 
-/// What each status says, in the order of `enum wenc_status`.
+/// A text for each status, in the order of `enum wenc_status`.
 const TEXTS: [&CStr; 13] = [
     c"done",
     c"no memory",
@@ -47,7 +47,7 @@ pub extern "C" fn wenc_status_text(status: u32) -> *const c_char {
     text.map_or(c"unknown status", |text| text).as_ptr()
 }
 
-/// Has a handle that has nothing have what is made.
+/// Makes a session for a handle that owns nothing.
 unsafe fn begin(handle: *mut Handle, make: impl FnOnce() -> Answer<Session>) -> Answer<()> {
     let handle = unsafe { handle.as_mut() }.ok_or(Status::NoHandle)?;
     if !handle.at.is_null() {
@@ -110,7 +110,7 @@ pub unsafe extern "C" fn wenc_names_new(handle: *mut Handle) -> Status {
     unsafe { begin(handle, || Ok(Session::Names(ComponentNameSection::new(Global)))) }.into()
 }
 
-/// `wenc_unread`: what isn't read of a component.
+/// `wenc_unread`: the part of a component that can't be read.
 #[repr(C)]
 pub struct UnreadPart {
     pub section: usize,
@@ -126,20 +126,22 @@ pub unsafe extern "C" fn wenc_list(
     len: usize,
     unread: *mut UnreadPart,
 ) -> Status {
-    let bytes = unsafe { super::arguments::list(bytes, len) };
-    let make = || match Listed::read(bytes)? {
-        Ok(listed) => Ok(Session::Listed(listed)),
-        Err(fault) => {
-            let (status, part) = told(bytes, fault);
-            unsafe { put(unread, part) };
-            Err(status)
+    let make = || {
+        let bytes = unsafe { super::arguments::list(bytes, len) }?;
+        match Listed::read(bytes)? {
+            Ok(listed) => Ok(Session::Listed(listed)),
+            Err(fault) => {
+                let (status, part) = unread_part(bytes, fault);
+                unsafe { put(unread, part) };
+                Err(status)
+            }
         }
     };
     unsafe { begin(handle, make) }.into()
 }
 
-/// Why a component isn't read, and what of it isn't.
-fn told(bytes: &[u8], fault: ListFault) -> (Status, UnreadPart) {
+/// The status of a component that can't be read, and the part that can't.
+fn unread_part(bytes: &[u8], fault: ListFault) -> (Status, UnreadPart) {
     let (status, section) = match fault {
         ListFault::Memory => (Status::NoMemory, 0),
         ListFault::NotAComponent { place } => (Status::NotAComponent, place),
@@ -172,7 +174,7 @@ pub unsafe extern "C" fn wenc_free(handle: *mut Handle) {
     }
 }
 
-/// The bytes of the component, which is finished, unless it was before.
+/// The bytes of a component, which this finishes.
 fn finished(session: &mut Session) -> Answer<&[u8]> {
     if let Session::Building(_) | Session::ByHand(_) = session {
         let bytes = match mem::replace(session, Session::Finished(Vec::new(Global))) {
@@ -209,7 +211,7 @@ pub unsafe extern "C" fn wenc_finish(
 pub unsafe extern "C" fn wenc_bytes(handle: *mut Handle, bytes: *mut u8, len: usize) -> Status {
     match unsafe { session(handle) } {
         Ok(Session::Building(_) | Session::ByHand(_)) => Status::Unfinished,
-        Ok(Session::Finished(whole)) if whole.len() == len => {
+        Ok(Session::Finished(whole)) if whole.len() == len && !bytes.is_null() => {
             unsafe { ptr::copy_nonoverlapping(whole.as_ptr(), bytes, len) };
             Status::Done
         }
@@ -218,7 +220,7 @@ pub unsafe extern "C" fn wenc_bytes(handle: *mut Handle, bytes: *mut u8, len: us
     }
 }
 
-/// Puts a number where C asks for it.
+/// Writes a number to where C wants it.
 unsafe fn counted<T>(at: *mut T, count: Answer<T>) -> Status {
     count.map(|count| unsafe { put(at, count) }).into()
 }

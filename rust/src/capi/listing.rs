@@ -1,4 +1,4 @@
-//! Components that were read, and items by their bytes.
+//! Components that were read, and items from their bytes.
 
 use super::session::{Session, settled};
 use super::{Answer, Handle, Status, calls, numbers, other, put};
@@ -28,7 +28,7 @@ pub struct Listed {
 }
 
 impl Listed {
-    /// Reads a component, or says why it isn't read.
+    /// Reads a component.
     pub fn read(bytes: &[u8]) -> Answer<Result<Self, ListFault>> {
         let listing = match list(Global, bytes) {
             Ok(listing) => listing,
@@ -95,7 +95,7 @@ impl Listed {
     }
 }
 
-/// The name under which an item is imported, exported or found, or that of a custom section.
+/// The name under which an item is imported, exported or aliased, or that of a custom section.
 fn name_in(item: &ItemTree) -> Option<&str> {
     match item {
         ItemTree::Import { name, .. } | ItemTree::Export { name, .. } => Some(name.name.as_str()),
@@ -106,7 +106,7 @@ fn name_in(item: &ItemTree) -> Option<&str> {
     }
 }
 
-/// What isn't read of an item: a core module, a component, what a custom section has.
+/// A core module, a component, or the data of a custom section.
 fn bytes_in(item: &ItemTree) -> Option<&[u8]> {
     match item {
         ItemTree::Module(bytes) | ItemTree::Component(bytes) => Some(bytes),
@@ -137,7 +137,7 @@ pub struct ItemRow {
     pub indices: u32,
 }
 
-/// What a handle has that a component was read by.
+/// The component that a handle has read.
 fn listed(session: &Session) -> Answer<&Listed> {
     match session {
         Session::Listed(listed) => Ok(listed),
@@ -165,7 +165,7 @@ calls! {
     };
 }
 
-/// Adds an item. A custom section has no index: it gives 0.
+/// Adds an item, and returns its index, or 0 for a custom section, which has none.
 fn add(builder: &mut ComponentBuilder, name: Option<&str>, item: &ItemTree) -> Answer<u32> {
     Ok(match item {
         ItemTree::Module(bytes) => builder.core_module_raw(name, bytes)?,
@@ -196,18 +196,18 @@ fn add(builder: &mut ComponentBuilder, name: Option<&str>, item: &ItemTree) -> A
     })
 }
 
-/// What is read of all bytes.
+/// Reads a value that takes all bytes.
 fn all<T: Decode<Global>>(bytes: &[u8]) -> Answer<T> {
     let (value, rest) = T::decode(Global, bytes)?;
     ended(value, rest)
 }
 
-/// What was read, if nothing is left.
+/// Returns a value if no bytes are left behind it.
 fn ended<T>(value: T, rest: &[u8]) -> Answer<T> {
     if rest.is_empty() { Ok(value) } else { Err(Status::Malformed) }
 }
 
-/// Reads an item of a section, which has all bytes.
+/// Reads an item of a section, which takes all bytes.
 fn read(section: ComponentSectionId, bytes: &[u8]) -> Answer<ItemTree> {
     Ok(match section {
         ComponentSectionId::CoreCustom => {

@@ -1,4 +1,4 @@
-//! What the numbers of the header's enumerations stand for. Each list has the order of the header.
+//! The numbers of the header's enumerations, as values. Each list has the order of the header.
 
 use super::arguments::Entity;
 use crate::proved::wasm_encoder::{
@@ -114,7 +114,7 @@ fn nth<T: Copy>(all: &[T], number: u32) -> Option<T> {
     all.get(usize::try_from(number).ok()?).copied()
 }
 
-/// The number that a list has for a value.
+/// The position of a value in a list.
 fn number_in<T: PartialEq>(all: &[T], value: &T) -> u32 {
     (0..).zip(all).find(|(_, one)| *one == value).map_or(u32::MAX, |(number, _)| number)
 }

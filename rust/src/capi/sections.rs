@@ -62,7 +62,7 @@ fn add_custom(session: &mut Session, section: &CustomSection<'_>) -> Answer<()> 
     }
 }
 
-/// The section of names that a handle has.
+/// The section of names that a handle owns.
 fn of_names(session: &mut Session) -> Answer<&mut ComponentNameSection> {
     match session {
         Session::Names(section) => Ok(section),
@@ -88,7 +88,7 @@ fn name_items(section: &mut ComponentNameSection, space: Space, names: &NameMap)
     }?)
 }
 
-/// The section of these tools. Neighbours of one field stand in it together.
+/// A section of these tools. Neighbours with one field share it.
 unsafe fn read_producers(producers: &[Producer]) -> Answer<ProducersSection> {
     let field_of = |producer: &Producer| unsafe { text(producer.field, producer.field_len) };
     let mut section = ProducersSection::new(Global);

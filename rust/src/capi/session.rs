@@ -1,4 +1,4 @@
-//! What a handle has, and the calls that several kinds of it take.
+//! What a handle owns, and the calls that several kinds of it take.
 
 use super::listing::Listed;
 use super::{Answer, Status};
@@ -13,7 +13,7 @@ use crate::proved::wasm_encoder::{
 };
 use crate::proved::wenc_types::counts::{Sort, sort_of_alias, sort_of_kind};
 
-/// What a handle has.
+/// What a handle owns.
 pub enum Session {
     /// A component, item by item.
     Building(ComponentBuilder),
@@ -39,7 +39,7 @@ pub enum Session {
     Listed(Listed),
 }
 
-/// The index of the next item of a type that is declared, or 0 where such items aren't counted.
+/// The index of the next item of a declared type, or 0 where such items aren't counted.
 fn next<K: DeclaringKind>(ty: &Declarations<K, Global>, sort: Option<Sort>) -> u32 {
     match sort {
         None => 0,
@@ -49,7 +49,8 @@ fn next<K: DeclaringKind>(ty: &Declarations<K, Global>, sort: Option<Sort>) -> u
     }
 }
 
-/// The index of a type that an encoder has written, or gives the type up.
+/// Returns the index of a type that an encoder has written, or discards the type where that
+/// failed.
 pub fn settled(
     written: Result<(), Fault>,
     index: u32,
@@ -64,7 +65,7 @@ pub fn settled(
     }
 }
 
-/// Adds to a section, and gives how many it had before.
+/// Adds to a section, and returns how many items it had before.
 macro_rules! counted {
     ($section:ident => $call:expr) => {{
         let index = $section.len();
@@ -76,7 +77,7 @@ macro_rules! counted {
 pub(super) use counted;
 
 impl Session {
-    /// Why a call is refused that this doesn't take.
+    /// The status of a call that this doesn't take.
     pub fn refusal(&self) -> Status {
         match self {
             Self::Finished(_) => Status::Finished,
@@ -84,7 +85,7 @@ impl Session {
         }
     }
 
-    /// Whether an item of this may have a debug name: those of a builder have.
+    /// Checks a debug name: only items of a builder may have one.
     pub fn take_name(&self, debug_name: Option<&str>) -> Answer<()> {
         match (self, debug_name) {
             (Self::Building(_), _) | (_, None) => Ok(()),

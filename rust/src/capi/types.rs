@@ -7,7 +7,7 @@ use crate::proved::wasm_encoder::{
     ComponentTypeEncoder, ComponentValType, Fault, Lender, ModuleType, ValType,
 };
 
-/// Has the encoder of a type write it: that of a builder, a type that is declared, or a section.
+/// Writes a type by the encoder of a builder, a declared type or a section.
 macro_rules! write_type {
     ($session:ident, $debug_name:ident, |$encoder:ident| $write:expr) => {
         match $session {

@@ -104,6 +104,30 @@ fn null_is_empty_or_nothing() {
 }
 
 #[test]
+fn null_and_impossible_lengths_are_refused() {
+    let (mut builder, mut nothing, none) = (Held::builder(), Held::nothing(), ptr::null_mut());
+    let (at, a) = (builder.at(), b"a".as_ptr());
+    let (pair, most) = (Pair { sort: 0, number: 0 }, usize::MAX);
+    let statuses = unsafe {
+        [
+            wenc_import(at, EMPTY, 5, 7, 0, none),
+            wenc_import(at, a, most, 7, 0, none),
+            wenc_type_own(at, YES, EMPTY, 1, 0, none),
+            wenc_type_tuple(at, NO, EMPTY, 0, ptr::null(), 1, none),
+            wenc_type_tuple(at, NO, EMPTY, 0, &pair, most / 8, none),
+            wenc_core_module(at, NO, EMPTY, 0, EMPTY, 8, none),
+            wenc_start(at, 0, ptr::null(), 1, 0, none),
+            wenc_producers(at, ptr::null(), 1),
+            wenc_list(nothing.at(), EMPTY, 8, ptr::null_mut()),
+        ]
+    };
+    assert_eq!(statuses, [Status::BadArgument; 9]);
+    assert_eq!(unsafe { wenc_finish(at, ptr::null_mut(), ptr::null_mut()) }, Status::Done);
+    assert_eq!(unsafe { wenc_bytes(at, ptr::null_mut(), 8) }, Status::BadArgument);
+    assert_eq!(builder.finished().len(), 8);
+}
+
+#[test]
 fn structures_are_not_null() {
     let (mut builder, mut module) = (Held::builder(), Held::types(0));
     let none = ptr::null_mut();
@@ -229,29 +253,8 @@ fn texts_are_utf8() {
 
 #[test]
 fn numbers_stand_for_something() {
-    let (mut builder, mut module, none) = (Held::builder(), Held::types(0), ptr::null_mut());
-    let at = builder.at();
-    let (pair, pairs) = (Pair { sort: 10, number: 0 }, [Pair { sort: 21, number: 0 }]);
-    let entity = |kind, ty| Entity {
-        minimum: 0,
-        maximum: 0,
-        kind,
-        ty,
-        index: 0,
-        has_maximum: NO,
-        is_long: NO,
-        is_shared: NO,
-    };
-    let subtype = |kind, fields: &[Pair]| Subtype {
-        fields: fields.as_ptr(),
-        fields_len: fields.len(),
-        results: ptr::null(),
-        results_len: 0,
-        kind,
-        supertype: 0,
-        has_supertype: NO,
-        is_final: YES,
-    };
+    let (mut builder, none) = (Held::builder(), ptr::null_mut());
+    let (at, pair) = (builder.at(), Pair { sort: 10, number: 0 });
     let statuses = unsafe {
         [
             wenc_import(at, EMPTY, 0, 9, 0, none),
@@ -271,6 +274,48 @@ fn numbers_stand_for_something() {
             wenc_lift(at, NO, EMPTY, 0, 0, 0, &pair, 1, none),
             wenc_type_primitive(at, NO, EMPTY, 0, 0, none),
             wenc_type_list(at, NO, EMPTY, 0, 0, 0, none),
+            wenc_item(at, 12, NO, EMPTY, 0, EMPTY, 0, none),
+            wenc_count(at, 13, ptr::null_mut()),
+        ]
+    };
+    assert_eq!(statuses, [Status::BadArgument; 19]);
+    assert_eq!(builder.finished().len(), 8);
+}
+
+/// A type by its kind and its fields.
+fn subtype(kind: u32, fields: &[Pair]) -> Subtype {
+    Subtype {
+        fields: fields.as_ptr(),
+        fields_len: fields.len(),
+        results: ptr::null(),
+        results_len: 0,
+        kind,
+        supertype: 0,
+        has_supertype: NO,
+        is_final: YES,
+    }
+}
+
+/// What a core module imports or exports, by its kind and its type.
+fn entity(kind: u32, ty: u32) -> Entity {
+    Entity {
+        minimum: 0,
+        maximum: 0,
+        kind,
+        ty,
+        index: 0,
+        has_maximum: NO,
+        is_long: NO,
+        is_shared: NO,
+    }
+}
+
+#[test]
+fn numbers_of_core_types_stand_for_something() {
+    let (mut builder, mut module, none) = (Held::builder(), Held::types(0), ptr::null_mut());
+    let (at, of, pairs) = (builder.at(), module.at(), [Pair { sort: 21, number: 0 }]);
+    let statuses = unsafe {
+        [
             wenc_core_type_struct(at, NO, EMPTY, 0, pairs.as_ptr(), 1, none),
             wenc_core_type_function(at, NO, EMPTY, 0, ptr::null(), 0, pairs.as_ptr(), 1, none),
             wenc_core_type_array(at, NO, EMPTY, 0, 0x400 + 1, 0, none),
@@ -278,19 +323,30 @@ fn numbers_stand_for_something() {
             wenc_core_type_subtype(at, NO, EMPTY, 0, &subtype(4, &[]), none),
             wenc_core_type_subtype(at, NO, EMPTY, 0, &subtype(3, &[]), none),
             wenc_core_type_group(at, NO, EMPTY, 0, &subtype(2, &pairs), 1, none),
-            wenc_core_type_export(module.at(), EMPTY, 0, &entity(5, 0)),
-            wenc_core_type_export(module.at(), EMPTY, 0, &entity(1, 1)),
-            wenc_core_type_export(module.at(), EMPTY, 0, &entity(3, 19)),
+            wenc_core_type_export(of, EMPTY, 0, &entity(5, 0)),
+            wenc_core_type_export(of, EMPTY, 0, &entity(1, 1)),
+            wenc_core_type_export(of, EMPTY, 0, &entity(3, 19)),
+        ]
+    };
+    assert_eq!(statuses, [Status::BadArgument; 10]);
+    assert_eq!(builder.finished().len(), 8);
+}
+
+#[test]
+fn handles_of_another_kind() {
+    let mut builder = Held::builder();
+    let at = builder.at();
+    let statuses = unsafe {
+        [
             wenc_core_type_export(at, EMPTY, 0, &entity(0, 0)),
-            wenc_item(at, 12, NO, EMPTY, 0, EMPTY, 0, none),
-            wenc_count(at, 13, ptr::null_mut()),
             wenc_raw_section(at, 0, EMPTY, 0),
             wenc_names_component(at, EMPTY, 0),
             wenc_len(at, ptr::null_mut()),
+            wenc_section_at(at, 0, ptr::null_mut()),
+            wenc_type_export(at, EMPTY, 0, 7, 0, ptr::null_mut()),
         ]
     };
-    assert_eq!(statuses, [Status::BadArgument; 33]);
-    assert_eq!(builder.finished().len(), 8);
+    assert_eq!(statuses, [Status::BadArgument; 6]);
     let mut nothing = Held::nothing();
     for section in [0, 1, 4, 9, 12] {
         assert_eq!(unsafe { wenc_section_new(nothing.at(), section) }, Status::BadArgument);

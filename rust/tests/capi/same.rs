@@ -3,7 +3,7 @@
 mod facade;
 mod functions;
 
-use super::values::Random;
+use super::values::{Both, Random};
 use crate::capi::arguments::{Flag, IndexName, Producer};
 use crate::capi::core_types::*;
 use crate::capi::items::*;
@@ -41,7 +41,9 @@ impl Drop for Two {
 macro_rules! named {
     ($two:ident, $debug_name:ident, $wanted:expr, $call:ident($($arg:expr),*)) => {{
         let mut index = UNTOUCHED;
-        let (at, len) = $debug_name.map_or((ptr::dangling(), 9), |name: &str| (name.as_ptr(), name.len()));
+        let name: &str = $debug_name.unwrap_or_default();
+        let at = if $debug_name.is_some() { name.as_ptr() } else { ptr::dangling() };
+        let len = if $debug_name.is_some() { name.len() } else { 9 };
         let flag = Flag($debug_name.is_some().into());
         let status = unsafe { $call(&mut $two.handle, flag, at, len, $($arg,)* &mut index) };
         same(stringify!($call), status, index, $wanted);
@@ -145,122 +147,125 @@ fn aliases(random: &mut Random, two: &mut Two) {
     }
 }
 
-/// A type of values or of functions.
+/// Adds a type without a list.
+macro_rules! typed {
+    ($two:ident, $name:ident, |$to:ident| $write:expr, $call:ident($($arg:expr),*)) => {{
+        let wanted = $two.facade.ty($name, |$to| _ = $write);
+        named!($two, $name, wanted, $call($($arg),*));
+    }};
+}
+
+/// A type of values.
 fn types(random: &mut Random, two: &mut Two) {
-    let name = random.debug_name();
-    let ((pair, ty), (maybe_pair, maybe)) = (random.value(), random.maybe_value());
-    let (other_pair, other) = random.maybe_value();
-    let (index, flag) = (random.index(), random.flag());
-    macro_rules! typed {
-        (|$encoder:ident| $write:expr, $call:ident($($arg:expr),*)) => {{
-            let wanted = two.facade.ty(name, |$encoder| _ = $write);
-            named!(two, name, wanted, $call($($arg),*));
-        }};
+    let (name, index) = (random.debug_name(), random.index());
+    let ((pair, ty), (key, key_ty)) = (random.value(), random.value());
+    let (sort, of) = (pair.sort, pair.number);
+    match random.below(5) {
+        0 => {
+            let (number, ty) = random.primitive();
+            typed!(two, name, |to| to.defined_type().primitive(ty), wenc_type_primitive(number));
+        }
+        1 => typed!(two, name, |to| to.defined_type().list(ty), wenc_type_list(sort, of)),
+        2 => typed!(
+            two,
+            name,
+            |to| to.defined_type().fixed_length_list(ty, index),
+            wenc_type_fixed_length_list(sort, of, index)
+        ),
+        3 => typed!(
+            two,
+            name,
+            |to| to.defined_type().map(key_ty, ty),
+            wenc_type_map(key.sort, key.number, sort, of)
+        ),
+        _ => typed!(two, name, |to| to.defined_type().option(ty), wenc_type_option(sort, of)),
     }
-    match random.below(9) {
+}
+
+/// A type of resources or of handles, or one of values that may be absent.
+fn more_types(random: &mut Random, two: &mut Two) {
+    let (name, index, flag) = (random.debug_name(), random.index(), random.flag());
+    let ((pair, ty), (err, err_ty)) = (random.maybe_value(), random.maybe_value());
+    let (sort, of) = (pair.sort, pair.number);
+    match random.below(6) {
         0 => typed!(
+            two,
+            name,
             |to| to.resource(crate::ValType::I32, flag.then_some(index)),
             wenc_type_resource(Flag(flag.into()), index)
         ),
-        1 => {
-            let (number, ty) = random.primitive();
-            typed!(|to| to.defined_type().primitive(ty), wenc_type_primitive(number));
-        }
-        2 => typed!(|to| to.defined_type().list(ty), wenc_type_list(pair.sort, pair.number)),
-        3 => typed!(
-            |to| to.defined_type().fixed_length_list(ty, index),
-            wenc_type_fixed_length_list(pair.sort, pair.number, index)
+        1 => typed!(
+            two,
+            name,
+            |to| to.defined_type().result(ty, err_ty),
+            wenc_type_result(sort, of, err.sort, err.number)
         ),
-        4 => {
-            let (key, key_ty) = random.value();
-            typed!(
-                |to| to.defined_type().map(key_ty, ty),
-                wenc_type_map(key.sort, key.number, pair.sort, pair.number)
-            );
-        }
-        5 => typed!(|to| to.defined_type().option(ty), wenc_type_option(pair.sort, pair.number)),
-        6 => typed!(
-            |to| to.defined_type().result(maybe, other),
-            wenc_type_result(
-                maybe_pair.sort,
-                maybe_pair.number,
-                other_pair.sort,
-                other_pair.number
-            )
-        ),
-        7 if flag => typed!(|to| to.defined_type().own(index), wenc_type_own(index)),
-        7 => typed!(|to| to.defined_type().borrow(index), wenc_type_borrow(index)),
-        _ if flag => typed!(
-            |to| to.defined_type().future(maybe),
-            wenc_type_future(maybe_pair.sort, maybe_pair.number)
-        ),
-        _ => typed!(
-            |to| to.defined_type().stream(maybe),
-            wenc_type_stream(maybe_pair.sort, maybe_pair.number)
-        ),
+        2 => typed!(two, name, |to| to.defined_type().own(index), wenc_type_own(index)),
+        3 => typed!(two, name, |to| to.defined_type().borrow(index), wenc_type_borrow(index)),
+        4 => typed!(two, name, |to| to.defined_type().future(ty), wenc_type_future(sort, of)),
+        _ => typed!(two, name, |to| to.defined_type().stream(ty), wenc_type_stream(sort, of)),
     }
+}
+
+/// Adds a type with a list.
+macro_rules! listed {
+    ($two:ident, $name:ident, $list:expr, |$to:ident, $values:ident| $write:expr, $call:ident) => {{
+        let (list, $values) = ($list.0, $list.1);
+        let wanted = $two.facade.ty($name, |$to| _ = $write);
+        named!($two, $name, wanted, $call(list.as_ptr(), list.len()));
+    }};
+}
+
+/// The names of a list.
+fn names_of<T>(list: Vec<(&'static str, T)>) -> Vec<&'static str> {
+    list.into_iter().map(|(name, _)| name).collect()
 }
 
 /// A type with a list.
 fn listed_types(random: &mut Random, two: &mut Two) {
     let name = random.debug_name();
-    macro_rules! typed {
-        ($list:expr, |$encoder:ident, $values:ident| $write:expr, $call:ident($($arg:expr),*),
-            $($behind:expr),*) => {{
-            let (list, $values) = ($list.0, $list.1);
-            let wanted = two.facade.ty(name, |$encoder| _ = $write);
-            named!(two, name, wanted, $call($($arg,)* list.as_ptr(), list.len() $(, $behind)*));
-        }};
-    }
-    match random.below(6) {
-        0 => {
-            let fields = random.parts(Random::value);
-            typed!(fields, |to, list| to.defined_type().record(list), wenc_type_record(),);
-        }
+    let (parts, maybe) = (random.parts(Random::value), random.parts(Random::maybe_value));
+    match random.below(5) {
+        0 => listed!(two, name, parts, |to, list| to.defined_type().record(list), wenc_type_record),
         1 => {
-            let cases = random.parts(Random::maybe_value);
-            typed!(cases, |to, list| to.defined_type().variant(list), wenc_type_variant(),);
+            listed!(two, name, maybe, |to, list| to.defined_type().variant(list), wenc_type_variant)
         }
         2 => {
             let elements = random.pairs(Random::value);
-            typed!(elements, |to, list| to.defined_type().tuple(list), wenc_type_tuple(),);
+            listed!(two, name, elements, |to, list| to.defined_type().tuple(list), wenc_type_tuple);
         }
-        3 => {
-            let flags = random.parts(Random::maybe_value);
-            typed!(
-                flags,
-                |to, list| to.defined_type().flags(list.into_iter().map(|(name, _)| name)),
-                wenc_type_flags(),
-            );
-        }
-        4 => {
-            let cases = random.parts(Random::maybe_value);
-            typed!(
-                cases,
-                |to, list| to.defined_type().enum_type(list.into_iter().map(|(name, _)| name)),
-                wenc_type_enum(),
-            );
-        }
-        _ => {
-            let (params, is_async) = (random.parts(Random::value), random.flag());
-            let (pair, result) = random.maybe_value();
-            typed!(
-                params,
-                |to, list| {
-                    let mut to = to.function();
-                    to.async_(is_async).params(list).result(result);
-                },
-                wenc_type_function(Flag(is_async.into())),
-                pair.sort,
-                pair.number
-            );
-        }
+        3 => listed!(
+            two,
+            name,
+            maybe,
+            |to, list| to.defined_type().flags(names_of(list)),
+            wenc_type_flags
+        ),
+        _ => listed!(
+            two,
+            name,
+            maybe,
+            |to, list| to.defined_type().enum_type(names_of(list)),
+            wenc_type_enum
+        ),
     }
+}
+
+/// A type of functions.
+fn function_types(random: &mut Random, two: &mut Two) {
+    let (name, is_async) = (random.debug_name(), random.flag());
+    let (params, (pair, result)) = (random.parts(Random::value), random.maybe_value());
+    let wanted = two.facade.ty(name, |to| {
+        let mut to = to.function();
+        to.async_(is_async).params(params.1).result(result);
+    });
+    let (at, len, flag) = (params.0.as_ptr(), params.0.len(), Flag(is_async.into()));
+    named!(two, name, wanted, wenc_type_function(flag, at, len, pair.sort, pair.number));
 }
 
 fn core_types(random: &mut Random, two: &mut Two) {
     let name = random.debug_name();
-    match random.below(5) {
+    match random.below(4) {
         0 => {
             let (params, results) =
                 (random.pairs(Random::core_value), random.pairs(Random::core_value));
@@ -282,24 +287,27 @@ fn core_types(random: &mut Random, two: &mut Two) {
             let wanted = two.facade.core_type(name, write);
             named!(two, name, wanted, wenc_core_type_array(pair.sort, pair.number));
         }
-        3 => {
+        _ => {
             let (subtype, ty, _lists) = random.subtype();
             let wanted = two.facade.core_type(name, |to| to.subtype(&ty));
             named!(two, name, wanted, wenc_core_type_subtype(&subtype));
         }
-        _ => {
-            let (mut subtypes, mut types, mut lists) = (Vec::new(), Vec::new(), Vec::new());
-            for _ in 0..random.below(4) {
-                let (subtype, ty, pairs) = random.subtype();
-                subtypes.push(subtype);
-                types.push(ty);
-                lists.push(pairs);
-            }
-            let wanted = two.facade.core_type(name, |to| to.rec(types));
-            let (at, len) = (subtypes.as_ptr(), subtypes.len());
-            named!(two, name, wanted, wenc_core_type_group(at, len));
-        }
     }
+}
+
+/// Core types that may refer to each other.
+fn core_groups(random: &mut Random, two: &mut Two) {
+    let name = random.debug_name();
+    let (mut subtypes, mut types, mut lists) = (Vec::new(), Vec::new(), Vec::new());
+    for _ in 0..random.below(4) {
+        let (subtype, ty, pairs) = random.subtype();
+        subtypes.push(subtype);
+        types.push(ty);
+        lists.push(pairs);
+    }
+    let wanted = two.facade.core_type(name, |to| to.rec(types));
+    let (at, len) = (subtypes.as_ptr(), subtypes.len());
+    named!(two, name, wanted, wenc_core_type_group(at, len));
 }
 
 /// What a type of a core module declares.
@@ -321,74 +329,53 @@ fn entities(random: &mut Random, two: &mut Two) {
     }
 }
 
+/// An instance of a core module, or one of core items.
+fn core_instances(random: &mut Random, two: &mut Two) {
+    let (name, index) = (random.debug_name(), random.index());
+    if random.flag() {
+        let Both(list, args) = random.parts(|random| {
+            let (pair, (_, instance)) = random.item();
+            (pair, ModuleArg::Instance(instance))
+        });
+        let wanted = two.facade.core_instance(
+            name,
+            |to, name, list| to.core_instantiate(name, index, list),
+            |to, list| _ = to.instantiate(index, list),
+            args,
+        );
+        named!(two, name, wanted, wenc_core_instantiate(index, list.as_ptr(), list.len()));
+    } else {
+        let Both(list, exports) = random.parts(Random::core_item);
+        let wanted = two.facade.core_instance(
+            name,
+            |to, name, list| to.core_instantiate_exports(name, list),
+            |to, list| _ = to.export_items(list),
+            flat(exports),
+        );
+        named!(two, name, wanted, wenc_core_exports(list.as_ptr(), list.len()));
+    }
+}
+
+/// An instance of a component, or one of items.
 fn instances(random: &mut Random, two: &mut Two) {
     let (name, index) = (random.debug_name(), random.index());
-    macro_rules! made {
-        ($list:ident, $wanted:expr, $call:ident($($arg:expr),*)) => {{
-            let wanted = $wanted;
-            named!(two, name, wanted, $call($($arg,)* $list.as_ptr(), $list.len()));
-        }};
-    }
-    match random.below(4) {
-        0 => {
-            let list = random.parts(|random| {
-                let (pair, (_, instance)) = random.item();
-                (pair, ModuleArg::Instance(instance))
-            });
-            let args = list.0;
-            made!(
-                args,
-                two.facade.core_instance(
-                    name,
-                    |to, name, list| to.core_instantiate(name, index, list),
-                    |to, list| _ = to.instantiate(index, list),
-                    list.1
-                ),
-                wenc_core_instantiate(index)
-            );
-        }
-        1 => {
-            let list = random.parts(Random::core_item);
-            let (exports, values) = (list.0, flat(list.1));
-            made!(
-                exports,
-                two.facade.core_instance(
-                    name,
-                    |to, name, list| to.core_instantiate_exports(name, list),
-                    |to, list| _ = to.export_items(list),
-                    values
-                ),
-                wenc_core_exports()
-            );
-        }
-        2 => {
-            let list = random.parts(Random::item);
-            let (args, values) = (list.0, flat(list.1));
-            made!(
-                args,
-                two.facade.instance(
-                    name,
-                    |to, name, list| to.instantiate(name, index, list),
-                    |to, list| _ = to.instantiate(index, list),
-                    values
-                ),
-                wenc_instantiate(index)
-            );
-        }
-        _ => {
-            let list = random.parts(Random::item);
-            let (items, values) = (list.0, flat(list.1));
-            made!(
-                items,
-                two.facade.instance(
-                    name,
-                    |to, name, list| to.instantiate_exports(name, list),
-                    |to, list| _ = to.export_items(list),
-                    values
-                ),
-                wenc_export_items()
-            );
-        }
+    let Both(list, items) = random.parts(Random::item);
+    if random.flag() {
+        let wanted = two.facade.instance(
+            name,
+            |to, name, list| to.instantiate(name, index, list),
+            |to, list| _ = to.instantiate(index, list),
+            flat(items),
+        );
+        named!(two, name, wanted, wenc_instantiate(index, list.as_ptr(), list.len()));
+    } else {
+        let wanted = two.facade.instance(
+            name,
+            |to, name, list| to.instantiate_exports(name, list),
+            |to, list| _ = to.export_items(list),
+            flat(items),
+        );
+        named!(two, name, wanted, wenc_export_items(list.as_ptr(), list.len()));
     }
 }
 
@@ -531,22 +518,30 @@ fn told(random: &mut Random, two: &mut Two) {
     }
 }
 
-/// One call, on whatever the handle has.
+/// One call, whatever the handle owns.
 fn one(random: &mut Random, two: &mut Two, is_inner: bool) {
-    match random.below(14) {
+    match random.below(18) {
         0..=1 => names(random, two),
         2 => aliases(random, two),
         3..=4 => types(random, two),
-        5 => listed_types(random, two),
-        6 => core_types(random, two),
-        7 => entities(random, two),
-        8 => instances(random, two),
-        9 => functions::builtins(random, two),
-        10 => functions::with_options(random, two),
-        11 => whole(random, two),
-        12 if !is_inner && random.flag() => declared(random, two),
-        12 if !is_inner => nested(random, two),
-        _ => told(random, two),
+        5 => more_types(random, two),
+        6 => listed_types(random, two),
+        7 => function_types(random, two),
+        8 => core_types(random, two),
+        9 => core_groups(random, two),
+        10 => entities(random, two),
+        11 => core_instances(random, two),
+        12 => instances(random, two),
+        13 => functions::builtins(random, two),
+        14 => functions::lifted(random, two),
+        15 => functions::with_options(random, two),
+        16 => whole(random, two),
+        _ if is_inner => told(random, two),
+        _ => match random.below(3) {
+            0 => declared(random, two),
+            1 => nested(random, two),
+            _ => told(random, two),
+        },
     }
 }
 
@@ -660,19 +655,9 @@ fn items_that_were_read_are_added_again() {
             .enumerate()
             .flat_map(|(section, row)| (0..row.items.len()).map(move |item| (section, item)));
         for (section, item) in commands {
-            let (mut index, from): (u32, *mut Handle) = (UNTOUCHED, &mut listed.handle);
-            let status = unsafe {
-                wenc_copy(
-                    &mut copied.handle,
-                    Flag(0),
-                    ptr::dangling(),
-                    5,
-                    from,
-                    section,
-                    item,
-                    &mut index,
-                )
-            };
+            let (at, from, none) = (ptr::dangling(), &raw mut listed.handle, ptr::null_mut());
+            let to = &mut copied.handle;
+            let status = unsafe { wenc_copy(to, Flag(0), at, 5, from, section, item, none) };
             assert_eq!(status, Status::Done);
         }
         let items = listing.sections.into_iter().flat_map(|section| section.items);

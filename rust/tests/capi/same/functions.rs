@@ -76,34 +76,38 @@ pub fn builtins(random: &mut Random, two: &mut Two) {
     indexed!(two, wanted, wenc_builtin(number, first, second));
 }
 
-pub fn with_options(random: &mut Random, two: &mut Two) {
+pub fn lifted(random: &mut Random, two: &mut Two) {
     let (options, name) = (random.pairs(Random::option), random.debug_name());
     let (first, second) = (random.index(), random.index());
+    let (at, len, list) = (options.0.as_ptr(), options.0.len(), options.1);
+    if random.flag() {
+        let wanted = match &mut two.facade {
+            Facade::Builder(to) => Some(to.lift_func(name, first, second, list)),
+            Facade::Functions(to) if name.is_none() => {
+                Some((to.len(), _ = to.lift(first, second, list)).0)
+            }
+            _ => None,
+        };
+        named!(two, name, wanted, wenc_lift(first, second, at, len));
+    } else {
+        let wanted = match &mut two.facade {
+            Facade::Builder(to) => Some(to.lower_func(name, first, list)),
+            Facade::Functions(to) if name.is_none() => {
+                Some((to.len(), _ = to.lower(first, list)).0)
+            }
+            _ => None,
+        };
+        named!(two, name, wanted, wenc_lower(first, at, len));
+    }
+}
+
+pub fn with_options(random: &mut Random, two: &mut Two) {
+    let (options, first) = (random.pairs(Random::option), random.index());
     let ((pair, ty), (value, value_ty)) = (random.maybe_value(), random.core_number());
-    let (list, to) = (options.1, &mut two.facade);
-    let (at, len) = (options.0.as_ptr(), options.0.len());
-    match random.below(5) {
+    let (at, len, list) = (options.0.as_ptr(), options.0.len(), options.1);
+    let to = &mut two.facade;
+    match random.below(3) {
         0 => {
-            let wanted = match to {
-                Facade::Builder(to) => Some(to.lift_func(name, first, second, list)),
-                Facade::Functions(to) if name.is_none() => {
-                    Some((to.len(), _ = to.lift(first, second, list)).0)
-                }
-                _ => None,
-            };
-            named!(two, name, wanted, wenc_lift(first, second, at, len));
-        }
-        1 => {
-            let wanted = match to {
-                Facade::Builder(to) => Some(to.lower_func(name, first, list)),
-                Facade::Functions(to) if name.is_none() => {
-                    Some((to.len(), _ = to.lower(first, list)).0)
-                }
-                _ => None,
-            };
-            named!(two, name, wanted, wenc_lower(first, at, len));
-        }
-        2 => {
             let number = 1 + random.below(6);
             let wanted = function! { to, number;
                 1 stream_read(first, list);
@@ -115,7 +119,7 @@ pub fn with_options(random: &mut Random, two: &mut Two) {
             };
             indexed!(two, wanted, wenc_builtin_with(number, first, at, len));
         }
-        3 => {
+        1 => {
             let wanted = function! { to, 0; 0 task_return(ty, list); };
             indexed!(two, wanted, wenc_task_return(pair.sort, pair.number, at, len));
         }
