@@ -1,6 +1,6 @@
 /* wenc: WebAssembly components, written and read, for C.
  *
- * README.md tells how the library is made, in "From C". Of the C library it needs malloc,
+ * README.md says how to build the library ("From C"). Of the C library it needs malloc,
  * realloc, free and abort, and memcpy, memmove, memset and bcmp or memcmp.
  *
  * A handle owns one thing on the heap: a component that is made item by item (wenc_new) or
@@ -163,9 +163,9 @@ enum wenc_outer_kind {
   WENC_OUTER_COMPONENT = 3
 };
 
-/* Functions that the component model provides, for wenc_builtin. Behind each stands what `first`
- * and `second` are: the index of a type, a core table or a core memory, or whether the call may
- * be answered later (0 or 1). What isn't mentioned isn't used. */
+/* Functions that the component model provides, for wenc_builtin. The comment before one says what
+ * `first` and `second` are: the index of a type, a core table or a core memory, or whether the
+ * call may return before it is done (0 or 1). An argument that isn't mentioned isn't used. */
 enum wenc_function {
   /* `first` is a type. */
   WENC_RESOURCE_NEW = 1,
@@ -337,12 +337,12 @@ enum wenc_unread_part {
   WENC_UNREAD_COUNT = 1,
   /* An item. */
   WENC_UNREAD_ITEM = 2,
-  /* Bytes behind the last item. */
+  /* Bytes after the last item. */
   WENC_UNREAD_BEHIND = 3
 };
 
-/* The library takes and returns enumerations as 32 bits: a compiler that makes them shorter
- * (-fshort-enums) is told not to. */
+/* The library takes and returns enumerations as 32 bits: with a compiler that makes them shorter
+ * (-fshort-enums) this fails to compile. */
 typedef char wenc_enums_have_32_bits[sizeof(enum wenc_status) == 4 ? 1 : -1];
 
 /* A member of a list of names: a name, and what has it, by two numbers. The calls say which. */
@@ -467,7 +467,7 @@ typedef struct {
   /* The name under which it is imported, exported or found, or a custom section's; else NULL. */
   const char *name;
   size_t name_len;
-  /* A core module, a component, or what stands behind the name of a custom section; else NULL. */
+  /* A core module, a component, or what follows the name of a custom section; else NULL. */
   const uint8_t *bytes;
   size_t bytes_len;
   /* One of wenc_section. */
@@ -481,7 +481,7 @@ typedef struct {
 /* The version of the library, which is to be WENC_VERSION. */
 uint32_t wenc_version(void);
 
-/* What a status says, in a few words of English, with a 0 at their end. */
+/* Returns what a status means, in a few words of English that end with a 0. */
 const char *wenc_status_text(enum wenc_status status);
 
 /* ---- handles
