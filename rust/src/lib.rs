@@ -102,15 +102,15 @@ pub use error::Error;
 pub use list::{ListFault, ListedSection, Listing, Unread, list};
 pub use raw::RawSection;
 
-/// What was proved of the sources in `crates/`: the kit that proved it, how many functions have a
-/// proof (those that a `derive` writes aren't counted), how many edits of the code the prover
-/// refused, and a SHA-256 digest of each crate's `src`, `specs` and `proofs`.
+/// What was proved of the sources in `crates/`: by which logic and which kits, how many functions
+/// have a proof (those that a `derive` writes aren't counted), how many edits of the code the prover
+/// refused, and a SHA-256 digest of each crate's `src`, `specs`, `proofs` and `must-fail`.
 ///
 /// A digest is that of the lines that `sha256sum` prints of a folder's files, in the order of their
-/// paths. A test of this package, `rust/tests/proof.rs`, reckons those of the sources that it has:
-/// so it tells whether they are the proved ones.
+/// paths. A test of this package, `rust/tests/proof.rs`, computes those of the sources that it has,
+/// and compares.
 ///
 /// ```
-/// assert!(wenc::PROOF.starts_with("kit: rattle-kit-"));
+/// assert!(wenc::PROOF.starts_with("logic: "));
 /// ```
 pub const PROOF: &str = include_str!("../../PROOF");
