@@ -169,7 +169,7 @@ fn types() {
     is(&component, COMPONENT);
 }
 
-/// Each call of an instance type that answers an index. Answers the last one.
+/// Each call of an instance type that returns an index. Returns the last one.
 fn declare_indexed(ty: &mut InstanceType) -> Result<u32, Fault> {
     ty.type_defined()?.1.own(0)?;
     let (_, mut function) = ty.type_function()?;
