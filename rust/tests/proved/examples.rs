@@ -12,10 +12,8 @@ use crate::proved::facts::wrapping::wrapped;
 use crate::proved::rt_std::alloc::Global;
 use crate::proved::rt_std::vec::Vec;
 use crate::proved::wasm_encoder::{
-    AddsBuiltin, CanonicalFunctionSection, Component, ComponentExportKind, ComponentExternName,
-    ComponentImportSection, ComponentInstanceSection, ComponentTypeRef, ComponentTypeSection,
-    ComponentValType, Encode, ExportKind, Fault, InstanceSection, Module, ModuleArg, ModuleSection,
-    NestedComponentSection, PrimitiveValType, TypeBounds, Unread,
+    Component, ComponentImportSection, ComponentTypeRef, ComponentTypeSection, ComponentValType,
+    Encode, Fault, PrimitiveValType, Unread,
 };
 use crate::proved::wenc_list::Names;
 
@@ -147,8 +145,8 @@ fn sections_by_hand() {
     writes(sections::aliases(Global), ALIASES);
     writes(sections::exports(Global), EXPORTS);
     writes(sections::imports(Global), IMPORTS);
-    writes(core_instances(Global), CORE_INSTANCES);
-    writes(instances(Global), INSTANCES);
+    writes(sections::core_instances(Global), CORE_INSTANCES);
+    writes(sections::instances(Global), INSTANCES);
     writes(sections::module(Global), MODULES);
     writes(sections::nested(Global), NESTED);
     writes(started(), START);
@@ -253,43 +251,4 @@ fn runs() {
     assert_eq!(rest, b"\x2a".as_slice());
     let (status, out) = program::script(Global);
     assert!(status == 0 && out.as_slice() == SCRIPT);
-}
-
-// Two examples of the doc comments have four values to drop at each `?`, which is dear to a proof.
-// `facts::concrete::items` makes their calls one by one.
-
-/// `InstanceSection`.
-fn core_instances(alloc: Global) -> Result<Vec<u8>, Fault> {
-    let module = Module::new(alloc)?;
-    let mut functions = CanonicalFunctionSection::new(alloc);
-    functions.task_cancel()?;
-    let mut instances = InstanceSection::new(alloc);
-    instances.export_items([("cancel", ExportKind::Func, 0)].into_iter())?;
-    instances.instantiate(0, [("env", ModuleArg::Instance(0))].into_iter())?;
-
-    let mut component = Component::new(alloc)?;
-    component.section(&ModuleSection(&module))?;
-    component.section(&functions)?;
-    component.section(&instances)?;
-    let bytes = component.finish();
-    Ok(bytes)
-}
-
-/// `ComponentInstanceSection`.
-fn instances(alloc: Global) -> Result<Vec<u8>, Fault> {
-    let mut imports = ComponentImportSection::new(alloc);
-    imports.import("file".into(), ComponentTypeRef::Type(TypeBounds::SubResource))?;
-    let nested = Component::new(alloc)?;
-    let mut instances = ComponentInstanceSection::new(alloc);
-    let name: ComponentExternName = "file".into();
-    instances.export_items([(name, ComponentExportKind::Type, 0)].into_iter())?;
-    let files = ("files", ComponentExportKind::Instance, 0);
-    instances.instantiate(0, [files].into_iter())?;
-
-    let mut component = Component::new(alloc)?;
-    component.section(&imports)?;
-    component.section(&NestedComponentSection(&nested))?;
-    component.section(&instances)?;
-    let bytes = component.finish();
-    Ok(bytes)
 }

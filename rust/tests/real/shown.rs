@@ -116,9 +116,7 @@ fn bare(code: &str) -> String {
 
 #[test]
 fn doc_comments_show_the_proved_examples() {
-    let mut proved = files(&path("crates/facts/src/examples"), "rt");
-    // Two long ones are run alone.
-    proved.push(path("rust/tests/proved/examples.rs"));
+    let proved = files(&path("crates/facts/src/examples"), "rt");
     let proved: String = proved.iter().map(|file| bare(&read(file))).collect();
     let crates = std::fs::read_dir(path("crates")).expect("the crates are there");
     let sources = crates.map(|folder| folder.expect("it is told").path().join("src"));

@@ -4,7 +4,7 @@ ghost use Rattle.wenc_base.specs.Custom.{custom as custom_form};
 ghost use Rattle.wenc_base.specs.Modules.{module_preamble};
 ghost use Rattle.wenc_parts.specs.Component.{preamble};
 
-use std::alloc::Global;
+use std::alloc::Allocator;
 use wasm_encoder::{
     Component, CoreTypeEncoder, CustomSection, Encode, Fault, Holder, Module, NameMap,
     ProducersField, ProducersSection, ValType,
@@ -12,7 +12,7 @@ use wasm_encoder::{
 
 /// `Encode`: a text, and a list of numbers.
 #[tactic(auto, unfolding(wenc_base::specs::Number::groups))]
-pub fn encode(alloc: Global) -> Result<Vec<u8>, Fault>
+pub fn encode<A: Allocator>(alloc: A) -> Result<Vec<u8, A>, Fault>
     ensures { IfOk result (λ sink. sink.items ≡ 0x01 ∷ 0x66 ∷ 0x02 ∷ 0x01 ∷ 0x02 ∷ []) }
 {
     let mut sink = Vec::new(alloc);
@@ -22,7 +22,7 @@ pub fn encode(alloc: Global) -> Result<Vec<u8>, Fault>
 }
 
 /// `Holder`: the section whose one member is a pair.
-pub fn holder(alloc: Global) -> Result<Vec<u8>, Fault> {
+pub fn holder<A: Allocator + Copy>(alloc: A) -> Result<Vec<u8, A>, Fault> {
     let mut holder = Holder::new(alloc);
     holder.add_encoded(&("f", 0u32))?;
     let mut sink = Vec::new(alloc);
@@ -31,7 +31,7 @@ pub fn holder(alloc: Global) -> Result<Vec<u8>, Fault> {
 }
 
 /// `CustomSection`.
-pub fn custom(alloc: Global) -> Result<Vec<u8>, Fault>
+pub fn custom<A: Allocator>(alloc: A) -> Result<Vec<u8, A>, Fault>
     ensures { IfOk result (λ bytes. bytes.items
         ≡ preamble.text ++ 0x00 ∷ (custom_form
         (record { label = codes "notes"; bytes = 0x2a ∷ [] })).text) }
@@ -46,7 +46,7 @@ pub fn custom(alloc: Global) -> Result<Vec<u8>, Fault>
 }
 
 /// `Module`.
-pub fn module(alloc: Global) -> Result<Vec<u8>, Fault>
+pub fn module<A: Allocator>(alloc: A) -> Result<Vec<u8, A>, Fault>
     ensures { IfOk result (λ bytes. bytes.items
         ≡ module_preamble.text ++ 0x00 ∷ (custom_form
         (record { label = codes "x"; bytes = [] })).text) }
@@ -61,7 +61,7 @@ pub fn module(alloc: Global) -> Result<Vec<u8>, Fault>
 }
 
 /// `NameMap`.
-pub fn names(alloc: Global) -> Result<Vec<u8>, Fault> {
+pub fn names<A: Allocator + Copy>(alloc: A) -> Result<Vec<u8, A>, Fault> {
     let mut names = NameMap::new(alloc);
     names.append(0, "now")?;
     let mut sink = Vec::new(alloc);
@@ -70,7 +70,7 @@ pub fn names(alloc: Global) -> Result<Vec<u8>, Fault> {
 }
 
 /// `ProducersSection`.
-pub fn producers(alloc: Global) -> Result<Vec<u8>, Fault> {
+pub fn producers<A: Allocator + Copy>(alloc: A) -> Result<Vec<u8, A>, Fault> {
     let mut languages = ProducersField::new(alloc);
     languages.value("Rust", "2024")?;
     let mut producers = ProducersSection::new(alloc);
@@ -83,7 +83,7 @@ pub fn producers(alloc: Global) -> Result<Vec<u8>, Fault> {
 }
 
 /// `CoreTypeEncoder`, lent a holder's member.
-pub fn core_type(alloc: Global) -> Result<Holder, Fault> {
+pub fn core_type<A: Allocator>(alloc: A) -> Result<Holder<A>, Fault> {
     let mut holder = Holder::new(alloc);
     holder.open(&[])?;
     let encoder = CoreTypeEncoder::new(&mut holder, true);

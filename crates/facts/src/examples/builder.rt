@@ -1,13 +1,24 @@
 //! Of `wenc_builder`, and of commands.
+ghost use Rattle.std.specs.Prelude.{◌≡◌, ◌∷◌, [], IfOk, None, codes};
+ghost use Rattle.wenc_builder.specs.Entry.{import_entry, export_entry, items};
+ghost use Rattle.wenc_builder.specs.Sections.{whole};
+ghost use Rattle.wenc_parts.specs.declared.exports.ComponentExportKind.{ComponentExportKind};
+ghost use Rattle.wenc_parts.specs.declared.imports.ComponentTypeRef.{ComponentTypeRef};
+ghost use Rattle.wenc_parts.specs.declared.imports.TypeBounds.{TypeBounds};
+ghost use Rattle.wenc_parts.specs.Imports.{plain_name};
 
-use std::alloc::Global;
+use std::alloc::{Allocator, Global};
 use wasm_encoder::{
     Built, Command, ComponentBuilder, ComponentExportKind, ComponentTypeRef, ComponentValType,
     Fault, NameTree, PrimitiveValType, TypeBounds, build,
 };
 
 /// `ComponentBuilder`.
-pub fn builder(alloc: Global) -> Result<Vec<u8>, Fault> {
+pub fn builder<A: Allocator + Copy>(alloc: A) -> Result<Vec<u8, A>, Fault>
+    ensures { IfOk result (λ bytes. bytes.items ≡ whole (items (
+        import_entry (plain_name (codes "f")) (ComponentTypeRef.«Type» TypeBounds.SubResource)
+        ∷ export_entry (plain_name (codes "g")) ComponentExportKind.«Type» 0 None ∷ []))) }
+{
     let mut builder = ComponentBuilder::new(alloc)?;
     let index = builder.import("f".into(), ComponentTypeRef::Type(TypeBounds::SubResource))?;
     builder.export("g".into(), ComponentExportKind::Type, index, None)?;
@@ -16,7 +27,7 @@ pub fn builder(alloc: Global) -> Result<Vec<u8>, Fault> {
 }
 
 /// The builder's types.
-pub fn types(alloc: Global) -> Result<Vec<u8>, Fault> {
+pub fn types<A: Allocator + Copy>(alloc: A) -> Result<Vec<u8, A>, Fault> {
     let mut builder = ComponentBuilder::new(alloc)?;
     let string = ComponentValType::Primitive(PrimitiveValType::String);
     let (index, ty) = builder.type_defined(None)?;
@@ -27,7 +38,7 @@ pub fn types(alloc: Global) -> Result<Vec<u8>, Fault> {
 }
 
 /// `Command`.
-pub fn command(alloc: Global) -> Result<Command, Fault> {
+pub fn command<A: Allocator + Copy>(alloc: A) -> Result<Command<A>, Fault> {
     let import = Command::Import {
         name: NameTree::from(String::from_str(alloc, "file")?),
         ty: ComponentTypeRef::Type(TypeBounds::SubResource),

@@ -2,14 +2,14 @@
 ghost use Rattle.std.specs.Prelude.{◌≡◌, ◌++◌, IfOk};
 ghost use Rattle.wenc_canon.specs.Canonicals.{canonical, OfBuiltin, ResourceDrop};
 
-use std::alloc::Global;
+use std::alloc::Allocator;
 use wasm_encoder::{
     AddsBuiltin, CanonicalFunctionSection, CanonicalOption, Component, ComponentImportSection,
     ComponentTypeRef, Fault, Holder, TypeBounds,
 };
 
 /// `CanonicalFunctionSection`.
-pub fn functions(alloc: Global) -> Result<Vec<u8>, Fault> {
+pub fn functions<A: Allocator + Copy>(alloc: A) -> Result<Vec<u8, A>, Fault> {
     let mut imports = ComponentImportSection::new(alloc);
     imports.import(
         "file".into(),
@@ -28,7 +28,7 @@ pub fn functions(alloc: Global) -> Result<Vec<u8>, Fault> {
 
 /// `CanonicalFunctionSection::from_holder`.
 #[tactic(auto, using(crate::proofs::Kept::kept_whole))]
-pub fn behind(bytes: Vec<u8>) -> Result<(Vec<u8>, u32), Fault>
+pub fn behind<A: Allocator>(bytes: Vec<u8, A>) -> Result<(Vec<u8, A>, u32), Fault>
     ensures { IfOk result (λ x. x.0.items
         ≡ bytes.items ++ (canonical (OfBuiltin ResourceDrop 2)).text) }
 {

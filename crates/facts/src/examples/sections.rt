@@ -1,23 +1,38 @@
 //! Of `wenc_sections`: components by hand.
-ghost use Rattle.std.specs.Prelude.{◌≡◌, ◌++◌, ◌∷◌, [], IfOk, OnOk, codes};
+ghost use Rattle.std.specs.Prelude.{◌≡◌, ◌++◌, ◌∷◌, [], IfOk, OnOk, None, codes};
 ghost use Rattle.wenc_base.specs.Custom.{custom};
-ghost use Rattle.wenc_base.specs.Forms.{byte_list};
+ghost use Rattle.wenc_base.specs.Forms.{byte_list, counted};
 ghost use Rattle.wenc_base.specs.Modules.{module_preamble};
-ghost use Rattle.wenc_parts.specs.Aliases.{alias as alias_form, alias_view};
+ghost use Rattle.wenc_parts.specs.Aliases.{alias as alias_form, alias_view, Outer};
+ghost use Rattle.wenc_parts.specs.Imports.{plain_name};
+ghost use Rattle.wenc_parts.specs.declared.aliases.ComponentOuterAliasKind.{ComponentOuterAliasKind};
+ghost use Rattle.wenc_parts.specs.declared.exports.ComponentExportKind.{ComponentExportKind};
+ghost use Rattle.wenc_parts.specs.declared.imports.ComponentTypeRef.{ComponentTypeRef};
+ghost use Rattle.wenc_parts.specs.declared.imports.TypeBounds.{TypeBounds};
 ghost use Rattle.wenc_parts.specs.Component.{preamble};
+ghost use Rattle.wenc_sections.specs.Exports.{export_item};
+ghost use Rattle.wenc_sections.specs.Imports.{import_item};
 ghost use Rattle.wenc_sections.specs.Start.{started, start as start_form};
 
-use std::alloc::{Allocator, Global};
+use std::alloc::Allocator;
+use wasm_encoder::laws::sections_are_their_items;
 use wasm_encoder::{
-    Alias, Component, ComponentAliasSection, ComponentExportKind, ComponentExportSection,
-    ComponentImportSection, ComponentNameSection, ComponentOuterAliasKind, ComponentStartSection,
+    AddsBuiltin, Alias, CanonicalFunctionSection, Component, ComponentAliasSection,
+    ComponentExportKind, ComponentExportSection, ComponentExternName, ComponentImportSection,
+    ComponentInstanceSection, ComponentNameSection, ComponentOuterAliasKind, ComponentStartSection,
     ComponentTypeRef, ComponentTypeSection, ComponentValType, CoreTypeSection, CustomSection,
-    Fault, Holder, Module, ModuleSection, NameMap, NestedComponentSection, PrimitiveValType,
-    TypeBounds, ValType,
+    ExportKind, Fault, Holder, InstanceSection, Module, ModuleArg, ModuleSection, NameMap,
+    NestedComponentSection, PrimitiveValType, TypeBounds, ValType,
 };
 
 /// `Component`.
-pub fn component(alloc: Global) -> Result<Vec<u8>, Fault> {
+pub fn component<A: Allocator + Copy>(alloc: A) -> Result<Vec<u8, A>, Fault>
+    ensures { IfOk result (λ bytes. bytes.items
+        ≡ preamble.text ++ 0x0a ∷ (counted import_item (record {
+          name = plain_name (codes "file");
+          ty = ComponentTypeRef.«Type» TypeBounds.SubResource;
+        } ∷ [])).text) }
+{
     let mut imports = ComponentImportSection::new(alloc);
     imports.import(
         "file".into(),
@@ -27,11 +42,12 @@ pub fn component(alloc: Global) -> Result<Vec<u8>, Fault> {
     let mut component = Component::new(alloc)?;
     component.section(&imports)?;
     let bytes = component.finish();
+    sections_are_their_items();
     Ok(bytes)
 }
 
 /// `Counted`: how many items there are, and a copy.
-pub fn counted(alloc: Global) -> Result<(u32, ComponentExportSection), Fault> {
+pub fn counted<A: Allocator + Copy>(alloc: A) -> Result<(u32, ComponentExportSection<A>), Fault> {
     let mut exports = ComponentExportSection::new(alloc);
     exports.export("log".into(), ComponentExportKind::Func, 0, None)?;
     let count = exports.len();
@@ -41,7 +57,7 @@ pub fn counted(alloc: Global) -> Result<(u32, ComponentExportSection), Fault> {
 
 /// `Counted::from_holder`.
 #[tactic(auto, using(crate::proofs::Kept::kept_whole))]
-pub fn behind(bytes: Vec<u8>, alias: Alias<'_>) -> Result<(Vec<u8>, u32), Fault>
+pub fn behind<A: Allocator>(bytes: Vec<u8, A>, alias: Alias<'_>) -> Result<(Vec<u8, A>, u32), Fault>
     ensures { IfOk result
         (λ x. x.0.items ≡ bytes.items ++ (alias_form (alias_view alias.entry)).text) }
 {
@@ -53,7 +69,14 @@ pub fn behind(bytes: Vec<u8>, alias: Alias<'_>) -> Result<(Vec<u8>, u32), Fault>
 }
 
 /// `ComponentAliasSection`.
-pub fn aliases(alloc: Global) -> Result<Vec<u8>, Fault> {
+pub fn aliases<A: Allocator + Copy>(alloc: A) -> Result<Vec<u8, A>, Fault>
+    ensures { IfOk result (λ bytes. bytes.items
+        ≡ preamble.text ++ 0x0a ∷ (counted import_item (record {
+          name = plain_name (codes "file");
+          ty = ComponentTypeRef.«Type» TypeBounds.SubResource;
+        } ∷ [])).text ++ 0x06 ∷ (counted alias_form
+        (Outer ComponentOuterAliasKind.«Type» 0 0 ∷ [])).text) }
+{
     let mut imports = ComponentImportSection::new(alloc);
     imports.import(
         "file".into(),
@@ -70,11 +93,23 @@ pub fn aliases(alloc: Global) -> Result<Vec<u8>, Fault> {
     component.section(&imports)?;
     component.section(&aliases)?;
     let bytes = component.finish();
+    sections_are_their_items();
     Ok(bytes)
 }
 
 /// `ComponentExportSection`.
-pub fn exports(alloc: Global) -> Result<Vec<u8>, Fault> {
+pub fn exports<A: Allocator + Copy>(alloc: A) -> Result<Vec<u8, A>, Fault>
+    ensures { IfOk result (λ bytes. bytes.items
+        ≡ preamble.text ++ 0x0a ∷ (counted import_item (record {
+          name = plain_name (codes "file");
+          ty = ComponentTypeRef.«Type» TypeBounds.SubResource;
+        } ∷ [])).text ++ 0x0b ∷ (counted export_item (record {
+          name = plain_name (codes "handle");
+          kind = ComponentExportKind.«Type»;
+          index = 0;
+          ty = None;
+        } ∷ [])).text) }
+{
     let mut imports = ComponentImportSection::new(alloc);
     imports.import(
         "file".into(),
@@ -87,11 +122,21 @@ pub fn exports(alloc: Global) -> Result<Vec<u8>, Fault> {
     component.section(&imports)?;
     component.section(&exports)?;
     let bytes = component.finish();
+    sections_are_their_items();
     Ok(bytes)
 }
 
 /// `ComponentImportSection`.
-pub fn imports(alloc: Global) -> Result<Vec<u8>, Fault> {
+pub fn imports<A: Allocator + Copy>(alloc: A) -> Result<Vec<u8, A>, Fault>
+    ensures { IfOk result (λ bytes. bytes.items
+        ≡ preamble.text ++ 0x0a ∷ (counted import_item (record {
+          name = plain_name (codes "file");
+          ty = ComponentTypeRef.«Type» TypeBounds.SubResource;
+        } ∷ record {
+          name = plain_name (codes "log");
+          ty = ComponentTypeRef.«Type» (TypeBounds.Eq 0);
+        } ∷ [])).text) }
+{
     let mut imports = ComponentImportSection::new(alloc);
     imports.import(
         "file".into(),
@@ -102,11 +147,51 @@ pub fn imports(alloc: Global) -> Result<Vec<u8>, Fault> {
     let mut component = Component::new(alloc)?;
     component.section(&imports)?;
     let bytes = component.finish();
+    sections_are_their_items();
+    Ok(bytes)
+}
+
+/// `InstanceSection`.
+pub fn core_instances<A: Allocator + Copy>(alloc: A) -> Result<Vec<u8, A>, Fault> {
+    let module = Module::new(alloc)?;
+    let mut functions = CanonicalFunctionSection::new(alloc);
+    functions.task_cancel()?;
+    let mut instances = InstanceSection::new(alloc);
+    instances.export_items([("cancel", ExportKind::Func, 0)].into_iter())?;
+    instances.instantiate(0, [("env", ModuleArg::Instance(0))].into_iter())?;
+
+    let mut component = Component::new(alloc)?;
+    component.section(&ModuleSection(&module))?;
+    component.section(&functions)?;
+    component.section(&instances)?;
+    let bytes = component.finish();
+    Ok(bytes)
+}
+
+/// `ComponentInstanceSection`.
+pub fn instances<A: Allocator + Copy>(alloc: A) -> Result<Vec<u8, A>, Fault> {
+    let mut imports = ComponentImportSection::new(alloc);
+    imports.import(
+        "file".into(),
+        ComponentTypeRef::Type(TypeBounds::SubResource),
+    )?;
+    let nested = Component::new(alloc)?;
+    let mut instances = ComponentInstanceSection::new(alloc);
+    let name: ComponentExternName = "file".into();
+    instances.export_items([(name, ComponentExportKind::Type, 0)].into_iter())?;
+    let files = ("files", ComponentExportKind::Instance, 0);
+    instances.instantiate(0, [files].into_iter())?;
+
+    let mut component = Component::new(alloc)?;
+    component.section(&imports)?;
+    component.section(&NestedComponentSection(&nested))?;
+    component.section(&instances)?;
+    let bytes = component.finish();
     Ok(bytes)
 }
 
 /// `ModuleSection`.
-pub fn module(alloc: Global) -> Result<Vec<u8>, Fault>
+pub fn module<A: Allocator + Copy>(alloc: A) -> Result<Vec<u8, A>, Fault>
     ensures { IfOk result (λ bytes. bytes.items
         ≡ preamble.text ++ 0x01 ∷ (byte_list (module_preamble.text
         ++ 0x00 ∷ (custom (record { label = codes "x"; bytes = [] })).text)).text) }
@@ -124,7 +209,7 @@ pub fn module(alloc: Global) -> Result<Vec<u8>, Fault>
 }
 
 /// `NestedComponentSection`.
-pub fn nested(alloc: Global) -> Result<Vec<u8>, Fault>
+pub fn nested<A: Allocator + Copy>(alloc: A) -> Result<Vec<u8, A>, Fault>
     ensures { IfOk result (λ bytes. bytes.items
         ≡ preamble.text ++ 0x04 ∷ (byte_list (preamble.text
         ++ 0x00 ∷ (custom (record { label = codes "x"; bytes = [] })).text)).text) }
@@ -157,7 +242,7 @@ pub fn start<A: Allocator>(component: &mut Component<A>) -> Result<(), Fault>
 }
 
 /// `CoreTypeSection`.
-pub fn core_types(alloc: Global) -> Result<Vec<u8>, Fault> {
+pub fn core_types<A: Allocator + Copy>(alloc: A) -> Result<Vec<u8, A>, Fault> {
     let mut types = CoreTypeSection::new(alloc);
     let encoder = types.ty()?.core();
     encoder.function([ValType::I64].into_iter(), [].into_iter())?;
@@ -169,7 +254,7 @@ pub fn core_types(alloc: Global) -> Result<Vec<u8>, Fault> {
 }
 
 /// `ComponentTypeSection`.
-pub fn types(alloc: Global) -> Result<Vec<u8>, Fault> {
+pub fn types<A: Allocator + Copy>(alloc: A) -> Result<Vec<u8, A>, Fault> {
     let string = ComponentValType::Primitive(PrimitiveValType::String);
     let mut types = ComponentTypeSection::new(alloc);
     types
@@ -184,7 +269,7 @@ pub fn types(alloc: Global) -> Result<Vec<u8>, Fault> {
 }
 
 /// `ComponentNameSection`.
-pub fn names(alloc: Global) -> Result<Vec<u8>, Fault> {
+pub fn names<A: Allocator + Copy>(alloc: A) -> Result<Vec<u8, A>, Fault> {
     let mut funcs = NameMap::new(alloc);
     funcs.append(0, "now")?;
     let mut names = ComponentNameSection::new(alloc);

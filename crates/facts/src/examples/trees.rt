@@ -1,6 +1,6 @@
 //! Of trees, which own all that they are made of.
 
-use std::alloc::Global;
+use std::alloc::{Allocator, Global};
 use wasm_encoder::{
     CanonTree, ComponentExportKind, ComponentTypeRef, CompositeType, CoreInstanceTree,
     CoreTypeTree, DefinedTree, Encode, EntityType, Fault, FuncType, GroupTree, InstanceDecl,
@@ -8,7 +8,7 @@ use wasm_encoder::{
 };
 
 /// `CanonTree`.
-pub fn canon(alloc: Global) -> Result<Vec<u8>, Fault> {
+pub fn canon<A: Allocator>(alloc: A) -> Result<Vec<u8, A>, Fault> {
     let mut sink = Vec::new(alloc);
     let drop: CanonTree = CanonTree::ResourceDrop(3);
     drop.encode(&mut sink)?;

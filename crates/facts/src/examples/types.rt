@@ -5,14 +5,14 @@ ghost use Rattle.wenc_base.specs.declared.types.ValType.{ValType};
 ghost use Rattle.wenc_types.specs.ComponentTypes.{ResourceType, DefinedType, def_type};
 ghost use Rattle.wenc_types.specs.DefinedTypes.{Own};
 
-use std::alloc::Global;
+use std::alloc::Allocator;
 use wasm_encoder::{
     ComponentType, ComponentTypeRef, ComponentTypeSection, ComponentValType, CoreTypeSection,
     EntityType, Fault, InstanceType, ModuleType, PrimitiveValType, TypeBounds, ValType,
 };
 
 /// `Declarations`: a type of instances, and a copy.
-pub fn declarations(alloc: Global) -> Result<InstanceType, Fault> {
+pub fn declarations<A: Allocator + Copy>(alloc: A) -> Result<InstanceType<A>, Fault> {
     let mut ty = InstanceType::new(alloc);
     ty.core_type()?
         .core()
@@ -22,7 +22,7 @@ pub fn declarations(alloc: Global) -> Result<InstanceType, Fault> {
 }
 
 /// `ModuleType`.
-pub fn module_type(alloc: Global) -> Result<ModuleType, Fault> {
+pub fn module_type<A: Allocator>(alloc: A) -> Result<ModuleType<A>, Fault> {
     let mut ty = ModuleType::new(alloc);
     ty.ty()?
         .function([].into_iter(), [ValType::I32].into_iter())?;
@@ -31,7 +31,7 @@ pub fn module_type(alloc: Global) -> Result<ModuleType, Fault> {
 }
 
 /// `ComponentType`: what imports a list of bytes.
-pub fn component_type(alloc: Global) -> Result<ComponentTypeSection, Fault> {
+pub fn component_type<A: Allocator + Copy>(alloc: A) -> Result<ComponentTypeSection<A>, Fault> {
     let byte = ComponentValType::Primitive(PrimitiveValType::U8);
     let mut ty = ComponentType::new(alloc);
     ty.ty()?.defined_type().list(byte)?;
@@ -43,7 +43,7 @@ pub fn component_type(alloc: Global) -> Result<ComponentTypeSection, Fault> {
 }
 
 /// `InstanceType`: what exports an option.
-pub fn instance_type(alloc: Global) -> Result<ComponentTypeSection, Fault> {
+pub fn instance_type<A: Allocator + Copy>(alloc: A) -> Result<ComponentTypeSection<A>, Fault> {
     let string = ComponentValType::Primitive(PrimitiveValType::String);
     let mut ty = InstanceType::new(alloc);
     ty.ty()?.defined_type().option(string)?;
@@ -55,7 +55,7 @@ pub fn instance_type(alloc: Global) -> Result<ComponentTypeSection, Fault> {
 }
 
 /// `ComponentCoreTypeEncoder`.
-pub fn core_types(alloc: Global) -> Result<CoreTypeSection, Fault> {
+pub fn core_types<A: Allocator + Copy>(alloc: A) -> Result<CoreTypeSection<A>, Fault> {
     let mut module_type = ModuleType::new(alloc);
     module_type.alias_outer_core_type(1, 0)?;
 
@@ -70,7 +70,7 @@ pub fn core_types(alloc: Global) -> Result<CoreTypeSection, Fault> {
 
 /// `ComponentTypeEncoder`: a resource, and a handle that owns one.
 #[tactic(auto, using(wenc_base::specs::laws::Holders::contains_opened))]
-pub fn types(alloc: Global) -> Result<ComponentTypeSection, Fault>
+pub fn types<A: Allocator>(alloc: A) -> Result<ComponentTypeSection<A>, Fault>
     ensures { IfOk result (λ types. Contains def_type types
         (ResourceType ValType.I32 None ∷ DefinedType (Own 0) ∷ [])) }
 {
@@ -81,7 +81,7 @@ pub fn types(alloc: Global) -> Result<ComponentTypeSection, Fault>
 }
 
 /// `ComponentDefinedTypeEncoder`.
-pub fn defined_types(alloc: Global) -> Result<ComponentTypeSection, Fault> {
+pub fn defined_types<A: Allocator>(alloc: A) -> Result<ComponentTypeSection<A>, Fault> {
     let string = ComponentValType::Primitive(PrimitiveValType::String);
     let mut types = ComponentTypeSection::new(alloc);
     let fields = [("name", string), ("street", string)];
@@ -91,7 +91,7 @@ pub fn defined_types(alloc: Global) -> Result<ComponentTypeSection, Fault> {
 }
 
 /// `ComponentFuncTypeEncoder`: what takes a string and answers nothing.
-pub fn func_type(alloc: Global) -> Result<ComponentTypeSection, Fault> {
+pub fn func_type<A: Allocator>(alloc: A) -> Result<ComponentTypeSection<A>, Fault> {
     let string = ComponentValType::Primitive(PrimitiveValType::String);
     let mut types = ComponentTypeSection::new(alloc);
     let mut function = types.function()?;
