@@ -4,7 +4,8 @@ ghost use Rattle.std.specs.Iterator.{IsFinite};
 ghost use Rattle.std.specs.Option.{option_copied};
 ghost use Rattle.wenc_base.specs.Fault.{IsMemory};
 ghost use Rattle.wenc_base.specs.Holder.{listed};
-ghost use Rattle.wenc_base.specs.Piece.{nothing, Spelling};
+ghost use Rattle.wenc_base.specs.Forms.{byte_list};
+ghost use Rattle.wenc_base.specs.Piece.{◌▸◌, nothing, Spelling};
 ghost use Rattle.wenc_base.specs.Lender.{GivesUp};
 ghost use Rattle.wenc_base.specs.declared.fault.Fault.TheVariants.{Unfinished};
 ghost use Rattle.wenc_parts.specs.Imports.{extern_name_view};
@@ -348,6 +349,37 @@ impl<A: Allocator> ComponentBuilder<A> {
         }
     }
 
+    /// Adds these bytes, with their number, alone under this section id, with one index in a space
+    /// and a debug name or none. Returns the index.
+    fn stand_alone_bytes(
+        &mut self,
+        space: Space,
+        name: Option<&str>,
+        id: u8,
+        bytes: &[u8],
+    ) -> Result<u32, Fault>
+        requires { IsItemPiece None (some_in space 1) (id ▸ byte_list bytes.now) }
+        ensures { TakesAlone self.old self.new result (indices_in space 1)
+            (option_copied name.entry) (id ▸ byte_list bytes.now) }
+    {
+        if !self.buffer.is_finished() {
+            return Err(Fault::Unfinished);
+        }
+        match self.spaces.begin(space, 1, name) {
+            Err(fault) => Err(fault),
+            Ok(index) => match self.buffer.stand_alone_bytes(id, bytes) {
+                Ok(()) => {
+                    self.spaces.end();
+                    Ok(index)
+                }
+                Err(fault) => {
+                    self.spaces.give_up();
+                    Err(fault)
+                }
+            },
+        }
+    }
+
     /// Adds what stands alone and has no index.
     fn add_alone<E: Encode>(&mut self, section: &E) -> Result<(), Fault>
         requires { IsItemPiece None None (E.piece section.now) }
@@ -414,8 +446,8 @@ impl<A: Allocator> ComponentBuilder<A> {
         ensures { Enters self.old self.new result
             (module_entry (option_copied debug_name.entry) bytes.now) }
     {
-        let section = Tagged(ComponentSectionId::CoreModule.into(), &bytes);
-        self.stand_alone(Space::CoreModules, 1, debug_name, &section)
+        let id = ComponentSectionId::CoreModule.into();
+        self.stand_alone_bytes(Space::CoreModules, debug_name, id, bytes)
     }
 
     /// Adds an alias of an export of a core instance, with a debug name or none, and answers its
@@ -516,7 +548,8 @@ impl<A: Allocator> ComponentBuilder<A> {
         ensures unfinished { builder_is_finished component ≡ false → result ≡ Err Unfinished }
         ensures err { OnErr result (self.new ≡ self.old) }
     {
-        self.component_ref(debug_name, &component)
+        let bytes = component.finish()?;
+        self.component_raw(debug_name, bytes.as_slice())
     }
 
     /// Adds what another builder holds as a nested component, with a debug name or none, and
@@ -558,8 +591,8 @@ impl<A: Allocator> ComponentBuilder<A> {
         ensures { Enters self.old self.new result
             (component_entry (option_copied debug_name.entry) component.now) }
     {
-        let section = Tagged(ComponentSectionId::Component.into(), &component);
-        self.stand_alone(Space::Components, 1, debug_name, &section)
+        let id = ComponentSectionId::Component.into();
+        self.stand_alone_bytes(Space::Components, debug_name, id, component)
     }
 
     /// Has a function called with these values when the component is instantiated. Answers the
@@ -632,6 +665,7 @@ impl<A: Allocator> ComponentBuilder<A> {
             → IfOk result (λ v. v.items ≡ whole (items es)) }
         ensures some { IfOk result (λ v.
             ∥ ((es : List Entry) × Holds self es × (v.items ≡ whole (items es))) ∥₁) }
+        ensures bytes { IfOk result (λ v. v.items ≡ sections_text self.settled.sections) }
         // Where no item is raw they have one reading, strictly and widely: the sections into which
         // the items are cut.
         ensures one_reading { IfOk result (λ v. (es : List Entry) → Holds self es

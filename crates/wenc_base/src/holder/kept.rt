@@ -1,13 +1,13 @@
 //! Bytes that a holder keeps in front of its members.
-ghost use Rattle.std.specs.Prelude.{◌≡◌, ◌+◌, ◌-◌, ◌<◌, ◌≤◌, ◌^◌, ◌++◌, [], true, false, length, take, drop, OnOk, OnErr, IfOk, IfErr};
+ghost use Rattle.std.specs.Prelude.{◌≡◌, ◌+◌, ◌-◌, ◌<◌, ◌≤◌, ◌^◌, ◌++◌, [], true, false, length, take, drop, vec_len, vec_capacity, OnOk, OnErr, IfOk, IfErr};
 ghost use Rattle.wenc_base.specs.Encode.{Appends};
-ghost use Rattle.wenc_base.specs.Fault.{IsWarranted, either, NoCause};
+ghost use Rattle.wenc_base.specs.Fault.{IsMemory, IsWarranted, either, NoCause};
 ghost use Rattle.wenc_base.specs.Forms.{AreBytes};
 ghost use Rattle.wenc_base.specs.Holder.{is_finished, holding, gone_back, content_size, all_bytes, with_kept, filled, EncodeCause};
 ghost use Rattle.wenc_base.specs.declared.fault.Fault.TheVariants.{Unfinished};
 
 use super::Holder;
-use crate::encode::Encode;
+use crate::encode::{Encode, extend_in_room};
 use crate::fault::Fault;
 use std::alloc::Allocator;
 
@@ -53,6 +53,38 @@ impl<A: Allocator> Holder<A> {
         Ok(len)
     }
 
+    /// Keeps the members too, with `head` in the place of the bytes from `start` to `end`, of which
+    /// there are as many or more, and with `lead` and `bytes` after them, which are written where
+    /// they stay. It has no members then.
+    ///
+    /// # Errors
+    ///
+    /// Fails where there is no memory, and changes nothing then.
+    pub fn keep_bytes(
+        &mut self,
+        start: usize,
+        end: usize,
+        head: &[u8],
+        lead: &[u8],
+        bytes: &[u8],
+    ) -> Result<(), Fault>
+        requires finished { is_finished self.old ≡ true }
+        requires within { (start ≤ end) × (end ≤ length (all_bytes self.old)) }
+        requires short { length head.now ≤ end - start }
+        ensures ok { OnOk result (self.new ≡ holding
+            (filled (all_bytes self.old) start end head.now ++ (lead.now ++ bytes.now)) 0 []) }
+        ensures err { OnErr result (self.new ≡ self.old) }
+        ensures refused { IfErr result IsMemory }
+    {
+        self.bytes.try_reserve(lead.len() + bytes.len())?;
+        fill(&mut self.bytes, start, end, head);
+        extend_in_room(&mut self.bytes, lead);
+        extend_in_room(&mut self.bytes, bytes);
+        self.kept = self.bytes.len();
+        self.count = 0;
+        Ok(())
+    }
+
     /// Goes back to the first `len` bytes, of which the first `kept` are kept, and the others are
     /// the texts of `count` members. It takes no memory.
     pub fn go_back(&mut self, kept: usize, len: usize, count: u32)
@@ -95,7 +127,9 @@ fn append<E: Encode, A: Allocator>(value: &E, sink: &mut Vec<u8, A>) -> Result<(
 fn fill<A: Allocator>(bytes: &mut Vec<u8, A>, start: usize, end: usize, head: &[u8])
     requires within { (start ≤ end) × (end ≤ length bytes.old.items) }
     requires short { length head.now ≤ end - start }
-    ensures { bytes.new.items ≡ filled bytes.old.items start end head.now }
+    ensures items { bytes.new.items ≡ filled bytes.old.items start end head.now }
+    ensures len { vec_len bytes.new ≤ vec_len bytes.old }
+    ensures capacity { vec_capacity bytes.old ≤ vec_capacity bytes.new }
 {
     let spare = end - start - head.len();
     let len = bytes.len();

@@ -2,9 +2,9 @@
 ghost use Rattle.std.specs.Prelude.{◌≡◌, ◌<◌, ◌^◌, length, OnOk, OnErr, IfOk, IfErr, is_none, None, Err, false};
 ghost use Rattle.std.specs.Iterator.{IsFinite};
 ghost use Rattle.wenc_base.specs.Encode.{Appends};
-ghost use Rattle.wenc_base.specs.Forms.{AreBytes, list};
+ghost use Rattle.wenc_base.specs.Forms.{AreBytes, byte_list, list};
 ghost use Rattle.wenc_base.specs.Fault.{IsMemory, IsWarranted, NoCause};
-ghost use Rattle.wenc_base.specs.Piece.{behind_bytes};
+ghost use Rattle.wenc_base.specs.Piece.{◌▸◌, behind_bytes};
 ghost use Rattle.wenc_base.specs.Lender.{Extends, ExtendsListed};
 ghost use Rattle.wenc_base.specs.declared.fault.Fault.TheVariants.{Unfinished};
 ghost use Rattle.wenc_builder.specs.Builder.{sections_text};
@@ -183,6 +183,31 @@ impl<A: Allocator> Buffer<A> {
             items_end,
         };
         close_earlier(&mut self.holder, &earlier);
+        self.closed_len = self.holder.kept_len();
+        self.kind = None;
+        Ok(())
+    }
+
+    /// Writes these bytes, with their number, alone after all sections, under this section id. They
+    /// are written where they stay, also after an open section. Fails as `stand_alone` does.
+    #[tactic(auto, using(wenc_base::proofs::Groups::size_at_most_5))]
+    pub fn stand_alone_bytes(&mut self, id: u8, bytes: &[u8]) -> Result<(), Fault>
+        requires { self.old.writing ≡ None }
+        ensures ok { OnOk result (self.new ≡ buffer_with self.old (id ▸ byte_list bytes.now).text) }
+        ensures fits { OnOk result (id ▸ byte_list bytes.now).Fits }
+        ensures free { OnOk result (NoCause (id ▸ byte_list bytes.now).Cause) }
+        ensures err { OnErr result (self.new ≡ self.old) }
+        ensures warranted { IfErr result (IsWarranted (id ▸ byte_list bytes.now).Cause) }
+    {
+        let Ok(len) = u32::try_from(bytes.len()) else {
+            return Err(Fault::TooLarge);
+        };
+        let mut lead = Short::new();
+        lead.push(id);
+        lead.unsigned(u64::from(len));
+        let head = open_head(self.kind, self.holder.len(), self.holder.as_slice().len());
+        let kept = self.holder.kept_len();
+        self.holder.keep_bytes(self.closed_len, kept, head.as_slice(), lead.as_slice(), bytes)?;
         self.closed_len = self.holder.kept_len();
         self.kind = None;
         Ok(())

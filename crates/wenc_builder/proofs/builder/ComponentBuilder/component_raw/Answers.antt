@@ -11,8 +11,8 @@ use Rattle.wenc_builder.proofs.builder.ComponentBuilder.component_raw.Goals as g
 
 pub returns : goal.returns
 returns g c =
-    alone_enters c.args.self.now c.stand_alone.new.self c.stand_alone.result (component_entry (option_copied c.args.debug_name) c.args.component.now) (indices_in spaces.Components 1) (option_copied c.args.debug_name)
-    (record { alone = refl; defined = refl; named = refl }) (rw c.into.ensures serves_itself) c.stand_alone.ensures
+    alone_enters c.args.self.now c.stand_alone_bytes.new.self c.stand_alone_bytes.result (component_entry (option_copied c.args.debug_name) c.args.component.now) (indices_in spaces.Components 1) (option_copied c.args.debug_name)
+    (record { alone = refl; defined = refl; named = refl }) (rw c.into-id.ensures serves_itself) c.stand_alone_bytes.ensures
 
-pub stand_alone-requires : goal.stand_alone-requires
-stand_alone-requires g c = rw c.into.ensures (item_piece (ComponentItem c.args.component.now) serves_itself)
+pub stand_alone_bytes-requires : goal.stand_alone_bytes-requires
+stand_alone_bytes-requires g c = rw c.into-id.ensures (item_piece (ComponentItem c.args.component.now) serves_itself)

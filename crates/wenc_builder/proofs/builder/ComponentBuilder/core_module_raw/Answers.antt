@@ -11,8 +11,8 @@ use Rattle.wenc_builder.proofs.builder.ComponentBuilder.core_module_raw.Goals as
 
 pub returns : goal.returns
 returns g c =
-    alone_enters c.args.self.now c.stand_alone.new.self c.stand_alone.result (module_entry (option_copied c.args.debug_name) c.args.bytes.now) (indices_in spaces.CoreModules 1) (option_copied c.args.debug_name)
-    (record { alone = refl; defined = refl; named = refl }) (rw c.into.ensures serves_itself) c.stand_alone.ensures
+    alone_enters c.args.self.now c.stand_alone_bytes.new.self c.stand_alone_bytes.result (module_entry (option_copied c.args.debug_name) c.args.bytes.now) (indices_in spaces.CoreModules 1) (option_copied c.args.debug_name)
+    (record { alone = refl; defined = refl; named = refl }) (rw c.into-id.ensures serves_itself) c.stand_alone_bytes.ensures
 
-pub stand_alone-requires : goal.stand_alone-requires
-stand_alone-requires g c = rw c.into.ensures (item_piece (ModuleItem c.args.bytes.now) serves_itself)
+pub stand_alone_bytes-requires : goal.stand_alone_bytes-requires
+stand_alone_bytes-requires g c = rw c.into-id.ensures (item_piece (ModuleItem c.args.bytes.now) serves_itself)
