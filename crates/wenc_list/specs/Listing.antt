@@ -92,6 +92,17 @@ abbrev pub IsNoneWithin : List ℕ → Type 0
 IsNoneWithin bytes = (s : Section) (rest : List ℕ) → (section_piece s).Reads Wide bytes rest
     → AreWithin 100 (s ∷ []) → ⊥
 
+-- the fault has its cause in the section that begins here
+abbrev pub IsFaultHere : ℕ → List ℕ → ListFault → Type 0
+IsFaultHere here bytes faults.Memory = Unit {0}
+IsFaultHere here bytes (faults.NotAComponent place) = ⊥
+IsFaultHere here bytes (faults.BadSection place) =
+    (place ≡ here) × IsNoneWithin bytes × IsBadSection bytes
+IsFaultHere here bytes (faults.BadItem place) =
+    (place ≡ here) × IsNoneWithin bytes × IsBadItem bytes
+IsFaultHere here bytes (faults.TooDeep place) =
+    (place ≡ here) × IsNoneWithin bytes × IsTooDeep bytes
+
 -- Sections are read within depth 100, of so many bytes in all, up to this place; the next one
 -- isn't, and P holds of the bytes from there on.
 pub record StopsAt (all : ℕ) (bytes : List ℕ) (place : ℕ) (P : List ℕ → Type 0) : Type 0 where

@@ -1,8 +1,12 @@
-//! A law over the definitions. A call of it does nothing.
-ghost use Rattle.std.specs.Prelude.{◌≡◌, ◌⊎◌, ℕ, List};
+//! Laws over the definitions. A call of one does nothing.
+ghost use Rattle.std.specs.Prelude.{◌≡◌, ◌⊎◌, ℕ, List, [], ◌∷◌, ◌++◌};
 ghost use Rattle.wenc_base.specs.Piece.{Wide};
-ghost use Rattle.wenc_builder.specs.Sections.{Section, Reading};
-ghost use Rattle.wenc_list.specs.Listing.{AreWithin, IsFaultOf};
+ghost use Rattle.wenc_builder.specs.Item.{Item};
+ghost use Rattle.wenc_builder.specs.Sections.{Section, Reading, section_piece};
+ghost use Rattle.wenc_list.specs.Cursor.{Opens, HasTaken, IsSpent, IsFaultIn};
+ghost use Rattle.wenc_list.specs.Items.{item_section};
+ghost use Rattle.wenc_list.specs.Listing.{AreWithin, IsFaultOf, IsFaultHere};
+ghost use Rattle.wenc_list.specs.declared.cursor.SectionItems.{SectionItems};
 ghost use Rattle.wenc_list.specs.declared.fault.ListFault.TheVariants.{Memory, TooDeep};
 ghost use Rattle.wenc_list.specs.declared.fault.ListFault.{ListFault};
 
@@ -16,4 +20,20 @@ pub fn faults_of_what_is_read()
     ensures too_deep { (bytes : List ℕ) (ss : List Section) → Reading Wide bytes ss
         → (fault : ListFault) → IsFaultOf bytes fault
         → (fault ≡ Memory) ⊎ ((place : ℕ) × (fault ≡ TooDeep place)) }
+{}
+
+/// What a loop over the items of a section finds: taking none and then one more is an invariant,
+/// all items that were taken are the section, and a fault of what is left is one of the section.
+pub fn what_was_taken()
+    ensures none { (s : SectionItems) → HasTaken s [] s }
+    ensures more { (first middle left : SectionItems) (xs : List Item) (x : Item)
+        → HasTaken first xs middle → HasTaken middle (x ∷ []) left
+        → HasTaken first (xs ++ x ∷ []) left }
+    ensures read { (ends : ℕ) (bytes rest : List ℕ) (first left : SectionItems) (xs : List Item)
+        → Opens ends bytes first rest → HasTaken first xs left → IsSpent left
+        → (section_piece (item_section first.id xs)).Reads Wide bytes rest
+        × AreWithin 100 (item_section first.id xs ∷ []) }
+    ensures fault { (ends : ℕ) (bytes rest : List ℕ) (first left : SectionItems) (xs : List Item)
+        → Opens ends bytes first rest → HasTaken first xs left
+        → (fault : ListFault) → IsFaultIn left fault → IsFaultHere first.place bytes fault }
 {}

@@ -1,0 +1,28 @@
+use Rattle.std.proofs.Common.{rules}
+use Rattle.wenc_list.proofs.Listed.{no_frame}
+use Rattle.wenc_list.proofs.SectionLaws.{is_framed}
+use Rattle.wenc_list.proofs.Taken.{malformed_of, count_holds, no_count, collects_other, uncounted_fault}
+use Rattle.wenc_list.proofs.cursor.Sections.next.Goals as goal
+
+pub returns-in-Ok-counted-clause-taken : goal.returns-in-Ok-counted-clause-taken
+returns-in-Ok-counted-clause-taken c = record {
+  content = c.in-Ok.content.now;
+  framed = is_framed c.args.self.now.rest.now c.in-Ok.id c.in-Ok.content.now c.in-Ok.rest.now c.in-Ok.ensures;
+  holds = count_holds c.in-Ok.id c.in-Ok.content.now c.in-Ok-counted.left c.in-Ok-counted.items.now c.in-Ok-counted.ensures;
+  is_place = c.place-place.ensures;
+  is_end = c.place.ensures;
+}
+
+pub returns-in-Err-Malformed-counted-clause-fault : goal.returns-in-Err-Malformed-counted-clause-fault
+returns-in-Err-Malformed-counted-clause-fault c =
+    let id = c.in-Ok.id in
+    let content = c.in-Ok.content.now in
+    let bad = malformed_of c.in-Err-Malformed-counted.field-0 _ (search rules) c.in-Err-Malformed-counted.ensures in
+    let framed = is_framed c.args.self.now.rest.now id content c.in-Ok.rest.now c.in-Ok.ensures in
+    let f = uncounted_fault 0 c.args.self.now.rest.now id content c.in-Ok.rest.now framed (collects_other id (no_count id content bad)) bad in
+    (c.place-place.ensures, f.1, f.2)
+
+pub returns-in-Err-Malformed-clause-fault : goal.returns-in-Err-Malformed-clause-fault
+returns-in-Err-Malformed-clause-fault c =
+    let f = no_frame 0 c.args.self.now.rest.now (malformed_of c.in-Err-Malformed.field-0 _ (search rules) c.in-Err-Malformed.ensures) in
+    (c.place-place.ensures, f.1, f.2)
