@@ -43,12 +43,12 @@ section_shorter s bytes rest r =
 -- each of them takes a byte
 pub from_few : {A : Type 0} (all : ℕ) (ss : List (ListedSection A)) (bytes rest : List ℕ) → AreFrom all ss bytes rest → length ss ≤ length bytes
 from_few all [] bytes rest f = omega arith
-from_few all (s ∷ ss) bytes rest f = omega (arith, section_shorter (section_view s) bytes f.0 f.1, from_few all ss f.0 rest f.4)
+from_few all (s ∷ ss) bytes rest f = omega (arith, section_shorter (section_view s) bytes f.0 f.1, from_few all ss f.0 rest f.5)
 
 -- one section more
-pub from_more : {A : Type 0} (all : ℕ) (ss : List (ListedSection A)) (s : ListedSection A) (bytes middle rest : List ℕ) → AreFrom all ss bytes middle → (section_piece (section_view s)).Reads Wide middle rest → (all ≡ s.place + length middle) → BeginsWith s.id middle → AreFrom all (ss ++ s ∷ []) bytes rest
-from_more all [] s bytes middle rest f r p b = (rest, rw (sym f) at r, rw (sym f) at p, rw (sym f) at b, refl)
-from_more all (t ∷ ss) s bytes middle rest f r p b = (f.0, f.1, f.2, f.3, from_more all ss s f.0 middle rest f.4 r p b)
+pub from_more : {A : Type 0} (all : ℕ) (ss : List (ListedSection A)) (s : ListedSection A) (bytes middle rest : List ℕ) → AreFrom all ss bytes middle → (section_piece (section_view s)).Reads Wide middle rest → (all ≡ s.place + length middle) → (all ≡ s.ends + length rest) → BeginsWith s.id middle → AreFrom all (ss ++ s ∷ []) bytes rest
+from_more all [] s bytes middle rest f r p e b = (rest, rw (sym f) at r, rw (sym f) at p, e, rw (sym f) at b, refl)
+from_more all (t ∷ ss) s bytes middle rest f r p e b = (f.0, f.1, f.2, f.3, f.4, from_more all ss s f.0 middle rest f.5 r p e b)
 
 pub within_more : (ss : List Section) (s : Section) → AreWithin 100 ss → AreWithin 100 (s ∷ []) → AreWithin 100 (ss ++ s ∷ [])
 within_more [] s a b = b
@@ -56,11 +56,11 @@ within_more (t ∷ ss) s a b = (a.0, within_more ss s a.1 b)
 
 pub from_each : {A : Type 0} (all : ℕ) (ss : List (ListedSection A)) (bytes rest : List ℕ) → AreFrom all ss bytes rest → (each section_piece (map section_view ss)).Reads Wide bytes rest
 from_each all [] bytes rest f = f
-from_each all (s ∷ ss) bytes rest f = (f.0, f.1, from_each all ss f.0 rest f.4)
+from_each all (s ∷ ss) bytes rest f = (f.0, f.1, from_each all ss f.0 rest f.5)
 
 pub from_all : {A : Type 0} (all : ℕ) (ss : List (ListedSection A)) (bytes : List ℕ) → AreFrom all ss bytes [] → (sections (map section_view ss)).Reads Wide bytes []
 from_all all [] bytes f = f
-from_all all (s ∷ ss) bytes f = (f.0, f.1, from_all all ss f.0 f.4)
+from_all all (s ∷ ss) bytes f = (f.0, f.1, from_all all ss f.0 f.5)
 
 -- a fault of the next section is one of them all
 pub stops_here : (all place : ℕ) (before : List Section) (bytes left : List ℕ) (fault : ListFault) → (each section_piece before).Reads Wide bytes left → AreWithin 100 before → (all ≡ place + length left) → 0 < length left → IsFaultHere place left fault → IsFaultBehind all bytes fault

@@ -1,15 +1,16 @@
 -- What is taken of a section, item by item, and what that says of it.
-use Rattle.std.proofs.Common.{◌≡◌, ℕ, Bool, zero, suc, ◌+◌, ◌-◌, ◌<◌, ◌≤◌, true, false, true≢false, cond, List, [], ◌∷◌, ◌++◌, length, Option, Some, None, Result, Ok, Err, refl, sym, ap, subst, ◌∙◌, inl, inr, ◌⊎◌, arith, length-append}
+use Rattle.std.proofs.Common.{◌≡◌, ℕ, Bool, zero, suc, ◌+◌, ◌-◌, ◌<◌, ◌≤◌, true, false, true≢false, cond, List, [], ◌∷◌, ◌++◌, length, drop, Option, Some, None, Result, Ok, Err, refl, sym, ap, subst, ◌∙◌, inl, inr, ◌⊎◌, arith, append_assoc, length-append}
 use Rattle.std.proofs.lemmas.Bool.Decides.{eqb_tells}
+use Rattle.std.proofs.lemmas.List.{append-nil, drop_at}
 use Rattle.std.proofs.lemmas.Option.{same_Some}
 use Rattle.std.specs.List.{AllByRecursion}
 use Rattle.std.specs.Prelude.{IsTrue, IsFalse}
 use Rattle.wenc_base.specs.Forms.{list, name, AreBytes}
-use Rattle.wenc_base.specs.Number.{u32, ReadsGroups, last, more}
-use Rattle.wenc_base.specs.Piece.{Form, Wide, raw, each, ◌⨾◌}
+use Rattle.wenc_base.specs.Number.{u32}
+use Rattle.wenc_base.specs.Piece.{Form, Wide, EndsWith, raw, each, ◌⨾◌}
 use Rattle.wenc_base.specs.Readers.{Flaw, Bad, Deep, give, go_on}
 use Rattle.wenc_base.specs.laws.Forms.{raw_sound, bytes_lawful, bytes_pass, name_lawful}
-use Rattle.wenc_base.specs.laws.Lawful.{same_Ok_pair}
+use Rattle.wenc_base.specs.laws.Lawful.{same_Ok_pair, ends_on}
 use Rattle.wenc_base.specs.laws.Numbers.{u32_lawful, u32_sound}
 use Rattle.wenc_base.specs.laws.Sections.{custom_content_lawful, custom_content_sound}
 use Rattle.wenc_base.specs.laws.Sound.{Told, weaken, told_on, tested, Agrees}
@@ -17,7 +18,8 @@ use Rattle.wenc_base.specs.reading.Forms.{read_raw}
 use Rattle.wenc_base.specs.reading.Numbers.{read_u32}
 use Rattle.wenc_base.specs.reading.Sections.{read_custom_content, labelled_section}
 use Rattle.wenc_builder.specs.Item.{Item, ModuleItem, CoreInstanceItem, CoreTypeItem, ComponentItem, InstanceItem, AliasItem, TypeItem, CanonItem, StartItem, ImportItem, ExportItem, CustomItem, RawItem}
-use Rattle.wenc_builder.specs.Sections.{Section, members, collects, item_of, section_piece}
+use Rattle.wenc_builder.specs.Sections.{Section, members, collects, item_of, section_piece, preamble}
+use Rattle.wenc_builder.specs.laws.Reading.{item_of_lawful}
 use Rattle.wenc_decode.specs.Depth.{Front, OpensTypes}
 use Rattle.wenc_read.specs.Gives.{Fails, FailsNested}
 use Rattle.wenc_read.specs.declared.refusal.NestedRefusal.{NestedRefusal}
@@ -108,6 +110,35 @@ once D E v w (Err Deep) a never b = absurd (never a)
 -- one item is read here
 pub same_item : (id : ℕ) (x y : Item) (bytes rest after : List ℕ) → (item_in id x).Reads Wide bytes rest → HasDepth 100 x → (item_in id y).Reads Wide bytes after → ◌≡◌ {A = Item × List ℕ} (x, rest) (y, after)
 same_item id x y bytes rest after r w q = once (IsPast 100 x) (IsPast 100 y) (x, rest) (y, after) (read_item_in 100 id bytes) (in_agrees 100 id x bytes rest r) (λ past. past w) (in_agrees 100 id y bytes after q)
+
+-- ---- what is left
+
+pub item_leaves : (id : ℕ) (x : Item) (bytes rest : List ℕ) → (item_in id x).Reads Wide bytes rest → EndsWith bytes rest
+item_leaves id (CustomItem c) bytes rest r = (bytes, rw r.1.0 (sym (append-nil bytes)))
+item_leaves id (ModuleItem bs) bytes rest r = (bytes, rw r.1.0 (sym (append-nil bytes)))
+item_leaves id (ComponentItem bs) bytes rest r = (bytes, rw r.1.0 (sym (append-nil bytes)))
+item_leaves id (StartItem s) bytes rest r = (start_content_lawful s).leaves Wide bytes rest r.1
+item_leaves id other bytes rest r = (item_of_lawful id other).leaves Wide bytes rest r
+
+pub frame_leaves : (bytes : List ℕ) (id : ℕ) (content rest : List ℕ) → IsFramed bytes id content rest → EndsWith bytes (content ++ rest)
+frame_leaves bytes id content rest f = ends_on bytes f.middle (content ++ rest) (id ∷ [], f.begins) ((u32_lawful (length content)).leaves Wide f.middle (content ++ rest) f.sized)
+
+count_leaves : (id n : ℕ) (content items : List ℕ) → Holds id content n items → EndsWith content items
+count_leaves id n content items (inl h) = (u32_lawful n).leaves Wide content items h.1
+count_leaves id n content items (inr h) = ([], sym h.2)
+
+-- where more follows
+ends_before : (bytes left rest : List ℕ) → EndsWith bytes left → EndsWith (bytes ++ rest) (left ++ rest)
+ends_before bytes left rest e = (e.0, ap (λ (t : List ℕ). t ++ rest) e.1 ∙ append_assoc e.0 left rest)
+
+pub section_leaves : (bytes : List ℕ) (id : ℕ) (content rest : List ℕ) (n : ℕ) (items : List ℕ) → IsFramed bytes id content rest → Holds id content n items → EndsWith bytes (items ++ rest)
+section_leaves bytes id content rest n items f h = ends_on bytes (content ++ rest) (items ++ rest) (frame_leaves bytes id content rest f) (ends_before content items rest (count_leaves id n content items h))
+
+-- what the bytes end with stands at its place
+pub at_place : (bytes left : List ℕ) (place : ℕ) → EndsWith bytes left → (length bytes ≡ place + length left) → drop place bytes ≡ left
+at_place bytes left place e p =
+    let n : length e.0 ≡ place = omega (arith, p, ap length e.1, length-append e.0 left) in
+    rw e.1 (drop_at e.0 left place n)
 
 -- ---- items, one after the other
 
@@ -420,7 +451,7 @@ pub taken_fault : (ends : ℕ) (bytes rest : List ℕ) (s : SectionItems) (xs : 
 taken_fault ends bytes rest s xs left fault o t f = known_fault s.place bytes left fault (known ends bytes rest s xs left o t) t.same_place f
 
 pub none_taken : (s : SectionItems) → HasTaken s [] s
-none_taken s = record { read = refl; within = tt; counted = omega arith; same_id = refl; same_place = refl; same_end = refl }
+none_taken s = record { read = refl; leaves = ([], refl); within = tt; counted = omega arith; same_id = refl; same_place = refl; same_end = refl }
 
 pub one_more_taken : (first middle left : SectionItems) (xs : List Item) (x : Item) → HasTaken first xs middle → HasTaken middle (x ∷ []) left → HasTaken first (xs ++ x ∷ []) left
 one_more_taken first middle left xs x a b =
@@ -428,6 +459,7 @@ one_more_taken first middle left xs x a b =
     subst (λ (id : ℕ). (item_in id x).Reads Wide middle.rest.now left.rest.now) a.same_id (subst (λ (rest : List ℕ). (item_in middle.id x).Reads Wide middle.rest.now rest) b.read.2 b.read.1) in
     record {
       read = each_more (item_in first.id) xs x first.rest.now middle.rest.now left.rest.now a.read one;
+      leaves = ends_on first.rest.now middle.rest.now left.rest.now a.leaves b.leaves;
       within = all_more (HasDepth 100) xs x a.within b.within.0;
       counted = omega (arith, a.counted, b.counted, length-append xs (x ∷ []));
       same_id = b.same_id ∙ a.same_id;
@@ -443,6 +475,20 @@ taken_read ends bytes rest s xs left o t p = section_reads s.id xs bytes o.conte
 
 pub taken_within : (id : ℕ) (xs : List Item) → AllByRecursion (HasDepth 100) xs → AreWithin 100 (item_section id xs ∷ [])
 taken_within id xs w = (rw (members_of id xs) w, tt)
+
+-- ---- where it stands
+
+pub after_section : (ends : ℕ) (bytes before rest : List ℕ) (s : SectionItems) → EndsWith bytes before → Opens ends before s rest → EndsWith bytes rest
+after_section ends bytes before rest s e o = ends_on bytes before rest e (ends_on before (s.rest.now ++ rest) rest o.leaves (s.rest.now, refl))
+
+pub stands_at_place : (bytes left : List ℕ) → EndsWith bytes left → drop (length bytes - length left) bytes ≡ left
+stands_at_place bytes left e = at_place bytes left (length bytes - length left) e (omega (arith, ap length e.1, length-append e.0 left))
+
+pub stands_where_reached : (bytes before rest : List ℕ) (first : SectionItems) (xs : List Item) (left : SectionItems) → EndsWith bytes before → Opens (length bytes) before first rest → HasTaken first xs left → drop (left.ends - length left.rest.now) bytes ≡ left.rest.now ++ rest
+stands_where_reached bytes before rest first xs left e o t =
+    let all = ends_on before (first.rest.now ++ rest) (left.rest.now ++ rest) o.leaves (ends_before first.rest.now left.rest.now rest t.leaves) in
+    let f = ends_on bytes before (left.rest.now ++ rest) e all in
+    at_place bytes (left.rest.now ++ rest) (left.ends - length left.rest.now) f (omega (arith, t.same_end, o.is_end, ap length f.1, length-append f.0 (left.rest.now ++ rest), length-append left.rest.now rest))
 
 -- ---- where no count begins the content
 
@@ -481,16 +527,12 @@ pub collects_other : (id : ℕ) → IsTrue (collects id) → id ≡ 0 → ⊥
 collects_other id t e = true≢false (sym t ∙ ap collects e)
 
 -- a name that is read leaves bytes
-groups_leave : (room n : ℕ) (bytes rest : List ℕ) → ReadsGroups Wide 128 room n bytes rest → AreBytes bytes → AreBytes rest
-groups_leave room n bytes rest (last lt) h = h.1
-groups_leave _ n bytes rest (more {room = room} {high = high} {bytes = behind} low byte on sum r) h = groups_leave room high behind rest r h.1
-
 behind_bytes : (front rest : List ℕ) → AreBytes (front ++ rest) → AreBytes rest
 behind_bytes [] rest h = h
 behind_bytes (b ∷ front) rest h = behind_bytes front rest h.1
 
 name_leaves : (label content bytes : List ℕ) → (name label).Reads Wide content bytes → AreBytes content → AreBytes bytes
-name_leaves label content bytes r h = behind_bytes label bytes (rw r.2.1 at (groups_leave 4 (length label) content r.0 r.1.1 h))
+name_leaves label content bytes r h = let e = (name_lawful label).leaves Wide content bytes r in behind_bytes e.0 bytes (rw e.1 at h)
 
 -- so a custom section with a name is read
 labelled_found : (label content bytes : List ℕ) → (name label).Reads Wide content bytes → AreBytes content → read_item_in 100 0 content ≡ Ok (CustomItem (labelled_section label bytes), [])

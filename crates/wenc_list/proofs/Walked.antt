@@ -1,10 +1,10 @@
 -- What the walk over a section's items finds, and what that says of the section.
-use Rattle.std.proofs.Common.{◌≡◌, ℕ, ◌+◌, ◌-◌, ◌<◌, ◌≤◌, List, [], ◌∷◌, ◌++◌, length, drop, Option, Some, None, Result, Ok, Err, refl, sym, ap, ◌∙◌, subst, append_assoc, ◌⊎◌, inl, inr, arith, length-append}
-use Rattle.std.proofs.lemmas.List.{drop_all, drop_at}
+use Rattle.std.proofs.Common.{◌≡◌, ℕ, ◌+◌, ◌-◌, ◌<◌, ◌≤◌, List, [], ◌∷◌, ◌++◌, length, drop, Option, Some, None, Result, Ok, Err, refl, sym, ap, ◌∙◌, subst, ◌⊎◌, inl, inr, arith}
+use Rattle.std.proofs.lemmas.List.{drop_all}
 use Rattle.std.specs.Prelude.{IsSome, IfOk, MatchOption}
-use Rattle.wenc_base.specs.Number.{ReadsGroups, last, more}
-use Rattle.wenc_base.specs.Piece.{Wide, each}
+use Rattle.wenc_base.specs.Piece.{Wide, EndsWith, each}
 use Rattle.wenc_base.specs.Readers.{Bad}
+use Rattle.wenc_base.specs.laws.Lawful.{ends_on}
 use Rattle.wenc_builder.specs.Item.{Item}
 use Rattle.wenc_builder.specs.Sections.{Section, section_piece, preamble}
 use Rattle.wenc_list.specs.Cursor.{Opens, HasTaken, IsNeverItem, IsNoItem, IsFaultIn}
@@ -20,7 +20,7 @@ use Rattle.wenc_list.specs.inside.Taken.{TakesAll, FaultsIn}
 use Rattle.wenc_list.specs.inside.Unread.{Stops, IsUnreadOf}
 use Rattle.wenc_list.proofs.Listed.{never_framed}
 use Rattle.wenc_list.proofs.SectionLaws.{is_framed, same_frame, frame_finds, section_framed}
-use Rattle.wenc_list.proofs.Taken.{taken_fault, taken_read, taken_within}
+use Rattle.wenc_list.proofs.Taken.{frame_leaves, at_place, taken_fault, taken_read, taken_within}
 
 -- ---- a section
 
@@ -95,40 +95,23 @@ frame_known bytes id content rest e = (is_framed bytes id content rest e).known
 
 -- ---- where a section stands
 
--- the rest stands after some bytes
-abbrev Behind : List ℕ → List ℕ → Type 0
-Behind bytes rest = (front : List ℕ) × (bytes ≡ front ++ rest)
-
-then_behind : (bytes middle rest : List ℕ) → Behind bytes middle → Behind middle rest → Behind bytes rest
-then_behind bytes middle rest p q = (p.0 ++ q.0, p.1 ∙ (ap (λ (t : List ℕ). p.0 ++ t) q.1 ∙ simp append_assoc))
-
-groups_behind : (room n : ℕ) (bytes rest : List ℕ) → ReadsGroups Wide 128 room n bytes rest → Behind bytes rest
-groups_behind room n _ rest (last {b = b} lt) = (b ∷ [], refl)
-groups_behind _ n _ rest (more {room = room} {b = b} {high = high} {bytes = bytes} low byte on sum r) = let p = groups_behind room high bytes rest r in (b ∷ p.0, ap (λ (t : List ℕ). b ∷ t) p.1)
-
-section_behind : (s : Section) (bytes rest : List ℕ) → (section_piece s).Reads Wide bytes rest → Behind bytes rest
-section_behind s bytes rest r =
+one_leaves : (s : Section) (bytes rest : List ℕ) → (section_piece s).Reads Wide bytes rest → EndsWith bytes rest
+one_leaves s bytes rest r =
     let f = section_framed s bytes rest r in
-    let p = groups_behind 4 _ f.framed.middle (f.content ++ rest) f.framed.sized.1 in
-    (f.id ∷ (p.0 ++ f.content), f.framed.begins ∙ ap (λ (t : List ℕ). f.id ∷ t) (p.1 ∙ simp append_assoc))
+    ends_on bytes (f.content ++ rest) rest (frame_leaves bytes f.id f.content rest f.framed) (f.content, refl)
 
-sections_behind : (ss : List Section) (bytes rest : List ℕ) → (each section_piece ss).Reads Wide bytes rest → Behind bytes rest
-sections_behind [] bytes rest r = ([], r)
-sections_behind (s ∷ ss) bytes rest r = then_behind bytes r.0 rest (section_behind s bytes r.0 r.1) (sections_behind ss r.0 rest r.2)
+sections_leave : (ss : List Section) (bytes rest : List ℕ) → (each section_piece ss).Reads Wide bytes rest → EndsWith bytes rest
+sections_leave [] bytes rest r = ([], r)
+sections_leave (s ∷ ss) bytes rest r = ends_on bytes r.0 rest (one_leaves s bytes r.0 r.1) (sections_leave ss r.0 rest r.2)
 
-header_behind : (bytes rest : List ℕ) → preamble.Reads Wide bytes rest → Behind bytes rest
-header_behind bytes rest r = (
+pub header_leaves : (bytes rest : List ℕ) → preamble.Reads Wide bytes rest → EndsWith bytes rest
+header_leaves bytes rest r = (
   0x00 ∷ 0x61 ∷ 0x73 ∷ 0x6d ∷ 0x0d ∷ 0x00 ∷ 0x01 ∷ 0x00 ∷ [],
   rw (r.1, r.2.1, r.2.2.1, r.2.2.2.1, r.2.2.2.2.1, r.2.2.2.2.2.1, r.2.2.2.2.2.2.1, r.2.2.2.2.2.2.2) refl,
 )
 
-place_of : (bytes left : List ℕ) (place : ℕ) → Behind bytes left → (length bytes ≡ place + length left) → drop place bytes ≡ left
-place_of bytes left place p e =
-    let n : length p.0 ≡ place = omega (arith, e, ap length p.1, length-append p.0 left) in
-    rw p.1 (drop_at p.0 left place n)
-
 stops_here : (bytes behind : List ℕ) (place : ℕ) (P : List ℕ → Type 0) (f : StopsAt (length bytes) behind place P) → preamble.Reads Wide bytes behind → drop place bytes ≡ f.left
-stops_here bytes behind place P f r = place_of bytes f.left place (then_behind bytes behind f.left (header_behind bytes behind r) (sections_behind f.before behind f.left f.read)) f.is_place
+stops_here bytes behind place P f r = at_place bytes f.left place (ends_on bytes behind f.left (header_leaves bytes behind r) (sections_leave f.before behind f.left f.read)) f.is_place
 
 not_read : (all : ℕ) (behind : List ℕ) (place : ℕ) (P : List ℕ → Type 0) (f : StopsAt all behind place P) (id : ℕ) (content rest : List ℕ) → IsFramed f.left id content rest → IsLabelled id content → IsReadHere f.left → ⊥
 not_read all behind place P f id content rest framed l h = let s = h id content rest framed l in f.none_within s.0 rest s.1 s.2

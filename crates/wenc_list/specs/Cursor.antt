@@ -1,10 +1,10 @@
 -- What is taken of a component section by section, and of a section item by item (component model,
 -- binary format, "Component Definitions").
 use Rattle.std.specs.List.{AllByRecursion}
-use Rattle.std.specs.Prelude.{◌≡◌, ◌⊎◌, ℕ, ◌+◌, ◌-◌, ◌<◌, List, [], length, IsTrue, IsFalse}
+use Rattle.std.specs.Prelude.{◌≡◌, ◌⊎◌, ℕ, ◌+◌, ◌-◌, ◌<◌, List, [], ◌++◌, length, IsTrue, IsFalse}
 use Rattle.wenc_base.specs.Forms.{name, AreBytes}
 use Rattle.wenc_base.specs.Number.{u32}
-use Rattle.wenc_base.specs.Piece.{Piece, Form, Wide, only_where, raw, ◌⨾◌, each}
+use Rattle.wenc_base.specs.Piece.{Piece, Form, Wide, EndsWith, only_where, raw, ◌⨾◌, each}
 use Rattle.wenc_builder.specs.Item.{Item, ModuleItem, ComponentItem, StartItem, CustomItem}
 use Rattle.wenc_builder.specs.Sections.{collects, item_of}
 use Rattle.wenc_decode.specs.Depth.{OpensTypes}
@@ -39,18 +39,20 @@ Holds id content count items =
 -- ---- what was taken
 
 -- A section begins these bytes, of so many in all up to the end, and the rest follows; none of its
--- items is taken.
+-- items is taken. The bytes end with its items and that rest.
 pub record Opens (ends : ℕ) (bytes : List ℕ) (s : SectionItems) (rest : List ℕ) : Type 0 where
   pub content : List ℕ
   pub framed : IsFramed bytes s.id content rest
   pub holds : Holds s.id content s.left s.rest.now
+  pub leaves : EndsWith bytes (s.rest.now ++ rest)
   pub is_place : s.place ≡ ends - length bytes
   pub is_end : s.ends ≡ ends - length rest
 
 -- Of a section these items were taken, one after the other, each within depth 100, and this is
--- left.
+-- left, with which the bytes end.
 pub record HasTaken (first : SectionItems) (xs : List Item) (left : SectionItems) : Type 0 where
   pub read : (each (item_in first.id) xs).Reads Wide first.rest.now left.rest.now
+  pub leaves : EndsWith first.rest.now left.rest.now
   pub within : AllByRecursion (HasDepth 100) xs
   pub counted : first.left ≡ length xs + left.left
   pub same_id : left.id ≡ first.id

@@ -1,8 +1,8 @@
 //! Laws over the definitions. A call of one does nothing.
-ghost use Rattle.std.specs.Prelude.{◌≡◌, ◌⊎◌, ℕ, List, [], ◌∷◌, ◌++◌};
-ghost use Rattle.wenc_base.specs.Piece.{Wide};
+ghost use Rattle.std.specs.Prelude.{◌≡◌, ◌⊎◌, ℕ, ◌-◌, List, [], ◌∷◌, ◌++◌, length, drop};
+ghost use Rattle.wenc_base.specs.Piece.{Wide, EndsWith};
 ghost use Rattle.wenc_builder.specs.Item.{Item};
-ghost use Rattle.wenc_builder.specs.Sections.{Section, Reading, section_piece};
+ghost use Rattle.wenc_builder.specs.Sections.{Section, Reading, section_piece, preamble};
 ghost use Rattle.wenc_list.specs.Cursor.{Opens, HasTaken, IsSpent, IsFaultIn};
 ghost use Rattle.wenc_list.specs.Items.{item_section};
 ghost use Rattle.wenc_list.specs.Listing.{AreWithin, IsFaultOf, IsFaultHere};
@@ -36,4 +36,20 @@ pub fn what_was_taken()
     ensures fault { (ends : ℕ) (bytes rest : List ℕ) (first left : SectionItems) (xs : List Item)
         → Opens ends bytes first rest → HasTaken first xs left
         → (fault : ListFault) → IsFaultIn left fault → IsFaultHere first.place bytes fault }
+{}
+
+/// What is left of a component stands at `Sections::place`, and what is left of a section at
+/// `SectionItems::reached`: these are byte offsets in the component.
+pub fn where_it_stands()
+    // The component ends with what is left, after the header and after each section.
+    ensures header { (bytes rest : List ℕ) → preamble.Reads Wide bytes rest → EndsWith bytes rest }
+    ensures section { (ends : ℕ) (bytes before rest : List ℕ) (s : SectionItems)
+        → EndsWith bytes before → Opens ends before s rest → EndsWith bytes rest }
+    // So that stands behind the bytes before its place.
+    ensures place { (bytes left : List ℕ) → EndsWith bytes left
+        → drop (length bytes - length left) bytes ≡ left }
+    ensures reached { (bytes before rest : List ℕ) (first : SectionItems) (xs : List Item)
+        (left : SectionItems) → EndsWith bytes before → Opens (length bytes) before first rest
+        → HasTaken first xs left
+        → drop (left.ends - length left.rest.now) bytes ≡ left.rest.now ++ rest }
 {}

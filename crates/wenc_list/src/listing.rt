@@ -19,8 +19,10 @@ use wenc_decode::room_for;
 pub struct ListedSection<A: Allocator = Global> {
     /// Its id, from 0 to 11.
     pub id: u8,
-    /// Where its id stands, counted in bytes from the front of the component.
+    /// The byte offset of its id in the component.
     pub place: usize,
+    /// The byte offset at which it ends.
+    pub ends: usize,
     /// Its items. Custom sections, modules, nested components and starts have one.
     pub items: Vec<ItemTree<A>, A>,
 }
@@ -44,6 +46,7 @@ fn section<A: Allocator + Copy>(
     ensures taken { IfOk result (λ s. TakesAll from.entry (map item_view s.items.items)) }
     ensures id { IfOk result (λ s. s.id ≡ from.entry.id) }
     ensures placed { IfOk result (λ s. s.place ≡ from.entry.place) }
+    ensures ended { IfOk result (λ s. s.ends ≡ from.entry.ends) }
     ensures fault { IfErr result (FaultsIn from.entry) }
 {
     let mut left = from;
@@ -51,8 +54,15 @@ fn section<A: Allocator + Copy>(
     while let Some(item) = left.next(alloc)? {
         items.push(item)?;
     }
-    let SectionItems { id, place, .. } = from;
-    Ok(ListedSection { id, place, items })
+    let SectionItems {
+        id, place, ends, ..
+    } = from;
+    Ok(ListedSection {
+        id,
+        place,
+        ends,
+        items,
+    })
 }
 
 /// The sections up to the end, and how many indices their items take.
@@ -105,7 +115,7 @@ pub fn list<A: Allocator + Copy>(alloc: A, bytes: &[u8]) -> Result<Listing<A>, L
         (λ l. Reading Wide bytes.now (map section_view l.sections.items)) }
     // No type in it is deeper than 100.
     ensures within { IfOk result (λ l. AreWithin 100 (map section_view l.sections.items)) }
-    // Each section is read where it is placed, and its id is the byte there.
+    // Each section is read where it is placed, up to its end, and its id is the byte there.
     ensures placed { IfOk result (λ l. ArePlaced bytes.now l.sections.items) }
     // The counts are the sums of what the items define.
     ensures counted { IfOk result (λ l. (k : ℕ)

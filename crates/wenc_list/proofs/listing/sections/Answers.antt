@@ -61,7 +61,7 @@ loop-sections-preserved g c =
     let views : map section_view c.push.new.self.items ≡ map section_view before ++ section_view s ∷ [] = rw c.in_ok-push.ensures.items (map_push section_view before s) in
     let longer : length c.push.new.self.items ≡ length before + 1 = rw c.in_ok-push.ensures.items (length-append before (s ∷ [])) in
     record {
-      read = rw c.in_ok-push.ensures.items (from_more c.args.from.ends before s c.args.from.rest.now left.rest.now after i.read read (omega (arith, c.in_ok-section.ensures.placed, o.is_place, i.shorter, i.same_end)) (listed_begins left.ends left.rest.now after c.in-Some.items s o id));
+      read = rw c.in_ok-push.ensures.items (from_more c.args.from.ends before s c.args.from.rest.now left.rest.now after i.read read (omega (arith, c.in_ok-section.ensures.placed, o.is_place, i.shorter, i.same_end)) (omega (arith, c.in_ok-section.ensures.ended, o.is_end, less, i.shorter, i.same_end)) (listed_begins left.ends left.rest.now after c.in-Some.items s o id));
       within = rw views (within_more (map section_view before) (section_view s) i.within (listed_within c.in-Some.items s taken));
       shorter = omega (arith, less, i.shorter);
       same_end = c.in_ok-items.ensures.same_end ∙ i.same_end;

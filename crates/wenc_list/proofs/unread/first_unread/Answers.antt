@@ -1,7 +1,7 @@
 use Rattle.std.proofs.Common.{inl, sym, length, length-drop, drop, arith, rules}
 use Rattle.wenc_list.specs.Unread.{IsUnread}
 use Rattle.wenc_list.proofs.SectionLaws.{is_framed}
-use Rattle.wenc_list.proofs.Taken.{malformed_of, count_holds, no_count, uncounted}
+use Rattle.wenc_list.proofs.Taken.{section_leaves, malformed_of, count_holds, no_count, uncounted}
 use Rattle.wenc_list.proofs.Walked.{unframed, all_of_section, named_tells, named_none}
 use Rattle.wenc_list.proofs.unread.first_unread.Goals as goal
 
@@ -10,11 +10,14 @@ returns-in-Ok-counted-clause-unread g c =
     let here = c.split_at.result.1.now in
     let id = c.in-Ok.id in
     let content = c.in-Ok.content.now in
+    let framed = is_framed here id content c.in-Ok.rest.now c.in-Ok.ensures in
+    let holds = count_holds id content c.in-Ok-counted.left c.in-Ok-counted.rest.now c.in-Ok-counted.ensures in
     rw c.split_at.ensures.back at (all_of_section (length c.args.bytes.now) here (record { id = id; place = c.args.place; ends = c.saturating_sub-ends.result; left = c.in-Ok-counted.left; rest = c.in-Ok-counted.rest }) c.in-Ok.rest.now c.unread_item.result
     (record {
       content = content;
-      framed = is_framed here id content c.in-Ok.rest.now c.in-Ok.ensures;
-      holds = count_holds id content c.in-Ok-counted.left c.in-Ok-counted.rest.now c.in-Ok-counted.ensures;
+      framed = framed;
+      holds = holds;
+      leaves = section_leaves here id content c.in-Ok.rest.now c.in-Ok-counted.left c.in-Ok-counted.rest.now framed holds;
       is_place = rw c.split_at.ensures.back (omega (arith, length-drop c.args.place c.args.bytes.now));
       is_end = c.saturating_sub-ends.ensures;
     }) c.unread_item.ensures)

@@ -1,17 +1,23 @@
 use Rattle.std.proofs.Common.{rules}
 use Rattle.wenc_list.proofs.Listed.{no_frame}
 use Rattle.wenc_list.proofs.SectionLaws.{is_framed}
-use Rattle.wenc_list.proofs.Taken.{malformed_of, count_holds, no_count, collects_other, uncounted_fault}
+use Rattle.wenc_list.proofs.Taken.{section_leaves, malformed_of, count_holds, no_count, collects_other, uncounted_fault}
 use Rattle.wenc_list.proofs.cursor.Sections.next.Goals as goal
 
 pub returns-in-Ok-counted-clause-taken : goal.returns-in-Ok-counted-clause-taken
-returns-in-Ok-counted-clause-taken c = record {
-  content = c.in-Ok.content.now;
-  framed = is_framed c.args.self.now.rest.now c.in-Ok.id c.in-Ok.content.now c.in-Ok.rest.now c.in-Ok.ensures;
-  holds = count_holds c.in-Ok.id c.in-Ok.content.now c.in-Ok-counted.left c.in-Ok-counted.items.now c.in-Ok-counted.ensures;
-  is_place = c.place-place.ensures;
-  is_end = c.place.ensures;
-}
+returns-in-Ok-counted-clause-taken c =
+    let id = c.in-Ok.id in
+    let content = c.in-Ok.content.now in
+    let framed = is_framed c.args.self.now.rest.now id content c.in-Ok.rest.now c.in-Ok.ensures in
+    let holds = count_holds id content c.in-Ok-counted.left c.in-Ok-counted.items.now c.in-Ok-counted.ensures in
+    record {
+      content = content;
+      framed = framed;
+      holds = holds;
+      leaves = section_leaves c.args.self.now.rest.now id content c.in-Ok.rest.now c.in-Ok-counted.left c.in-Ok-counted.items.now framed holds;
+      is_place = c.place-place.ensures;
+      is_end = c.place.ensures;
+    }
 
 pub returns-in-Err-Malformed-counted-clause-fault : goal.returns-in-Err-Malformed-counted-clause-fault
 returns-in-Err-Malformed-counted-clause-fault c =
