@@ -18,13 +18,12 @@ use Rattle.wenc_base.specs.reading.Forms.{read_raw}
 use Rattle.wenc_base.specs.reading.Numbers.{read_u32}
 use Rattle.wenc_base.specs.reading.Sections.{read_custom_content, labelled_section}
 use Rattle.wenc_builder.specs.Item.{Item, ModuleItem, CoreInstanceItem, CoreTypeItem, ComponentItem, InstanceItem, AliasItem, TypeItem, CanonItem, StartItem, ImportItem, ExportItem, CustomItem, RawItem}
-use Rattle.wenc_builder.specs.Sections.{Section, members, collects, item_of, section_piece, preamble}
+use Rattle.wenc_builder.specs.Sections.{Section, members, collects, item_of, section_piece}
 use Rattle.wenc_builder.specs.laws.Reading.{item_of_lawful}
 use Rattle.wenc_decode.specs.Depth.{Front, OpensTypes}
-use Rattle.wenc_read.specs.Gives.{Fails, FailsNested}
+use Rattle.wenc_read.specs.Gives.{FailsNested}
 use Rattle.wenc_read.specs.declared.refusal.NestedRefusal.{NestedRefusal}
 use Rattle.wenc_read.specs.declared.refusal.NestedRefusal.TheVariants.{Flat, TooDeep}
-use Rattle.wenc_read.specs.declared.refusal.Refusal.{Refusal}
 use Rattle.wenc_read.specs.declared.refusal.Refusal.TheVariants as refusals
 use Rattle.wenc_sections.specs.Start.{start_content}
 use Rattle.wenc_sections.specs.laws.Items.{start_content_lawful, start_content_sound}
@@ -502,17 +501,6 @@ uncounted_fault place bytes id content rest framed no0 e =
       (λ s after r w. never s after r),
       record { id = id; content = content; rest = rest; framed = framed; labelled = labelled_other id content no0; never = never },
     )
-
--- ---- refusals
-
-pub malformed_of : {A : Type 0} (refusal : Refusal) (found : Result A Flaw) → refusal ≡ refusals.Malformed → Fails refusal found → found ≡ Err Bad
-malformed_of refusal found e h = rw e at h
-
-pub bad_of : {A : Type 0} (refusal : NestedRefusal) (found : Result A Flaw) → refusal ≡ Flat refusals.Malformed → FailsNested refusal found → found ≡ Err Bad
-bad_of refusal found e h = rw e at h
-
-pub deep_of : {A : Type 0} (refusal : NestedRefusal) (found : Result A Flaw) → refusal ≡ TooDeep → FailsNested refusal found → found ≡ Err Deep
-deep_of refusal found e h = rw e at h
 
 -- ---- what one step finds
 

@@ -1,13 +1,13 @@
-//! A component section by section, and a section item by item.
-ghost use Rattle.std.specs.Prelude.{◌≡◌, ◌-◌, ◌<◌, ◌≤◌, [], ◌∷◌, length, IfOk, IfErr, MatchOption};
+//! A component read section by section, and a section item by item.
+ghost use Rattle.std.specs.Prelude.{◌≡◌, ◌≢◌, ◌-◌, ◌<◌, ◌≤◌, [], ◌∷◌, length, IfOk, IfErr, MatchOption};
 ghost use Rattle.wenc_base.specs.Piece.{Wide};
 ghost use Rattle.wenc_builder.specs.Sections.{preamble};
 ghost use Rattle.wenc_list.specs.Cursor.{Opens, HasTaken, IsSpent, IsFaultIn};
 ghost use Rattle.wenc_list.specs.Items.{item_view};
 ghost use Rattle.wenc_list.specs.Listing.{IsFaultHere, HasNoHeader};
 ghost use Rattle.wenc_list.specs.inside.Contents.{fault_of_content, read_count};
-ghost use Rattle.wenc_list.specs.declared.fault.ListFault.TheVariants.{NotAComponent};
-ghost use Rattle.wenc_read.specs.Gives.{Gives};
+ghost use Rattle.wenc_list.specs.declared.fault.ListFault.TheVariants.{Memory, NotAComponent};
+ghost use Rattle.wenc_read.specs.Gives.{GivesAlways};
 
 use crate::fault::ListFault;
 use crate::item::ItemTree;
@@ -16,25 +16,37 @@ use crate::sections::{are_bytes, frame};
 use std::alloc::Allocator;
 use wenc_read::{NestedRefusal, Refusal, u32_of};
 
-/// What is left of a component: sections, up to its end.
+/// The sections of a component that are left.
+///
+/// They are read as `list` reads them, one by one, with no room for more than an item. The first
+/// item of a component:
+///
+/// ```
+/// let mut sections = Sections::new(component)?;
+/// match sections.next()? {
+///     Some(mut items) => items.next(alloc),
+///     None => Ok(None),
+/// }
+/// ```
 #[derive(Clone, Copy)]
 pub struct Sections<'a> {
-    /// How many bytes the component has: the place where the last section ends.
+    /// The length of the component in bytes.
     pub ends: usize,
     /// The bytes that are left.
     pub rest: &'a [u8],
 }
 
-/// What is left of a section: items, up to its end.
+/// The items of a section that are left.
 #[derive(Clone, Copy)]
 pub struct SectionItems<'a> {
     /// The section's id, from 0 to 11.
     pub id: u8,
-    /// Where its id stands, counted in bytes from the front of the component.
+    /// The byte offset of its id in the component.
     pub place: usize,
-    /// Where it ends.
+    /// The byte offset at which it ends.
     pub ends: usize,
-    /// How many items are left. Custom sections, modules, nested components and starts have one.
+    /// The number of items that are left. Custom sections, modules, nested components and starts
+    /// have one.
     pub left: u32,
     /// The bytes that are left.
     pub rest: &'a [u8],
@@ -57,7 +69,7 @@ fn content_fault(refusal: NestedRefusal, id: u8, place: usize) -> ListFault
 #[inline(always)]
 pub(crate) fn counted(id: u8, content: &[u8]) -> Result<(u32, &[u8]), Refusal>
     requires { id ≤ 11 }
-    ensures { Gives (λ x. (x.0, x.1.now)) result (read_count id content.now) }
+    ensures { GivesAlways (λ x. (x.0, x.1.now)) result (read_count id content.now) }
 {
     match id {
         0 => Ok((1, content)),
@@ -69,7 +81,11 @@ pub(crate) fn counted(id: u8, content: &[u8]) -> Result<(u32, &[u8]), Refusal>
 }
 
 impl<'a> Sections<'a> {
-    /// All sections of the component with these bytes.
+    /// Returns all sections of the component with these bytes.
+    ///
+    /// # Errors
+    ///
+    /// `NotAComponent` where the bytes don't begin with the header of a component.
     pub fn new(bytes: &'a [u8]) -> Result<Sections<'a>, ListFault>
         ensures begins { IfOk result (λ s. preamble.Reads Wide bytes.now s.rest.now) }
         ensures ends { IfOk result (λ s. s.ends ≡ length bytes.now) }
@@ -84,18 +100,22 @@ impl<'a> Sections<'a> {
         }
     }
 
-    /// Where the next section begins, counted in bytes from the front of the component.
+    /// Returns the byte offset at which the next section begins, or the last one ended.
     pub fn place(&self) -> usize
         ensures { result ≡ self.now.ends - length self.now.rest.now }
     {
         self.ends.saturating_sub(self.rest.len())
     }
 
-    /// The next section, none of whose items is taken, or `None` at the end. It is refused where no
-    /// section begins, and where one that collects items doesn't say how many.
+    /// Returns the next section with all of its items, or `None` at the end.
+    ///
+    /// # Errors
+    ///
+    /// `BadSection` where no section begins, and `BadItem` where the section has no count of its
+    /// items. Nothing is taken then, and the next call fails too.
     #[inline(always)]
     pub fn next(&mut self) -> Result<Option<SectionItems<'a>>, ListFault>
-        // A section that is answered begins what was left, and all behind it stays.
+        // A section that is returned begins what was left, and all after it stays.
         ensures taken { IfOk result (λ o. MatchOption o (self.old.rest.now ≡ [])
             (λ s. Opens self.old.ends self.old.rest.now s self.new.rest.now)) }
         ensures same_end { self.new.ends ≡ self.old.ends }
@@ -107,6 +127,8 @@ impl<'a> Sections<'a> {
         ensures fault { IfErr result (IsFaultHere (self.old.ends - length self.old.rest.now)
             self.old.rest.now) }
         ensures some { IfErr result (λ _. 0 < length self.old.rest.now) }
+        // It is never want of memory.
+        ensures asks_nothing { IfErr result (λ e. e ≢ Memory) }
     {
         if self.rest.is_empty() {
             return Ok(None);
@@ -124,28 +146,31 @@ impl<'a> Sections<'a> {
                         rest: items,
                     }))
                 }
-                Err(Refusal::Memory) => Err(ListFault::Memory),
-                Err(Refusal::Malformed) => Err(ListFault::BadItem { place }),
+                Err(_) => Err(ListFault::BadItem { place }),
             },
-            Err(Refusal::Memory) => Err(ListFault::Memory),
-            Err(Refusal::Malformed) => Err(ListFault::BadSection { place }),
+            Err(_) => Err(ListFault::BadSection { place }),
         }
     }
 }
 
 impl<'a> SectionItems<'a> {
-    /// Where the next item begins, or else where the last one ended, counted in bytes from the
-    /// front of the component.
+    /// Returns the byte offset at which the next item begins, or the last one ended.
     pub fn reached(&self) -> usize
         ensures { result ≡ self.now.ends - length self.now.rest.now }
     {
         self.ends.saturating_sub(self.rest.len())
     }
 
-    /// The next item, or `None` at the end.
+    /// Returns the next item, or `None` at the end.
+    ///
+    /// # Errors
+    ///
+    /// `Memory` where an allocation is refused; `BadItem` where no item begins, or bytes follow the
+    /// last one; `TooDeep` at a type with others more than 100 deep inside; and `BadSection` in a
+    /// custom section without a name. Nothing is taken then, and the next call reads the same.
     #[inline(always)]
     pub fn next<A: Allocator + Copy>(&mut self, alloc: A) -> Result<Option<ItemTree<A>>, ListFault>
-        // An item that is answered begins what was left, within depth 100, and all behind it stays.
+        // An item that is returned begins what was left, within depth 100, and all after it stays.
         ensures taken { IfOk result (λ o. MatchOption o (IsSpent self.old)
             (λ x. HasTaken self.old (item_view x ∷ []) self.new)) }
         // Else nothing changes.

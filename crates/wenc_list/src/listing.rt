@@ -54,13 +54,10 @@ fn section<A: Allocator + Copy>(
     while let Some(item) = left.next(alloc)? {
         items.push(item)?;
     }
-    let SectionItems {
-        id, place, ends, ..
-    } = from;
     Ok(ListedSection {
-        id,
-        place,
-        ends,
+        id: from.id,
+        place: from.place,
+        ends: from.ends,
         items,
     })
 }

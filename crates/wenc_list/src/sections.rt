@@ -2,7 +2,7 @@
 ghost use Rattle.wenc_base.specs.Forms.{AreBytes};
 ghost use Rattle.wenc_base.specs.reading.Forms.{read_raw};
 ghost use Rattle.wenc_list.specs.inside.Contents.{read_frame};
-ghost use Rattle.wenc_read.specs.Gives.{Gives};
+ghost use Rattle.wenc_read.specs.Gives.{Gives, GivesAlways};
 
 use std::alloc::Allocator;
 use wenc_read::{Refusal, byte, u32_of};
@@ -23,7 +23,7 @@ pub(crate) fn copied<A: Allocator>(alloc: A, bytes: &[u8]) -> Result<Vec<u8, A>,
 /// The id, at most 11, and the content of the section that begins here, and what is after it.
 #[inline(always)]
 pub(crate) fn frame(bytes: &[u8]) -> Result<((u8, &[u8]), &[u8]), Refusal>
-    ensures { Gives (λ x. ((x.0.0, x.0.1.now), x.1.now)) result (read_frame bytes.now) }
+    ensures { GivesAlways (λ x. ((x.0.0, x.0.1.now), x.1.now)) result (read_frame bytes.now) }
 {
     let (id, rest) = byte(bytes)?;
     if id > 11 {

@@ -9,7 +9,6 @@ use crate::cursor::{SectionItems, counted};
 use crate::fault::ListFault;
 use crate::sections::frame;
 use std::alloc::{AllocError, Allocator};
-use wenc_read::Refusal;
 
 /// The first part of a section's content that isn't read. A place is counted in bytes from the
 /// front of the component.
@@ -115,14 +114,12 @@ pub fn first_unread<A: Allocator + Copy>(
                     };
                     unread_item(alloc, items)
                 }
-                Err(Refusal::Memory) => Err(AllocError),
-                Err(Refusal::Malformed) => {
+                Err(_) => {
                     let place = ends.saturating_sub(content.len());
                     Ok(Some(Unread::Count { place }))
                 }
             }
         }
-        Err(Refusal::Memory) => Err(AllocError),
-        Err(Refusal::Malformed) => Ok(None),
+        Err(_) => Ok(None),
     }
 }

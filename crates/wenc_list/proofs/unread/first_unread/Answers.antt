@@ -1,7 +1,7 @@
-use Rattle.std.proofs.Common.{inl, sym, length, length-drop, drop, arith, rules}
+use Rattle.std.proofs.Common.{inl, sym, length, length-drop, drop, arith}
 use Rattle.wenc_list.specs.Unread.{IsUnread}
 use Rattle.wenc_list.proofs.SectionLaws.{is_framed}
-use Rattle.wenc_list.proofs.Taken.{section_leaves, malformed_of, count_holds, no_count, uncounted}
+use Rattle.wenc_list.proofs.Taken.{section_leaves, count_holds, no_count, uncounted}
 use Rattle.wenc_list.proofs.Walked.{unframed, all_of_section, named_tells, named_none}
 use Rattle.wenc_list.proofs.unread.first_unread.Goals as goal
 
@@ -25,11 +25,11 @@ returns-in-Ok-counted-clause-unread g c =
 pub returns-in-Ok-counted-clause-named : goal.returns-in-Ok-counted-clause-named
 returns-in-Ok-counted-clause-named g c = named_tells c.args.bytes.now c.args.place (IsUnread (length c.args.bytes.now) (drop c.args.place c.args.bytes.now)) c.unread_item.result (returns-in-Ok-counted-clause-unread g c)
 
-pub returns-in-Err-Malformed-counted-clause-unread : goal.returns-in-Err-Malformed-counted-clause-unread
-returns-in-Err-Malformed-counted-clause-unread g c =
+pub returns-in-Err-counted-clause-unread : goal.returns-in-Err-counted-clause-unread
+returns-in-Err-counted-clause-unread g c =
     let id = c.in-Ok.id in
     let content = c.in-Ok.content.now in
-    let bad = malformed_of c.in-Err-Malformed-counted.field-0 _ (search rules) c.in-Err-Malformed-counted.ensures in
+    let bad = c.in-Err-counted.ensures.1 in
     let collecting = no_count id content bad in
     record {
       id = id;
@@ -43,8 +43,8 @@ returns-in-Err-Malformed-counted-clause-unread g c =
       };
     }
 
-pub returns-in-Err-Malformed-clause-unread : goal.returns-in-Err-Malformed-clause-unread
-returns-in-Err-Malformed-clause-unread g c = unframed (drop c.args.place c.args.bytes.now) (rw c.split_at.ensures.back at (malformed_of c.in-Err-Malformed.field-0 _ (search rules) c.in-Err-Malformed.ensures))
+pub returns-in-Err-clause-unread : goal.returns-in-Err-clause-unread
+returns-in-Err-clause-unread g c = unframed (drop c.args.place c.args.bytes.now) (rw c.split_at.ensures.back at c.in-Err.ensures.1)
 
-pub returns-in-Err-Malformed-clause-named : goal.returns-in-Err-Malformed-clause-named
-returns-in-Err-Malformed-clause-named g c n = absurd (named_none c.args.bytes.now c.args.place n (returns-in-Err-Malformed-clause-unread g c))
+pub returns-in-Err-clause-named : goal.returns-in-Err-clause-named
+returns-in-Err-clause-named g c n = absurd (named_none c.args.bytes.now c.args.place n (returns-in-Err-clause-unread g c))
