@@ -48,9 +48,10 @@ fn items_at_their_byte_offsets() {
         [(2, 8, 29, vec![12, 20, 29])],
     );
     // A start, a custom section, a module and a component, which have no count.
+    let alone = "0905000200010100090474657374\
+        0b16212c01020107040100";
     assert_eq!(
-        walked(&component("0905000200010100090474657374\
-            0b16212c01020107040100")),
+        walked(&component(alone)),
         [
             (9, 8, 15, vec![10, 15]),
             (0, 15, 26, vec![17, 26]),
