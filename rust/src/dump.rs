@@ -5,7 +5,7 @@ use crate::proved::wenc_list::{Names, behind_module_header, names_of, part_of};
 use crate::proved::wenc_sections::Sort;
 use crate::proved::wenc_sections::names::NAMES_LABEL;
 use crate::tree::{ItemTree, NameTree, Space};
-use crate::{ComponentSectionId, ListFault, ListedSection, Listing, Unread, list};
+use crate::{ComponentSectionId, ListFault, Sections, Unread};
 use std::borrow::ToOwned;
 use std::collections::BTreeMap;
 use std::format;
@@ -95,37 +95,23 @@ impl<W: Write> Printer<'_, W> {
 
     /// Prints a component that stands at this place of the file.
     fn component(&mut self, depth: usize, place: usize, bytes: &[u8]) -> Result<(), Failure> {
-        let listing = list(bytes).map_err(|fault| Failure::Fault(moved(fault, place)))?;
-        let names = debug_names(&listing);
+        let fault = |fault| Failure::Fault(moved(fault, place));
+        let sections = Sections::new(bytes).map_err(fault)?;
+        let names = debug_names(sections);
         let own = self.quoted(names.own.as_deref());
         self.placed(depth, place, &format!("component{own}, {} bytes", bytes.len()))?;
         let mut next = [0; 13];
-        for (at, section) in listing.sections.iter().enumerate() {
-            let behind = listing.sections.get(at + 1).map_or(bytes.len(), |next| next.place);
-            let span = (place + section.place, place + behind);
-            self.section(depth + 1, span, section, &names, &mut next)?;
-        }
-        Ok(())
-    }
-
-    /// A section, from its id to its end.
-    fn section(
-        &mut self,
-        depth: usize,
-        (place, end): (usize, usize),
-        section: &ListedSection,
-        names: &DebugNames,
-        next: &mut [u128; 13],
-    ) -> Result<(), Failure> {
-        let (word, count) = (section_word(section.id), section.items.len());
-        let text = match count {
-            1 => format!("{word} section, 1 item"),
-            _ => format!("{word} section, {count} items"),
-        };
-        self.placed(depth, place, &text)?;
-        for item in &section.items {
-            let label = self.label(item, names, next);
-            self.item(depth + 1, end, &label, item)?;
+        for section in sections {
+            let section = section.map_err(fault)?;
+            let (word, count) = (section_word(section.id()), section.count());
+            let end = if count == 1 { "" } else { "s" };
+            let text = format!("{word} section, {count} item{end}");
+            self.placed(depth + 1, place + section.range().start, &text)?;
+            for item in section.items() {
+                let (_, item) = item.map_err(fault)?;
+                let label = self.label(&item, &names, &mut next);
+                self.item(depth + 2, place + section.range().end, &label, &item)?;
+            }
         }
         Ok(())
     }
@@ -258,10 +244,11 @@ fn names_in<'a>(item: &'a ItemTree, found: &mut impl FnMut(Names)) -> &'a [u8] {
 
 /// The debug names that a component has of itself and its items. The first name of an item is
 /// taken.
-fn debug_names(listing: &Listing) -> DebugNames {
+fn debug_names(sections: Sections) -> DebugNames {
     let mut all = DebugNames::default();
-    for item in listing.sections.iter().flat_map(|section| &section.items) {
-        names_in(item, &mut |names| match names {
+    let customs = sections.flatten().filter(|section| section.id() == 0);
+    for (_, item) in customs.flat_map(|section| section.items().flatten()) {
+        names_in(&item, &mut |names| match names {
             Names::Component(name) => all.own = Some(name.to_string()),
             Names::Items(sort, names) => {
                 for item in &names {

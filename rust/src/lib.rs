@@ -81,6 +81,7 @@ extern crate std;
 mod capi;
 mod component;
 mod core;
+mod cursor;
 #[cfg(feature = "std")]
 mod dump;
 mod encode;
@@ -97,6 +98,7 @@ mod twins;
 
 pub use self::core::*;
 pub use component::*;
+pub use cursor::{Items, SectionReader, Sections};
 pub use encode::{Encode, encoding_size};
 pub use error::Error;
 pub use list::{ListFault, ListedSection, Listing, Unread, list};

@@ -53,7 +53,7 @@ pub enum ListFault {
 
 impl ListFault {
     /// The proved fault of these bytes, with the part of its section that isn't read.
-    fn told(bytes: &[u8], fault: proved::ListFault) -> Self {
+    pub(crate) fn told(bytes: &[u8], fault: proved::ListFault) -> Self {
         let unread = |place| proved::first_unread(Global, bytes, place).unwrap_or(None);
         match fault {
             proved::ListFault::Memory => Self::Memory,

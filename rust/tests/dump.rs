@@ -121,8 +121,14 @@ fn modules_and_nested_components() {
 #[test]
 fn what_is_not_read_is_told() {
     let bad = "bad item 1 at 0x10 in the section at 0x8";
-    expect("bad_item", b"\x0a\x06\x02\0\x01f\x01\0", "", Some(bad));
-    expect("bad_section", b"\x06\x05\x01", "", Some("bad section at 0x8"));
+    let out = "\
+0x0 component, 16 bytes
+  0x8 import section, 2 items
+    func 0: import \"f\" Func(0)
+";
+    expect("bad_item", b"\x0a\x06\x02\0\x01f\x01\0", out, Some(bad));
+    let out = "0x0 component, 11 bytes\n";
+    expect("bad_section", b"\x06\x05\x01", out, Some("bad section at 0x8"));
     let out = "\
 0x0 component, 22 bytes
   0x8 component section, 1 item
@@ -130,7 +136,8 @@ fn what_is_not_read_is_told() {
 ";
     let nested = b"\x04\x0c\0asm\x0d\0\x01\0\x06\x02\x01\x09";
     let bad = "bad item 0 at 0x15 in the section at 0x12";
-    expect("bad_nested", nested, out, Some(bad));
+    let inside = "      0xa component, 12 bytes\n        0x12 alias section, 1 item\n";
+    expect("bad_nested", nested, &format!("{out}{inside}"), Some(bad));
     let nested = b"\x04\x03\0as";
     let out = out.replace("22", "13");
     expect("no_component", nested, &out, Some("no component's header at 0xa"));

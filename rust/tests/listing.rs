@@ -42,8 +42,8 @@ fn an_empty_component_has_nothing() {
 fn sections_stand_at_their_places() {
     let bytes = component(b"\x0a\x06\x01\0\x01f\x01\0\x0b\x07\x01\0\x01g\x01\0\0\x06\x01\0");
     let listing = list(&bytes).unwrap();
-    let told = listing.sections.iter().map(|section| (section.id, section.place));
-    assert_eq!(told.collect::<Vec<_>>(), [(10, 8), (11, 16), (6, 25)]);
+    let told = listing.sections.iter().map(|section| (section.id, section.place, section.ends));
+    assert_eq!(told.collect::<Vec<_>>(), [(10, 8, 16), (11, 16, 25), (6, 25, 28)]);
     let import = ItemTree::Import { name: name("f"), ty: ComponentTypeRef::Func(0) };
     let export =
         ItemTree::Export { name: name("g"), kind: ComponentExportKind::Func, index: 0, ty: None };

@@ -5,5 +5,6 @@ pub mod IndexedRuns
 pub mod Kept
 pub mod PassedOn
 mod Anew
+mod Left
 pub mod DefinedEqualities
 pub mod Equalities

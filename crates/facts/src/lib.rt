@@ -17,5 +17,6 @@ pub mod read;
 pub mod rebuilt;
 pub mod runs;
 pub mod strangers;
+pub mod taken;
 pub mod values;
 pub mod wrapping;

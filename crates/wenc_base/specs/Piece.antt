@@ -91,6 +91,10 @@ only_where P p = record p {
 abbrev pub refused_for : (Fault → Type 0) → Piece → Piece
 refused_for cause p = record p { Cause = cause }
 
+-- The bytes end with these.
+abbrev pub EndsWith : List ℕ → List ℕ → Type 0
+EndsWith bytes rest = (front : List ℕ) × (bytes ≡ front ++ rest)
+
 -- what is read for each value, one after the other
 abbrev pub ReadsEach : {A : Type 0} → (A → List ℕ → List ℕ → Type 0) → List A → List ℕ → List ℕ
     → Type 0

@@ -2,7 +2,7 @@
 use Rattle.std.specs.Prelude.{◌≡◌, ◌≤◌, ℕ, zero, suc, List, [], ◌∷◌, ◌++◌, Result, Ok, Err}
 use Rattle.std.specs.Prelude.{nat_eq, if◌then◌else◌}
 use Rattle.wenc_base.specs.Fault.{NoCause}
-use Rattle.wenc_base.specs.Piece.{Piece, Form, Spelling, Strict}
+use Rattle.wenc_base.specs.Piece.{Piece, Form, Spelling, Strict, EndsWith}
 use Rattle.wenc_base.specs.declared.fault.Fault.TheVariants.{Unfinished}
 
 -- Bad: nothing is spelled there. Deep: a type there nests too deep.
@@ -78,6 +78,8 @@ pub record Lawful {A : Type 0} (p : Piece) (read : ℕ → Reader A) (v : A) : T
       → p.Reads mode (p.text ++ rest) rest
   pub strict_is_text : (bytes rest : List ℕ) → p.Reads Strict bytes rest → bytes ≡ p.text ++ rest
   pub fits : (bytes rest : List ℕ) → p.Reads Strict bytes rest → p.Fits
+  pub leaves : (mode : Spelling) (bytes rest : List ℕ) → p.Reads mode bytes rest
+      → EndsWith bytes rest
   pub free : p.Fits → NoCause p.Cause
   pub never : p.Cause Unfinished → ⊥
   pub depth : ℕ

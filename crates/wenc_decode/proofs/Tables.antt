@@ -1,11 +1,12 @@
 -- What a table of values that are a byte each finds.
-use Rattle.std.proofs.Common.{◌≡◌, ℕ, List, [], ◌∷◌, ◌++◌, map, Some, None, Ok, refl, inl, inr, ap}
+use Rattle.std.proofs.Common.{◌≡◌, ℕ, List, [], ◌∷◌, ◌++◌, map, Some, None, Result, Ok, Err, refl, inl, inr, ap}
 use Rattle.std.proofs.lemmas.Option.{same_Some}
 use Rattle.wenc_base.specs.laws.Sound.{tested}
-use Rattle.wenc_base.specs.Readers.{read_byte, Reader, ◌>>=◌, give, pick, choose}
+use Rattle.wenc_base.specs.Readers.{Flaw, Bad, read_byte, Reader, ◌>>=◌, give, pick, choose}
 use Rattle.wenc_read.specs.Gives.{Fails}
 use Rattle.wenc_read.specs.laws.Tables.{first_there, fails_on}
 use Rattle.wenc_read.specs.declared.refusal.Refusal.{Refusal}
+use Rattle.wenc_read.specs.declared.refusal.Refusal.TheVariants.{Malformed}
 use Rattle.wenc_decode.specs.inside.Tables.{find}
 
 -- a value that is in the table is read
@@ -48,9 +49,13 @@ pub falls_through : {A T : Type 0} (byte_of : T → ℕ) (make : T → A) (ts : 
 unfolding choose
 falls_through byte_of make ts other b bytes rest first e = rw (first_there bytes rest b first) (passed byte_of make ts [] other b rest e)
 
-pub fails_first : {A : Type 0} (e : Refusal) (table : List (ℕ × Reader A)) (other : Reader A) (bytes : List ℕ) → Fails e (read_byte bytes) → Fails e (choose table other bytes)
+-- what asks for no memory fails where nothing is read
+pub malformed : {A : Type 0} (e : Refusal) (found : Result A Flaw) → (e ≡ Malformed) × (found ≡ Err Bad) → Fails e found
+malformed e found h = rw h.0 h.1
+
+pub fails_first : {A : Type 0} (e : Refusal) (table : List (ℕ × Reader A)) (other : Reader A) (bytes : List ℕ) → (e ≡ Malformed) × (read_byte bytes ≡ Err Bad) → Fails e (choose table other bytes)
 unfolding choose
-fails_first e table other bytes h = fails_on e (read_byte bytes) (pick table other) h
+fails_first e table other bytes h = fails_on e (read_byte bytes) (pick table other) (malformed e (read_byte bytes) h)
 
 -- what is made of what is read
 pub made_of : {A B : Type 0} (make : A → B) (read : Reader A) (v : A) (bytes rest : List ℕ) → read bytes ≡ Ok (v, rest) → (read >>= λ w. give (make w)) bytes ≡ Ok (make v, rest)

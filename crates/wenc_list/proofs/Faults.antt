@@ -1,28 +1,14 @@
 -- Which faults stand against bytes that are read.
-use Rattle.std.proofs.Common.{◌≡◌, ℕ, zero, suc, true≢false, List, [], ◌∷◌, length, refl, sym, ◌⊎◌, inl, inr}
+use Rattle.std.proofs.Common.{◌≡◌, ℕ, List, [], ◌∷◌, length, refl, sym, ◌⊎◌, inl, inr}
 use Rattle.std.specs.List.{AllByRecursion}
 use Rattle.wenc_base.specs.Piece.{Wide}
-use Rattle.wenc_builder.specs.Item.{Item, ModuleItem, ComponentItem, StartItem, CustomItem}
 use Rattle.wenc_builder.specs.Sections.{Section, section_piece, sections, Reading}
-use Rattle.wenc_list.specs.Listing.{AreWithin, IsLabelled, IsMemoryOrTooDeep, StopsAt, IsFaultBehind, IsFaultOf}
+use Rattle.wenc_list.specs.Listing.{AreWithin, IsMemoryOrTooDeep, StopsAt, IsFaultBehind, IsFaultOf}
 use Rattle.wenc_list.specs.declared.fault.ListFault.{ListFault}
 use Rattle.wenc_list.specs.declared.fault.ListFault.TheVariants as faults
-use Rattle.wenc_list.proofs.SectionLaws.{Fills, AloneIn, section_framed}
+use Rattle.wenc_list.proofs.SectionLaws.{section_framed}
+use Rattle.wenc_list.proofs.Taken.{fills_labelled}
 use Rattle.wenc_list.proofs.Listed.{goes_past, only_memory, same_behind}
-
--- ---- a section that is read is framed, and labelled
-
-alone_labelled : (id : ℕ) (x : Item) (content : List ℕ) → AloneIn id x content → IsLabelled id content
-alone_labelled id (CustomItem c) content a = rw a.0 (c.label, a.1.0, a.1.1)
-alone_labelled id (ModuleItem bs) content a = rw a.0 tt
-alone_labelled id (ComponentItem bs) content a = rw a.0 tt
-alone_labelled id (StartItem s) content a = rw a.0 tt
-alone_labelled id other content a = absurd a
-
-fills_labelled : (id : ℕ) (xs : List Item) (content : List ℕ) → Fills id xs content → IsLabelled id content
-fills_labelled zero xs content (inl h) = absurd (true≢false (sym h.0))
-fills_labelled (suc id) xs content (inl h) = tt
-fills_labelled id xs content (inr h) = alone_labelled id h.0 content h.2
 
 -- ---- what stands where all is read
 

@@ -1,5 +1,6 @@
 pub mod Listed
 pub mod Indices
 pub mod SectionLaws
+pub mod Taken
 pub mod Walked
 pub mod Faults

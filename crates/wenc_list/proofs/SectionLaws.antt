@@ -9,36 +9,31 @@ use Rattle.std.specs.Prelude.{IsTrue}
 use Rattle.wenc_base.specs.Forms.{list, name, AreBytes}
 use Rattle.wenc_base.specs.Number.{u32}
 use Rattle.wenc_base.specs.Piece.{Form, Wide, only_where, each, raw, ◌⨾◌}
-use Rattle.wenc_base.specs.laws.Forms.{raw_sound, bytes_lawful}
-use Rattle.wenc_base.specs.reading.Forms.{read_raw}
-use Rattle.wenc_base.specs.Readers.{Flaw, Bad, Deep, Reader, ◌>>=◌, times, all_read, done}
-use Rattle.wenc_base.specs.laws.Lawful.{last, whole_lawful}
-use Rattle.wenc_base.specs.laws.Sections.{custom_content_lawful, custom_content_sound}
-use Rattle.wenc_base.specs.reading.Sections.{read_custom_content}
-use Rattle.wenc_base.specs.laws.Numbers.{u32_lawful, count_lawful, u32_sound}
+use Rattle.wenc_base.specs.Readers.{Flaw, Bad, Deep, Reader}
+use Rattle.wenc_base.specs.laws.Lawful.{last, same_Ok_pair}
+use Rattle.wenc_base.specs.laws.Numbers.{u32_lawful, u32_sound}
 use Rattle.wenc_base.specs.reading.Numbers.{read_u32}
-use Rattle.wenc_base.specs.laws.Sound.{Told, Tells, weaken, deep_where, sound_tells, told_on, last_tells, nowhere_tells, tested, Fewer, Several, times_told, each_plain, all_told, whole_sound, Agrees, Finds, or_deeper, nothing_finds, then_finds, last_finds, lawful_finds}
+use Rattle.wenc_base.specs.laws.Sound.{Told, Tells, deep_where, sound_tells, told_on, last_tells, nowhere_tells, tested, Agrees, Finds, or_deeper, last_finds, lawful_finds}
 use Rattle.wenc_builder.specs.Item.{Item, ModuleItem, CoreInstanceItem, CoreTypeItem, ComponentItem, InstanceItem, AliasItem, TypeItem, CanonItem, StartItem, ImportItem, ExportItem, CustomItem, RawItem, collected, item}
 use Rattle.wenc_builder.specs.Sections.{Section, Run, Alone, members, collects, item_of, section_piece}
 use Rattle.wenc_canon.specs.laws.Canonicals.{canonical_lawful, canonical_sound}
-use Rattle.wenc_decode.specs.Depth.{Front, OpensTypes}
-use Rattle.wenc_decode.specs.laws.TypeTrees.{type_tells, type_finds, front_of}
+use Rattle.wenc_decode.specs.Depth.{OpensTypes}
+use Rattle.wenc_decode.specs.laws.TypeTrees.{type_tells, type_finds}
 use Rattle.wenc_parts.specs.laws.Aliases.{alias_lawful, alias_sound}
 use Rattle.wenc_sections.specs.Start.{start_content}
-use Rattle.wenc_sections.specs.laws.Items.{import_lawful, import_sound, inline_export_lawful, inline_export_sound, core_instance_lawful, core_instance_sound, instance_lawful, instance_sound, start_content_lawful, start_content_sound}
-use Rattle.wenc_sections.specs.reading.Items.{read_start_content}
+use Rattle.wenc_sections.specs.laws.Items.{import_lawful, import_sound, inline_export_lawful, inline_export_sound, core_instance_lawful, core_instance_sound, instance_lawful, instance_sound}
 use Rattle.wenc_types.specs.laws.CoreTypes.{core_type_lawful, core_type_sound}
-use Rattle.wenc_list.specs.inside.Contents.{content_rows, content_row_of, read_content_item, read_items, single, read_content, read_frame}
+use Rattle.wenc_list.specs.inside.Contents.{content_rows, content_row_of, read_content_item, read_frame}
 use Rattle.wenc_list.specs.Items.{alone, item_section}
 use Rattle.wenc_list.specs.Listing.{HasDepth, IsFramed}
 
 -- ---- items
 
-abbrev ItemWithin : ℕ → ℕ → Form Item
+abbrev pub ItemWithin : ℕ → ℕ → Form Item
 ItemWithin d id x = only_where (HasDepth d x) (item_of id x)
 
 -- only the section of types has what nests
-abbrev GoesIn : ℕ → ℕ → List ℕ → Type 0
+abbrev pub GoesIn : ℕ → ℕ → List ℕ → Type 0
 GoesIn d id bytes = (id ≡ 7) × OpensTypes d bytes
 
 abbrev RowsOf : ℕ → List (ℕ × Reader Item) → Type 0
@@ -75,7 +70,7 @@ item_tells d id = row_tells d (content_rows d) (
 ) id
 
 -- the value is too deep
-abbrev IsPast : ℕ → Item → Type 0
+abbrev pub IsPast : ℕ → Item → Type 0
 IsPast d x = HasDepth d x → ⊥
 
 collected_finds : (d : ℕ) (x : Item) (id : ℕ) → collected x ≡ Some id → Finds (item x) (read_content_item d id) x (IsPast d x)
@@ -92,44 +87,6 @@ collected_finds d other id e = absurd cc
 pub item_finds : (d id : ℕ) (x : Item) → Finds (item_of id x) (read_content_item d id) x (IsPast d x)
 item_finds d id x = record { finds = λ bytes rest r. (collected_finds d x id r.0).finds bytes rest r.1 }
 
--- one of the items is too deep
-abbrev pub ArePast : ℕ → List Item → Type 0
-ArePast d xs = AllByRecursion (HasDepth d) xs → ⊥
-
-each_finds : (d id : ℕ) (xs : List Item) → Finds (each (item_of id) xs) (times (read_content_item d id) (length xs)) xs (ArePast d xs)
-each_finds d id [] = nothing_finds [] _
-each_finds d id (x ∷ xs) = then_finds _ (or_deeper _ (λ no all. no all.0) (item_finds d id x)) (last_finds _ (or_deeper _ (λ no all. no all.1) (each_finds d id xs)))
-
--- ---- all of a content
-
-filled_agrees : {A : Type 0} (D : Type 0) (v : A) (found : Result (A × List ℕ) Flaw) → Agrees D (v, []) found → Agrees D v (all_read found)
-filled_agrees D v (Ok (w, [])) e = ap (λ (z : _ × List ℕ). z.0) e
-filled_agrees D v (Ok (w, b ∷ rest)) e = absurd (more (ap (λ (z : _ × List ℕ). z.1) e))
-  where
-    more : (b ∷ rest) ≡ [] → ⊥
-    more e = absurd cc
-filled_agrees D v (Err Bad) h = h
-filled_agrees D v (Err Deep) h = h
-
--- a count and so many items
-abbrev Listed : ℕ → ℕ → List ℕ → List Item × List ℕ → Type 0
-Listed d id content x = AllByRecursion (HasDepth d) x.0 × (list (item_of id) x.0).Reads Wide content x.1
-
-items_listed : (d id n : ℕ) (content middle rest : List ℕ) (xs : List Item) → (u32 n).Reads Wide content middle → Several (ItemWithin d id) n middle (xs, rest) → Listed d id content (xs, rest)
-items_listed d id n content middle rest xs c s = let plain = each_plain (item_of id) (HasDepth d) xs middle rest s.1 in (plain.1, (middle, rw s.0 c, plain.0))
-
-items_told : (d id : ℕ) (content : List ℕ) → Told (λ xs. Listed d id content (xs, [])) (Front (item_of id) (GoesIn d id) content) (read_items d id content)
-items_told d id content =
-    all_told (Listed d id content) (Front (item_of id) (GoesIn d id) content) ((read_u32 >>= times (read_content_item d id)) content)
-    (told_on (λ x. (u32 x.0).Reads Wide content x.1) ⊥ (Listed d id content) (Front (item_of id) (GoesIn d id) content) (times (read_content_item d id)) (read_u32 content) (u32_sound.tells content) (λ e. absurd e) (λ x c.
-    weaken (Several (ItemWithin d id) x.0 x.1) (Listed d id content) (Fewer (ItemWithin d id) (GoesIn d id) x.0 x.1) (Front (item_of id) (GoesIn d id) content) (times (read_content_item d id) x.0 x.1)
-    (λ y s. items_listed d id x.0 content x.1 y.1 y.0 c s) (λ f. front_of (item_of id) (HasDepth d) (GoesIn d id) x.0 content x.1 c f) (times_told (GoesIn d id) (item_tells d id) x.0 x.1)))
-
-items_agree : (d id : ℕ) (xs : List Item) (content : List ℕ) → (list (item_of id) xs).Reads Wide content [] → Agrees (ArePast d xs) xs (read_items d id content)
-items_agree d id xs content r =
-    let all : Finds (list (item_of id) xs) (read_u32 >>= times (read_content_item d id)) xs (ArePast d xs) = then_finds _ (lawful_finds _ (count_lawful (length xs))) (each_finds d id xs) in
-    filled_agrees (ArePast d xs) xs ((read_u32 >>= times (read_content_item d id)) content) (all.finds content [] r)
-
 -- ---- what stands alone
 
 abbrev pub AloneIn : ℕ → Item → List ℕ → Type 0
@@ -143,17 +100,9 @@ AloneIn id other content = ⊥
 abbrev pub Fills : ℕ → List Item → List ℕ → Type 0
 Fills id xs content = (IsTrue (collects id) × (list (item_of id) xs).Reads Wide content []) ⊎ ((x : Item) × (xs ≡ x ∷ []) × AloneIn id x content)
 
-single_told : {A : Type 0} (P : A → Type 0) (Q : List Item → Type 0) (D : Type 0) (make : A → Item) (found : Result A Flaw) → Told P ⊥ found → ((v : A) → P v → Q (make v ∷ [])) → Told Q D (single make found)
-single_told P Q D make (Ok v) h k = k v h
-single_told P Q D make (Err Bad) h k = tt
-single_told P Q D make (Err Deep) h k = absurd h
-
-single_agrees : {A : Type 0} (D : Type 0) (make : A → Item) (v : A) (found : Result A Flaw) → found ≡ Ok v → Agrees D (make v ∷ []) (single make found)
-single_agrees D make v found e = rw e refl
-
 -- ---- the ids
 
-other_than : (b c : ℕ) → b ≢ c → eqb b c ≡ false
+pub other_than : (b c : ℕ) → b ≢ c → eqb b c ≡ false
 other_than b c h = elim (eqb_tells b c) [ inl t ↦ absurd (h t.1) | inr t ↦ t.0 ]
 
 -- a section that collects has no id of those that stand alone
@@ -185,53 +134,6 @@ known_id id h =
     unknown : 11 < id → collects id ≡ false
     unknown lt = rw (other_than id 2 (omega arith), other_than id 3 (omega arith), other_than id 5 (omega arith), other_than id 6 (omega arith), other_than id 7 (omega arith), other_than id 8 (omega arith), other_than id 10 (omega arith), other_than id 11 (omega arith)) refl
 
--- ---- contents
-
--- these items fill the section, and none is too deep
-abbrev pub FillsWithin : ℕ → ℕ → List ℕ → List Item → Type 0
-FillsWithin d id content xs = Fills id xs content × AllByRecursion (HasDepth d) xs
-
-pub content_told : (d id : ℕ) (content : List ℕ) → id ≤ 11 → Told (FillsWithin d id content) (Front (item_of id) (GoesIn d id) content) (read_content d id content)
-content_told d id content le =
-    let Goes = Front (item_of id) (GoesIn d id) content in
-    let Is = FillsWithin d id content in
-    elim (tested id 0) [
-      | inl e ↦ rw (e.0, cond) (single_told _ Is Goes CustomItem (read_custom_content content) (custom_content_sound.tells content) (λ c r. (inr (CustomItem c, refl, (e.1, r)), (tt, tt))))
-      | inr no0 ↦
-          elim (tested id 1) [
-            | inl e ↦ rw (no0, cond, e.0, cond) (single_told _ Is Goes ModuleItem (read_raw content) (raw_sound.tells content) (λ bs r. (inr (ModuleItem bs, refl, (e.1, r)), (tt, tt))))
-            | inr no1 ↦
-                elim (tested id 4) [
-                  | inl e ↦ rw (no0, cond, no1, cond, e.0, cond) (single_told _ Is Goes ComponentItem (read_raw content) (raw_sound.tells content) (λ bs r. (inr (ComponentItem bs, refl, (e.1, r)), (tt, tt))))
-                  | inr no4 ↦
-                      elim (tested id 9) [
-                        | inl e ↦ rw (no0, cond, no1, cond, no4, cond, e.0, cond) (single_told _ Is Goes StartItem (done read_start_content content) ((whole_sound start_content_sound).tells content) (λ s r. (inr (StartItem s, refl, (e.1, r)), (tt, tt))))
-                        | inr no9 ↦
-                            let is : collects id ≡ true = collecting id le (differs id 0 no0) (differs id 1 no1) (differs id 4 no4) (differs id 9 no9) in
-                            rw (no0, cond, no1, cond, no4, cond, no9, cond) (weaken (λ xs. Listed d id content (xs, [])) Is Goes Goes (read_items d id content) (λ xs l. (inl (is, l.1), l.0)) (λ g. g) (items_told d id content))
-                      ]
-                ]
-          ]
-    ]
-  where
-    itself : (c : ℕ) → eqb c c ≡ true
-    itself c = elim (eqb_tells c c) [ inl t ↦ t.0 | inr t ↦ absurd (t.1 refl) ]
-
-    differs : (b c : ℕ) → eqb b c ≡ false → b ≢ c
-    differs b c f e = true≢false (sym (itself c) ∙ rw e at f)
-
-alone_agrees : (d id : ℕ) (x : Item) (content : List ℕ) → AloneIn id x content → Agrees (ArePast d (x ∷ [])) (x ∷ []) (read_content d id content)
-alone_agrees d id (CustomItem c) content a = rw a.0 (single_agrees _ CustomItem c (read_custom_content content) ((custom_content_lawful c).finds (custom_content_lawful c).depth (omega arith) Wide content a.1))
-alone_agrees d id (ModuleItem bs) content a = rw a.0 (single_agrees _ ModuleItem bs (read_raw content) ((bytes_lawful (λ b. b) bs).finds (bytes_lawful (λ b. b) bs).depth (omega arith) Wide content a.1))
-alone_agrees d id (ComponentItem bs) content a = rw a.0 (single_agrees _ ComponentItem bs (read_raw content) ((bytes_lawful (λ b. b) bs).finds (bytes_lawful (λ b. b) bs).depth (omega arith) Wide content a.1))
-alone_agrees d id (StartItem s) content a = rw a.0 (single_agrees _ StartItem s (done read_start_content content) ((whole_lawful (start_content_lawful s)).finds (whole_lawful (start_content_lawful s)).depth (omega arith) Wide content a.1))
-alone_agrees d id other content a = absurd a
-
-pub content_agrees : (d id : ℕ) (xs : List Item) (content : List ℕ) → Fills id xs content → Agrees (ArePast d xs) xs (read_content d id content)
-content_agrees d id xs content (inl h) =
-    rw (other_than id 0 (apart id 0 h.0 refl), cond, other_than id 1 (apart id 1 h.0 refl), cond, other_than id 4 (apart id 4 h.0 refl), cond, other_than id 9 (apart id 9 h.0 refl), cond) (items_agree d id xs content h.1)
-content_agrees d id xs content (inr h) = rw h.1 (alone_agrees d id h.0 content h.2)
-
 -- ---- frames
 
 abbrev pub Framed : List ℕ → (ℕ × List ℕ) × List ℕ → Type 0
@@ -258,6 +160,33 @@ frame_told (id ∷ bytes) =
 pub frame_finds : (bytes : List ℕ) (id : ℕ) (content rest : List ℕ) → IsFramed bytes id content rest → read_frame bytes ≡ Ok ((id, content), rest)
 frame_finds bytes id content rest f =
     rw (f.begins, le-ltb 11 id f.known, (u32_lawful (length content)).finds (u32_lawful (length content)).depth (omega arith) Wide f.middle (content ++ rest) f.sized, le-ltb (length (content ++ rest)) (length content) (omega (arith, length-append content rest)), take_at content rest (length content) refl, drop_at content rest (length content) refl) refl
+
+-- ---- one frame
+
+-- what was found, and what wasn't
+pub told_ok : {A : Type 0} (P : A → Type 0) (D : Type 0) (some : Result A Flaw) (v : A) → Told P D some → some ≡ Ok v → P v
+told_ok P D some v h e = rw e at h
+
+pub not_both : {A : Type 0} (some : Result A Flaw) (v : A) → some ≡ Ok v → some ≡ Err Bad → ⊥
+not_both some v a b = absurd cc
+
+pub is_framed : (bytes : List ℕ) (id : ℕ) (content rest : List ℕ) → read_frame bytes ≡ Ok ((id, content), rest) → IsFramed bytes id content rest
+is_framed bytes id content rest e = told_ok (Framed bytes) ⊥ (read_frame bytes) ((id, content), rest) (frame_told bytes) e
+
+-- bytes have one frame
+pub record SameFrame (id other : ℕ) (content inside rest after : List ℕ) : Type 0 where
+  pub id_is : id ≡ other
+  pub content_is : content ≡ inside
+  pub rest_is : rest ≡ after
+
+pub same_frame : (bytes : List ℕ) (id other : ℕ) (content inside rest after : List ℕ) → read_frame bytes ≡ Ok ((id, content), rest) → IsFramed bytes other inside after → SameFrame id other content inside rest after
+same_frame bytes id other content inside rest after e f =
+    let parts = same_Ok_pair (id, content) (other, inside) rest after (sym e ∙ frame_finds bytes other inside after f) in
+    record {
+      id_is = ap (λ (x : ℕ × List ℕ). x.0) parts.0;
+      content_is = ap (λ (x : ℕ × List ℕ). x.1) parts.0;
+      rest_is = parts.1;
+    }
 
 -- ---- sections
 
@@ -315,13 +244,3 @@ members_of id xs = elim (collects id) as (λ b. members (cond b (Run id xs) (alo
     of_alone id [] = refl
     of_alone id (x ∷ []) = refl
     of_alone id (x ∷ y ∷ xs) = refl
-
--- ---- a count and its items
-
-pub items_filled : (d id n : ℕ) (content middle rest : List ℕ) (xs : List Item) → read_u32 content ≡ Ok (n, middle) → times (read_content_item d id) n middle ≡ Ok (xs, rest) → length rest ≡ 0 → read_items d id content ≡ Ok xs
-items_filled d id n content middle [] xs e r nil = rw (e, r) refl
-items_filled d id n content middle (b ∷ rest) xs e r nil = absurd (omega arith)
-
-pub items_left : (d id n : ℕ) (content middle rest : List ℕ) (xs : List Item) → read_u32 content ≡ Ok (n, middle) → times (read_content_item d id) n middle ≡ Ok (xs, rest) → (length rest ≡ 0 → ⊥) → read_items d id content ≡ Err Bad
-items_left d id n content middle [] xs e r some = absurd (some refl)
-items_left d id n content middle (b ∷ rest) xs e r some = rw (e, r) refl

@@ -1,133 +1,26 @@
 -- What the walk over a section's items finds, and what that says of the section.
-use Rattle.std.proofs.Common.{◌≡◌, ℕ, ◌+◌, ◌-◌, ◌<◌, ◌≤◌, List, [], ◌∷◌, ◌++◌, length, drop, Option, Some, None, Result, Ok, Err, refl, sym, ap, ◌∙◌, subst, append_assoc, inl, inr, arith, length-append}
-use Rattle.std.proofs.lemmas.List.{drop_all, drop_at}
-use Rattle.std.specs.List.{AllByRecursion}
-use Rattle.std.specs.Prelude.{IsTrue, IsSome, IfOk, MatchOption}
-use Rattle.wenc_base.specs.Forms.{AreBytes}
-use Rattle.wenc_base.specs.Number.{u32, ReadsGroups, last, more}
-use Rattle.wenc_base.specs.Piece.{Form, Wide, each}
-use Rattle.wenc_base.specs.Readers.{Flaw, Bad, Deep, go_on, times, give, ◌>>=◌}
-use Rattle.wenc_base.specs.laws.Forms.{bytes_pass}
-use Rattle.wenc_base.specs.laws.Lawful.{same_Ok_pair}
-use Rattle.wenc_base.specs.laws.Numbers.{u32_lawful, u32_sound}
-use Rattle.wenc_base.specs.laws.Sound.{Told, Agrees}
-use Rattle.wenc_base.specs.reading.Numbers.{read_u32}
-use Rattle.wenc_builder.specs.Item.{Item, ModuleItem, ComponentItem, StartItem}
-use Rattle.wenc_builder.specs.Sections.{Section, collects, item_of, section_piece, preamble}
-use Rattle.wenc_read.specs.Gives.{Fails, FailsNested}
-use Rattle.wenc_read.specs.declared.refusal.NestedRefusal.{NestedRefusal}
-use Rattle.wenc_read.specs.declared.refusal.NestedRefusal.TheVariants.{Flat, TooDeep}
-use Rattle.wenc_read.specs.declared.refusal.Refusal.{Refusal}
-use Rattle.wenc_read.specs.declared.refusal.Refusal.TheVariants as refusals
-use Rattle.wenc_sections.specs.Start.{Start, start_content}
+use Rattle.std.proofs.Common.{◌≡◌, ℕ, ◌+◌, ◌-◌, ◌<◌, ◌≤◌, List, [], ◌∷◌, ◌++◌, length, drop, Option, Some, None, Result, Ok, Err, refl, sym, ap, ◌∙◌, subst, ◌⊎◌, inl, inr, arith}
+use Rattle.std.proofs.lemmas.List.{drop_all}
+use Rattle.std.specs.Prelude.{IsSome, IfOk, MatchOption}
+use Rattle.wenc_base.specs.Piece.{Wide, EndsWith, each}
+use Rattle.wenc_base.specs.Readers.{Bad}
+use Rattle.wenc_base.specs.laws.Lawful.{ends_on}
+use Rattle.wenc_builder.specs.Item.{Item}
+use Rattle.wenc_builder.specs.Sections.{Section, section_piece, preamble}
+use Rattle.wenc_list.specs.Cursor.{Opens, HasTaken, IsNeverItem, IsNoItem, IsFaultIn}
 use Rattle.wenc_list.specs.Items.{item_section}
-use Rattle.wenc_list.specs.Listing.{HasDepth, IsFramed, IsLabelled, StopsAt}
-use Rattle.wenc_list.specs.Unread.{ReadsItems, IsNoItem, StopsInside, IsUnread, IsReadHere, IsNamed}
+use Rattle.wenc_list.specs.Listing.{IsFramed, IsLabelled, StopsAt}
+use Rattle.wenc_list.specs.Unread.{IsUnread, IsReadHere, IsNamed}
+use Rattle.wenc_list.specs.declared.cursor.SectionItems.{SectionItems}
+use Rattle.wenc_list.specs.declared.fault.ListFault.TheVariants as faults
 use Rattle.wenc_list.specs.declared.unread.Unread.{Unread}
-use Rattle.wenc_list.specs.inside.Contents.{read_content_item, read_content, read_frame}
-use Rattle.wenc_list.specs.inside.Unread.{Reaches, IsUnreadOr}
-use Rattle.wenc_list.proofs.Listed.{told_ok, not_both, is_framed, same_frame, never_framed, against, labelled_found, is_read, is_within, filled_by}
-use Rattle.wenc_list.proofs.SectionLaws.{item_tells, item_finds, section_framed}
-
--- ---- refusals
-
-pub malformed_of : {A : Type 0} (refusal : Refusal) (found : Result A Flaw) → refusal ≡ refusals.Malformed → Fails refusal found → found ≡ Err Bad
-malformed_of refusal found e h = rw e at h
-
-pub bad_of : {A : Type 0} (refusal : NestedRefusal) (found : Result A Flaw) → refusal ≡ Flat refusals.Malformed → FailsNested refusal found → found ≡ Err Bad
-bad_of refusal found e h = rw e at h
-
-pub deep_of : {A : Type 0} (refusal : NestedRefusal) (found : Result A Flaw) → refusal ≡ TooDeep → FailsNested refusal found → found ≡ Err Deep
-deep_of refusal found e h = rw e at h
-
--- ---- an item
-
-deeper : {A : Type 0} (D : Type 0) (v : A) (flaw : Flaw) → Agrees D v (Err flaw) → D
-deeper D v Bad a = absurd a
-deeper D v Deep a = a
-
-no_item : (id : ℕ) (bytes : List ℕ) (flaw : Flaw) → read_content_item 100 id bytes ≡ Err flaw → IsNoItem id bytes
-no_item id bytes flaw e x rest r w = deeper {A = Item × List ℕ} (HasDepth 100 x → ⊥) (x, rest) flaw (rw e at ((item_finds 100 id x).finds bytes rest r)) w
-
--- a list of one item that is found is that item
-abbrev one : (Item × List ℕ → Type 0) → List Item → List ℕ → Type 0
-one P xs rest = (x : Item) × P (x, rest)
-
-one_found : (P : Item × List ℕ → Type 0) (D : Type 0) (some : Result (Item × List ℕ) Flaw) (xs : List Item) (rest : List ℕ) → Told P D some → go_on some (λ x. give [] >>= λ ys. give (x ∷ ys)) ≡ Ok (xs, rest) → one P xs rest
-one_found P D (Ok y) xs rest t e = (y.0, subst (λ (r : List ℕ). P (y.0, r)) (same_Ok_pair (y.0 ∷ []) xs y.1 rest e).1 t)
-one_found P D (Err flaw) xs rest t e = absurd cc
-
-pub none_found : (id : ℕ) (bytes : List ℕ) (flaw : Flaw) → times (read_content_item 100 id) 1 bytes ≡ Err flaw → IsNoItem id bytes
-none_found id bytes flaw e = of_item (read_content_item 100 id bytes) refl e
-  where
-    of_item : (some : Result (Item × List ℕ) Flaw) → read_content_item 100 id bytes ≡ some → go_on some (λ x. give [] >>= λ ys. give (x ∷ ys)) ≡ Err flaw → IsNoItem id bytes
-    of_item (Ok y) is e = absurd cc
-    of_item (Err other) is e = no_item id bytes other is
-
--- ---- items, one after the other
-
-each_more : {A : Type 0} (form : Form A) (vs : List A) (v : A) (bytes middle rest : List ℕ) → (each form vs).Reads Wide bytes middle → (form v).Reads Wide middle rest → (each form (vs ++ v ∷ [])).Reads Wide bytes rest
-each_more form [] v bytes middle rest a b = (rest, rw (sym a) at b, refl)
-each_more form (w ∷ vs) v bytes middle rest a b = (a.0, a.1, each_more form vs v a.0 middle rest a.2 b)
-
-all_more : {A : Type 0} (P : A → Type 0) (vs : List A) (v : A) → AllByRecursion P vs → P v → AllByRecursion P (vs ++ v ∷ [])
-all_more P [] v a b = (b, tt)
-all_more P (w ∷ vs) v a b = (a.0, all_more P vs v a.1 b)
-
-pub no_items : (id : ℕ) (bytes : List ℕ) → ReadsItems id bytes 0 bytes
-no_items id bytes = record { items = []; read = refl; within = tt; are = refl }
-
-pub one_more : (id : ℕ) (bytes : List ℕ) (number : ℕ) (middle rest : List ℕ) (xs : List Item) → ReadsItems id bytes number middle → times (read_content_item 100 id) 1 middle ≡ Ok (xs, rest) → ReadsItems id bytes (number + 1) rest
-one_more id bytes number middle rest xs before e =
-    let x = one_found _ _ (read_content_item 100 id middle) xs rest ((item_tells 100 id).tells middle) e in
-    record {
-      items = before.items ++ x.0 ∷ [];
-      read = each_more (item_of id) before.items x.0 bytes middle rest before.read x.1.1;
-      within = all_more (HasDepth 100) before.items x.0 before.within x.1.0;
-      are = omega (arith, length-append before.items (x.0 ∷ []), before.are);
-    }
-
-pub stops : (id count : ℕ) (bytes : List ℕ) (number : ℕ) (left : List ℕ) (flaw : Flaw) → ReadsItems id bytes number left → number < count → times (read_content_item 100 id) 1 left ≡ Err flaw → Reaches id count bytes number left
-stops id count bytes number left flaw before lt e = record { before = before; few = omega (arith, lt); stops = λ less. none_found id left flaw e }
-
--- ---- a content
-
-pub uncounted : (content : List ℕ) → read_u32 content ≡ Err Bad → (n : ℕ) (behind : List ℕ) → (u32 n).Reads Wide content behind → ⊥
-uncounted content e n behind r = not_both (read_u32 content) (n, behind) ((u32_lawful n).finds (u32_lawful n).depth (omega arith) Wide content behind r) e
-
-counted : (content : List ℕ) (n : ℕ) (behind : List ℕ) → read_u32 content ≡ Ok (n, behind) → (u32 n).Reads Wide content behind
-counted content n behind e = told_ok (λ x. (u32 x.0).Reads Wide content x.1) ⊥ (read_u32 content) (n, behind) (u32_sound.tells content) e
-
-pub stops_inside : (id : ℕ) (content : List ℕ) (ends number here count : ℕ) (behind left : List ℕ) (P : ℕ → List ℕ → Type 0) → IsTrue (collects id) → read_u32 content ≡ Ok (count, behind) → ReadsItems id behind number left → (here ≡ ends - length left) → P count left → StopsInside id content ends number here P
-stops_inside id content ends number here count behind left P is e before place next = record {
-  collecting = is;
-  count = count;
-  behind = behind;
-  counted = counted content count behind e;
-  left = left;
-  before = before;
-  is_place = place;
-  next = next;
-}
-
-pub all_collected : (id : ℕ) (content : List ℕ) (number count : ℕ) (behind left : List ℕ) → IsTrue (collects id) → read_u32 content ≡ Ok (count, behind) → ReadsItems id behind number left → number ≡ count → length left ≡ 0 → (xs : List Item) × (read_content 100 id content ≡ Ok xs)
-all_collected id content number count behind [] is e before all nil =
-    let xs = before.items in
-    let n : count ≡ length xs = omega (arith, before.are, all) in
-    (xs, filled_by id xs content (inl (is, (behind, rw n at (counted content count behind e), before.read))) before.within)
-all_collected id content number count behind (b ∷ left) is e before all nil = absurd (omega (arith, nil))
-
-pub no_start : (content : List ℕ) (flaw : Flaw) → read_content 100 9 content ≡ Err flaw → (s : Start) → (start_content s).Reads Wide content [] → ⊥
-no_start content flaw e s r = against 100 9 (StartItem s ∷ []) content flaw (inr (StartItem s, refl, (refl, r))) e (tt, tt)
-
-pub custom_read : (content : List ℕ) → AreBytes content → IsLabelled 0 content → (xs : List Item) × (read_content 100 0 content ≡ Ok xs)
-custom_read content are l = (_, labelled_found l.0 content l.1 l.2 are)
-
-pub module_read : (content : List ℕ) → AreBytes content → (xs : List Item) × (read_content 100 1 content ≡ Ok xs)
-module_read content are = (ModuleItem content ∷ [], rw (bytes_pass content are) refl)
-
-pub component_read : (content : List ℕ) → AreBytes content → (xs : List Item) × (read_content 100 4 content ≡ Ok xs)
-component_read content are = (ComponentItem content ∷ [], rw (bytes_pass content are) refl)
+use Rattle.wenc_list.specs.declared.unread.Unread.TheVariants as parts
+use Rattle.wenc_list.specs.inside.Contents.{read_frame}
+use Rattle.wenc_list.specs.inside.Taken.{TakesAll, FaultsIn}
+use Rattle.wenc_list.specs.inside.Unread.{Stops, IsUnreadOf}
+use Rattle.wenc_list.proofs.Listed.{never_framed}
+use Rattle.wenc_list.proofs.SectionLaws.{is_framed, same_frame, frame_finds, section_framed}
+use Rattle.wenc_list.proofs.Taken.{frame_leaves, at_place, taken_fault, taken_read, taken_within}
 
 -- ---- a section
 
@@ -137,60 +30,88 @@ unframed bytes e id content rest f l = absurd (never_framed bytes id content res
 pub past_end : (bytes : List ℕ) (place : ℕ) → length bytes < place → IsReadHere (drop place bytes)
 past_end bytes place lt = rw (drop_all place bytes (omega (arith, lt))) (unframed [] refl)
 
-read_here : (bytes : List ℕ) (id : ℕ) (content rest : List ℕ) → read_frame bytes ≡ Ok ((id, content), rest) → (IsLabelled id content → (xs : List Item) × (read_content 100 id content ≡ Ok xs)) → IsReadHere bytes
-read_here bytes id content rest e found other inside after f l =
-    let same = same_frame bytes id other content inside rest after e f in
-    let label : IsLabelled id content = rw (same.id_is, same.content_is) l in
-    let some = found label in
-    (item_section id some.0, subst (λ (r : List ℕ). (section_piece (item_section id some.0)).Reads Wide bytes r) same.rest_is (is_read bytes id content rest some.0 e some.1), is_within bytes id content rest some.0 e some.1)
+all_read_here : (all : ℕ) (bytes : List ℕ) (s : SectionItems) (rest : List ℕ) (xs : List Item) → Opens all bytes s rest → TakesAll s xs → IsReadHere bytes
+all_read_here all bytes s rest xs o t id content after f l =
+    let same = same_frame bytes s.id id o.content content rest after (frame_finds bytes s.id o.content rest o.framed) f in
+    (item_section s.id xs, subst (λ (r : List ℕ). (section_piece (item_section s.id xs)).Reads Wide bytes r) same.rest_is (taken_read all bytes rest s xs t.left o t.taken t.spent), taken_within s.id xs t.taken.within)
 
-pub of_section : (all : ℕ) (bytes : List ℕ) (id : ℕ) (content rest : List ℕ) (unread : Option Unread) → read_frame bytes ≡ Ok ((id, content), rest) → IsUnreadOr id content (all - length rest) unread → MatchOption unread (IsReadHere bytes) (IsUnread all bytes)
-of_section all bytes id content rest None e h = read_here bytes id content rest e h
-of_section all bytes id content rest (Some unread) e h = record { id = id; content = content; rest = rest; framed = is_framed bytes id content rest e; cause = h }
+unlabelled_here : (all : ℕ) (bytes : List ℕ) (s : SectionItems) (rest : List ℕ) (place : ℕ) → Opens all bytes s rest → FaultsIn s (faults.BadSection place) → IsReadHere bytes
+unlabelled_here all bytes s rest place o t id content after f l =
+    let fault = taken_fault all bytes rest s t.xs t.left (faults.BadSection place) o t.taken t.cause in
+    absurd (fault.2 id content after f l)
 
-pub all_of_section : {E : Type 0} (all : ℕ) (bytes : List ℕ) (id : ℕ) (content rest : List ℕ) (ends : ℕ) (result : Result (Option Unread) E) → read_frame bytes ≡ Ok ((id, content), rest) → (ends ≡ all - length rest) → IfOk result (IsUnreadOr id content ends) → IfOk result (λ u. MatchOption u (IsReadHere bytes) (IsUnread all bytes))
-all_of_section all bytes id content rest ends (Ok unread) e is h = of_section all bytes id content rest unread e (rw is at h)
-all_of_section all bytes id content rest ends (Err error) e is h = tt
+pub of_section : (all : ℕ) (bytes : List ℕ) (s : SectionItems) (rest : List ℕ) (unread : Option Unread) → Opens all bytes s rest → IsUnreadOf s unread → MatchOption unread (IsReadHere bytes) (IsUnread all bytes)
+of_section all bytes s rest None o (inl h) = all_read_here all bytes s rest h.0 o h.1
+of_section all bytes s rest None o (inr h) = unlabelled_here all bytes s rest h.0 o h.1
+of_section all bytes s rest (Some (parts.Count here)) o h = absurd h
+of_section all bytes s rest (Some (parts.Item number here)) o h = record {
+  id = s.id;
+  content = o.content;
+  rest = rest;
+  framed = o.framed;
+  cause = record {
+    count = s.left;
+    behind = s.rest.now;
+    holds = o.holds;
+    left = h.left.rest.now;
+    before = record { items = h.xs; read = h.taken.read; within = h.taken.within; are = h.are };
+    is_place = omega (arith, h.is_place, h.taken.same_end, o.is_end);
+    next = (omega (arith, h.taken.counted, h.are, h.next.0), subst (λ (id : ℕ). IsNoItem id h.left.rest.now) h.taken.same_id h.next.1);
+  };
+}
+of_section all bytes s rest (Some (parts.Behind here)) o h = record {
+  id = s.id;
+  content = o.content;
+  rest = rest;
+  framed = o.framed;
+  cause = (
+    h.0,
+    record {
+      count = s.left;
+      behind = s.rest.now;
+      holds = o.holds;
+      left = h.1.left.rest.now;
+      before = record { items = h.1.xs; read = h.1.taken.read; within = h.1.taken.within; are = h.1.are };
+      is_place = omega (arith, h.1.is_place, h.1.taken.same_end, o.is_end);
+      next = (omega (arith, h.1.taken.counted, h.1.are, h.1.next.0), h.1.next.1);
+    },
+  );
+}
+
+-- where it stops
+pub behind_stops : (first s : SectionItems) (xs : List Item) (place here : ℕ) → HasTaken first xs s → s.left ≡ 0 → IsFaultIn s (faults.BadItem place) → (here ≡ s.ends - length s.rest.now) → (number : ℕ) × Stops first number here (λ left. (left.left ≡ 0) × (0 < length left.rest.now))
+behind_stops first s xs place here t zero_left f e = (length xs, record { xs = xs; left = s; taken = t; are = refl; is_place = e; next = (zero_left, behind f.1) })
+  where
+    behind : (((0 < s.left) × (s.id ≡ 0 → ⊥) × IsNeverItem s.id s.rest.now) ⊎ ((s.left ≡ 0) × (0 < length s.rest.now))) → 0 < length s.rest.now
+    behind (inl h) = absurd (omega (arith, h.0))
+    behind (inr h) = h.1
+
+pub all_of_section : {E : Type 0} (all : ℕ) (bytes : List ℕ) (s : SectionItems) (rest : List ℕ) (result : Result (Option Unread) E) → Opens all bytes s rest → IfOk result (IsUnreadOf s) → IfOk result (λ u. MatchOption u (IsReadHere bytes) (IsUnread all bytes))
+all_of_section all bytes s rest (Ok unread) o h = of_section all bytes s rest unread o h
+all_of_section all bytes s rest (Err error) o h = tt
 
 pub frame_known : (bytes : List ℕ) (id : ℕ) (content rest : List ℕ) → read_frame bytes ≡ Ok ((id, content), rest) → id ≤ 11
 frame_known bytes id content rest e = (is_framed bytes id content rest e).known
 
 -- ---- where a section stands
 
--- the rest stands after some bytes
-abbrev Behind : List ℕ → List ℕ → Type 0
-Behind bytes rest = (front : List ℕ) × (bytes ≡ front ++ rest)
-
-then_behind : (bytes middle rest : List ℕ) → Behind bytes middle → Behind middle rest → Behind bytes rest
-then_behind bytes middle rest p q = (p.0 ++ q.0, p.1 ∙ (ap (λ (t : List ℕ). p.0 ++ t) q.1 ∙ simp append_assoc))
-
-groups_behind : (room n : ℕ) (bytes rest : List ℕ) → ReadsGroups Wide 128 room n bytes rest → Behind bytes rest
-groups_behind room n _ rest (last {b = b} lt) = (b ∷ [], refl)
-groups_behind _ n _ rest (more {room = room} {b = b} {high = high} {bytes = bytes} low byte on sum r) = let p = groups_behind room high bytes rest r in (b ∷ p.0, ap (λ (t : List ℕ). b ∷ t) p.1)
-
-section_behind : (s : Section) (bytes rest : List ℕ) → (section_piece s).Reads Wide bytes rest → Behind bytes rest
-section_behind s bytes rest r =
+one_leaves : (s : Section) (bytes rest : List ℕ) → (section_piece s).Reads Wide bytes rest → EndsWith bytes rest
+one_leaves s bytes rest r =
     let f = section_framed s bytes rest r in
-    let p = groups_behind 4 _ f.framed.middle (f.content ++ rest) f.framed.sized.1 in
-    (f.id ∷ (p.0 ++ f.content), f.framed.begins ∙ ap (λ (t : List ℕ). f.id ∷ t) (p.1 ∙ simp append_assoc))
+    ends_on bytes (f.content ++ rest) rest (frame_leaves bytes f.id f.content rest f.framed) (f.content, refl)
 
-sections_behind : (ss : List Section) (bytes rest : List ℕ) → (each section_piece ss).Reads Wide bytes rest → Behind bytes rest
-sections_behind [] bytes rest r = ([], r)
-sections_behind (s ∷ ss) bytes rest r = then_behind bytes r.0 rest (section_behind s bytes r.0 r.1) (sections_behind ss r.0 rest r.2)
+sections_leave : (ss : List Section) (bytes rest : List ℕ) → (each section_piece ss).Reads Wide bytes rest → EndsWith bytes rest
+sections_leave [] bytes rest r = ([], r)
+sections_leave (s ∷ ss) bytes rest r = ends_on bytes r.0 rest (one_leaves s bytes r.0 r.1) (sections_leave ss r.0 rest r.2)
 
-header_behind : (bytes rest : List ℕ) → preamble.Reads Wide bytes rest → Behind bytes rest
-header_behind bytes rest r = (
+pub header_leaves : (bytes rest : List ℕ) → preamble.Reads Wide bytes rest → EndsWith bytes rest
+header_leaves bytes rest r = (
   0x00 ∷ 0x61 ∷ 0x73 ∷ 0x6d ∷ 0x0d ∷ 0x00 ∷ 0x01 ∷ 0x00 ∷ [],
   rw (r.1, r.2.1, r.2.2.1, r.2.2.2.1, r.2.2.2.2.1, r.2.2.2.2.2.1, r.2.2.2.2.2.2.1, r.2.2.2.2.2.2.2) refl,
 )
 
-place_of : (bytes left : List ℕ) (place : ℕ) → Behind bytes left → (length bytes ≡ place + length left) → drop place bytes ≡ left
-place_of bytes left place p e =
-    let n : length p.0 ≡ place = omega (arith, e, ap length p.1, length-append p.0 left) in
-    rw p.1 (drop_at p.0 left place n)
-
 stops_here : (bytes behind : List ℕ) (place : ℕ) (P : List ℕ → Type 0) (f : StopsAt (length bytes) behind place P) → preamble.Reads Wide bytes behind → drop place bytes ≡ f.left
-stops_here bytes behind place P f r = place_of bytes f.left place (then_behind bytes behind f.left (header_behind bytes behind r) (sections_behind f.before behind f.left f.read)) f.is_place
+stops_here bytes behind place P f r = at_place bytes f.left place (ends_on bytes behind f.left (header_leaves bytes behind r) (sections_leave f.before behind f.left f.read)) f.is_place
 
 not_read : (all : ℕ) (behind : List ℕ) (place : ℕ) (P : List ℕ → Type 0) (f : StopsAt all behind place P) (id : ℕ) (content rest : List ℕ) → IsFramed f.left id content rest → IsLabelled id content → IsReadHere f.left → ⊥
 not_read all behind place P f id content rest framed l h = let s = h id content rest framed l in f.none_within s.0 rest s.1 s.2

@@ -1,3 +1,4 @@
+pub mod Cursor
 pub mod Items
 pub mod Listing
 pub mod Names

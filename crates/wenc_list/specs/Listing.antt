@@ -68,13 +68,14 @@ pub record IsTooDeep (bytes : List ℕ) : Type 0 where
 abbrev pub BeginsWith : ℕ → List ℕ → Type 0
 BeginsWith byte bytes = (rest : List ℕ) × (bytes ≡ byte ∷ rest)
 
--- Each section is read where it is placed, where its id is the first byte, of so many bytes in all,
--- one after the other up to the rest.
+-- Each section is read where it is placed, where its id is the first byte, up to its end, of so many
+-- bytes in all, one after the other up to the rest.
 abbrev pub AreFrom : {A : Type 0} → ℕ → List (ListedSection A) → List ℕ → List ℕ → Type 0
 AreFrom all [] bytes rest = bytes ≡ rest
 AreFrom all (s ∷ ss) bytes rest =
     (middle : List ℕ) × (section_piece (section_view s)).Reads Wide bytes middle ×
-    (all ≡ s.place + length bytes) × BeginsWith s.id bytes × AreFrom all ss middle rest
+    (all ≡ s.place + length bytes) × (all ≡ s.ends + length middle) × BeginsWith s.id bytes ×
+    AreFrom all ss middle rest
 
 -- how many indices in space k the items of these sections take
 abbrev pub count_of_sections : ℕ → List Section → ℕ
@@ -91,6 +92,17 @@ ArePlaced bytes ss =
 abbrev pub IsNoneWithin : List ℕ → Type 0
 IsNoneWithin bytes = (s : Section) (rest : List ℕ) → (section_piece s).Reads Wide bytes rest
     → AreWithin 100 (s ∷ []) → ⊥
+
+-- the fault has its cause in the section that begins here
+abbrev pub IsFaultHere : ℕ → List ℕ → ListFault → Type 0
+IsFaultHere here bytes faults.Memory = Unit {0}
+IsFaultHere here bytes (faults.NotAComponent place) = ⊥
+IsFaultHere here bytes (faults.BadSection place) =
+    (place ≡ here) × IsNoneWithin bytes × IsBadSection bytes
+IsFaultHere here bytes (faults.BadItem place) =
+    (place ≡ here) × IsNoneWithin bytes × IsBadItem bytes
+IsFaultHere here bytes (faults.TooDeep place) =
+    (place ≡ here) × IsNoneWithin bytes × IsTooDeep bytes
 
 -- Sections are read within depth 100, of so many bytes in all, up to this place; the next one
 -- isn't, and P holds of the bytes from there on.

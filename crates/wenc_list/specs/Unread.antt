@@ -4,8 +4,8 @@ use Rattle.std.specs.Prelude.{◌≡◌, ◌⊎◌, ℕ, ◌-◌, ◌<◌, List,
 use Rattle.wenc_base.specs.Number.{u32}
 use Rattle.wenc_base.specs.Piece.{Wide, each}
 use Rattle.wenc_builder.specs.Item.{Item}
-use Rattle.wenc_builder.specs.Sections.{Section, collects, item_of, section_piece}
-use Rattle.wenc_sections.specs.Start.{Start, start_content}
+use Rattle.wenc_builder.specs.Sections.{Section, collects, section_piece}
+use Rattle.wenc_list.specs.Cursor.{item_in, Holds, IsNoItem}
 use Rattle.wenc_list.specs.Listing.{HasDepth, AreWithin, IsFramed, IsLabelled, IsFaultOf}
 use Rattle.wenc_list.specs.declared.fault.ListFault.TheVariants as faults
 use Rattle.wenc_list.specs.declared.unread.Unread.{Unread}
@@ -14,23 +14,17 @@ use Rattle.wenc_list.specs.declared.unread.Unread.TheVariants as parts
 -- So many items of the section with this id are read, one after the other, each within depth 100.
 pub record ReadsItems (id : ℕ) (bytes : List ℕ) (number : ℕ) (left : List ℕ) : Type 0 where
   pub items : List Item
-  pub read : (each (item_of id) items).Reads Wide bytes left
+  pub read : (each (item_in id) items).Reads Wide bytes left
   pub within : AllByRecursion (HasDepth 100) items
   pub are : length items ≡ number
 
--- no item of the section with this id is read here within depth 100
-abbrev pub IsNoItem : ℕ → List ℕ → Type 0
-IsNoItem id bytes = (x : Item) (rest : List ℕ) → (item_of id x).Reads Wide bytes rest
-    → HasDepth 100 x → ⊥
-
--- The content of a section that collects items, which ends at this place: its count is read, and so
--- many items after that. What is left begins at `here`, and P holds of the count and of that.
+-- The content of a section, which ends at this place: its count is read, and so many items after
+-- that. What is left begins at `here`, and P holds of the count and of that.
 pub record StopsInside (id : ℕ) (content : List ℕ) (ends number here : ℕ)
     (P : ℕ → List ℕ → Type 0) : Type 0 where
-  pub collecting : IsTrue (collects id)
   pub count : ℕ
   pub behind : List ℕ
-  pub counted : (u32 count).Reads Wide content behind
+  pub holds : Holds id content count behind
   pub left : List ℕ
   pub before : ReadsItems id behind number left
   pub is_place : here ≡ ends - length left
@@ -42,20 +36,11 @@ pub record IsUncounted (id : ℕ) (content : List ℕ) (ends here : ℕ) : Type 
   pub is_place : here ≡ ends - length content
   pub never : (n : ℕ) (behind : List ℕ) → (u32 n).Reads Wide content behind → ⊥
 
--- the content of the section of a start is not one start
-pub record IsNoStart (id : ℕ) (content : List ℕ) (ends number here : ℕ) : Type 0 where
-  pub is_start : id ≡ 9
-  pub is_first : number ≡ 0
-  pub is_place : here ≡ ends - length content
-  pub never : (s : Start) → (start_content s).Reads Wide content [] → ⊥
-
 -- this is the first of the section's content that isn't read
 abbrev pub IsUnreadIn : ℕ → List ℕ → ℕ → Unread → Type 0
 IsUnreadIn id content ends (parts.Count here) = IsUncounted id content ends here
 IsUnreadIn id content ends (parts.Item number here) =
-    IsNoStart id content ends number here
-    ⊎ StopsInside id content ends number here
-    (λ count left. (number < count) × IsNoItem id left)
+    StopsInside id content ends number here (λ count left. (number < count) × IsNoItem id left)
 IsUnreadIn id content ends (parts.Behind here) =
     (number : ℕ) × StopsInside id content ends number here
     (λ count left. (number ≡ count) × (0 < length left))

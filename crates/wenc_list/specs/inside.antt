@@ -1,4 +1,4 @@
 -- What private functions and proofs need alone: no contract of a public call reaches it.
 pub mod Contents
-pub mod Faults
+pub mod Taken
 pub mod Unread

@@ -1,8 +1,12 @@
-//! A law over the definitions. A call of it does nothing.
-ghost use Rattle.std.specs.Prelude.{◌≡◌, ◌⊎◌, ℕ, List};
-ghost use Rattle.wenc_base.specs.Piece.{Wide};
-ghost use Rattle.wenc_builder.specs.Sections.{Section, Reading};
-ghost use Rattle.wenc_list.specs.Listing.{AreWithin, IsFaultOf};
+//! Laws over the definitions. A call of one does nothing.
+ghost use Rattle.std.specs.Prelude.{◌≡◌, ◌⊎◌, ℕ, ◌-◌, List, [], ◌∷◌, ◌++◌, length, drop};
+ghost use Rattle.wenc_base.specs.Piece.{Wide, EndsWith};
+ghost use Rattle.wenc_builder.specs.Item.{Item};
+ghost use Rattle.wenc_builder.specs.Sections.{Section, Reading, section_piece, preamble};
+ghost use Rattle.wenc_list.specs.Cursor.{Opens, HasTaken, IsSpent, IsFaultIn};
+ghost use Rattle.wenc_list.specs.Items.{item_section};
+ghost use Rattle.wenc_list.specs.Listing.{AreWithin, IsFaultOf, IsFaultHere};
+ghost use Rattle.wenc_list.specs.declared.cursor.SectionItems.{SectionItems};
 ghost use Rattle.wenc_list.specs.declared.fault.ListFault.TheVariants.{Memory, TooDeep};
 ghost use Rattle.wenc_list.specs.declared.fault.ListFault.{ListFault};
 
@@ -16,4 +20,36 @@ pub fn faults_of_what_is_read()
     ensures too_deep { (bytes : List ℕ) (ss : List Section) → Reading Wide bytes ss
         → (fault : ListFault) → IsFaultOf bytes fault
         → (fault ≡ Memory) ⊎ ((place : ℕ) × (fault ≡ TooDeep place)) }
+{}
+
+/// What a loop over the items of a section finds: taking none and then one more is an invariant,
+/// all items that were taken are the section, and a fault of what is left is one of the section.
+pub fn what_was_taken()
+    ensures none { (s : SectionItems) → HasTaken s [] s }
+    ensures more { (first middle left : SectionItems) (xs : List Item) (x : Item)
+        → HasTaken first xs middle → HasTaken middle (x ∷ []) left
+        → HasTaken first (xs ++ x ∷ []) left }
+    ensures read { (ends : ℕ) (bytes rest : List ℕ) (first left : SectionItems) (xs : List Item)
+        → Opens ends bytes first rest → HasTaken first xs left → IsSpent left
+        → (section_piece (item_section first.id xs)).Reads Wide bytes rest
+        × AreWithin 100 (item_section first.id xs ∷ []) }
+    ensures fault { (ends : ℕ) (bytes rest : List ℕ) (first left : SectionItems) (xs : List Item)
+        → Opens ends bytes first rest → HasTaken first xs left
+        → (fault : ListFault) → IsFaultIn left fault → IsFaultHere first.place bytes fault }
+{}
+
+/// What is left of a component stands at `Sections::place`, and what is left of a section at
+/// `SectionItems::reached`: these are byte offsets in the component.
+pub fn where_it_stands()
+    // The component ends with what is left, after the header and after each section.
+    ensures header { (bytes rest : List ℕ) → preamble.Reads Wide bytes rest → EndsWith bytes rest }
+    ensures section { (ends : ℕ) (bytes before rest : List ℕ) (s : SectionItems)
+        → EndsWith bytes before → Opens ends before s rest → EndsWith bytes rest }
+    // So that stands behind the bytes before its place.
+    ensures place { (bytes left : List ℕ) → EndsWith bytes left
+        → drop (length bytes - length left) bytes ≡ left }
+    ensures reached { (bytes before rest : List ℕ) (first : SectionItems) (xs : List Item)
+        (left : SectionItems) → EndsWith bytes before → Opens (length bytes) before first rest
+        → HasTaken first xs left
+        → drop (left.ends - length left.rest.now) bytes ≡ left.rest.now ++ rest }
 {}

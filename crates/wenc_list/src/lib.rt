@@ -5,6 +5,7 @@
 #![tactic(auto)]
 
 mod counts;
+mod cursor;
 mod fault;
 mod item;
 pub mod laws;
@@ -14,6 +15,7 @@ mod names;
 mod sections;
 mod unread;
 
+pub use cursor::{SectionItems, Sections};
 pub use fault::ListFault;
 pub use item::ItemTree;
 pub use listing::{ListedSection, Listing, list};

@@ -1,28 +1,28 @@
 //! A whole component: its header, and its sections up to the end.
-ghost use Rattle.std.specs.Prelude.{◌≡◌, ◌≤◌, ℕ, List, [], ◌∷◌, map, length, slice_index, IfOk, IfErr, Err, MatchResult};
+ghost use Rattle.std.specs.Prelude.{◌≡◌, ◌≤◌, ℕ, List, [], map, length, slice_index, IfOk, IfErr, Err, MatchResult};
 ghost use Rattle.wenc_base.specs.Piece.{Wide};
-ghost use Rattle.wenc_builder.specs.Sections.{Section, section_piece, preamble, Reading};
-ghost use Rattle.wenc_list.specs.Items.{section_view};
-ghost use Rattle.wenc_list.specs.Listing.{AreWithin, AreFrom, ArePlaced, count_of_sections, IsFaultOf, IsMemoryOrTooDeep, HasNoHeader, IsFaultBehind, BeginsWith};
-ghost use Rattle.wenc_list.specs.inside.Faults.{IsFaultHere};
-ghost use Rattle.wenc_list.specs.inside.Contents.{fault_of_frame, fault_of_content};
+ghost use Rattle.wenc_builder.specs.Sections.{Section, Reading};
+ghost use Rattle.wenc_list.specs.Items.{item_view, section_view};
+ghost use Rattle.wenc_list.specs.Listing.{AreWithin, AreFrom, ArePlaced, count_of_sections, IsFaultOf, IsMemoryOrTooDeep, HasNoHeader, IsFaultBehind};
+ghost use Rattle.wenc_list.specs.inside.Taken.{TakesAll, FaultsIn};
 ghost use Rattle.wenc_list.specs.declared.fault.ListFault.TheVariants.{Memory, NotAComponent};
 
 use crate::counts::count;
+use crate::cursor::{SectionItems, Sections};
 use crate::fault::ListFault;
 use crate::item::ItemTree;
-use crate::sections::{are_bytes, content, frame};
 use std::alloc::{Allocator, Global};
-use wenc_parts::Component;
-use wenc_read::{NestedRefusal, Refusal};
+use wenc_decode::room_for;
 
 /// A section that was read (component model, binary format, "Component Definitions").
 #[derive(Drop)]
 pub struct ListedSection<A: Allocator = Global> {
     /// Its id, from 0 to 11.
     pub id: u8,
-    /// Where its id stands, counted in bytes from the front of the component.
+    /// The byte offset of its id in the component.
     pub place: usize,
+    /// The byte offset at which it ends.
+    pub ends: usize,
     /// Its items. Custom sections, modules, nested components and starts have one.
     pub items: Vec<ItemTree<A>, A>,
 }
@@ -38,87 +38,49 @@ pub struct Listing<A: Allocator = Global> {
     pub counts: [u128; 13],
 }
 
-/// The bytes after the header.
-fn behind_header(bytes: &[u8]) -> Result<&[u8], ListFault>
-    ensures { MatchResult result (λ rest. preamble.Reads Wide bytes.now rest.now)
-        (λ fault. (fault ≡ NotAComponent 0) × HasNoHeader bytes.now) }
-{
-    match bytes {
-        [0x00, 0x61, 0x73, 0x6d, 0x0d, 0x00, 0x01, 0x00, rest @ ..] => Ok(rest),
-        _ => Err(ListFault::NotAComponent { place: 0 }),
-    }
-}
-
-/// Why no section is framed.
-fn frame_fault(refusal: Refusal, place: usize) -> ListFault
-    ensures { result ≡ fault_of_frame refusal place }
-{
-    match refusal {
-        Refusal::Memory => ListFault::Memory,
-        Refusal::Malformed => ListFault::BadSection { place },
-    }
-}
-
-/// Why the content of a section with this id isn't read. Of a custom section only the name can be
-/// malformed.
-fn content_fault(refusal: NestedRefusal, id: u8, place: usize) -> ListFault
-    ensures { result ≡ fault_of_content refusal id place }
-{
-    match refusal {
-        NestedRefusal::Flat(Refusal::Memory) => ListFault::Memory,
-        NestedRefusal::Flat(Refusal::Malformed) if id == 0 => ListFault::BadSection { place },
-        NestedRefusal::Flat(Refusal::Malformed) => ListFault::BadItem { place },
-        NestedRefusal::TooDeep => ListFault::TooDeep { place },
-    }
-}
-
-/// The section that begins here, at this place.
+/// The section of which these are all items.
 fn section<A: Allocator + Copy>(
     alloc: A,
-    place: usize,
-    bytes: &[u8],
-) -> Result<(ListedSection<A>, &[u8]), ListFault>
-    ensures read { IfOk result
-        (λ x. (section_piece (section_view x.0)).Reads Wide bytes.now x.1.now) }
-    ensures within { IfOk result (λ x. AreWithin 100 (section_view x.0 ∷ [])) }
-    ensures placed { IfOk result (λ x. x.0.place ≡ place) }
-    ensures begins { IfOk result (λ x. BeginsWith x.0.id bytes.now) }
-    ensures fault { IfErr result (IsFaultHere place bytes.now) }
+    from: SectionItems<'_>,
+) -> Result<ListedSection<A>, ListFault>
+    ensures taken { IfOk result (λ s. TakesAll from.entry (map item_view s.items.items)) }
+    ensures id { IfOk result (λ s. s.id ≡ from.entry.id) }
+    ensures placed { IfOk result (λ s. s.place ≡ from.entry.place) }
+    ensures ended { IfOk result (λ s. s.ends ≡ from.entry.ends) }
+    ensures fault { IfErr result (FaultsIn from.entry) }
 {
-    match frame(bytes) {
-        Ok(((id, inside), rest)) => {
-            are_bytes(inside);
-            match content(alloc, id, inside) {
-                Ok(items) => Ok((ListedSection { id, place, items }, rest)),
-                Err(refusal) => Err(content_fault(refusal, id, place)),
-            }
-        }
-        Err(refusal) => Err(frame_fault(refusal, place)),
+    let mut left = from;
+    let mut items = Vec::with_capacity(alloc, room_for(left.left, left.rest))?;
+    while let Some(item) = left.next(alloc)? {
+        items.push(item)?;
     }
+    Ok(ListedSection {
+        id: from.id,
+        place: from.place,
+        ends: from.ends,
+        items,
+    })
 }
 
-/// The sections up to the end, which are the last of so many bytes, and how many indices their
-/// items take.
+/// The sections up to the end, and how many indices their items take.
 fn sections<A: Allocator + Copy>(
     alloc: A,
-    all: usize,
-    bytes: &[u8],
+    from: Sections<'_>,
 ) -> Result<(Vec<ListedSection<A>, A>, [u128; 13]), ListFault>
-    requires { length bytes.now ≤ all }
-    ensures listed { IfOk result (λ x. AreFrom all x.0.items bytes.now []) }
+    requires { length from.rest.now ≤ from.ends }
+    ensures listed { IfOk result (λ x. AreFrom from.entry.ends x.0.items from.entry.rest.now []) }
     ensures within { IfOk result (λ x. AreWithin 100 (map section_view x.0.items)) }
     ensures counted { IfOk result (λ x. (k : ℕ)
         → slice_index x.1 k ≡ count_of_sections k (map section_view x.0.items)) }
-    ensures fault { IfErr result (IsFaultBehind all bytes.now) }
+    ensures fault { IfErr result (IsFaultBehind from.entry.ends from.entry.rest.now) }
 {
+    let mut left = from;
     let mut sections = Vec::new(alloc);
     let mut counts = [0; 13];
-    let mut rest = bytes;
-    while !rest.is_empty() {
-        let (section, after) = section(alloc, all - rest.len(), rest)?;
+    while let Some(items) = left.next()? {
+        let section = section(alloc, items)?;
         count(&mut counts, &section.items);
         sections.push(section)?;
-        rest = after;
     }
     Ok((sections, counts))
 }
@@ -150,7 +112,7 @@ pub fn list<A: Allocator + Copy>(alloc: A, bytes: &[u8]) -> Result<Listing<A>, L
         (λ l. Reading Wide bytes.now (map section_view l.sections.items)) }
     // No type in it is deeper than 100.
     ensures within { IfOk result (λ l. AreWithin 100 (map section_view l.sections.items)) }
-    // Each section is read where it is placed, and its id is the byte there.
+    // Each section is read where it is placed, up to its end, and its id is the byte there.
     ensures placed { IfOk result (λ l. ArePlaced bytes.now l.sections.items) }
     // The counts are the sums of what the items define.
     ensures counted { IfOk result (λ l. (k : ℕ)
@@ -167,7 +129,7 @@ pub fn list<A: Allocator + Copy>(alloc: A, bytes: &[u8]) -> Result<Listing<A>, L
     // Without a header it is that fault.
     ensures no_header { HasNoHeader bytes.now → result ≡ Err (NotAComponent 0) }
 {
-    let behind = behind_header(bytes)?;
-    let (sections, counts) = sections(alloc, bytes.len(), behind)?;
+    let all = Sections::new(bytes)?;
+    let (sections, counts) = sections(alloc, all)?;
     Ok(Listing { sections, counts })
 }

@@ -1,196 +1,185 @@
-//! What a section collects: so many items of one kind.
-ghost use Rattle.std.specs.Prelude.{map};
-ghost use Rattle.wenc_builder.specs.Item.{Item};
-ghost use Rattle.wenc_base.specs.Readers.{Reader, times};
-ghost use Rattle.wenc_read.specs.Gives.{GivesNested};
-ghost use Rattle.wenc_list.specs.inside.Contents.{read_content_item};
+//! An item in its section.
+ghost use Rattle.std.specs.Prelude.{◌≡◌, ◌⊎◌};
+ghost use Rattle.wenc_list.specs.inside.Contents.{read_core_instance_item, read_core_type_item, read_instance_item, read_alias_item, read_type_item, read_canonical_item, read_import_item, read_export_item, read_item_in};
 ghost use Rattle.wenc_list.specs.Items.{item_view};
+ghost use Rattle.wenc_read.specs.Gives.{Gives, GivesNested};
 
 use crate::item::ItemTree;
+use crate::sections::copied;
 use std::alloc::Allocator;
-use wenc_decode::{Decode, room_for, type_of};
+use wenc_decode::{Decode, type_of};
 use wenc_parts::{AliasTree, ComponentExportKind, ComponentTypeRef, NameTree};
-use wenc_read::{NestedRefusal, Refusal};
+use wenc_read::{NestedRefusal, Refusal, name_of, u32_of};
 use wenc_sections::{CanonTree, CoreInstanceTree, InstanceTree};
-use wenc_types::{CoreTypeTree, TypeTree};
+use wenc_types::CoreTypeTree;
 
 /// How many types of components and instances may stand in one another.
 const DEPTH: u32 = 100;
 
-/// A kind of items that a section collects.
-trait Member<A: Allocator + Copy> {
-    /// What finds an item.
-    ghost read: { Reader Item };
-
-    /// The item that begins the bytes.
-    fn item<'a>(alloc: A, bytes: &'a [u8]) -> Result<(ItemTree<A>, &'a [u8]), NestedRefusal>
-        ensures { GivesNested (λ x. (item_view x.0, x.1.now)) result (read bytes.now) };
-}
-
-impl<A: Allocator + Copy> Member<A> for CoreInstanceTree<A> {
-    ghost use Rattle.wenc_list.specs.inside.Contents.{read_core_instance_item};
-
-    ghost read = { read_core_instance_item };
-
-    #[inline(always)]
-    fn item<'a>(alloc: A, bytes: &'a [u8]) -> Result<(ItemTree<A>, &'a [u8]), NestedRefusal> {
-        let (instance, rest) = CoreInstanceTree::decode(alloc, bytes)?;
-        Ok((ItemTree::CoreInstance(instance), rest))
-    }
-}
-
-impl<A: Allocator + Copy> Member<A> for CoreTypeTree<A> {
-    ghost use Rattle.wenc_list.specs.inside.Contents.{read_core_type_item};
-
-    ghost read = { read_core_type_item };
-
-    #[inline(always)]
-    fn item<'a>(alloc: A, bytes: &'a [u8]) -> Result<(ItemTree<A>, &'a [u8]), NestedRefusal> {
-        let (ty, rest) = CoreTypeTree::decode(alloc, bytes)?;
-        Ok((ItemTree::CoreType(Box::new(alloc, ty)?), rest))
-    }
-}
-
-impl<A: Allocator + Copy> Member<A> for InstanceTree<A> {
-    ghost use Rattle.wenc_list.specs.inside.Contents.{read_instance_item};
-
-    ghost read = { read_instance_item };
-
-    #[inline(always)]
-    fn item<'a>(alloc: A, bytes: &'a [u8]) -> Result<(ItemTree<A>, &'a [u8]), NestedRefusal> {
-        let (instance, rest) = InstanceTree::decode(alloc, bytes)?;
-        Ok((ItemTree::Instance(instance), rest))
-    }
-}
-
-impl<A: Allocator + Copy> Member<A> for AliasTree<A> {
-    ghost use Rattle.wenc_list.specs.inside.Contents.{read_alias_item};
-
-    ghost read = { read_alias_item };
-
-    #[inline(always)]
-    fn item<'a>(alloc: A, bytes: &'a [u8]) -> Result<(ItemTree<A>, &'a [u8]), NestedRefusal> {
-        let (alias, rest) = AliasTree::decode(alloc, bytes)?;
-        Ok((ItemTree::Alias(alias), rest))
-    }
-}
-
-impl<A: Allocator + Copy> Member<A> for TypeTree<A> {
-    ghost use Rattle.wenc_list.specs.inside.Contents.{read_type_item};
-
-    ghost read = { read_type_item 100 };
-
-    #[inline(always)]
-    fn item<'a>(alloc: A, bytes: &'a [u8]) -> Result<(ItemTree<A>, &'a [u8]), NestedRefusal> {
-        let (ty, rest) = type_of(alloc, DEPTH, bytes)?;
-        Ok((ItemTree::Type(ty), rest))
-    }
-}
-
-impl<A: Allocator + Copy> Member<A> for CanonTree<A> {
-    ghost use Rattle.wenc_list.specs.inside.Contents.{read_canonical_item};
-
-    ghost read = { read_canonical_item };
-
-    #[inline(always)]
-    fn item<'a>(alloc: A, bytes: &'a [u8]) -> Result<(ItemTree<A>, &'a [u8]), NestedRefusal> {
-        let (canon, rest) = CanonTree::decode(alloc, bytes)?;
-        Ok((ItemTree::Canon(canon), rest))
-    }
-}
-
-/// Imports.
-struct Imports;
-
-impl<A: Allocator + Copy> Member<A> for Imports {
-    ghost use Rattle.wenc_list.specs.inside.Contents.{read_import_item};
-
-    ghost read = { read_import_item };
-
-    #[inline(always)]
-    fn item<'a>(alloc: A, bytes: &'a [u8]) -> Result<(ItemTree<A>, &'a [u8]), NestedRefusal> {
-        let (name, rest) = NameTree::decode(alloc, bytes)?;
-        let (ty, rest) = ComponentTypeRef::decode(alloc, rest)?;
-        Ok((ItemTree::Import { name, ty }, rest))
-    }
-}
-
-/// Exports.
-struct Exports;
-
-impl<A: Allocator + Copy> Member<A> for Exports {
-    ghost use Rattle.wenc_list.specs.inside.Contents.{read_export_item};
-
-    ghost read = { read_export_item };
-
-    #[inline(always)]
-    fn item<'a>(alloc: A, bytes: &'a [u8]) -> Result<(ItemTree<A>, &'a [u8]), NestedRefusal> {
-        let (name, rest) = NameTree::decode(alloc, bytes)?;
-        let (kind, rest) = ComponentExportKind::decode(alloc, rest)?;
-        let (index, rest) = u32::decode(alloc, rest)?;
-        let (ty, rest) = Option::decode(alloc, rest)?;
-        let item = ItemTree::Export {
-            name,
-            kind,
-            index,
-            ty,
-        };
-        Ok((item, rest))
-    }
-}
-
-/// What a section collects that collects nothing.
-struct Nothing;
-
-impl<A: Allocator + Copy> Member<A> for Nothing {
-    ghost use Rattle.wenc_base.specs.Readers.{nowhere};
-
-    ghost read = { nowhere };
-
-    fn item<'a>(_alloc: A, _bytes: &'a [u8]) -> Result<(ItemTree<A>, &'a [u8]), NestedRefusal> {
-        Err(NestedRefusal::Flat(Refusal::Malformed))
-    }
-}
-
-/// So many items of a kind.
-fn members<'a, A: Allocator + Copy, T: Member<A>>(
-    alloc: A,
-    count: u32,
-    bytes: &'a [u8],
-) -> Result<(Vec<ItemTree<A>, A>, &'a [u8]), NestedRefusal>
-    ensures { GivesNested (λ x. (map item_view x.0.items, x.1.now)) result
-        (times T.read count bytes.now) }
-{
-    let mut items = Vec::with_capacity(alloc, room_for(count, bytes))?;
-    let mut rest = bytes;
-    for _ in 0..count {
-        let (item, after) = T::item(alloc, rest)?;
-        items.push(item)?;
-        rest = after;
-    }
-    Ok((items, rest))
-}
-
-/// So many items of the section with this id.
+/// An instance of the core.
 #[inline(always)]
-pub(crate) fn collected<A: Allocator + Copy>(
+fn core_instance<A: Allocator + Copy>(
+    alloc: A,
+    bytes: &[u8],
+) -> Result<(ItemTree<A>, &[u8]), Refusal>
+    ensures { Gives (λ x. (item_view x.0, x.1.now)) result (read_core_instance_item bytes.now) }
+{
+    let (instance, rest) = CoreInstanceTree::decode(alloc, bytes)?;
+    Ok((ItemTree::CoreInstance(instance), rest))
+}
+
+/// A core type.
+#[inline(always)]
+fn core_type<A: Allocator + Copy>(alloc: A, bytes: &[u8]) -> Result<(ItemTree<A>, &[u8]), Refusal>
+    ensures { Gives (λ x. (item_view x.0, x.1.now)) result (read_core_type_item bytes.now) }
+{
+    let (ty, rest) = CoreTypeTree::decode(alloc, bytes)?;
+    Ok((ItemTree::CoreType(Box::new(alloc, ty)?), rest))
+}
+
+/// An instance.
+#[inline(always)]
+fn instance<A: Allocator + Copy>(alloc: A, bytes: &[u8]) -> Result<(ItemTree<A>, &[u8]), Refusal>
+    ensures { Gives (λ x. (item_view x.0, x.1.now)) result (read_instance_item bytes.now) }
+{
+    let (instance, rest) = InstanceTree::decode(alloc, bytes)?;
+    Ok((ItemTree::Instance(instance), rest))
+}
+
+/// An alias.
+#[inline(always)]
+fn alias<A: Allocator + Copy>(alloc: A, bytes: &[u8]) -> Result<(ItemTree<A>, &[u8]), Refusal>
+    ensures { Gives (λ x. (item_view x.0, x.1.now)) result (read_alias_item bytes.now) }
+{
+    let (alias, rest) = AliasTree::decode(alloc, bytes)?;
+    Ok((ItemTree::Alias(alias), rest))
+}
+
+/// A type.
+#[inline(always)]
+fn ty<A: Allocator + Copy>(alloc: A, bytes: &[u8]) -> Result<(ItemTree<A>, &[u8]), NestedRefusal>
+    ensures { GivesNested (λ x. (item_view x.0, x.1.now)) result (read_type_item 100 bytes.now) }
+{
+    let (ty, rest) = type_of(alloc, DEPTH, bytes)?;
+    Ok((ItemTree::Type(ty), rest))
+}
+
+/// A canonical function.
+#[inline(always)]
+fn canon<A: Allocator + Copy>(alloc: A, bytes: &[u8]) -> Result<(ItemTree<A>, &[u8]), Refusal>
+    ensures { Gives (λ x. (item_view x.0, x.1.now)) result (read_canonical_item bytes.now) }
+{
+    let (canon, rest) = CanonTree::decode(alloc, bytes)?;
+    Ok((ItemTree::Canon(canon), rest))
+}
+
+/// An import.
+#[inline(always)]
+fn import<A: Allocator + Copy>(alloc: A, bytes: &[u8]) -> Result<(ItemTree<A>, &[u8]), Refusal>
+    ensures { Gives (λ x. (item_view x.0, x.1.now)) result (read_import_item bytes.now) }
+{
+    let (name, rest) = NameTree::decode(alloc, bytes)?;
+    let (ty, rest) = ComponentTypeRef::decode(alloc, rest)?;
+    Ok((ItemTree::Import { name, ty }, rest))
+}
+
+/// An export.
+#[inline(always)]
+fn export<A: Allocator + Copy>(alloc: A, bytes: &[u8]) -> Result<(ItemTree<A>, &[u8]), Refusal>
+    ensures { Gives (λ x. (item_view x.0, x.1.now)) result (read_export_item bytes.now) }
+{
+    let (name, rest) = NameTree::decode(alloc, bytes)?;
+    let (kind, rest) = ComponentExportKind::decode(alloc, rest)?;
+    let (index, rest) = u32::decode(alloc, rest)?;
+    let (ty, rest) = Option::decode(alloc, rest)?;
+    let item = ItemTree::Export {
+        name,
+        kind,
+        index,
+        ty,
+    };
+    Ok((item, rest))
+}
+
+/// A custom section, of which no byte is left.
+fn custom<A: Allocator + Copy>(alloc: A, content: &[u8]) -> Result<(ItemTree<A>, &[u8]), Refusal>
+    ensures { Gives (λ x. (item_view x.0, x.1.now)) result (read_item_in 100 0 content.now) }
+{
+    let (name, rest) = name_of(alloc, content)?;
+    let data = copied(alloc, rest)?;
+    Ok((ItemTree::Custom { name, data }, &[]))
+}
+
+/// A core module, of which no byte is left.
+fn module<A: Allocator + Copy>(alloc: A, content: &[u8]) -> Result<(ItemTree<A>, &[u8]), Refusal>
+    ensures { Gives (λ x. (item_view x.0, x.1.now)) result (read_item_in 100 1 content.now) }
+{
+    let bytes = copied(alloc, content)?;
+    Ok((ItemTree::Module(bytes), &[]))
+}
+
+/// A nested component, of which no byte is left.
+fn component<A: Allocator + Copy>(alloc: A, content: &[u8]) -> Result<(ItemTree<A>, &[u8]), Refusal>
+    ensures { Gives (λ x. (item_view x.0, x.1.now)) result (read_item_in 100 4 content.now) }
+{
+    let bytes = copied(alloc, content)?;
+    Ok((ItemTree::Component(bytes), &[]))
+}
+
+/// A start.
+fn start<A: Allocator + Copy>(alloc: A, bytes: &[u8]) -> Result<(ItemTree<A>, &[u8]), Refusal>
+    ensures { Gives (λ x. (item_view x.0, x.1.now)) result (read_item_in 100 9 bytes.now) }
+{
+    let (function, rest) = u32_of(bytes)?;
+    let (args, rest) = Vec::decode(alloc, rest)?;
+    let (results, rest) = u32_of(rest)?;
+    let item = ItemTree::Start {
+        function,
+        args,
+        results,
+    };
+    Ok((item, rest))
+}
+
+/// The item of a section that collects none. It isn't inlined, since room for what it holds would
+/// be cleared at every item.
+#[inline(never)]
+fn alone<A: Allocator + Copy>(
     alloc: A,
     id: u8,
-    count: u32,
-    bytes: &[u8],
-) -> Result<(Vec<ItemTree<A>, A>, &[u8]), NestedRefusal>
-    ensures { GivesNested (λ x. (map item_view x.0.items, x.1.now)) result
-        (times (read_content_item 100 id) count bytes.now) }
+    content: &[u8],
+) -> Result<(ItemTree<A>, &[u8]), Refusal>
+    requires { (id ≡ 0) ⊎ ((id ≡ 1) ⊎ ((id ≡ 4) ⊎ (id ≡ 9))) }
+    ensures { Gives (λ x. (item_view x.0, x.1.now)) result (read_item_in 100 id content.now) }
 {
     match id {
-        2 => members::<A, CoreInstanceTree<A>>(alloc, count, bytes),
-        3 => members::<A, CoreTypeTree<A>>(alloc, count, bytes),
-        5 => members::<A, InstanceTree<A>>(alloc, count, bytes),
-        6 => members::<A, AliasTree<A>>(alloc, count, bytes),
-        7 => members::<A, TypeTree<A>>(alloc, count, bytes),
-        8 => members::<A, CanonTree<A>>(alloc, count, bytes),
-        10 => members::<A, Imports>(alloc, count, bytes),
-        11 => members::<A, Exports>(alloc, count, bytes),
-        _ => members::<A, Nothing>(alloc, count, bytes),
+        0 => custom(alloc, content),
+        1 => module(alloc, content),
+        4 => component(alloc, content),
+        _ => start(alloc, content),
+    }
+}
+
+/// The item that begins what is left of a section with this id, and what is after it.
+#[inline(always)]
+pub(crate) fn item_in<A: Allocator + Copy>(
+    alloc: A,
+    id: u8,
+    bytes: &[u8],
+) -> Result<(ItemTree<A>, &[u8]), NestedRefusal>
+    ensures { GivesNested (λ x. (item_view x.0, x.1.now)) result
+        (read_item_in 100 id bytes.now) }
+{
+    match id {
+        0 | 1 | 4 | 9 => Ok(alone(alloc, id, bytes)?),
+        2 => Ok(core_instance(alloc, bytes)?),
+        3 => Ok(core_type(alloc, bytes)?),
+        5 => Ok(instance(alloc, bytes)?),
+        6 => Ok(alias(alloc, bytes)?),
+        7 => ty(alloc, bytes),
+        8 => Ok(canon(alloc, bytes)?),
+        10 => Ok(import(alloc, bytes)?),
+        11 => Ok(export(alloc, bytes)?),
+        _ => Err(NestedRefusal::Flat(Refusal::Malformed)),
     }
 }

@@ -6,7 +6,7 @@ ghost use Rattle.wenc_base.specs.Piece.{Wide};
 ghost use Rattle.wenc_base.specs.Readers.{done};
 ghost use Rattle.wenc_base.specs.reading.Forms.{read_name};
 ghost use Rattle.wenc_list.specs.Names.{names_view, read_part, read_core_sort, read_sort, read_item_names, read_names_in, read_names};
-ghost use Rattle.wenc_read.specs.Gives.{Gives};
+ghost use Rattle.wenc_read.specs.Gives.{Gives, GivesAlways};
 
 use std::alloc::{Allocator, Global};
 use wenc_decode::Decode;
@@ -73,7 +73,7 @@ pub fn behind_module_header(bytes: &[u8]) -> Option<&[u8]>
 /// the bytes, and what is after it (WebAssembly 3.0, binary format, "Sections"). It is refused
 /// where there is no size, or one past the end.
 pub fn part_of(bytes: &[u8]) -> Result<((u8, &[u8]), &[u8]), Refusal>
-    ensures { Gives (λ x. ((x.0.0, x.0.1.now), x.1.now)) result (read_part bytes.now) }
+    ensures { GivesAlways (λ x. ((x.0.0, x.0.1.now), x.1.now)) result (read_part bytes.now) }
 {
     let (id, rest) = byte(bytes)?;
     let (size, rest) = u32_of(rest)?;

@@ -1,14 +1,14 @@
 //! Which item of a section isn't read.
-ghost use Rattle.std.specs.Prelude.{◌≤◌, drop, length, IsTrue, IsSome, IfOk, MatchOption};
-ghost use Rattle.wenc_base.specs.Forms.{AreBytes};
-ghost use Rattle.wenc_builder.specs.Sections.{collects};
+ghost use Rattle.std.specs.Prelude.{List, drop, length, IsSome, IfOk, IfErr, MatchOption};
+ghost use Rattle.wenc_builder.specs.Item.{Item};
+ghost use Rattle.wenc_list.specs.Cursor.{HasTaken, IsSpent, IsFaultIn};
 ghost use Rattle.wenc_list.specs.Unread.{IsUnread, IsReadHere, IsNamed};
-ghost use Rattle.wenc_list.specs.inside.Unread.{Reaches, IsUnreadOr};
+ghost use Rattle.wenc_list.specs.inside.Unread.{IsUnreadOf};
 
-use crate::members::collected;
-use crate::sections::{are_bytes, content, frame};
+use crate::cursor::{SectionItems, counted};
+use crate::fault::ListFault;
+use crate::sections::frame;
 use std::alloc::{AllocError, Allocator};
-use wenc_read::{NestedRefusal, Refusal, u32_of};
 
 /// The first part of a section's content that isn't read. A place is counted in bytes from the
 /// front of the component.
@@ -33,91 +33,41 @@ pub enum Unread {
     },
 }
 
-/// How many of so many items are read up to the first that isn't, and what is after them.
-fn reach<A: Allocator + Copy>(
-    alloc: A,
-    id: u8,
-    count: u32,
-    bytes: &[u8],
-) -> Result<(u32, &[u8]), AllocError>
-    ensures { IfOk result (λ x. Reaches id count bytes.now x.0 x.1.now) }
+/// Takes all items up to the first that isn't read.
+fn take_read<A: Allocator + Copy>(alloc: A, items: &mut SectionItems<'_>) -> Result<(), ListFault>
+    ensures taken { (xs : List Item) × HasTaken items.old xs items.new }
+    ensures spent { IfOk result (λ _. IsSpent items.new) }
+    ensures fault { IfErr result (IsFaultIn items.new) }
 {
-    let mut rest = bytes;
-    for number in 0..count {
-        match collected(alloc, id, 1, rest) {
-            Ok((_, after)) => rest = after,
-            Err(NestedRefusal::Flat(Refusal::Memory)) => return Err(AllocError),
-            Err(NestedRefusal::Flat(Refusal::Malformed)) => return Ok((number, rest)),
-            Err(NestedRefusal::TooDeep) => return Ok((number, rest)),
-        }
+    while let Some(item) = items.next(alloc)? {
+        drop(item);
     }
-    Ok((count, rest))
+    Ok(())
 }
 
-/// What of a count and so many items isn't read, where these end at this place.
+/// What of a section isn't read, whose count is.
 fn unread_item<A: Allocator + Copy>(
     alloc: A,
-    id: u8,
-    content: &[u8],
-    ends: usize,
+    items: SectionItems<'_>,
 ) -> Result<Option<Unread>, AllocError>
-    requires { IsTrue (collects id) }
-    ensures { IfOk result (IsUnreadOr id content.now ends) }
+    ensures { IfOk result (IsUnreadOf items.entry) }
 {
-    let (count, behind) = match u32_of(content) {
-        Ok(counted) => counted,
-        Err(Refusal::Memory) => return Err(AllocError),
-        Err(Refusal::Malformed) => {
-            let place = ends.saturating_sub(content.len());
-            return Ok(Some(Unread::Count { place }));
+    let mut left = items;
+    match take_read(alloc, &mut left) {
+        Ok(()) => Ok(None),
+        Err(ListFault::Memory) => Err(AllocError),
+        // a custom section without a name
+        Err(ListFault::NotAComponent { .. }) => Ok(None),
+        Err(ListFault::BadSection { .. }) => Ok(None),
+        Err(ListFault::BadItem { .. }) if left.left == 0 => {
+            let place = left.reached();
+            Ok(Some(Unread::Behind { place }))
         }
-    };
-    let (number, left) = reach(alloc, id, count, behind)?;
-    let place = ends.saturating_sub(left.len());
-    if number < count {
-        Ok(Some(Unread::Item { number, place }))
-    } else if left.is_empty() {
-        Ok(None)
-    } else {
-        Ok(Some(Unread::Behind { place }))
-    }
-}
-
-/// What of a start isn't read.
-fn unread_start<A: Allocator + Copy>(
-    alloc: A,
-    inside: &[u8],
-    ends: usize,
-) -> Result<Option<Unread>, AllocError>
-    ensures { IfOk result (IsUnreadOr 9 inside.now ends) }
-{
-    let place = ends.saturating_sub(inside.len());
-    let unread = Some(Unread::Item { number: 0, place });
-    match content(alloc, 9, inside) {
-        Ok(_) => return Ok(None),
-        Err(NestedRefusal::Flat(Refusal::Memory)) => return Err(AllocError),
-        Err(NestedRefusal::Flat(Refusal::Malformed)) => return Ok(unread),
-        Err(NestedRefusal::TooDeep) => return Ok(unread),
-    }
-}
-
-/// What of the content of a section with this id isn't read.
-fn unread_in<A: Allocator + Copy>(
-    alloc: A,
-    id: u8,
-    content: &[u8],
-    ends: usize,
-) -> Result<Option<Unread>, AllocError>
-    requires known { id ≤ 11 }
-    requires bytes { AreBytes content.now }
-    ensures { IfOk result (IsUnreadOr id content.now ends) }
-{
-    match id {
-        0 => Ok(None),
-        1 => Ok(None),
-        4 => Ok(None),
-        9 => unread_start(alloc, content, ends),
-        _ => unread_item(alloc, id, content, ends),
+        Err(_) => {
+            let place = left.reached();
+            let number = items.left - left.left;
+            Ok(Some(Unread::Item { number, place }))
+        }
     }
 }
 
@@ -151,11 +101,25 @@ pub fn first_unread<A: Allocator + Copy>(
     }
     let (_, section) = bytes.split_at(place);
     match frame(section) {
-        Ok(((id, inside), rest)) => {
-            are_bytes(inside);
-            unread_in(alloc, id, inside, bytes.len().saturating_sub(rest.len()))
+        Ok(((id, content), rest)) => {
+            let ends = bytes.len().saturating_sub(rest.len());
+            match counted(id, content) {
+                Ok((left, rest)) => {
+                    let items = SectionItems {
+                        id,
+                        place,
+                        ends,
+                        left,
+                        rest,
+                    };
+                    unread_item(alloc, items)
+                }
+                Err(_) => {
+                    let place = ends.saturating_sub(content.len());
+                    Ok(Some(Unread::Count { place }))
+                }
+            }
         }
-        Err(Refusal::Memory) => Err(AllocError),
-        Err(Refusal::Malformed) => Ok(None),
+        Err(_) => Ok(None),
     }
 }

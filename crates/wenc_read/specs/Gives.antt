@@ -16,6 +16,11 @@ abbrev pub Gives : {X A : Type 0} → (X → A) → Result X Refusal → Result 
 Gives view (Ok x) found = found ≡ Ok (view x)
 Gives view (Err refusal) found = Fails refusal found
 
+-- What was returned is what the reader finds: it asks for no memory.
+abbrev pub GivesAlways : {X A : Type 0} → (X → A) → Result X Refusal → Result A Flaw → Type 0
+GivesAlways view (Ok x) found = found ≡ Ok (view x)
+GivesAlways view (Err refusal) found = (refusal ≡ Malformed) × (found ≡ Err Bad)
+
 -- What may nest is refused as what doesn't, or where it nests too deep.
 abbrev pub FailsNested : {A : Type 0} → NestedRefusal → Result A Flaw → Type 0
 FailsNested (Flat refusal) found = Fails refusal found

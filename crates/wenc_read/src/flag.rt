@@ -1,6 +1,6 @@
 //! Flags.
 ghost use Rattle.wenc_base.specs.reading.Forms.{read_flag};
-ghost use Rattle.wenc_read.specs.Gives.{Gives};
+ghost use Rattle.wenc_read.specs.Gives.{GivesAlways};
 
 use crate::number::byte;
 use crate::refusal::Refusal;
@@ -9,7 +9,7 @@ use crate::refusal::Refusal;
 /// refused where there is no such byte.
 #[tactic(auto, unfolding(wenc_base::specs::Readers::choose))]
 pub fn flag_of(bytes: &[u8]) -> Result<(bool, &[u8]), Refusal>
-    ensures { Gives (λ x. (x.0, x.1.now)) result (read_flag bytes.now) }
+    ensures { GivesAlways (λ x. (x.0, x.1.now)) result (read_flag bytes.now) }
 {
     match byte(bytes)? {
         (0, rest) => Ok((false, rest)),

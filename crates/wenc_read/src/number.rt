@@ -2,14 +2,14 @@
 ghost use Rattle.std.specs.Prelude.{◌≡◌, ◌^◌, ◌≤◌, ◌<◌, ◌+◌, ◌-◌, ◌*◌};
 ghost use Rattle.wenc_base.specs.reading.Numbers.{read_groups, read_u32, read_u64, read_index};
 ghost use Rattle.wenc_base.specs.Readers.{read_byte};
-ghost use Rattle.wenc_read.specs.Gives.{Gives};
+ghost use Rattle.wenc_read.specs.Gives.{GivesAlways};
 
 use crate::refusal::Refusal;
 
 /// The first byte. It is refused where there is none.
 #[inline(always)]
 pub fn byte(bytes: &[u8]) -> Result<(u8, &[u8]), Refusal>
-    ensures { Gives (λ x. (x.0, x.1.now)) result (read_byte bytes.now) }
+    ensures { GivesAlways (λ x. (x.0, x.1.now)) result (read_byte bytes.now) }
 {
     match bytes {
         [] => Err(Refusal::Malformed),
@@ -21,7 +21,7 @@ pub fn byte(bytes: &[u8]) -> Result<(u8, &[u8]), Refusal>
 #[tactic(auto, unfolding(wenc_base::specs::reading::Numbers::read_groups))]
 fn short_groups(top: u8, room: u8, bytes: &[u8]) -> Result<(u32, &[u8]), Refusal>
     requires { top ≤ 128 }
-    ensures { Gives (λ x. (x.0, x.1.now)) result (read_groups top (2 ^ 32) room bytes.now) }
+    ensures { GivesAlways (λ x. (x.0, x.1.now)) result (read_groups top (2 ^ 32) room bytes.now) }
 {
     let (first, rest) = byte(bytes)?;
     if first < top {
@@ -40,7 +40,7 @@ fn short_groups(top: u8, room: u8, bytes: &[u8]) -> Result<(u32, &[u8]), Refusal
 /// A number of 64 bits. At most `room` bytes come before its last one.
 #[tactic(auto, unfolding(wenc_base::specs::reading::Numbers::read_groups))]
 fn long_groups(room: u8, bytes: &[u8]) -> Result<(u64, &[u8]), Refusal>
-    ensures { Gives (λ x. (x.0, x.1.now)) result (read_groups 128 (2 ^ 64) room bytes.now) }
+    ensures { GivesAlways (λ x. (x.0, x.1.now)) result (read_groups 128 (2 ^ 64) room bytes.now) }
 {
     let (first, rest) = byte(bytes)?;
     if first < 128 {
@@ -70,7 +70,7 @@ fn joined(low: u8, high: u32) -> u32
 #[inline(always)]
 fn short_number(top: u8, bytes: &[u8]) -> Result<(u32, &[u8]), Refusal>
     requires { top ≤ 128 }
-    ensures { Gives (λ x. (x.0, x.1.now)) result (read_groups top (2 ^ 32) 4 bytes.now) }
+    ensures { GivesAlways (λ x. (x.0, x.1.now)) result (read_groups top (2 ^ 32) 4 bytes.now) }
 {
     match bytes {
         [first, rest @ ..] if *first < top => Ok((u32::from(*first), rest)),
@@ -89,7 +89,7 @@ fn short_number(top: u8, bytes: &[u8]) -> Result<(u32, &[u8]), Refusal>
 /// spelled in at most 5 bytes.
 #[inline(always)]
 pub fn u32_of(bytes: &[u8]) -> Result<(u32, &[u8]), Refusal>
-    ensures { Gives (λ x. (x.0, x.1.now)) result (read_u32 bytes.now) }
+    ensures { GivesAlways (λ x. (x.0, x.1.now)) result (read_u32 bytes.now) }
 {
     short_number(128, bytes)
 }
@@ -97,7 +97,7 @@ pub fn u32_of(bytes: &[u8]) -> Result<(u32, &[u8]), Refusal>
 /// A number of 64 bits (WebAssembly 3.0, binary format, "Integers"). It is refused where none is
 /// spelled in at most 10 bytes.
 pub fn u64_of(bytes: &[u8]) -> Result<(u64, &[u8]), Refusal>
-    ensures { Gives (λ x. (x.0, x.1.now)) result (read_u64 bytes.now) }
+    ensures { GivesAlways (λ x. (x.0, x.1.now)) result (read_u64 bytes.now) }
 {
     long_groups(9, bytes)
 }
@@ -106,7 +106,7 @@ pub fn u64_of(bytes: &[u8]) -> Result<(u64, &[u8]), Refusal>
 /// Types"), from 0 to 4294967295. It is refused where none is spelled in at most 5 bytes.
 #[inline(always)]
 pub fn index_of(bytes: &[u8]) -> Result<(u32, &[u8]), Refusal>
-    ensures { Gives (λ x. (x.0, x.1.now)) result (read_index bytes.now) }
+    ensures { GivesAlways (λ x. (x.0, x.1.now)) result (read_index bytes.now) }
 {
     short_number(64, bytes)
 }

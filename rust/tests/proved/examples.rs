@@ -15,7 +15,7 @@ use crate::proved::wasm_encoder::{
     Component, ComponentImportSection, ComponentTypeRef, ComponentTypeSection, ComponentValType,
     Encode, Fault, PrimitiveValType, Unread,
 };
-use crate::proved::wenc_list::Names;
+use crate::proved::wenc_list::{ItemTree, Names};
 
 /// These bytes were written.
 fn writes(written: Result<Vec<u8>, Fault>, bytes: &[u8]) {
@@ -242,6 +242,8 @@ fn runs() {
     let unread = list::unread(Global, b"\0asm\x0d\0\x01\0\x06\x02\x01\x09");
     assert_eq!(unread, Ok(Some(Unread::Item { number: 0, place: 11 })));
     assert_eq!(list::unread(Global, RUN), Ok(None));
+    let item = list::first_item(Global, RUN).unwrap();
+    assert!(matches!(item, Some(ItemTree::Import { name, .. }) if name.name.as_str() == "file"));
     let part = list::first_section(b"\0asm\x01\0\0\0\x01\x01\0\x0c");
     assert_eq!(part, Ok(((1, &b"\0"[..]), &b"\x0c"[..])));
     let (names, rest) = list::first_names(Global, b"\0\x02\x01c\x09").unwrap();

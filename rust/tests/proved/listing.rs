@@ -4,6 +4,7 @@
 pub mod built;
 mod changed;
 mod checks;
+mod cursor;
 mod depth;
 mod faults;
 mod names;

@@ -1,9 +1,9 @@
 //! Of `wenc_list` and `wenc_decode`.
 
 use std::alloc::{AllocError, Allocator};
-use wasm_encoder::{AliasTree, ListFault, Unread, first_unread, list};
+use wasm_encoder::{AliasTree, ItemTree, ListFault, Unread, first_unread, list};
 use wenc_decode::Decode;
-use wenc_list::{Names, behind_module_header, names_of, part_of};
+use wenc_list::{Names, Sections, behind_module_header, names_of, part_of};
 use wenc_read::Refusal;
 
 /// `list`: whether a component has imports.
@@ -24,6 +24,18 @@ pub fn unread<A: Allocator + Copy>(
     match list(alloc, component) {
         Err(ListFault::BadItem { place }) => first_unread(alloc, component, place),
         _ => Ok(None),
+    }
+}
+
+/// `Sections`: the first item of a component.
+pub fn first_item<A: Allocator + Copy>(
+    alloc: A,
+    component: &[u8],
+) -> Result<Option<ItemTree<A>>, ListFault> {
+    let mut sections = Sections::new(component)?;
+    match sections.next()? {
+        Some(mut items) => items.next(alloc),
+        None => Ok(None),
     }
 }
 

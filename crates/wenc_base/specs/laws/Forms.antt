@@ -8,7 +8,7 @@ use Rattle.wenc_base.specs.Piece.{Piece, Form, Wide, raw}
 use Rattle.wenc_base.specs.laws.Sound.{Told, Sound, SoundWhole, weaken, behind_value, then_tells, last_tells, give_tells, nowhere_tells, choose_tells, Fewer, Several, times_told}
 use Rattle.wenc_base.specs.Forms.{flag, list, option, utf8, name, AreBytes, sized, byte_list, counted}
 use Rattle.wenc_base.specs.Readers.{Flaw, Bad, Lawful, Reader, times, done}
-use Rattle.wenc_base.specs.laws.Lawful.{LawfulWhole, row_lawful, row_byte, then, last, each_lawful, whole_lawful, raw_lawful}
+use Rattle.wenc_base.specs.laws.Lawful.{LawfulWhole, ends_on, row_lawful, row_byte, then, last, each_lawful, whole_lawful, raw_lawful}
 use Rattle.wenc_base.specs.laws.Numbers.{u32_lawful, count_lawful, size_lawful, size_free, u32_sound, groups_are_read}
 use Rattle.std.proofs.lemmas.Str.{IsUtf8-from_is_utf8, is_utf8-from_IsUtf8}
 use Rattle.wenc_base.specs.reading.Forms.{are_bytes, read_byte_list, read_bytes, read_flag, read_list, read_name, read_option, read_raw, read_sized, read_text, text_at}
@@ -50,6 +50,7 @@ utf8_lawful bs = record {
   text_is_read = λ mode rest h. (h, refl);
   strict_is_text = λ bytes rest r. r.1;
   fits = λ bytes rest r. r.0;
+  leaves = λ mode bytes rest r. (bs, r.1);
   free = λ h fault c. c;
   never = λ c. c;
   depth = 0;
@@ -85,6 +86,7 @@ sized_lawful {p = p} a = record {
       (let whole : r.0 ≡ p.text = a.strict_is_text r.0 r.2 in
       (u32_lawful (length r.0)).strict_is_text bytes (r.0 ++ rest) r.1 ∙ rw whole (sym (append_assoc _ p.text rest)));
   fits = λ bytes rest r. (rw (a.strict_is_text r.0 r.2) at ((u32_lawful (length r.0)).fits bytes (r.0 ++ rest) r.1), a.fits r.0 r.2);
+  leaves = λ mode bytes rest r. ends_on bytes (r.0 ++ rest) rest ((u32_lawful (length r.0)).leaves mode bytes (r.0 ++ rest) r.1) (r.0, refl);
   free = λ h fault c. elim c [ inl large ↦ size_free (length p.text) h.0 fault large | inr own ↦ a.free h.1 fault own ];
   never = λ c. elim c [ inl large ↦ large | inr own ↦ a.never own ];
   depth = a.depth;

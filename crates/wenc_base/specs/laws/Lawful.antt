@@ -6,7 +6,7 @@ use Rattle.wenc_base.specs.Fault.{NoCause}
 use Rattle.wenc_base.specs.declared.fault.Fault.{Fault}
 use Rattle.wenc_base.specs.declared.fault.Fault.TheVariants.{Unfinished}
 use Rattle.wenc_base.specs.Readers.{Flaw, Bad, Reader, go_on, ◌>>=◌, give, times, pick, choose, done, made, Lawful, LawfulForm}
-use Rattle.wenc_base.specs.Piece.{Piece, Form, Spelling, Strict, Wide, nothing, byte, refused_for, ◌▸◌, or_widely, ◌⨾◌, only_where, each, raw}
+use Rattle.wenc_base.specs.Piece.{Piece, Form, Spelling, Strict, Wide, nothing, byte, EndsWith, refused_for, ◌▸◌, or_widely, ◌⨾◌, only_where, each, raw}
 use Rattle.std.proofs.lemmas.List.{append-nil}
 
 -- ---- the laws of a piece that fills the bytes
@@ -72,11 +72,16 @@ form_laws laws = record {
 
 -- ---- bytes
 
+-- what the end of the bytes ends with
+pub ends_on : (bytes middle rest : List ℕ) → EndsWith bytes middle → EndsWith middle rest → EndsWith bytes rest
+ends_on bytes middle rest e f = (e.0 ++ f.0, e.1 ∙ (ap (λ (t : List ℕ). e.0 ++ t) f.1 ∙ sym (append_assoc e.0 f.0 rest)))
+
 pub nothing_lawful : {A : Type 0} (v : A) → Lawful nothing (λ fuel. give v) v
 nothing_lawful v = record {
   text_is_read = λ mode rest h. refl;
   strict_is_text = λ bytes rest r. r;
   fits = λ bytes rest r. tt;
+  leaves = λ mode bytes rest r. ([], r);
   free = λ h fault c. c;
   never = λ c. c;
   depth = 0;
@@ -90,6 +95,7 @@ row_byte table other b e = record {
   text_is_read = λ mode rest h. refl;
   strict_is_text = λ bytes rest r. r;
   fits = λ bytes rest r. tt;
+  leaves = λ mode bytes rest r. (b ∷ [], r);
   free = λ h fault c. c;
   never = λ c. c;
   depth = 0;
@@ -102,6 +108,7 @@ refused_lawful cause l free never = record {
   text_is_read = l.text_is_read;
   strict_is_text = l.strict_is_text;
   fits = l.fits;
+  leaves = l.leaves;
   free = free;
   never = never;
   depth = l.depth;
@@ -117,6 +124,7 @@ row_lawful {p = p} table other b l = record {
   text_is_read = λ mode rest h. (p.text ++ rest, refl, l.text_is_read mode rest h);
   strict_is_text = λ bytes rest r. r.1 ∙ ap (λ (t : List ℕ). b ∷ t) (l.strict_is_text r.0 rest r.2);
   fits = λ bytes rest r. l.fits r.0 rest r.2;
+  leaves = λ mode bytes rest r. ends_on bytes r.0 rest (b ∷ [], r.1) (l.leaves mode r.0 rest r.2);
   free = l.free;
   never = l.never;
   depth = l.depth;
@@ -132,6 +140,7 @@ first_byte table other b l =
       text_is_read = λ mode rest h. r.text_is_read mode rest h.1;
       strict_is_text = r.strict_is_text;
       fits = λ bytes rest reads. (tt, r.fits bytes rest reads);
+      leaves = r.leaves;
       free = λ h fault c. elim c [ inl k ↦ k | inr k ↦ r.free h.1 fault k ];
       never = λ c. elim c [ inl k ↦ k | inr k ↦ r.never k ];
       depth = r.depth;
@@ -147,6 +156,7 @@ first_of_two p q table other b l =
       text_is_read = λ mode rest h. (let s = r.text_is_read mode rest h in (s.2.0, (s.0, s.1, s.2.1), s.2.2));
       strict_is_text = λ bytes rest s. r.strict_is_text bytes rest (s.1.0, s.1.1, (s.0, s.1.2, s.2));
       fits = λ bytes rest s. r.fits bytes rest (s.1.0, s.1.1, (s.0, s.1.2, s.2));
+      leaves = λ mode bytes rest s. r.leaves mode bytes rest (s.1.0, s.1.1, (s.0, s.1.2, s.2));
       free = r.free;
       never = r.never;
       depth = r.depth;
@@ -159,6 +169,7 @@ or_widely_lawful a b = record {
   text_is_read = λ mode rest h. inl (a.text_is_read mode rest h);
   strict_is_text = λ bytes rest r. elim r [ inl e ↦ a.strict_is_text bytes rest e | inr w ↦ absurd w.0 ];
   fits = λ bytes rest r. elim r [ inl e ↦ a.fits bytes rest e | inr w ↦ absurd w.0 ];
+  leaves = λ mode bytes rest r. elim r [ inl e ↦ a.leaves mode bytes rest e | inr w ↦ b.leaves mode bytes rest w.1 ];
   free = a.free;
   never = a.never;
   depth = a.depth + b.depth;
@@ -188,6 +199,7 @@ past table other begins l = record {
   text_is_read = l.text_is_read;
   strict_is_text = l.strict_is_text;
   fits = l.fits;
+  leaves = l.leaves;
   free = l.free;
   never = l.never;
   depth = l.depth;
@@ -203,6 +215,7 @@ then {p = p} {q = q} next a b = record {
   text_is_read = λ mode rest h. (q.text ++ rest, rw append_assoc (a.text_is_read mode (q.text ++ rest) h.0), b.text_is_read mode rest h.1);
   strict_is_text = λ bytes rest r. a.strict_is_text bytes r.0 r.1 ∙ ap (λ (t : List ℕ). p.text ++ t) (b.strict_is_text r.0 rest r.2) ∙ sym (append_assoc p.text q.text rest);
   fits = λ bytes rest r. (a.fits bytes r.0 r.1, b.fits r.0 rest r.2);
+  leaves = λ mode bytes rest r. ends_on bytes r.0 rest (a.leaves mode bytes r.0 r.1) (b.leaves mode r.0 rest r.2);
   free = λ h fault c. elim c [ inl k ↦ a.free h.0 fault k | inr k ↦ b.free h.1 fault k ];
   never = λ c. elim c [ inl k ↦ a.never k | inr k ↦ b.never k ];
   depth = a.depth + b.depth;
@@ -215,6 +228,7 @@ last make a = record {
   text_is_read = a.text_is_read;
   strict_is_text = a.strict_is_text;
   fits = a.fits;
+  leaves = a.leaves;
   free = a.free;
   never = a.never;
   depth = a.depth;
@@ -227,6 +241,7 @@ only_where_lawful P a = record {
   text_is_read = λ mode rest h. (h.0, a.text_is_read mode rest h.1);
   strict_is_text = λ bytes rest r. a.strict_is_text bytes rest r.1;
   fits = λ bytes rest r. (r.0, a.fits bytes rest r.1);
+  leaves = λ mode bytes rest r. a.leaves mode bytes rest r.1;
   free = λ h. a.free h.1;
   never = a.never;
   depth = a.depth;
@@ -244,6 +259,7 @@ deeper {p = p} {read = read} {v = v} a = record {
   text_is_read = a.text_is_read;
   strict_is_text = a.strict_is_text;
   fits = a.fits;
+  leaves = a.leaves;
   free = a.free;
   never = a.never;
   depth = suc a.depth;

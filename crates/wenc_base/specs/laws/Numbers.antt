@@ -1,7 +1,7 @@
 -- The laws of the forms of numbers.
 use Rattle.std.proofs.Common.{◌≡◌, ℕ, ℤ, pos, negsuc, zero, suc, ◌+◌, ◌*◌, ◌/◌, ◌%◌, ◌-◌, ◌^◌, ◌<◌, ◌≤◌, cond, List, [], ◌∷◌, ◌++◌, map, Result, Ok, Err, refl, ap, ◌∙◌, arith, inl, inr}
 use Rattle.std.proofs.lemmas.Bool.{cases_lt, le-ltb, lt-ltb}
-use Rattle.wenc_base.specs.Piece.{Spelling, Strict, Wide}
+use Rattle.wenc_base.specs.Piece.{Spelling, Strict, Wide, EndsWith}
 use Rattle.wenc_base.specs.Number.{groups, MayGoOn, complement, ReadsGroups, last, more, number, u32, count, size, u64, i64, index}
 use Rattle.wenc_base.specs.laws.Groups.{limit, groups_below, groups_from}
 use Rattle.wenc_base.specs.Fault.{NoCause, count_cause, size_cause}
@@ -44,6 +44,11 @@ strict_groups top _ n _ rest (more {room = room} {b = b} {high = high} {bytes = 
     let head : n % 128 + 128 ≡ b = omega arith in
     let tail : n / 128 ≡ high = omega arith in
     rw (groups_from top room n on, head, tail) (ap (λ (t : List ℕ). b ∷ t) (strict_groups top room high bytes rest r))
+
+-- in each mode the rest is left
+groups_leave : (mode : Spelling) (top room n : ℕ) (bytes rest : List ℕ) → ReadsGroups mode top room n bytes rest → EndsWith bytes rest
+groups_leave mode top room n _ rest (last lt) = (n ∷ [], refl)
+groups_leave mode top _ n _ rest (more {room = room} {b = b} {high = high} {bytes = bytes} low byte on sum r) = let e = groups_leave mode top room high bytes rest r in (b ∷ e.0, ap (λ (t : List ℕ). b ∷ t) e.1)
 
 -- it finds the number
 pub groups_are_read : (mode : Spelling) (top bound room n : ℕ) (bytes rest : List ℕ) → top ≤ 128 → n < bound → ReadsGroups mode top room n bytes rest → read_groups top bound room bytes ≡ Ok (n, rest)
@@ -96,6 +101,7 @@ number_lawful top room bound n small le below = record {
   text_is_read = λ mode rest h. (h, rw (same h) (groups_read mode top room n rest (omega arith)));
   strict_is_text = λ bytes rest r. rw (same r.0) (strict_groups top room n bytes rest r.1);
   fits = λ bytes rest r. r.0;
+  leaves = λ mode bytes rest r. groups_leave mode top room n bytes rest r.1;
   free = λ h fault c. c;
   never = λ c. c;
   depth = 0;
@@ -177,6 +183,7 @@ i64_lawful (pos n) = record {
   text_is_read = λ mode rest h. (h, (let fits : n < 2 ^ 63 = h.sfits in groups_read Strict 64 9 n rest (omega arith)));
   strict_is_text = λ bytes rest r. strict_groups 64 9 n bytes rest r.1;
   fits = λ bytes rest r. r.0;
+  leaves = λ mode bytes rest r. groups_leave Strict 64 9 n bytes rest r.1;
   free = λ h fault c. c;
   never = λ c. c;
   depth = 0;
@@ -187,6 +194,7 @@ i64_lawful (negsuc n) = record {
   strict_is_text = λ bytes rest r. (let same : r.1.0 ≡ groups 64 9 n = strict_groups 64 9 n r.1.0 [] r.1.2 ∙ append-nil (groups 64 9 n) in
       r.1.1 ∙ ap (λ (front : List ℕ). map complement front ++ rest) same);
   fits = λ bytes rest r. r.0;
+  leaves = λ mode bytes rest r. (map complement r.1.0, r.1.1);
   free = λ h fault c. c;
   never = λ c. c;
   depth = 0;

@@ -253,6 +253,7 @@ other_lawful {read = read} {v = v} table apart empty l = record {
   text_is_read = l.text_is_read;
   strict_is_text = l.strict_is_text;
   fits = l.fits;
+  leaves = l.leaves;
   free = l.free;
   never = l.never;
   depth = l.depth;

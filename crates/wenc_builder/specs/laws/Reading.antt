@@ -37,6 +37,7 @@ vacuous finished never = record {
   text_is_read = λ mode rest h. absurd (never h.0);
   strict_is_text = λ bytes rest r. absurd (never r.0);
   fits = λ bytes rest r. absurd (never r.0);
+  leaves = λ mode bytes rest r. absurd (never r.0);
   free = λ h. absurd (never h.0);
   never = finished;
   depth = 0;
@@ -58,7 +59,7 @@ item_rows fuel =
     (11, read_inline_export >>= λ e. give (ExportItem e)) ∷ []
 
 -- an item, by the id of its section
-read_item : ℕ → ℕ → Reader Item
+pub read_item : ℕ → ℕ → Reader Item
 read_item id fuel = pick (item_rows fuel) nowhere id
 
 -- the id is that of the item's kind, so that the reader is that kind's
@@ -80,7 +81,7 @@ decided None id = inr (λ e. absurd cc)
 decided (Some other) id = elim (eqb_tells other id) [ inl t ↦ inl (ap Some t.1) | inr t ↦ inr (λ e. t.1 (same_Some other id e)) ]
 
 -- an item of another kind is none of the section's
-item_of_lawful : (id : ℕ) (x : Item) → Lawful (item_of id x) (read_item id) x
+pub item_of_lawful : (id : ℕ) (x : Item) → Lawful (item_of id x) (read_item id) x
 item_of_lawful id x = elim (decided (collected x) id) [ inl e ↦ only_where_lawful _ (collected_lawful x id e) | inr never ↦ vacuous (never_unfinished x) never ]
 
 -- ---- sections

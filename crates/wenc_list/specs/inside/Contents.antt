@@ -3,11 +3,12 @@ use Rattle.std.specs.Prelude.{ℕ, List, [], ◌∷◌, length, take, drop, Resu
 use Rattle.std.specs.Prelude.{Err, nat_eq, nat_lt, if◌then◌else◌}
 use Rattle.wenc_base.specs.reading.Forms.{read_raw}
 use Rattle.wenc_base.specs.reading.Sections.{read_custom_content}
-use Rattle.wenc_base.specs.Readers.{Flaw, Bad, Reader, go_on, ◌>>=◌, give, nowhere, times, done, made}
+use Rattle.wenc_base.specs.Readers.{Flaw, Bad, Reader, go_on, ◌>>=◌, give, nowhere, made}
 use Rattle.wenc_base.specs.reading.Numbers.{read_u32}
 use Rattle.wenc_builder.specs.Item.{Item, ModuleItem, CoreInstanceItem, CoreTypeItem, ComponentItem}
 use Rattle.wenc_builder.specs.Item.{InstanceItem, AliasItem, TypeItem, CanonItem, StartItem}
 use Rattle.wenc_builder.specs.Item.{ImportItem, ExportItem, CustomItem}
+use Rattle.wenc_builder.specs.Sections.{collects}
 use Rattle.wenc_canon.specs.reading.Canonicals.{read_canonical}
 use Rattle.wenc_types.specs.reading.ComponentTypes.{read_type}
 use Rattle.wenc_parts.specs.reading.Aliases.{read_alias}
@@ -68,22 +69,22 @@ read_content_item depth id = content_row_of (content_rows depth) id
 
 -- ---- what fills a section
 
--- a count, and so many items
-abbrev pub read_items : ℕ → ℕ → List ℕ → Result (List Item) Flaw
-read_items depth id = done (read_u32 >>= times (read_content_item depth id))
+-- one item, made of all that is there
+abbrev pub whole_item : {A : Type 0} → (A → Item) → Result A Flaw → Result (Item × List ℕ) Flaw
+whole_item make found = made (λ v. (make v, [])) found
 
--- one item, made of what was read
-abbrev pub single : {A : Type 0} → (A → Item) → Result A Flaw → Result (List Item) Flaw
-single make found = made (λ v. make v ∷ []) found
+-- the item that stands here in the content of the section with this id
+abbrev pub read_item_in : ℕ → ℕ → Reader Item
+read_item_in depth id bytes =
+    if nat_eq id 0 then whole_item CustomItem (read_custom_content bytes)
+    else if nat_eq id 1 then whole_item ModuleItem (read_raw bytes)
+    else if nat_eq id 4 then whole_item ComponentItem (read_raw bytes)
+    else if nat_eq id 9 then (read_start_content >>= λ s. give (StartItem s)) bytes
+    else read_content_item depth id bytes
 
--- the items of a section with this id
-abbrev pub read_content : ℕ → ℕ → List ℕ → Result (List Item) Flaw
-read_content depth id content =
-    if nat_eq id 0 then single CustomItem (read_custom_content content)
-    else if nat_eq id 1 then single ModuleItem (read_raw content)
-    else if nat_eq id 4 then single ComponentItem (read_raw content)
-    else if nat_eq id 9 then single StartItem (done read_start_content content)
-    else read_items depth id content
+-- how many items the content of a section with this id has, and their bytes
+abbrev pub read_count : ℕ → Reader ℕ
+read_count id content = if collects id then read_u32 content else Ok (1, content)
 
 -- ---- sections
 
@@ -97,11 +98,6 @@ read_frame (id ∷ bytes) =
     else Ok ((id, take size rest), drop size rest))
 
 -- ---- faults
-
--- why no section is framed
-abbrev pub fault_of_frame : Refusal → ℕ → ListFault
-fault_of_frame refusals.Memory place = faults.Memory
-fault_of_frame refusals.Malformed place = faults.BadSection place
 
 -- why the content of a section with this id isn't read
 abbrev pub fault_of_content : NestedRefusal → ℕ → ℕ → ListFault

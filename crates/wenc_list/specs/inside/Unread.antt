@@ -1,19 +1,30 @@
 -- What the walk over a section's items finds.
-use Rattle.std.specs.Prelude.{◌≡◌, ℕ, ◌<◌, ◌≤◌, List, Option, Some, None, Ok}
+use Rattle.std.specs.Prelude.{◌≡◌, ◌⊎◌, ℕ, ◌-◌, ◌<◌, List, Option, Some, None, length}
 use Rattle.wenc_builder.specs.Item.{Item}
-use Rattle.wenc_list.specs.Listing.{IsLabelled}
-use Rattle.wenc_list.specs.Unread.{ReadsItems, IsNoItem, IsUnreadIn}
+use Rattle.wenc_list.specs.Cursor.{HasTaken, IsNoItem}
+use Rattle.wenc_list.specs.inside.Taken.{TakesAll, FaultsIn}
+use Rattle.wenc_list.specs.declared.cursor.SectionItems.{SectionItems}
+use Rattle.wenc_list.specs.declared.fault.ListFault.TheVariants as faults
 use Rattle.wenc_list.specs.declared.unread.Unread.{Unread}
-use Rattle.wenc_list.specs.inside.Contents.{read_content}
+use Rattle.wenc_list.specs.declared.unread.Unread.TheVariants as parts
 
--- so many of the items are read, and where they are fewer than all, the next one isn't
-pub record Reaches (id count : ℕ) (bytes : List ℕ) (number : ℕ) (left : List ℕ) : Type 0 where
-  pub before : ReadsItems id bytes number left
-  pub few : number ≤ count
-  pub stops : number < count → IsNoItem id left
+-- so many items were taken; what is left begins at `here`, and P holds of it
+pub record Stops (first : SectionItems) (number here : ℕ) (P : SectionItems → Type 0) : Type 0 where
+  pub xs : List Item
+  pub left : SectionItems
+  pub taken : HasTaken first xs left
+  pub are : length xs ≡ number
+  pub is_place : here ≡ left.ends - length left.rest.now
+  pub next : P left
 
--- what of the content isn't read, where it isn't that of a custom section without a name
-abbrev pub IsUnreadOr : ℕ → List ℕ → ℕ → Option Unread → Type 0
-IsUnreadOr id content ends None =
-    IsLabelled id content → (xs : List Item) × (read_content 100 id content ≡ Ok xs)
-IsUnreadOr id content ends (Some unread) = IsUnreadIn id content ends unread
+-- what of the items isn't read, where they aren't those of a custom section without a name
+abbrev pub IsUnreadOf : SectionItems → Option Unread → Type 0
+IsUnreadOf first None =
+    ((xs : List Item) × TakesAll first xs)
+    ⊎ ((place : ℕ) × FaultsIn first (faults.BadSection place))
+IsUnreadOf first (Some (parts.Count here)) = ⊥
+IsUnreadOf first (Some (parts.Item number here)) =
+    Stops first number here (λ left. (0 < left.left) × IsNoItem left.id left.rest.now)
+IsUnreadOf first (Some (parts.Behind here)) =
+    (number : ℕ) × Stops first number here
+    (λ left. (left.left ≡ 0) × (0 < length left.rest.now))

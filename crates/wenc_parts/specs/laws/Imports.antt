@@ -95,6 +95,7 @@ name_with_lawful text (o ∷ os) e =
       text_is_read = l.text_is_read;
       strict_is_text = l.strict_is_text;
       fits = l.fits;
+      leaves = l.leaves;
       free = l.free;
       never = l.never;
       depth = l.depth;

@@ -67,6 +67,7 @@ by_level l = record {
   text_is_read = l.text_is_read;
   strict_is_text = l.strict_is_text;
   fits = l.fits;
+  leaves = l.leaves;
   free = l.free;
   never = l.never;
   depth = l.depth;

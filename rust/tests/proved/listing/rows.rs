@@ -217,8 +217,11 @@ pub fn is_listed(row: &Row<'_>) {
     let bytes = component(row.sections);
     let listing = list(Global, &bytes).unwrap();
     let mut same = listing.counts == row.counts && listing.sections.len() == row.listed.len();
-    for (section, wanted) in listing.sections.iter().zip(row.listed) {
+    // A section ends where the next one begins.
+    let next = row.listed.iter().skip(1).map(|(_, place, _)| *place).chain([bytes.len()]);
+    for ((section, wanted), ends) in listing.sections.iter().zip(row.listed).zip(next) {
         same &= (section.id, section.place, section.items.len()) == *wanted;
+        same &= section.ends == ends;
     }
     assert!(same, "{}", row.sections);
 }

@@ -60,7 +60,7 @@ const OF_ARGUMENTS: &[&str] = &["090600ffffffff0f"];
 /// From which request on no memory is asked for. The first request is for the section's one item,
 /// the second for the item's one member.
 const UNFILLED: &[(u64, &[&str])] =
-    &[(1, OF_ITEMS), (1, OF_ARGUMENTS), (2, IN_AN_ITEM), (3, IN_A_MEMBER)];
+    &[(1, OF_ITEMS), (2, OF_ARGUMENTS), (2, IN_AN_ITEM), (3, IN_A_MEMBER)];
 
 #[test]
 fn great_counts() {

@@ -37,7 +37,7 @@ const UNREAD: &[Row] = &[
     ("0602000506020109", 8, Unread::Behind { place: 11 }),
     // A start is the only item of its section.
     ("0903000080", 8, item(0, 10)),
-    ("0601000904000000000b00", 11, item(0, 13)),
+    ("0601000904000000000b00", 11, Unread::Behind { place: 16 }),
 ];
 
 /// Sections, and the place of one that is read, or of none.

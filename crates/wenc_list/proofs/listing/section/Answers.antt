@@ -1,21 +1,21 @@
-use Rattle.std.proofs.Common.{map}
+use Rattle.std.proofs.Common.{◌≡◌, ◌++◌, ◌∷◌, [], map}
+use Rattle.std.proofs.lemmas.List.{map_push}
+use Rattle.std.proofs.lemmas.Result.{err_from_is_err_and}
 use Rattle.wenc_list.specs.Items.{item_view}
-use Rattle.wenc_list.proofs.Listed.{is_framed, is_read, is_within, frame_fault, content_fault}
+use Rattle.wenc_list.proofs.Taken.{none_taken, one_more_taken}
 use Rattle.wenc_list.proofs.listing.section.Goals as goal
 
-pub returns-in-Ok-content-clause-read : goal.returns-in-Ok-content-clause-read
-returns-in-Ok-content-clause-read g c = is_read c.args.bytes.now c.in-Ok.id c.in-Ok.inside.now c.in-Ok.rest.now (map item_view c.in-Ok-content.items.items) c.in-Ok.ensures c.in-Ok-content.ensures
+pub returns-in_err-items-clause-fault : goal.returns-in_err-items-clause-fault
+returns-in_err-items-clause-fault g c =
+    let p = err_from_is_err_and c.from_residual.result c.from_residual.ensures.1 in
+    rw (p.1, p.2) (record { xs = []; left = c.args.from; taken = none_taken c.args.from; cause = tt })
 
-pub returns-in-Ok-content-clause-within : goal.returns-in-Ok-content-clause-within
-returns-in-Ok-content-clause-within g c = is_within c.args.bytes.now c.in-Ok.id c.in-Ok.inside.now c.in-Ok.rest.now (map item_view c.in-Ok-content.items.items) c.in-Ok.ensures c.in-Ok-content.ensures
+pub loop-items-preserved : goal.loop-items-preserved
+loop-items-preserved g c =
+    let before = c.loop-items.items.items in
+    let x = c.in-Some.item in
+    let views : map item_view c.push.new.self.items ≡ map item_view before ++ item_view x ∷ [] = rw c.in_ok-push.ensures.items (map_push item_view before x) in
+    rw views (one_more_taken c.args.from c.loop-items.left c.next.new.self (map item_view before) (item_view x) c.loop-items.invariant (rw c.in-Some.is at c.in_ok-item.ensures.taken))
 
-pub returns-in-Ok-content-clause-begins : goal.returns-in-Ok-content-clause-begins
-returns-in-Ok-content-clause-begins g c =
-    let f = is_framed c.args.bytes.now c.in-Ok.id c.in-Ok.inside.now c.in-Ok.rest.now c.in-Ok.ensures in
-    (f.middle, f.begins)
-
-pub returns-in-Err-content-clause-fault : goal.returns-in-Err-content-clause-fault
-returns-in-Err-content-clause-fault g c = rw c.content_fault.ensures (content_fault c.in-Err-content.refusal c.args.place c.args.bytes.now c.in-Ok.id c.in-Ok.inside.now c.in-Ok.rest.now c.are_bytes.ensures c.in-Ok.ensures c.in-Err-content.ensures)
-
-pub returns-in-Err-clause-fault : goal.returns-in-Err-clause-fault
-returns-in-Err-clause-fault g c = rw c.frame_fault.ensures (frame_fault c.in-Err.refusal c.args.place c.args.bytes.now c.in-Err.ensures)
+pub loop-items-init : goal.loop-items-init
+loop-items-init g c = rw c.in_ok-items.ensures.items (none_taken c.args.from)

@@ -7,7 +7,7 @@ use Rattle.wenc_base.specs.reading.Numbers.{read_index}
 use Rattle.wenc_base.specs.laws.Types.{abstract_types}
 use Rattle.wenc_base.specs.reading.Types.{abstract_rows}
 use Rattle.wenc_read.specs.laws.Tables.{fails_on}
-use Rattle.wenc_decode.proofs.Tables.{begins, falls_through, fails_first}
+use Rattle.wenc_decode.proofs.Tables.{begins, falls_through, malformed, fails_first}
 use Rattle.wenc_decode.proofs.core_types.HeapTypeDecode.decode.Goals as goal
 
 pub returns-in_err-first : goal.returns-in_err-first
@@ -21,7 +21,7 @@ returns-in-Some g c = begins abstract_byte Abstract abstract_types [] (read_inde
 pub returns-in_err-index-in-None : goal.returns-in_err-index-in-None
 returns-in_err-index-in-None g c =
     let p = err_from_is_err_and c.from_residual-in_err-index-in-None.result c.from_residual-in_err-index-in-None.ensures.1 in
-    rw (p.1, p.2, falls_through abstract_byte Abstract abstract_types (read_index >>= λ n. give (Concrete n)) _ _ _ c.in_ok-first.ensures (sym c.abstract_of.ensures ∙ c.in-None.is)) (fails_on c.in_err-index-in-None.field-0.0 (read_index c.args.bytes.now) (λ n. give (Concrete n)) c.in_err-index-in-None.ensures)
+    rw (p.1, p.2, falls_through abstract_byte Abstract abstract_types (read_index >>= λ n. give (Concrete n)) _ _ _ c.in_ok-first.ensures (sym c.abstract_of.ensures ∙ c.in-None.is)) (fails_on c.in_err-index-in-None.field-0.0 (read_index c.args.bytes.now) (λ n. give (Concrete n)) (malformed c.in_err-index-in-None.field-0.0 (read_index c.args.bytes.now) c.in_err-index-in-None.ensures))
 
 pub returns-in_ok-index-in-None : goal.returns-in_ok-index-in-None
 returns-in_ok-index-in-None g c = rw (falls_through abstract_byte Abstract abstract_types (read_index >>= λ n. give (Concrete n)) _ _ _ c.in_ok-first.ensures (sym c.abstract_of.ensures ∙ c.in-None.is), c.in_ok-index-in-None.ensures) refl

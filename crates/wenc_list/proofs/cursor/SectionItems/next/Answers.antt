@@ -1,0 +1,20 @@
+use Rattle.std.proofs.Common.{refl, arith}
+use Rattle.wenc_list.specs.Items.{item_view}
+use Rattle.wenc_list.proofs.Taken.{item_found, item_leaves, item_fault}
+use Rattle.wenc_list.proofs.cursor.SectionItems.next.Goals as goal
+
+pub returns-in-Ok-clause-taken : goal.returns-in-Ok-clause-taken
+returns-in-Ok-clause-taken g c =
+    let f = item_found c.args.self.now.id c.args.self.now.rest.now (item_view c.in-Ok.item) c.in-Ok.rest.now c.in-Ok.ensures in
+    record {
+      read = (c.in-Ok.rest.now, f.1, refl);
+      leaves = item_leaves c.args.self.now.id (item_view c.in-Ok.item) c.args.self.now.rest.now c.in-Ok.rest.now f.1;
+      within = (f.0, tt);
+      counted = omega arith;
+      same_id = refl;
+      same_place = refl;
+      same_end = refl;
+    }
+
+pub returns-in-Err-clause-fault : goal.returns-in-Err-clause-fault
+returns-in-Err-clause-fault g c = rw c.content_fault.ensures (item_fault c.args.self.now c.in-Err.refusal (omega arith) c.are_bytes.ensures c.in-Err.ensures)

@@ -1,0 +1,90 @@
+-- What is taken of a component section by section, and of a section item by item (component model,
+-- binary format, "Component Definitions").
+use Rattle.std.specs.List.{AllByRecursion}
+use Rattle.std.specs.Prelude.{◌≡◌, ◌⊎◌, ℕ, ◌+◌, ◌-◌, ◌<◌, List, [], ◌++◌, length, IsTrue, IsFalse}
+use Rattle.wenc_base.specs.Forms.{name, AreBytes}
+use Rattle.wenc_base.specs.Number.{u32}
+use Rattle.wenc_base.specs.Piece.{Piece, Form, Wide, EndsWith, only_where, raw, ◌⨾◌, each}
+use Rattle.wenc_builder.specs.Item.{Item, ModuleItem, ComponentItem, StartItem, CustomItem}
+use Rattle.wenc_builder.specs.Sections.{collects, item_of}
+use Rattle.wenc_decode.specs.Depth.{OpensTypes}
+use Rattle.wenc_sections.specs.Start.{start_content}
+use Rattle.wenc_list.specs.Listing.{HasDepth, IsFramed, IsLabelled}
+use Rattle.wenc_list.specs.declared.cursor.SectionItems.{SectionItems}
+use Rattle.wenc_list.specs.declared.fault.ListFault.{ListFault}
+use Rattle.wenc_list.specs.declared.fault.ListFault.TheVariants as faults
+
+-- ---- items in their sections
+
+-- a piece up to the end of the bytes
+abbrev pub to_the_end : Piece → Piece
+to_the_end p = record p { Reads = λ mode bytes rest. (rest ≡ []) × p.Reads mode bytes [] }
+
+-- an item as it stands in the content of the section with this id
+abbrev pub item_in : ℕ → Form Item
+item_in id (CustomItem c) =
+    only_where (id ≡ 0) (to_the_end (name c.label ⨾ raw AreBytes c.bytes))
+item_in id (ModuleItem bytes) = only_where (id ≡ 1) (to_the_end (raw AreBytes bytes))
+item_in id (ComponentItem bytes) = only_where (id ≡ 4) (to_the_end (raw AreBytes bytes))
+item_in id (StartItem s) = only_where (id ≡ 9) (start_content s)
+item_in id other = item_of id other
+
+-- The content of a section with this id has so many items, in these bytes: it says how many where
+-- the section collects, and else there is one.
+abbrev pub Holds : ℕ → List ℕ → ℕ → List ℕ → Type 0
+Holds id content count items =
+    (IsTrue (collects id) × (u32 count).Reads Wide content items)
+    ⊎ (IsFalse (collects id) × (count ≡ 1) × (items ≡ content))
+
+-- ---- what was taken
+
+-- A section begins these bytes, of so many in all up to the end, and the rest follows; none of its
+-- items is taken. The bytes end with its items and that rest.
+pub record Opens (ends : ℕ) (bytes : List ℕ) (s : SectionItems) (rest : List ℕ) : Type 0 where
+  pub content : List ℕ
+  pub framed : IsFramed bytes s.id content rest
+  pub holds : Holds s.id content s.left s.rest.now
+  pub leaves : EndsWith bytes (s.rest.now ++ rest)
+  pub is_place : s.place ≡ ends - length bytes
+  pub is_end : s.ends ≡ ends - length rest
+
+-- Of a section these items were taken, one after the other, each within depth 100, and this is
+-- left, with which the bytes end.
+pub record HasTaken (first : SectionItems) (xs : List Item) (left : SectionItems) : Type 0 where
+  pub read : (each (item_in first.id) xs).Reads Wide first.rest.now left.rest.now
+  pub leaves : EndsWith first.rest.now left.rest.now
+  pub within : AllByRecursion (HasDepth 100) xs
+  pub counted : first.left ≡ length xs + left.left
+  pub same_id : left.id ≡ first.id
+  pub same_place : left.place ≡ first.place
+  pub same_end : left.ends ≡ first.ends
+
+-- Nothing is left.
+abbrev pub IsSpent : SectionItems → Type 0
+IsSpent s = (s.left ≡ 0) × (s.rest.now ≡ [])
+
+-- ---- what stands against the next item
+
+-- no item of the section with this id begins here, at whatever depth
+abbrev pub IsNeverItem : ℕ → List ℕ → Type 0
+IsNeverItem id bytes = (x : Item) (rest : List ℕ) → (item_in id x).Reads Wide bytes rest → ⊥
+
+-- none does within depth 100
+abbrev pub IsNoItem : ℕ → List ℕ → Type 0
+IsNoItem id bytes = (x : Item) (rest : List ℕ) → (item_in id x).Reads Wide bytes rest
+    → HasDepth 100 x → ⊥
+
+-- The fault has its cause in what is left of the section: a custom section without a name, no item
+-- where one is to come, bytes after the last one, or a type at depth 101.
+abbrev pub IsFaultIn : SectionItems → ListFault → Type 0
+IsFaultIn s faults.Memory = Unit {0}
+IsFaultIn s (faults.NotAComponent place) = ⊥
+IsFaultIn s (faults.BadSection place) =
+    (place ≡ s.place) × (0 < s.left) × (s.id ≡ 0) × (IsLabelled 0 s.rest.now → ⊥)
+IsFaultIn s (faults.BadItem place) =
+    (place ≡ s.place) ×
+    (((0 < s.left) × (s.id ≡ 0 → ⊥) × IsNeverItem s.id s.rest.now)
+    ⊎ ((s.left ≡ 0) × (0 < length s.rest.now)))
+IsFaultIn s (faults.TooDeep place) =
+    (place ≡ s.place) × (0 < s.left) × (s.id ≡ 7) × OpensTypes 100 s.rest.now ×
+    IsNoItem s.id s.rest.now

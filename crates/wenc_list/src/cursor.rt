@@ -1,0 +1,199 @@
+//! A component read section by section, and a section item by item.
+ghost use Rattle.std.specs.Prelude.{◌≡◌, ◌≢◌, ◌-◌, ◌<◌, ◌≤◌, [], ◌∷◌, length, IfOk, IfErr, MatchOption};
+ghost use Rattle.wenc_base.specs.Piece.{Wide};
+ghost use Rattle.wenc_builder.specs.Sections.{preamble};
+ghost use Rattle.wenc_list.specs.Cursor.{Opens, HasTaken, IsSpent, IsFaultIn};
+ghost use Rattle.wenc_list.specs.Items.{item_view};
+ghost use Rattle.wenc_list.specs.Listing.{IsFaultHere, HasNoHeader};
+ghost use Rattle.wenc_list.specs.inside.Contents.{fault_of_content, read_count};
+ghost use Rattle.wenc_list.specs.declared.fault.ListFault.TheVariants.{Memory, NotAComponent};
+ghost use Rattle.wenc_read.specs.Gives.{GivesAlways};
+
+use crate::fault::ListFault;
+use crate::item::ItemTree;
+use crate::members::item_in;
+use crate::sections::{are_bytes, frame};
+use std::alloc::Allocator;
+use wenc_read::{NestedRefusal, Refusal, u32_of};
+
+/// The sections of a component that are left.
+///
+/// They are read as `list` reads them, one by one, with no room for more than an item. The first
+/// item of a component:
+///
+/// ```
+/// let mut sections = Sections::new(component)?;
+/// match sections.next()? {
+///     Some(mut items) => items.next(alloc),
+///     None => Ok(None),
+/// }
+/// ```
+#[derive(Clone, Copy)]
+pub struct Sections<'a> {
+    /// The length of the component in bytes.
+    pub ends: usize,
+    /// The bytes that are left.
+    pub rest: &'a [u8],
+}
+
+/// The items of a section that are left.
+#[derive(Clone, Copy)]
+pub struct SectionItems<'a> {
+    /// The section's id, from 0 to 11.
+    pub id: u8,
+    /// The byte offset of its id in the component.
+    pub place: usize,
+    /// The byte offset at which it ends.
+    pub ends: usize,
+    /// The number of items that are left. Custom sections, modules, nested components and starts
+    /// have one.
+    pub left: u32,
+    /// The bytes that are left.
+    pub rest: &'a [u8],
+}
+
+/// Why the content of a section with this id isn't read. Of a custom section only the name can be
+/// malformed.
+fn content_fault(refusal: NestedRefusal, id: u8, place: usize) -> ListFault
+    ensures { result ≡ fault_of_content refusal id place }
+{
+    match refusal {
+        NestedRefusal::Flat(Refusal::Memory) => ListFault::Memory,
+        NestedRefusal::Flat(Refusal::Malformed) if id == 0 => ListFault::BadSection { place },
+        NestedRefusal::Flat(Refusal::Malformed) => ListFault::BadItem { place },
+        NestedRefusal::TooDeep => ListFault::TooDeep { place },
+    }
+}
+
+/// How many items the content of a section with this id has, and their bytes.
+#[inline(always)]
+pub(crate) fn counted(id: u8, content: &[u8]) -> Result<(u32, &[u8]), Refusal>
+    requires { id ≤ 11 }
+    ensures { GivesAlways (λ x. (x.0, x.1.now)) result (read_count id content.now) }
+{
+    match id {
+        0 => Ok((1, content)),
+        1 => Ok((1, content)),
+        4 => Ok((1, content)),
+        9 => Ok((1, content)),
+        _ => u32_of(content),
+    }
+}
+
+impl<'a> Sections<'a> {
+    /// Returns all sections of the component with these bytes.
+    ///
+    /// # Errors
+    ///
+    /// `NotAComponent` where the bytes don't begin with the header of a component.
+    pub fn new(bytes: &'a [u8]) -> Result<Sections<'a>, ListFault>
+        ensures begins { IfOk result (λ s. preamble.Reads Wide bytes.now s.rest.now) }
+        ensures ends { IfOk result (λ s. s.ends ≡ length bytes.now) }
+        ensures fault { IfErr result (λ e. (e ≡ NotAComponent 0) × HasNoHeader bytes.now) }
+    {
+        match bytes {
+            [0x00, 0x61, 0x73, 0x6d, 0x0d, 0x00, 0x01, 0x00, rest @ ..] => Ok(Sections {
+                ends: bytes.len(),
+                rest,
+            }),
+            _ => Err(ListFault::NotAComponent { place: 0 }),
+        }
+    }
+
+    /// Returns the byte offset at which the next section begins, or the last one ended.
+    pub fn place(&self) -> usize
+        ensures { result ≡ self.now.ends - length self.now.rest.now }
+    {
+        self.ends.saturating_sub(self.rest.len())
+    }
+
+    /// Returns the next section with all of its items, or `None` at the end.
+    ///
+    /// # Errors
+    ///
+    /// `BadSection` where no section begins, and `BadItem` where the section has no count of its
+    /// items. Nothing is taken then, and the next call fails too.
+    #[inline(always)]
+    pub fn next(&mut self) -> Result<Option<SectionItems<'a>>, ListFault>
+        // A section that is returned begins what was left, and all after it stays.
+        ensures taken { IfOk result (λ o. MatchOption o (self.old.rest.now ≡ [])
+            (λ s. Opens self.old.ends self.old.rest.now s self.new.rest.now)) }
+        ensures same_end { self.new.ends ≡ self.old.ends }
+        // Else nothing changes.
+        ensures unchanged { IfOk result (λ o. MatchOption o (self.new ≡ self.old)
+            (λ _. Unit {0})) }
+        ensures refused { IfErr result (λ _. self.new ≡ self.old) }
+        // A fault has its cause in the section that begins what is left.
+        ensures fault { IfErr result (IsFaultHere (self.old.ends - length self.old.rest.now)
+            self.old.rest.now) }
+        ensures some { IfErr result (λ _. 0 < length self.old.rest.now) }
+        // It is never want of memory.
+        ensures asks_nothing { IfErr result (λ e. e ≢ Memory) }
+    {
+        if self.rest.is_empty() {
+            return Ok(None);
+        }
+        let place = self.place();
+        match frame(self.rest) {
+            Ok(((id, content), rest)) => match counted(id, content) {
+                Ok((left, items)) => {
+                    self.rest = rest;
+                    Ok(Some(SectionItems {
+                        id,
+                        place,
+                        ends: self.place(),
+                        left,
+                        rest: items,
+                    }))
+                }
+                Err(_) => Err(ListFault::BadItem { place }),
+            },
+            Err(_) => Err(ListFault::BadSection { place }),
+        }
+    }
+}
+
+impl<'a> SectionItems<'a> {
+    /// Returns the byte offset at which the next item begins, or the last one ended.
+    pub fn reached(&self) -> usize
+        ensures { result ≡ self.now.ends - length self.now.rest.now }
+    {
+        self.ends.saturating_sub(self.rest.len())
+    }
+
+    /// Returns the next item, or `None` at the end.
+    ///
+    /// # Errors
+    ///
+    /// `Memory` where an allocation is refused; `BadItem` where no item begins, or bytes follow the
+    /// last one; `TooDeep` at a type with others more than 100 deep inside; and `BadSection` in a
+    /// custom section without a name. Nothing is taken then, and the next call reads the same.
+    #[inline(always)]
+    pub fn next<A: Allocator + Copy>(&mut self, alloc: A) -> Result<Option<ItemTree<A>>, ListFault>
+        // An item that is returned begins what was left, within depth 100, and all after it stays.
+        ensures taken { IfOk result (λ o. MatchOption o (IsSpent self.old)
+            (λ x. HasTaken self.old (item_view x ∷ []) self.new)) }
+        // Else nothing changes.
+        ensures unchanged { IfOk result (λ o. MatchOption o (self.new ≡ self.old)
+            (λ _. Unit {0})) }
+        ensures refused { IfErr result (λ _. self.new ≡ self.old) }
+        // A fault has its cause in what is left.
+        ensures fault { IfErr result (IsFaultIn self.old) }
+    {
+        are_bytes(self.rest);
+        if self.left == 0 {
+            if self.rest.is_empty() {
+                return Ok(None);
+            }
+            return Err(ListFault::BadItem { place: self.place });
+        }
+        match item_in(alloc, self.id, self.rest) {
+            Ok((item, rest)) => {
+                self.left -= 1;
+                self.rest = rest;
+                Ok(Some(item))
+            }
+            Err(refusal) => Err(content_fault(refusal, self.id, self.place)),
+        }
+    }
+}
