@@ -135,6 +135,32 @@ fn a_component_is_built() {
         builder.try_finish().expect("it takes no memory")
     });
     are_upstreams(&bytes, 30253, 0xa1f_a008_65dd_ec10);
+    is_made_by_commands(&bytes);
+}
+
+/// Each item of the component is added by a command, and at last all of it as a nested component.
+fn is_made_by_commands(bytes: &[u8]) {
+    let commands = || {
+        let sections = list(bytes).expect("it is a component").sections.into_iter();
+        sections.flat_map(|section| section.items).map(tree::Command::from).collect()
+    };
+    let nested = tree::Command::Component { debug_name: None, commands: commands() };
+    let commands: Vec<_> = commands().into_iter().chain([nested]).collect();
+    let made = each_is_refused(30, |refusals| {
+        let mut builder = refusals.call(ComponentBuilder::try_new);
+        for command in &commands {
+            refusals.call(|| {
+                let answer = builder.command(command);
+                assert!(builder.is_finished());
+                answer
+            });
+        }
+        builder.try_finish().expect("it takes no memory")
+    });
+    let nested = RawSection { id: ComponentSectionId::Component.into(), data: bytes };
+    let mut expected = bytes.to_vec();
+    nested.append_to_component(&mut expected);
+    assert!(made == expected);
 }
 
 #[test]
