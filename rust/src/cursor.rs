@@ -1,9 +1,10 @@
 //! A component section by section, and a section item by item.
 
-use crate::ListFault;
 use crate::proved::rt_std::alloc::Global;
 use crate::proved::wenc_list as proved;
 use crate::tree::ItemTree;
+use crate::{ListFault, RawSection};
+use core::fmt;
 use core::ops::Range;
 
 /// The sections of a component, one by one, up to the first that isn't framed or counted.
@@ -53,6 +54,29 @@ impl<'a> SectionReader<'a> {
         self.left.place..self.left.ends
     }
 
+    /// The section as it stands, from its id on.
+    pub fn bytes(&self) -> &'a [u8] {
+        &self.bytes[self.range()]
+    }
+
+    /// The section by its id and the bytes after its size: of a core module or a nested component
+    /// those that it is.
+    ///
+    /// ```
+    /// use wenc::Sections;
+    ///
+    /// // a component in a component
+    /// let bytes = b"\0asm\x0d\0\x01\0\x04\x08\0asm\x0d\0\x01\0";
+    /// let section = Sections::new(bytes)?.next().expect("a section")?;
+    /// assert_eq!(section.bytes(), &bytes[8..]);
+    /// assert_eq!(section.raw().data, b"\0asm\x0d\0\x01\0");
+    /// # Ok::<(), wenc::ListFault>(())
+    /// ```
+    pub fn raw(&self) -> RawSection<'a> {
+        let ((id, data), _) = proved::part_of(self.bytes()).expect("its size was read");
+        RawSection { id, data }
+    }
+
     /// How many items it says that it has.
     pub fn count(&self) -> u32 {
         self.left.left
@@ -61,6 +85,13 @@ impl<'a> SectionReader<'a> {
     /// Its items, up to the first that isn't read.
     pub fn items(&self) -> Items<'a> {
         Items { bytes: self.bytes, left: Some(self.left) }
+    }
+}
+
+impl fmt::Debug for SectionReader<'_> {
+    fn fmt(&self, f: &mut fmt::Formatter<'_>) -> fmt::Result {
+        let mut shown = f.debug_struct("SectionReader");
+        shown.field("id", &self.id()).field("range", &self.range()).finish_non_exhaustive()
     }
 }
 

@@ -92,6 +92,7 @@ mod list;
 pub mod program;
 mod proved;
 mod raw;
+mod rewrite;
 mod shared;
 pub mod tree;
 mod twins;
@@ -103,6 +104,7 @@ pub use encode::{Encode, encoding_size};
 pub use error::Error;
 pub use list::{ListFault, ListedSection, Listing, Unread, list};
 pub use raw::RawSection;
+pub use rewrite::ItemSection;
 
 /// What was proved of the sources in `crates/`: by which logic and which kits, how many functions
 /// have a proof (those that a `derive` writes aren't counted), how many edits of the code the prover

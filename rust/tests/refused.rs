@@ -138,6 +138,48 @@ fn a_component_is_built() {
     is_made_by_commands(&bytes);
 }
 
+#[test]
+fn sections_are_made_of_items() {
+    let mut builder = ComponentBuilder::default();
+    builder.component(None, ComponentBuilder::default());
+    for i in 0..40 {
+        builder.import(NAME, ComponentTypeRef::Func(i));
+        builder.export(NAME, ComponentExportKind::Func, i, None);
+        builder.type_defined(Some(NAME)).1.record([(NAME, STRING)]);
+    }
+    builder.append_names();
+    let bytes = builder.finish();
+    let listing = list(&bytes).expect("it is listed");
+    // What has no answer for a refusal is made while none is to come.
+    let calmly = |make: &mut dyn FnMut()| {
+        let granted = GRANTED.take();
+        make();
+        GRANTED.set(granted);
+    };
+    each_is_refused(10, |refusals| {
+        for (section, listed) in Sections::new(&bytes).expect("a component").zip(&listing.sections)
+        {
+            let section = section.expect("a section");
+            let (mut anew, mut kept) = (ItemSection::new(listed.id), ItemSection::new(listed.id));
+            for item in &listed.items {
+                refusals.call(|| anew.item(item).map(|_| ()));
+            }
+            let mut places = Vec::new();
+            calmly(&mut || places.extend(section.items().map(|item| item.expect("an item").0)));
+            for place in places {
+                refusals.call(|| kept.raw(&bytes[place.clone()]).map(|_| ()));
+            }
+            calmly(&mut || {
+                for made in [&anew, &kept] {
+                    let mut component = Component::new();
+                    component.section(made);
+                    assert!(component.as_slice()[8..] == *section.bytes());
+                }
+            });
+        }
+    });
+}
+
 /// Each item of the component is added by a command, and at last all of it as a nested component.
 fn is_made_by_commands(bytes: &[u8]) {
     let commands = || {

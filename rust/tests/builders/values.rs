@@ -169,12 +169,13 @@ mod threads {
 
 #[test]
 fn errors_tell_what_they_are() {
-    let errors: [(Error, &str); 5] = [
+    let errors: [(Error, &str); 6] = [
         (Error::NoMemory, "no memory"),
         (Error::TooMany, "too many"),
         (Error::TooLarge, "too large"),
         (Error::Unfinished, "unfinished"),
         (Error::Unsupported, "not supported"),
+        (Error::WrongSection, "item of another section"),
     ];
     for (error, text) in errors {
         let error: Box<dyn std::error::Error + Send + Sync> = error.into();

@@ -10,6 +10,7 @@ mod names;
 mod numbers;
 mod reading;
 mod rows;
+mod spellings;
 mod unfilled;
 mod unread;
 mod widened;
