@@ -1,7 +1,9 @@
 //! Trees of what they are made of, and the core types of trees as those of this crate's sections.
 
-use super::{AbstractHeapType, Box, Command, HeapType, NameTree, RefType, String, ValType, Vec};
-use crate::{ComponentExternName, Error, ProducersSection};
+use super::{
+    AbstractHeapType, AliasTree, Box, Command, HeapType, NameTree, RefType, String, ValType, Vec,
+};
+use crate::{Alias, ComponentExternName, Error, ProducersSection};
 use alloc::borrow::{Cow, ToOwned};
 
 impl From<&str> for String {
@@ -50,6 +52,12 @@ impl From<&ProducersSection> for Command {
     fn from(section: &ProducersSection) -> Self {
         let command = crate::proved::wasm_encoder::producers_command(super::Global, &section.0);
         crate::error::granted(command)
+    }
+}
+
+impl<'a> From<&'a AliasTree> for Alias<'a> {
+    fn from(alias: &'a AliasTree) -> Self {
+        alias.as_alias()
     }
 }
 

@@ -151,6 +151,35 @@ fn all_others_are_made_again_item_by_item() {
     assert_eq!(components, 68);
 }
 
+/// The bytes of the tree that an item is; `None` of an item that is none.
+fn encoded(item: &ItemTree) -> Option<Vec<u8>> {
+    let mut bytes = Vec::new();
+    match item {
+        ItemTree::CoreInstance(tree) => tree.encode(&mut bytes),
+        ItemTree::CoreType(tree) => tree.encode(&mut bytes),
+        ItemTree::Instance(tree) => tree.encode(&mut bytes),
+        ItemTree::Alias(tree) => tree.encode(&mut bytes),
+        ItemTree::Type(tree) => tree.encode(&mut bytes),
+        ItemTree::Canon(tree) => tree.encode(&mut bytes),
+        _ => return None,
+    }
+    Some(bytes)
+}
+
+#[test]
+fn trees_of_all_others_have_their_bytes() {
+    let mut trees = 0;
+    for (name, bytes) in all().into_iter().filter(|(_, bytes)| list(bytes).is_ok()) {
+        for item in sections(&bytes).flat_map(|section| section.items()) {
+            let (place, item) = item.expect("an item");
+            let Some(encoded) = encoded(&item) else { continue };
+            assert!(encoded == bytes[place], "{name}: {item:?}");
+            trees += 1;
+        }
+    }
+    assert_eq!(trees, 1801);
+}
+
 /// The number, in five bytes.
 fn padded(number: usize) -> [u8; 5] {
     let number = u32::try_from(number).expect("it is short");
