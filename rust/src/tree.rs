@@ -38,6 +38,7 @@
 //! ```
 
 mod conversions;
+mod core_types;
 mod encode;
 
 use crate::Error;

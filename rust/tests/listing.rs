@@ -481,6 +481,69 @@ fn core_types_are_of_trees_and_of_sections() {
     assert_eq!(tree::ValType::try_from(own), Ok(of_trees));
     assert_eq!(ValType::from(of_trees), own);
     assert_eq!(tree::HeapType::try_from(HeapType::Exact(0)), Err(Error::Unsupported));
+
+    // a function, a structure and an array in a group
+    let bytes = b"\x01\x4e\x03\x60\x01\x7f\x01\x7e\
+        \x50\x00\x5f\x02\x78\x00\x7f\x01\x4f\x01\x00\x5e\x63\x00\x01";
+    let items = items(3, bytes);
+    let [ItemTree::CoreType(ty)] = items.as_slice() else { panic!("a core type") };
+    let tree::CoreTypeTree::Group(tree::GroupTree::Rec(group)) = &**ty else { panic!("a group") };
+    let nullable = RefType { nullable: true, heap_type: HeapType::Concrete(0) };
+    let field = |element_type, mutable| FieldType { element_type, mutable };
+    let fields = [field(StorageType::I8, false), field(StorageType::Val(ValType::I32), true)];
+    let wanted = [
+        (true, None, CompositeInnerType::Func(FuncType::new([ValType::I32], [ValType::I64]))),
+        (false, None, CompositeInnerType::Struct(StructType { fields: fields.into() })),
+        (
+            true,
+            Some(0),
+            CompositeInnerType::Array(ArrayType(field(StorageType::Val(nullable.into()), true))),
+        ),
+    ];
+    assert_eq!(group.len(), wanted.len());
+    for (ty, (is_final, supertype_idx, inner)) in group.iter().zip(wanted) {
+        let composite_type =
+            CompositeType { inner, shared: false, descriptor: None, describes: None };
+        let wanted = SubType { is_final, supertype_idx, composite_type };
+        assert_eq!(SubType::from(ty), wanted);
+        assert_eq!(tree::SubType::try_from(&wanted).as_ref(), Ok(ty));
+    }
+}
+
+#[test]
+fn what_modules_import_is_of_trees_and_of_sections() {
+    let bytes = b"\x01\x50\x05\x00\x00\x00\x00\x02\x00\x00\x00\x01\x70\x01\x01\x02\
+        \x00\x00\x00\x02\x03\x01\x02\x00\x00\x00\x03\x7d\x01\x00\x00\x00\x04\x00\x05";
+    let items = items(3, bytes);
+    let [ItemTree::CoreType(ty)] = items.as_slice() else { panic!("a core type") };
+    let tree::CoreTypeTree::Module(decls) = &**ty else { panic!("of modules") };
+    let table = TableType {
+        element_type: RefType::FUNCREF,
+        table64: false,
+        minimum: 1,
+        maximum: Some(2),
+        shared: false,
+    };
+    let memory = MemoryType {
+        minimum: 1,
+        maximum: Some(2),
+        memory64: false,
+        shared: true,
+        page_size_log2: None,
+    };
+    let wanted = [
+        EntityType::Function(2),
+        table.into(),
+        memory.into(),
+        GlobalType { val_type: ValType::F32, mutable: true, shared: false }.into(),
+        TagType { kind: TagKind::Exception, func_type_idx: 5 }.into(),
+    ];
+    assert_eq!(decls.len(), wanted.len());
+    for (decl, wanted) in decls.iter().zip(wanted) {
+        let tree::ModuleDecl::Import { ty, .. } = decl else { panic!("an import") };
+        assert_eq!(EntityType::from(*ty), wanted);
+        assert_eq!(tree::EntityType::try_from(wanted).as_ref(), Ok(ty));
+    }
 }
 
 #[test]
