@@ -36,7 +36,23 @@ impl<'a> Iterator for Sections<'a> {
     }
 }
 
-/// A section that stands in a component.
+/// A section that stands in a component. Appended to another, it is the same byte for byte.
+///
+/// ```
+/// use wenc::{Component, ComponentSectionId, Sections};
+///
+/// // a custom section, and imports whose size is padded
+/// let bytes = b"\0asm\x0d\0\x01\0\0\x03\x01x\x07\x0a\x89\0\x01\0\x04file\x03\x01";
+/// let mut component = Component::new();
+/// for section in Sections::new(bytes)? {
+///     let section = section?;
+///     if section.id() != u8::from(ComponentSectionId::CoreCustom) {
+///         component.section(&section);
+///     }
+/// }
+/// assert_eq!(component.finish(), b"\0asm\x0d\0\x01\0\x0a\x89\0\x01\0\x04file\x03\x01");
+/// # Ok::<(), wenc::ListFault>(())
+/// ```
 #[derive(Clone, Copy)]
 pub struct SectionReader<'a> {
     bytes: &'a [u8],

@@ -30,6 +30,8 @@
 //! ```
 //!
 //! [`list`] reads a component back, as values of [`tree`], which [`tree::build`] makes again.
+//! [`Sections`] reads it section by section, and each may be written again as it stands
+//! ([`SectionReader`]) or item by item ([`ItemSection`]).
 //!
 //! # What is proved
 //!
