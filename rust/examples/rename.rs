@@ -4,8 +4,8 @@
 //! cargo run --example rename -- COMPONENT OLD NEW OUT
 //! ```
 //!
-//! All else is kept byte for byte, numbers that are padded among it: only the import and the size of
-//! its section are written anew. Whether the new name is a valid one isn't checked.
+//! All else stays the same byte for byte, padded numbers too: only the import, and the size and the
+//! count of its section, are encoded again. Nothing checks that the new name is valid.
 
 use std::error::Error;
 use wenc::tree::ItemTree;
@@ -38,7 +38,7 @@ fn with_renamed(
     Ok(is_renamed.then_some(imports))
 }
 
-/// The component with the new name for the import that has the old one, or what is wrong with it.
+/// The component with the import renamed, or what is wrong with it.
 pub fn rename(component: &[u8], old: &str, new: &str) -> Result<Vec<u8>, Box<dyn Error>> {
     let mut renamed = Component::new();
     let mut is_found = false;

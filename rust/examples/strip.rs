@@ -4,8 +4,8 @@
 //! cargo run --example strip -- COMPONENT OUT
 //! ```
 //!
-//! Components in it lose theirs too; all else is kept byte for byte. `Sections` reads the component
-//! section by section, and `Component` has those that are kept appended to it as they stand.
+//! Components in it lose theirs too; all else stays the same byte for byte. `Sections` reads the
+//! component section by section, and those that are kept are appended to a `Component`.
 
 use wenc::{Component, ComponentSectionId, ListFault, RawSection, Sections};
 

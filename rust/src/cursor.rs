@@ -36,7 +36,8 @@ impl<'a> Iterator for Sections<'a> {
     }
 }
 
-/// A section that stands in a component. Appended to another, it is the same byte for byte.
+/// A section of a component. As a [`ComponentSection`](crate::ComponentSection) it is appended to
+/// another component byte for byte.
 ///
 /// ```
 /// use wenc::{Component, ComponentSectionId, Sections};
@@ -70,13 +71,13 @@ impl<'a> SectionReader<'a> {
         self.left.place..self.left.ends
     }
 
-    /// The section as it stands, from its id on.
+    /// The bytes of the section, from its id on.
     pub fn bytes(&self) -> &'a [u8] {
         &self.bytes[self.range()]
     }
 
-    /// The section by its id and the bytes after its size: of a core module or a nested component
-    /// those that it is.
+    /// The section as its id and the bytes after its size: for a core module or a nested component,
+    /// those of that module or component.
     ///
     /// ```
     /// use wenc::Sections;

@@ -30,7 +30,7 @@
 //! ```
 //!
 //! [`list`] reads a component back, as values of [`tree`], which [`tree::build`] makes again.
-//! [`Sections`] reads it section by section, and each may be written again as it stands
+//! [`Sections`] reads it section by section, and each can be written again byte for byte
 //! ([`SectionReader`]) or item by item ([`ItemSection`]).
 //!
 //! # What is proved

@@ -1,4 +1,4 @@
-//! Sections that were read, written again: as they stand, or item by item.
+//! Sections that were read, written again: byte for byte, or item by item.
 
 use crate::component::{ComponentSection, ComponentSectionId};
 use crate::cursor::SectionReader;
@@ -13,20 +13,20 @@ use crate::tree::ItemTree;
 use alloc::vec::Vec;
 use core::fmt;
 
-// What follows its id, which is one byte.
+// What follows the id, which is one byte.
 encode! {
     SectionReader<'_>, section => Verbatim(&section.bytes()[1..]);
 }
 
-/// The section is written as it stands in its component, byte for byte.
+/// The section is appended byte for byte as it is in its component.
 impl ComponentSection for SectionReader<'_> {
     fn id(&self) -> u8 {
         self.id()
     }
 }
 
-/// Each item is written anew, in its shortest spelling. An item of another section is refused, and
-/// so is any number of items but one in a section that is one item.
+/// Encodes each item in its shortest form, as an [`ItemSection`] does. An item of another section is
+/// refused, and so is any number of items but one in a section without a count.
 impl Encode for ListedSection {
     fn encode(&self, sink: &mut Vec<u8>) {
         let mut section = ItemSection::new(self.id);
@@ -43,13 +43,14 @@ impl ComponentSection for ListedSection {
     }
 }
 
-/// A section that is made item by item: of items as trees, which are written anew, and of items by
-/// the bytes that they have in a component, which are kept (component model, binary format,
-/// "Component Definitions").
+/// A section that is built item by item (component model, binary format, "Component Definitions").
+/// An item is added as a tree, which is encoded, or as the bytes that it has in a component, which
+/// are copied, so that padded numbers stay padded.
 ///
-/// Its size and the number of its items are written in front when it is encoded. A section that is
-/// one item, as a core module, a start or a custom section, is refused then as
-/// [`Unfinished`](Error::Unfinished) where it has none.
+/// Size and count are encoded with the section. A section without a count, which is a core module, a
+/// component, a start or a custom section, has one item: a second one is refused as
+/// [`TooMany`](Error::TooMany), and the section without one as [`Unfinished`](Error::Unfinished)
+/// when it is encoded.
 ///
 /// ```
 /// use wenc::tree::{ItemTree, String};
@@ -78,12 +79,13 @@ impl ComponentSection for ListedSection {
 /// ```
 pub struct ItemSection {
     id: u8,
-    /// Its items. One that is a section has its size in front.
+    /// The items. The one item of a section without a count has its size in front.
     items: Holder,
 }
 
 impl ItemSection {
-    /// A section with this id, from 0 to 11, and no items. It takes no memory.
+    /// A section without items, with an id from 0 to 11: that of a [`SectionReader`], or a
+    /// [`ComponentSectionId`]. It takes no memory.
     pub fn new(id: impl Into<u8>) -> Self {
         Self { id: id.into(), items: Holder::new(Global) }
     }
@@ -98,13 +100,13 @@ impl ItemSection {
         self.len() == 0
     }
 
-    /// Adds an item, in its shortest spelling.
+    /// Adds an item, encoded in its shortest form.
     ///
     /// # Errors
     ///
-    /// [`WrongSection`](Error::WrongSection) where the item stands in sections with another id,
+    /// [`WrongSection`](Error::WrongSection) if the item belongs to a section with another id;
     /// [`TooMany`](Error::TooMany), [`TooLarge`](Error::TooLarge) or
-    /// [`NoMemory`](Error::NoMemory). Nothing has changed then.
+    /// [`NoMemory`](Error::NoMemory). The section is unchanged then.
     pub fn item(&mut self, item: &ItemTree) -> Result<&mut Self, Error> {
         if u8::from(section_id(item)) != self.id {
             return Err(Error::WrongSection);
@@ -144,26 +146,26 @@ impl ItemSection {
         Ok(self)
     }
 
-    /// Adds an item by its bytes, as they stand in a component at the place that
-    /// [`Items`](crate::Items) gives. Nothing checks that they are such an item.
+    /// Adds an item as these bytes: those of a component in the range that
+    /// [`Items`](crate::Items) returns. Nothing checks that they are an item of this section.
     ///
     /// # Errors
     ///
     /// [`TooMany`](Error::TooMany), [`TooLarge`](Error::TooLarge) or
-    /// [`NoMemory`](Error::NoMemory). Nothing has changed then.
+    /// [`NoMemory`](Error::NoMemory). The section is unchanged then.
     pub fn raw(&mut self, bytes: &[u8]) -> Result<&mut Self, Error> {
         self.has_room()?;
         if self.is_one_item() { self.items.add_encoded(&bytes) } else { self.items.add(bytes) }?;
         Ok(self)
     }
 
-    /// Whether the section is one item, without a number of items in front.
+    /// Whether the section has one item and no count.
     fn is_one_item(&self) -> bool {
         use ComponentSectionId::{Component, CoreCustom, CoreModule, Start};
         [CoreCustom, CoreModule, Component, Start].map(u8::from).contains(&self.id)
     }
 
-    /// Refuses a second item of a section that is one.
+    /// Refuses a second item of a section without a count.
     fn has_room(&self) -> Result<(), Error> {
         if self.is_one_item() && !self.is_empty() { Err(Error::TooMany) } else { Ok(()) }
     }
@@ -205,7 +207,7 @@ impl fmt::Debug for ItemSection {
     }
 }
 
-/// The id of the sections in which this item stands.
+/// The id of the section to which this item belongs.
 fn section_id(item: &ItemTree) -> ComponentSectionId {
     match item {
         ItemTree::Module(_) => ComponentSectionId::CoreModule,

@@ -6,7 +6,8 @@
 //!
 //! A builder takes a [`Command`] ([`ComponentBuilder::command`](crate::ComponentBuilder::command)),
 //! a section an [`ItemTree`] ([`ItemSection`](crate::ItemSection)), an encoder the tree of a type.
-//! What an item is made of writes itself by [`Encode`](crate::Encode).
+//! The trees of types, aliases, instances and canonical functions, and what these are made of,
+//! implement [`Encode`](crate::Encode).
 //!
 //! ```
 //! use wenc::tree::{Command, ItemTree, NameTree, String, TypeTree, Vec, build};

@@ -7,14 +7,14 @@ use crate::tree::Command;
 
 /// Calls as data.
 impl ComponentBuilder {
-    /// Makes the call that this command is, and returns the index of its item, or `None` of a custom
-    /// section and of names. What [`list`](crate::list) read of a component becomes commands by
-    /// `From`; [`build`](crate::tree::build) runs them on a builder of its own.
+    /// Makes the call that this command describes. Returns the index of the item that it adds, or
+    /// `None` for a custom section and for names. An item that [`list`](crate::list) returns becomes
+    /// a command by `From`; [`build`](crate::tree::build) runs commands on a new builder.
     ///
     /// # Errors
     ///
-    /// What refuses that call, or the first command of a nested component that is refused. Nothing
-    /// has changed then: a type that is refused while it is written is given up.
+    /// The error of that call; for a nested component, the first error of its commands. The builder
+    /// is unchanged then: a type that is refused while it is encoded is given up.
     ///
     /// ```
     /// use wenc::tree::{Command, String};
@@ -44,8 +44,8 @@ impl ComponentBuilder {
         answer
     }
 
-    /// Makes the call that this command is. A type that is refused while it is written is left
-    /// unfinished.
+    /// Makes the call that this command describes. A type that is refused while it is encoded is
+    /// left unfinished.
     fn run(&mut self, command: &Command) -> Result<Option<u32>, Error> {
         let (builder, name) = (&mut self.0, debug_name(command));
         let index = match command {
@@ -85,7 +85,7 @@ impl ComponentBuilder {
         Ok(Some(index))
     }
 
-    /// Adds a nested component that these commands make.
+    /// Adds the component that these commands make as a nested one.
     fn nested(&mut self, debug_name: Option<&str>, commands: &[Command]) -> Result<u32, Error> {
         let mut nested = Self::try_new()?;
         for command in commands {
@@ -95,7 +95,7 @@ impl ComponentBuilder {
     }
 }
 
-/// The debug name that a command has.
+/// The debug name of a command's item.
 fn debug_name(command: &Command) -> Option<&str> {
     match command {
         Command::CoreModule { debug_name, .. }
