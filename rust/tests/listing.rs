@@ -420,6 +420,43 @@ fn commands_are_built() {
 }
 
 #[test]
+fn commands_have_debug_names() {
+    let debug_name = |name: &str| Some(text(name));
+    let instance = tree::InstanceTree::Exports([].into());
+    let core_instance = tree::CoreInstanceTree::Exports([].into());
+    let kind = ComponentOuterAliasKind::Component;
+    let alias = tree::AliasTree::Outer { kind, count: 0, index: 0 };
+    let ty = tree::TypeTree::Instance([].into());
+    let core_type = tree::CoreTypeTree::Module([].into());
+    let canon = tree::CanonTree::Lift { core_func: 0, ty: 0, options: [].into() };
+    let commands = [
+        Command::CoreModule { debug_name: debug_name("a"), bytes: [].into() },
+        Command::CoreInstance { debug_name: debug_name("b"), instance: core_instance },
+        Command::CoreType { debug_name: debug_name("c"), ty: core_type.into() },
+        Command::Component { debug_name: debug_name("d"), commands: [].into() },
+        Command::ComponentRaw { debug_name: debug_name("e"), bytes: [].into() },
+        Command::Instance { debug_name: debug_name("f"), instance },
+        Command::Alias { debug_name: debug_name("g"), alias },
+        Command::Type { debug_name: debug_name("h"), ty },
+        Command::Canon { debug_name: debug_name("i"), canon },
+        Command::AppendNames,
+    ];
+    let mut builder = ComponentBuilder::default();
+    for command in &commands {
+        builder.command(command).expect("it is made");
+    }
+    let listing = list(&builder.finish()).expect("it is listed");
+    let names = listing.sections.last().expect("the names").items[0].clone();
+    // in upstream's order: core types, modules and instances, then instances, functions, types and
+    // components
+    let data = b"\x01\x06\x00\x10\x01\x00\x01c\x01\x06\x00\x11\x01\x00\x01a\
+        \x01\x06\x00\x12\x01\x00\x01b\x01\x05\x05\x01\x00\x01f\x01\x05\x01\x01\x00\x01i\
+        \x01\x05\x03\x01\x00\x01h\x01\x0b\x04\x03\x00\x01d\x01\x01e\x02\x01g";
+    let wanted = ItemTree::Custom { name: text("component-name"), data: data.to_vec().into() };
+    assert_eq!(names, wanted);
+}
+
+#[test]
 fn a_refused_command_changes_nothing() {
     let import = || Command::Import { name: name("f"), ty: ComponentTypeRef::Func(0) };
     let start = |results| Command::Start { function: 0, args: vec![].into(), results };

@@ -75,6 +75,14 @@ fn a_section_is_written_as_it_stands() {
 }
 
 #[test]
+fn a_section_has_its_id_and_content() {
+    let bytes = component("0183808000abcdef 0a0100");
+    let [module, imports] = sections(&bytes).collect::<Vec<_>>().try_into().expect("there are two");
+    assert_eq!((module.raw().id, module.raw().data), (1, &[0xab, 0xcd, 0xef][..]));
+    assert_eq!((imports.raw().id, imports.raw().data), (10, &[0][..]));
+}
+
+#[test]
 fn trees_are_written_anew() {
     for (wide, strict) in ROWS {
         let (bytes, wanted) = (component(wide), component(strict));
@@ -303,8 +311,6 @@ fn items_stand_in_their_sections_alone() {
 
 #[test]
 fn what_is_one_item_has_just_one() {
-    let empty =
-        |id: u8| std::panic::catch_unwind(|| made(&component("0100"), |_| ItemSection::new(id)));
     for id in 0..=11_u8 {
         let is_one = [0, 1, 4, 9].contains(&id);
         let mut section = ItemSection::new(id);
@@ -315,12 +321,26 @@ fn what_is_one_item_has_just_one() {
         if is_one {
             assert_eq!(written, [id, 2, 1, b'x']);
             assert_eq!(more, written);
-            let panic = empty(id).expect_err("it has no item");
-            assert_eq!(panic.downcast_ref::<std::string::String>().expect("a text"), "unfinished");
         } else {
             assert_eq!(written, [id, 3, 1, 1, b'x']);
             assert_eq!(more, [id, 4, 2, 1, b'x', b'y']);
-            assert_eq!(empty(id).expect("it is written")[8..], [id, 1, 0]);
+            let empty = ItemSection::new(id);
+            assert_eq!(Component::new().section(&empty).as_slice()[8..], [id, 1, 0]);
         }
     }
+}
+
+#[test]
+#[should_panic(expected = "unfinished")]
+fn what_is_one_item_is_not_written_without_it() {
+    Component::new().section(&ItemSection::new(ComponentSectionId::Start));
+}
+
+#[test]
+#[should_panic(expected = "item of another section")]
+fn a_listed_section_with_an_item_of_another_is_not_written() {
+    let mut listing = list(&component("0a060100016601000b0701000167010000")).expect("it is listed");
+    let export = listing.sections[1].items[0].clone();
+    listing.sections[0].items = [export].into();
+    Component::new().section(&listing.sections[0]);
 }

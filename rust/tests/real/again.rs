@@ -213,7 +213,10 @@ fn padded_sizes_and_counts_are_kept_or_written_anew() {
         assert!(wide.len() >= bytes.len() + 3 * listing.sections.len(), "{name}");
         assert!(kept(&wide) == wide, "{name}");
         assert!(by_items(&wide, |_| false) == bytes, "{name}");
-        assert!(by_trees(&list(&wide).expect(&name)) == bytes, "{name}");
+        let listing = list(&wide).expect(&name);
+        assert!(by_trees(&listing) == bytes, "{name}");
+        let commands: Vec<Command> = items(listing).map(Command::from).collect();
+        assert!(built(&commands) == bytes, "{name}");
         components += 1;
     }
     assert_eq!(components, 68);
