@@ -4,47 +4,23 @@
 //! cargo run --example strip -- COMPONENT OUT
 //! ```
 //!
-//! Components in it lose theirs too; core modules are kept as they are. `list` says where each
-//! section stands, and `Component` has all that is kept appended to it, section by section.
+//! Components in it lose theirs too; all else stays the same byte for byte. `Sections` reads the
+//! component section by section, and those that are kept are appended to a `Component`.
 
-use wenc::tree::ItemTree;
-use wenc::{Component, ComponentSection, ComponentSectionId, Encode, ListFault, RawSection, list};
+use wenc::{Component, ComponentSectionId, ListFault, RawSection, Sections};
 
-/// A section that is kept as it stands.
-struct Kept<'a> {
-    id: u8,
-    /// What follows the id.
-    text: &'a [u8],
-}
-
-impl Encode for Kept<'_> {
-    fn encode(&self, sink: &mut Vec<u8>) {
-        sink.extend_from_slice(self.text);
-    }
-}
-
-impl ComponentSection for Kept<'_> {
-    fn id(&self) -> u8 {
-        self.id
-    }
-}
-
-/// The component without custom sections, or why it isn't read.
+/// The component without custom sections, or why its sections aren't read.
 pub fn strip(bytes: &[u8]) -> Result<Vec<u8>, ListFault> {
-    let sections = list(bytes)?.sections;
-    let ends = sections.iter().skip(1).map(|next| next.place).chain([bytes.len()]);
+    let custom = ComponentSectionId::CoreCustom.into();
+    let nested = ComponentSectionId::Component.into();
     let mut stripped = Component::new();
-    for (section, end) in sections.iter().zip(ends) {
-        match section.items.as_slice() {
-            [ItemTree::Custom { .. }] => {}
-            [ItemTree::Component(inner)] => {
-                let id = ComponentSectionId::Component.into();
-                stripped.section(&RawSection { id, data: &strip(inner)? });
-            }
-            _ => {
-                let text = &bytes[section.place + 1..end];
-                stripped.section(&Kept { id: section.id, text });
-            }
+    for section in Sections::new(bytes)? {
+        let section = section?;
+        if section.id() == nested {
+            let data = &strip(section.raw().data)?;
+            stripped.section(&RawSection { id: nested, data });
+        } else if section.id() != custom {
+            stripped.section(&section);
         }
     }
     Ok(stripped.finish())

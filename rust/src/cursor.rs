@@ -1,9 +1,10 @@
 //! A component section by section, and a section item by item.
 
-use crate::ListFault;
 use crate::proved::rt_std::alloc::Global;
 use crate::proved::wenc_list as proved;
 use crate::tree::ItemTree;
+use crate::{ListFault, RawSection};
+use core::fmt;
 use core::ops::Range;
 
 /// An iterator over the sections of a component.
@@ -67,7 +68,24 @@ impl<'a> Iterator for Sections<'a> {
     }
 }
 
-/// A section of a component.
+/// A section of a component. As a [`ComponentSection`](crate::ComponentSection) it is appended to
+/// another component byte for byte.
+///
+/// ```
+/// use wenc::{Component, ComponentSectionId, Sections};
+///
+/// // a custom section, and imports whose size is padded
+/// let bytes = b"\0asm\x0d\0\x01\0\0\x03\x01x\x07\x0a\x89\0\x01\0\x04file\x03\x01";
+/// let mut component = Component::new();
+/// for section in Sections::new(bytes)? {
+///     let section = section?;
+///     if section.id() != u8::from(ComponentSectionId::CoreCustom) {
+///         component.section(&section);
+///     }
+/// }
+/// assert_eq!(component.finish(), b"\0asm\x0d\0\x01\0\x0a\x89\0\x01\0\x04file\x03\x01");
+/// # Ok::<(), wenc::ListFault>(())
+/// ```
 #[derive(Clone, Copy)]
 pub struct SectionReader<'a> {
     bytes: &'a [u8],
@@ -85,6 +103,29 @@ impl<'a> SectionReader<'a> {
         self.left.place..self.left.ends
     }
 
+    /// The bytes of the section, from its id on.
+    pub fn bytes(&self) -> &'a [u8] {
+        &self.bytes[self.range()]
+    }
+
+    /// The section as its id and the bytes after its size: for a core module or a nested component,
+    /// those of that module or component.
+    ///
+    /// ```
+    /// use wenc::Sections;
+    ///
+    /// // a component in a component
+    /// let bytes = b"\0asm\x0d\0\x01\0\x04\x08\0asm\x0d\0\x01\0";
+    /// let section = Sections::new(bytes)?.next().expect("a section")?;
+    /// assert_eq!(section.bytes(), &bytes[8..]);
+    /// assert_eq!(section.raw().data, b"\0asm\x0d\0\x01\0");
+    /// # Ok::<(), wenc::ListFault>(())
+    /// ```
+    pub fn raw(&self) -> RawSection<'a> {
+        let ((id, data), _) = proved::part_of(self.bytes()).expect("its size was read");
+        RawSection { id, data }
+    }
+
     /// Returns the number of its items, as the section says it. A custom section, a module, a nested
     /// component and a start are one item.
     pub fn count(&self) -> u32 {
@@ -94,6 +135,13 @@ impl<'a> SectionReader<'a> {
     /// Returns its items.
     pub fn items(&self) -> Items<'a> {
         Items { bytes: self.bytes, left: Some(self.left) }
+    }
+}
+
+impl fmt::Debug for SectionReader<'_> {
+    fn fmt(&self, f: &mut fmt::Formatter<'_>) -> fmt::Result {
+        let mut shown = f.debug_struct("SectionReader");
+        shown.field("id", &self.id()).field("range", &self.range()).finish_non_exhaustive()
     }
 }
 

@@ -15,11 +15,14 @@ pub enum Error {
     /// A text, a section or a type would pass 4294967295 bytes.
     TooLarge,
     /// A type that an encoder was to write isn't whole: the encoder was dropped before its last
-    /// call, or that call was refused. `discard_unfinished` gives the type up.
+    /// call, or that call was refused. `discard_unfinished` gives the type up. Or a section without
+    /// a count has no item.
     Unfinished,
     /// A part of a core type that isn't of WebAssembly 3.0, as a shared table or an exact
     /// reference: nothing here writes it.
     Unsupported,
+    /// An item belongs to a section with another id.
+    WrongSection,
 }
 
 impl fmt::Display for Error {
@@ -30,6 +33,7 @@ impl fmt::Display for Error {
             Self::TooLarge => "too large",
             Self::Unfinished => "unfinished",
             Self::Unsupported => "not supported",
+            Self::WrongSection => "item of another section",
         })
     }
 }

@@ -30,6 +30,8 @@
 //! ```
 //!
 //! [`list`] reads a component back, as values of [`tree`], which [`tree::build`] makes again.
+//! [`Sections`] reads it section by section, and each can be written again byte for byte
+//! ([`SectionReader`]) or item by item ([`ItemSection`]).
 //!
 //! # What is proved
 //!
@@ -92,6 +94,7 @@ mod list;
 pub mod program;
 mod proved;
 mod raw;
+mod rewrite;
 mod shared;
 pub mod tree;
 mod twins;
@@ -103,6 +106,7 @@ pub use encode::{Encode, encoding_size};
 pub use error::Error;
 pub use list::{ListFault, ListedSection, Listing, Unread, list};
 pub use raw::RawSection;
+pub use rewrite::ItemSection;
 
 /// What was proved of the sources in `crates/`: by which logic and which kits, how many functions
 /// have a proof (those that a `derive` writes aren't counted), how many edits of the code the prover

@@ -4,6 +4,11 @@
 //! those of Rust, with calls that answer where memory is refused. `From` makes either of the other
 //! without a copy.
 //!
+//! A builder takes a [`Command`] ([`ComponentBuilder::command`](crate::ComponentBuilder::command)),
+//! a section an [`ItemTree`] ([`ItemSection`](crate::ItemSection)), an encoder the tree of a type.
+//! The trees of types, aliases, instances and canonical functions, and what these are made of,
+//! implement [`Encode`](crate::Encode).
+//!
 //! ```
 //! use wenc::tree::{Command, ItemTree, NameTree, String, TypeTree, Vec, build};
 //! use wenc::{ComponentExportKind, ComponentTypeRef, list};
@@ -34,6 +39,8 @@
 //! ```
 
 mod conversions;
+mod core_types;
+mod encode;
 
 use crate::Error;
 use crate::proved::wasm_encoder as proved;

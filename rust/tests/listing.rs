@@ -413,6 +413,69 @@ fn commands_are_built() {
     );
     assert_eq!(built.bytes, expected);
     assert_eq!(built, built.clone());
+
+    let mut builder = ComponentBuilder::default();
+    assert_eq!(commands.each_ref().map(|command| builder.command(command)), answers);
+    assert_eq!(builder.finish(), expected);
+}
+
+#[test]
+fn commands_have_debug_names() {
+    let debug_name = |name: &str| Some(text(name));
+    let instance = tree::InstanceTree::Exports([].into());
+    let core_instance = tree::CoreInstanceTree::Exports([].into());
+    let kind = ComponentOuterAliasKind::Component;
+    let alias = tree::AliasTree::Outer { kind, count: 0, index: 0 };
+    let ty = tree::TypeTree::Instance([].into());
+    let core_type = tree::CoreTypeTree::Module([].into());
+    let canon = tree::CanonTree::Lift { core_func: 0, ty: 0, options: [].into() };
+    let commands = [
+        Command::CoreModule { debug_name: debug_name("a"), bytes: [].into() },
+        Command::CoreInstance { debug_name: debug_name("b"), instance: core_instance },
+        Command::CoreType { debug_name: debug_name("c"), ty: core_type.into() },
+        Command::Component { debug_name: debug_name("d"), commands: [].into() },
+        Command::ComponentRaw { debug_name: debug_name("e"), bytes: [].into() },
+        Command::Instance { debug_name: debug_name("f"), instance },
+        Command::Alias { debug_name: debug_name("g"), alias },
+        Command::Type { debug_name: debug_name("h"), ty },
+        Command::Canon { debug_name: debug_name("i"), canon },
+        Command::AppendNames,
+    ];
+    let mut builder = ComponentBuilder::default();
+    for command in &commands {
+        builder.command(command).expect("it is made");
+    }
+    let listing = list(&builder.finish()).expect("it is listed");
+    let names = listing.sections.last().expect("the names").items[0].clone();
+    // in upstream's order: core types, modules and instances, then instances, functions, types and
+    // components
+    let data = b"\x01\x06\x00\x10\x01\x00\x01c\x01\x06\x00\x11\x01\x00\x01a\
+        \x01\x06\x00\x12\x01\x00\x01b\x01\x05\x05\x01\x00\x01f\x01\x05\x01\x01\x00\x01i\
+        \x01\x05\x03\x01\x00\x01h\x01\x0b\x04\x03\x00\x01d\x01\x01e\x02\x01g";
+    let wanted = ItemTree::Custom { name: text("component-name"), data: data.to_vec().into() };
+    assert_eq!(names, wanted);
+}
+
+#[test]
+fn a_refused_command_changes_nothing() {
+    let import = || Command::Import { name: name("f"), ty: ComponentTypeRef::Func(0) };
+    let start = |results| Command::Start { function: 0, args: vec![].into(), results };
+    let nested = vec![import(), start(u32::MAX), start(1), import()].into();
+    let mut builder = ComponentBuilder::default();
+    let refused = Command::Component { debug_name: Some(text("n")), commands: nested };
+    assert_eq!(builder.command(&refused), Err(Error::TooMany));
+    assert_eq!((builder.component_count(), builder.func_count()), (0, 0));
+    assert_eq!(builder.command(&import()), Ok(Some(0)));
+
+    // An encoder of its own that a user dropped is the user's to give up.
+    drop(builder.type_defined(None));
+    let ty = tree::TypeTree::Instance(vec![].into());
+    let ty = Command::Type { debug_name: None, ty };
+    assert_eq!(builder.command(&ty), Err(Error::Unfinished));
+    assert!(builder.discard_unfinished());
+    assert_eq!(builder.command(&ty), Ok(Some(0)));
+    let expected = component(b"\x0a\x06\x01\x00\x01f\x01\x00\x07\x03\x01\x42\x00");
+    assert_eq!(builder.finish(), expected);
 }
 
 /// A section of each kind, whose items are those of the tests above.
@@ -455,6 +518,69 @@ fn core_types_are_of_trees_and_of_sections() {
     assert_eq!(tree::ValType::try_from(own), Ok(of_trees));
     assert_eq!(ValType::from(of_trees), own);
     assert_eq!(tree::HeapType::try_from(HeapType::Exact(0)), Err(Error::Unsupported));
+
+    // a function, a structure and an array in a group
+    let bytes = b"\x01\x4e\x03\x60\x01\x7f\x01\x7e\
+        \x50\x00\x5f\x02\x78\x00\x7f\x01\x4f\x01\x00\x5e\x63\x00\x01";
+    let items = items(3, bytes);
+    let [ItemTree::CoreType(ty)] = items.as_slice() else { panic!("a core type") };
+    let tree::CoreTypeTree::Group(tree::GroupTree::Rec(group)) = &**ty else { panic!("a group") };
+    let nullable = RefType { nullable: true, heap_type: HeapType::Concrete(0) };
+    let field = |element_type, mutable| FieldType { element_type, mutable };
+    let fields = [field(StorageType::I8, false), field(StorageType::Val(ValType::I32), true)];
+    let wanted = [
+        (true, None, CompositeInnerType::Func(FuncType::new([ValType::I32], [ValType::I64]))),
+        (false, None, CompositeInnerType::Struct(StructType { fields: fields.into() })),
+        (
+            true,
+            Some(0),
+            CompositeInnerType::Array(ArrayType(field(StorageType::Val(nullable.into()), true))),
+        ),
+    ];
+    assert_eq!(group.len(), wanted.len());
+    for (ty, (is_final, supertype_idx, inner)) in group.iter().zip(wanted) {
+        let composite_type =
+            CompositeType { inner, shared: false, descriptor: None, describes: None };
+        let wanted = SubType { is_final, supertype_idx, composite_type };
+        assert_eq!(SubType::from(ty), wanted);
+        assert_eq!(tree::SubType::try_from(&wanted).as_ref(), Ok(ty));
+    }
+}
+
+#[test]
+fn what_modules_import_is_of_trees_and_of_sections() {
+    let bytes = b"\x01\x50\x05\x00\x00\x00\x00\x02\x00\x00\x00\x01\x70\x01\x01\x02\
+        \x00\x00\x00\x02\x03\x01\x02\x00\x00\x00\x03\x7d\x01\x00\x00\x00\x04\x00\x05";
+    let items = items(3, bytes);
+    let [ItemTree::CoreType(ty)] = items.as_slice() else { panic!("a core type") };
+    let tree::CoreTypeTree::Module(decls) = &**ty else { panic!("of modules") };
+    let table = TableType {
+        element_type: RefType::FUNCREF,
+        table64: false,
+        minimum: 1,
+        maximum: Some(2),
+        shared: false,
+    };
+    let memory = MemoryType {
+        minimum: 1,
+        maximum: Some(2),
+        memory64: false,
+        shared: true,
+        page_size_log2: None,
+    };
+    let wanted = [
+        EntityType::Function(2),
+        table.into(),
+        memory.into(),
+        GlobalType { val_type: ValType::F32, mutable: true, shared: false }.into(),
+        TagType { kind: TagKind::Exception, func_type_idx: 5 }.into(),
+    ];
+    assert_eq!(decls.len(), wanted.len());
+    for (decl, wanted) in decls.iter().zip(wanted) {
+        let tree::ModuleDecl::Import { ty, .. } = decl else { panic!("an import") };
+        assert_eq!(EntityType::from(*ty), wanted);
+        assert_eq!(tree::EntityType::try_from(wanted).as_ref(), Ok(ty));
+    }
 }
 
 #[test]

@@ -135,6 +135,74 @@ fn a_component_is_built() {
         builder.try_finish().expect("it takes no memory")
     });
     are_upstreams(&bytes, 30253, 0xa1f_a008_65dd_ec10);
+    is_made_by_commands(&bytes);
+}
+
+#[test]
+fn sections_are_made_of_items() {
+    let mut builder = ComponentBuilder::default();
+    builder.component(None, ComponentBuilder::default());
+    for i in 0..40 {
+        builder.import(NAME, ComponentTypeRef::Func(i));
+        builder.export(NAME, ComponentExportKind::Func, i, None);
+        builder.type_defined(Some(NAME)).1.record([(NAME, STRING)]);
+    }
+    builder.append_names();
+    let bytes = builder.finish();
+    let listing = list(&bytes).expect("it is listed");
+    // What has no answer for a refusal is made while none is to come.
+    let calmly = |make: &mut dyn FnMut()| {
+        let granted = GRANTED.take();
+        make();
+        GRANTED.set(granted);
+    };
+    each_is_refused(10, |refusals| {
+        for (section, listed) in Sections::new(&bytes).expect("a component").zip(&listing.sections)
+        {
+            let section = section.expect("a section");
+            let (mut anew, mut kept) = (ItemSection::new(listed.id), ItemSection::new(listed.id));
+            for item in &listed.items {
+                refusals.call(|| anew.item(item).map(|_| ()));
+            }
+            let mut places = Vec::new();
+            calmly(&mut || places.extend(section.items().map(|item| item.expect("an item").0)));
+            for place in places {
+                refusals.call(|| kept.raw(&bytes[place.clone()]).map(|_| ()));
+            }
+            calmly(&mut || {
+                for made in [&anew, &kept] {
+                    let mut component = Component::new();
+                    component.section(made);
+                    assert!(component.as_slice()[8..] == *section.bytes());
+                }
+            });
+        }
+    });
+}
+
+/// Each item of the component is added by a command, and at last all of it as a nested component.
+fn is_made_by_commands(bytes: &[u8]) {
+    let commands = || {
+        let sections = list(bytes).expect("it is a component").sections.into_iter();
+        sections.flat_map(|section| section.items).map(tree::Command::from).collect()
+    };
+    let nested = tree::Command::Component { debug_name: None, commands: commands() };
+    let commands: Vec<_> = commands().into_iter().chain([nested]).collect();
+    let made = each_is_refused(30, |refusals| {
+        let mut builder = refusals.call(ComponentBuilder::try_new);
+        for command in &commands {
+            refusals.call(|| {
+                let answer = builder.command(command);
+                assert!(builder.is_finished());
+                answer
+            });
+        }
+        builder.try_finish().expect("it takes no memory")
+    });
+    let nested = RawSection { id: ComponentSectionId::Component.into(), data: bytes };
+    let mut expected = bytes.to_vec();
+    nested.append_to_component(&mut expected);
+    assert!(made == expected);
 }
 
 #[test]

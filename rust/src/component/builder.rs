@@ -1,6 +1,7 @@
 //! The builder: its life, and how many items it has.
 
 mod builtins;
+mod commands;
 mod definitions;
 mod functions;
 mod instances;

@@ -19,6 +19,9 @@ fn what_is_too_large_is_refused() {
     assert_eq!(b.try_core_module_raw(None, &large), Err(Error::TooLarge));
     assert_eq!(b.try_component_raw(None, &large), Err(Error::TooLarge));
     assert_eq!((b.core_module_count(), b.component_count()), (0, 0));
+    let mut module = ItemSection::new(ComponentSectionId::CoreModule);
+    assert_eq!(module.raw(&large).err(), Some(Error::TooLarge));
+    assert!(module.is_empty());
     assert_eq!(behind_header(b), "");
 }
 
@@ -169,12 +172,13 @@ mod threads {
 
 #[test]
 fn errors_tell_what_they_are() {
-    let errors: [(Error, &str); 5] = [
+    let errors: [(Error, &str); 6] = [
         (Error::NoMemory, "no memory"),
         (Error::TooMany, "too many"),
         (Error::TooLarge, "too large"),
         (Error::Unfinished, "unfinished"),
         (Error::Unsupported, "not supported"),
+        (Error::WrongSection, "item of another section"),
     ];
     for (error, text) in errors {
         let error: Box<dyn std::error::Error + Send + Sync> = error.into();

@@ -11,6 +11,7 @@ mod names;
 mod numbers;
 mod reading;
 mod rows;
+mod spellings;
 mod unfilled;
 mod unread;
 mod widened;

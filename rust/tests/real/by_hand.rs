@@ -2,9 +2,8 @@
 //! it.
 
 use wenc::tree::{
-    self, CanonTree, CaseTree, ComponentDecl, CompositeType as Composite, CoreInstanceTree,
-    CoreTypeTree, DefinedTree, GroupTree, InstanceDecl, InstanceTree, ItemTree, ModuleDecl,
-    TypeTree,
+    self, CanonTree, CaseTree, ComponentDecl, CoreInstanceTree, CoreTypeTree, DefinedTree,
+    GroupTree, InstanceDecl, InstanceTree, ItemTree, ModuleDecl, TypeTree,
 };
 use wenc::*;
 
@@ -187,76 +186,19 @@ fn module_type(decls: &[ModuleDecl]) -> ModuleType {
     let mut of = ModuleType::new();
     for decl in decls {
         match decl {
-            ModuleDecl::Import { module, name, ty } => drop(of.import(module, name, entity(*ty))),
+            ModuleDecl::Import { module, name, ty } => drop(of.import(module, name, (*ty).into())),
             ModuleDecl::Type(tree) => group(of.ty(), tree),
             ModuleDecl::Alias { count, index } => drop(of.alias_outer_core_type(*count, *index)),
-            ModuleDecl::Export { name, ty } => drop(of.export(name, entity(*ty))),
+            ModuleDecl::Export { name, ty } => drop(of.export(name, (*ty).into())),
         }
     }
     of
 }
 
-fn entity(ty: tree::EntityType) -> EntityType {
-    match ty {
-        tree::EntityType::Function(index) => EntityType::Function(index),
-        tree::EntityType::Table(ty) => EntityType::Table(TableType {
-            element_type: ty.element_type.into(),
-            table64: ty.table64,
-            minimum: ty.minimum,
-            maximum: ty.maximum,
-            shared: false,
-        }),
-        tree::EntityType::Memory(ty) => EntityType::Memory(MemoryType {
-            minimum: ty.minimum,
-            maximum: ty.maximum,
-            memory64: ty.memory64,
-            shared: ty.shared,
-            page_size_log2: None,
-        }),
-        tree::EntityType::Global(ty) => EntityType::Global(GlobalType {
-            val_type: ty.val_type.into(),
-            mutable: ty.mutable,
-            shared: false,
-        }),
-        tree::EntityType::Tag(ty) => {
-            EntityType::Tag(TagType { kind: TagKind::Exception, func_type_idx: ty.func_type_idx })
-        }
-    }
-}
-
 fn group(encoder: CoreTypeEncoder<'_>, tree: &GroupTree) {
     match tree {
-        GroupTree::Sub(ty) => encoder.subtype(&subtype(ty)),
-        GroupTree::Rec(types) => {
-            let types: Vec<SubType> = types.iter().map(subtype).collect();
-            encoder.rec(types);
-        }
-    }
-}
-
-fn subtype(ty: &tree::SubType) -> SubType {
-    fn field(ty: &tree::FieldType) -> FieldType {
-        let element_type = match ty.element_type {
-            tree::StorageType::I8 => StorageType::I8,
-            tree::StorageType::I16 => StorageType::I16,
-            tree::StorageType::Val(ty) => StorageType::Val(ty.into()),
-        };
-        FieldType { element_type, mutable: ty.mutable }
-    }
-    let values = |types: &[tree::ValType]| types.iter().map(|ty| (*ty).into()).collect::<Vec<_>>();
-    let inner = match &ty.composite_type {
-        Composite::Func(ty) => {
-            CompositeInnerType::Func(FuncType::new(values(ty.params()), values(ty.results())))
-        }
-        Composite::Array(ty) => CompositeInnerType::Array(ArrayType(field(&ty.0))),
-        Composite::Struct(ty) => {
-            CompositeInnerType::Struct(StructType { fields: ty.fields.iter().map(field).collect() })
-        }
-    };
-    SubType {
-        is_final: ty.is_final,
-        supertype_idx: ty.supertype_idx,
-        composite_type: CompositeType { inner, shared: false, descriptor: None, describes: None },
+        GroupTree::Sub(ty) => encoder.subtype(&ty.into()),
+        GroupTree::Rec(types) => encoder.rec(types.iter().map(SubType::from)),
     }
 }
 

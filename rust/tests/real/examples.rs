@@ -7,6 +7,8 @@ mod compose;
 #[path = "../../examples/first.rs"]
 #[allow(dead_code)]
 mod first;
+#[path = "../../examples/rename.rs"]
+mod rename;
 #[path = "../../examples/strip.rs"]
 mod strip;
 #[path = "../../examples/world.rs"]
@@ -15,8 +17,8 @@ mod world;
 use crate::toolchain::linker;
 use crate::{again, corpus};
 use componentize::{Signature, componentize};
-use wenc::list;
 use wenc::tree::ItemTree;
+use wenc::{Sections, list};
 
 fn componentized(module: &[u8], signatures: &[&str]) -> Vec<u8> {
     let signatures = signatures.iter().map(|text| Signature::parse(text));
@@ -93,9 +95,12 @@ fn a_composed_component_is_valid() {
 fn stripped_components_have_all_else() {
     let linker = linker("strip");
     for (name, bytes) in corpus::components() {
-        let Ok(listing) = list(&bytes) else { continue };
         let stripped = strip::strip(&bytes).expect("it is stripped");
         assert!(stripped.len() < bytes.len(), "{name}");
+        if let Some(linker) = &linker {
+            assert_eq!(linker.refuses(&stripped), None, "{name}");
+        }
+        let Ok(listing) = list(&bytes) else { continue };
         let has_nested = items(&bytes).iter().any(|item| matches!(item, ItemTree::Component(_)));
         if has_nested {
             let counts = list(&stripped).expect("it is listed").counts;
@@ -103,8 +108,47 @@ fn stripped_components_have_all_else() {
         } else {
             assert!(items(&stripped) == items(&bytes), "{name}");
         }
-        if let Some(linker) = &linker {
-            assert_eq!(linker.refuses(&stripped), None, "{name}");
-        }
     }
+}
+
+/// The name of an import, and another one for it, with `-x` behind the word that ends it or stands
+/// before its version.
+fn names(item: &ItemTree) -> Option<(String, String)> {
+    let ItemTree::Import { name, .. } = item else { return None };
+    let name = name.name.as_str();
+    let (word, version) = name.split_at(name.find('@').unwrap_or(name.len()));
+    let other = format!("{word}-x{version}");
+    Some((name.to_owned(), other))
+}
+
+/// How many sections differ.
+fn differing(one: &[u8], other: &[u8]) -> usize {
+    let [one, other] = [one, other].map(|bytes| {
+        let sections = Sections::new(bytes).expect("a component");
+        sections.map(|section| section.expect("a section").bytes()).collect::<Vec<_>>()
+    });
+    assert_eq!(one.len(), other.len());
+    one.iter().zip(other).filter(|(one, other)| **one != *other).count()
+}
+
+/// The last import is renamed: in the name of a function the name of a resource may stand, which is
+/// imported before.
+#[test]
+fn components_with_a_renamed_import_have_all_else() {
+    let linker = linker("rename");
+    let mut renamed = 0;
+    for (name, bytes) in corpus::components() {
+        let Ok(listing) = list(&bytes) else { continue };
+        let Some((old, new)) = again::items(listing).filter_map(|item| names(&item)).last() else {
+            continue;
+        };
+        let other = rename::rename(&bytes, &old, &new).expect("it is renamed");
+        assert_eq!((other.len(), differing(&bytes, &other)), (bytes.len() + 2, 1), "{name}");
+        if let Some(linker) = &linker {
+            assert_eq!(linker.refuses(&other), None, "{name}");
+        }
+        assert!(rename::rename(&other, &new, &old).expect("it is renamed") == bytes, "{name}");
+        renamed += 1;
+    }
+    assert_eq!(renamed, 30);
 }

@@ -1,18 +1,35 @@
 //! Commands by their parts, and what they build.
 
-use crate::hex::behind;
+use crate::hex::{behind, behind_header};
 use wenc::tree::{AliasTree, CanonTree, Command, CoreTypeTree, DefinedTree, TypeTree, build};
-use wenc::{ComponentExportKind, ComponentOuterAliasKind, ComponentTypeRef, Error, ExportKind};
+use wenc::{
+    Component, ComponentBuilder, ComponentExportKind, ComponentOuterAliasKind, ComponentTypeRef,
+    Error, ExportKind, list,
+};
 
 /// A command, and its answer.
 pub type Call = (Command, Result<Option<u32>, Error>);
 
-/// The commands are answered so, and make the component with these bytes after its header.
+/// The commands are answered so, together and one by one, and make the component with these bytes
+/// after its header. Where these are read, their sections are written so again.
 pub fn builds<const N: usize>(calls: [Call; N], wanted: &str) {
     let (commands, answers): (Vec<_>, Vec<_>) = calls.into_iter().unzip();
     let built = build(&commands).unwrap();
     assert_eq!(built.answers, answers);
     assert_eq!(behind(&built.bytes), wanted);
+
+    let mut builder = ComponentBuilder::default();
+    let called: Vec<_> = commands.iter().map(|command| builder.command(command)).collect();
+    assert_eq!(called, answers);
+    assert_eq!(behind_header(builder), wanted);
+
+    if let Ok(listing) = list(&built.bytes) {
+        let mut again = Component::new();
+        for section in &listing.sections {
+            again.section(section);
+        }
+        assert_eq!(behind(again.as_slice()), wanted);
+    }
 }
 
 /// The command adds an item, which is the first of its space.

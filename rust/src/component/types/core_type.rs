@@ -2,6 +2,7 @@
 
 use crate::component::sections;
 use crate::shared::{collections, encoders, lenders, on};
+use crate::tree::CoreTypeTree;
 use crate::twins::twins;
 use crate::{CoreTypeEncoder, ModuleType};
 
@@ -20,6 +21,11 @@ impl<'a> ComponentCoreTypeEncoder<'a> {
         /// This type of modules, which ends the type.
         fn module | try_module(self, ty: &ModuleType) -> () {
             Ok(on!(self.by, CoreBy, encoder => encoder.module(&ty.0))?)
+        }
+
+        /// The type of this tree, which ends the type.
+        fn tree | try_tree(self, ty: &CoreTypeTree) -> () {
+            Ok(on!(self.by, CoreBy, encoder => encoder.tree(ty))?)
         }
     }
 

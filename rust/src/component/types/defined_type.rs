@@ -2,6 +2,7 @@
 
 use super::{ComponentValType, PrimitiveValType};
 use crate::shared::{encoders, on};
+use crate::tree::DefinedTree;
 use crate::twins::twins;
 
 encoders! {
@@ -35,6 +36,11 @@ encoders! {
 
 impl ComponentDefinedTypeEncoder<'_> {
     twins! {
+        /// The type of this tree.
+        fn tree | try_tree(self, ty: &DefinedTree) -> () {
+            Ok(on!(self.by, DefinedBy, encoder => encoder.tree(ty))?)
+        }
+
         /// A primitive type.
         fn primitive | try_primitive(self, ty: PrimitiveValType) -> () {
             Ok(on!(self.by, DefinedBy, encoder => encoder.primitive(ty))?)

@@ -3,6 +3,7 @@
 use super::{ComponentDefinedTypeEncoder, ComponentFuncTypeEncoder, ComponentType, InstanceType};
 use crate::ValType;
 use crate::shared::{encoders, on};
+use crate::tree::TypeTree;
 use crate::twins::twins;
 
 encoders! {
@@ -25,6 +26,21 @@ impl<'a> ComponentTypeEncoder<'a> {
         /// This type of instances, which ends the type.
         fn instance | try_instance(self, ty: &InstanceType) -> () {
             Ok(on!(self.by, TypeBy, encoder => encoder.instance(&ty.0))?)
+        }
+
+        /// The type of this tree, which ends the type.
+        ///
+        /// ```
+        /// use wenc::tree::{DefinedTree, TypeTree};
+        /// use wenc::{ComponentBuilder, PrimitiveValType};
+        ///
+        /// let mut builder = ComponentBuilder::default();
+        /// let bytes = DefinedTree::List(PrimitiveValType::U8.into());
+        /// builder.ty(Some("bytes")).1.tree(&TypeTree::Defined(bytes));
+        /// assert_eq!(builder.finish()[8..], [0x07, 0x03, 0x01, 0x70, 0x7d]);
+        /// ```
+        fn tree | try_tree(self, ty: &TypeTree) -> () {
+            Ok(on!(self.by, TypeBy, encoder => encoder.tree(ty))?)
         }
     }
 
