@@ -1,9 +1,9 @@
 //! A component section by section, and a section item by item.
 
-use crate::ListFault;
 use crate::proved::rt_std::alloc::Global;
 use crate::proved::wenc_list as proved;
 use crate::tree::ItemTree;
+use crate::{ComponentSectionId, DebugNames, ListFault};
 use core::ops::Range;
 
 /// The sections of a component, one by one, up to the first that isn't framed or counted.
@@ -19,6 +19,15 @@ impl<'a> Sections<'a> {
     pub fn new(bytes: &'a [u8]) -> Result<Self, ListFault> {
         let left = proved::Sections::new(bytes).map_err(|fault| ListFault::told(bytes, fault))?;
         Ok(Self { bytes, left: Some(left) })
+    }
+
+    /// Returns the debug names of the component and of its items, as
+    /// [`Listing::names`](crate::Listing::names); those after a section that isn't framed are left
+    /// out.
+    pub fn names(self) -> DebugNames {
+        let custom = u8::from(ComponentSectionId::CoreCustom);
+        let sections = self.flatten().filter(|section| section.id() == custom);
+        DebugNames::of(sections.flat_map(|section| section.items().flatten()).map(|(_, item)| item))
     }
 }
 

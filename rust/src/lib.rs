@@ -81,12 +81,14 @@ extern crate std;
 mod capi;
 mod component;
 mod core;
+mod core_sections;
 mod cursor;
 #[cfg(feature = "std")]
 mod dump;
 mod encode;
 mod error;
 mod list;
+mod names;
 #[cfg(feature = "std")]
 #[doc(hidden)]
 pub mod program;
@@ -98,10 +100,12 @@ mod twins;
 
 pub use self::core::*;
 pub use component::*;
+pub use core_sections::{CoreSection, CoreSections, ModuleFault};
 pub use cursor::{Items, SectionReader, Sections};
 pub use encode::{Encode, encoding_size};
 pub use error::Error;
 pub use list::{ListFault, ListedSection, Listing, Unread, list};
+pub use names::{DebugNames, NamesFault};
 pub use raw::RawSection;
 
 /// What was proved of the sources in `crates/`: by which logic and which kits, how many functions

@@ -34,6 +34,7 @@
 //! ```
 
 mod conversions;
+mod space;
 
 use crate::Error;
 use crate::proved::wasm_encoder as proved;
