@@ -2,7 +2,10 @@
 
 mod canonicals;
 mod core_types;
+mod nested;
 mod types;
+
+pub use nested::OuterFault;
 
 use super::{AliasTree, CoreInstanceTree, InstanceTree, ItemTree, Space, String, Vec};
 use crate::{ComponentTypeRef, ComponentValType, ModuleArg, TypeBounds};
@@ -39,10 +42,10 @@ impl ItemTree {
     /// it: [`indices`](Self::indices) returns how many these are. An index may be one of them: core
     /// types of a recursion group refer to each other.
     ///
-    /// What is bytes isn't visited: outer aliases in a nested component, which refer to this
-    /// component as [`Scope::Component`] 1 or above there, and debug names in a custom section,
+    /// What is bytes isn't visited: outer aliases in a nested component, which
+    /// [`outer_indices_mut`](Self::outer_indices_mut) visits, and debug names in a custom section,
     /// which [`DebugNames`](crate::DebugNames) reads. The slots of `context.get` and `context.set`
-    /// aren't in an index space.
+    /// are in no index space.
     ///
     /// ```
     /// use wenc::list;

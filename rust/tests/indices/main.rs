@@ -3,6 +3,7 @@
 mod canonicals;
 mod core_types;
 mod items;
+mod nested;
 mod types;
 
 use wenc::tree::{ItemTree, NameTree, Scope, Space, String};
