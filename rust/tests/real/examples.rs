@@ -7,6 +7,8 @@ mod compose;
 #[path = "../../examples/first.rs"]
 #[allow(dead_code)]
 mod first;
+#[path = "../../examples/merge.rs"]
+mod merge;
 #[path = "../../examples/strip.rs"]
 mod strip;
 #[path = "../../examples/world.rs"]
@@ -15,8 +17,8 @@ mod world;
 use crate::toolchain::linker;
 use crate::{again, corpus};
 use componentize::{Signature, componentize};
-use wenc::list;
-use wenc::tree::ItemTree;
+use wenc::tree::{ItemTree, NameTree};
+use wenc::{ComponentTypeRef, Listing, list};
 
 fn componentized(module: &[u8], signatures: &[&str]) -> Vec<u8> {
     let signatures = signatures.iter().map(|text| Signature::parse(text));
@@ -87,6 +89,52 @@ fn a_composed_component_is_valid() {
     let composed = compose::compose(&another, &consumer).expect("it is composed");
     let told = linker.refuses(&composed).expect("it takes another number");
     assert!(told.contains("expected primitive `u32` found primitive `s32`"), "{told}");
+}
+
+/// How many imports both have.
+fn shared(one: &Listing, other: &Listing) -> usize {
+    let is_shared = |import: &(&NameTree, ComponentTypeRef)| {
+        other.imports().any(|(name, ty)| name == import.0 && ty.kind() == import.1.kind())
+    };
+    one.imports().filter(is_shared).count()
+}
+
+/// Each component of the corpus with the one after it, and with all that import something of the
+/// same name. Of those few ask for the same type too.
+#[test]
+fn merged_components_are_valid() {
+    let linker = linker("merge");
+    let components = corpus::components().into_iter();
+    let components = components.filter_map(|(name, bytes)| Some((name, list(&bytes).ok()?, bytes)));
+    let components: Vec<_> = components.collect();
+    let (mut merged, mut imported_once, mut colliding, mut agreeing) = (0, 0, 0, Vec::new());
+    for (at, (name, one, first)) in components.iter().enumerate() {
+        for (other_at, (of, other, second)) in components.iter().enumerate().skip(at + 1) {
+            let shared = shared(one, other);
+            if shared == 0 && other_at > at + 1 {
+                continue;
+            }
+            let Ok(made) = merge::merge(first, second) else {
+                colliding += 1;
+                continue;
+            };
+            let told = list(&made).expect("it is listed");
+            assert_eq!(told.exports().count(), one.exports().count() + other.exports().count());
+            let imports = one.imports().count() + other.imports().count() - shared;
+            assert_eq!(told.imports().count(), imports, "{name} and {of}");
+            merged += 1;
+            imported_once += shared;
+            let Some(told) = linker.as_ref().map(|linker| linker.refuses(&made)) else { continue };
+            match told {
+                None if shared > 0 => agreeing.push([name.as_str(), of]),
+                told => assert!(told.is_none() || shared > 0, "{name} and {of}: {told:?}"),
+            }
+        }
+    }
+    assert_eq!((merged, imported_once, colliding), (48, 13, 5));
+    if linker.is_some() {
+        assert_eq!(agreeing, [["01-flat", "adapted"], ["15-includes", "35-start"]]);
+    }
 }
 
 #[test]
