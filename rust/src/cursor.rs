@@ -85,8 +85,8 @@ impl<'a> Sections<'a> {
         DebugNames::of(items.flatten().map(|(_, item)| item))
     }
 
-    /// Returns the sections of the component and of all that are nested in it, where components nest
-    /// up to `limit` deep.
+    /// Returns the sections of the component and of all components that are nested in it, up to
+    /// `limit` deep.
     pub fn nested(self, limit: usize) -> NestedSections<'a> {
         NestedSections { open: Vec::from([self]), limit, last: None }
     }

@@ -137,6 +137,31 @@ fn merged_components_are_valid() {
     }
 }
 
+/// A recursion group and the type of a module, which is imported; a type, and a nested component
+/// with an outer alias of it, which it imports a function of.
+fn with_groups_and_nested(import: u8, ty: u8) -> Vec<u8> {
+    let nested = b"\0asm\x0d\0\x01\0\x06\x05\x01\x03\x02\x01\0\x0a\x06\x01\0\x01f\x01\0";
+    [
+        &b"\0asm\x0d\0\x01\0\x03\x0b\x02\x4e\x02\x60\0\0\x60\0\0\x50\0"[..],
+        &[0x0a, 0x07, 1, 0, 1, import, 0, 0x11, 2],
+        &[0x07, 5, 1, ty, 0, 1, 0, 0x04, 23],
+        nested,
+    ]
+    .concat()
+}
+
+#[test]
+fn merged_groups_and_nested_components_are_valid() {
+    let one = with_groups_and_nested(b'm', 0x40);
+    let made = merge::merge(&one, &with_groups_and_nested(b'n', 0x43)).expect("it is merged");
+    let listing = list(&made).expect("it is listed");
+    let imports: Vec<_> = listing.imports().map(|(name, ty)| (&*name.name, ty)).collect();
+    let module = ComponentTypeRef::Module;
+    assert_eq!(imports, [("m", module(2)), ("n", module(5))]);
+    let Some(linker) = linker("merged groups") else { return };
+    assert_eq!(linker.refuses(&made), None);
+}
+
 #[test]
 fn stripped_components_have_all_else() {
     let linker = linker("strip");

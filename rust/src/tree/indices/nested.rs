@@ -26,7 +26,7 @@ impl ItemTree {
     /// use wenc::list;
     /// use wenc::tree::{Command, Scope, Space, Vec, build};
     ///
-    /// // two types, and a component with an outer alias of the first, which it imports a function of
+    /// // two types, and a component with an outer alias of the first, the type of its import
     /// let component = b"\0asm\x0d\0\x01\0\x07\x09\x02\x40\0\x01\0\x43\0\x01\0\
     ///     \x04\x17\0asm\x0d\0\x01\0\x06\x05\x01\x03\x02\x01\0\x0a\x06\x01\0\x01f\x01\0";
     ///
