@@ -1,16 +1,12 @@
 //! What `wenc-dump` prints of a component or a core module. All bytes are read by proved calls.
 
-use crate::proved::rt_std::alloc::Global;
-use crate::proved::wenc_list::{Names, behind_module_header, names_of, part_of};
-use crate::proved::wenc_sections::Sort;
-use crate::proved::wenc_sections::names::NAMES_LABEL;
+use crate::proved::wenc_list::{behind_module_header, part_of};
 use crate::tree::{ItemTree, NameTree, Space};
-use crate::{ComponentSectionId, ListFault, Sections, Unread};
+use crate::{ComponentSectionId, DebugNames, ListFault, NamesFault, Sections, Unread};
 use std::borrow::ToOwned;
-use std::collections::BTreeMap;
 use std::format;
 use std::io::{self, Write};
-use std::string::{String, ToString};
+use std::string::String;
 
 /// Why a file wasn't printed to its end.
 pub enum Failure {
@@ -26,15 +22,6 @@ impl From<io::Error> for Failure {
     fn from(error: io::Error) -> Self {
         Self::Write(error)
     }
-}
-
-/// The debug names of a component.
-#[derive(Default)]
-struct DebugNames {
-    /// Its own name.
-    own: Option<String>,
-    /// Those of its items, by the number of their space and their index.
-    of_items: BTreeMap<(usize, u128), String>,
 }
 
 /// Prints components, nested ones further in.
@@ -97,8 +84,8 @@ impl<W: Write> Printer<'_, W> {
     fn component(&mut self, depth: usize, place: usize, bytes: &[u8]) -> Result<(), Failure> {
         let fault = |fault| Failure::Fault(moved(fault, place));
         let sections = Sections::new(bytes).map_err(fault)?;
-        let names = debug_names(sections);
-        let own = self.quoted(names.own.as_deref());
+        let names = sections.names();
+        let own = self.quoted(names.component());
         self.placed(depth, place, &format!("component{own}, {} bytes", bytes.len()))?;
         let mut next = [0; 13];
         for section in sections {
@@ -122,7 +109,8 @@ impl<W: Write> Printer<'_, W> {
         let index = &mut next[space.number()];
         let from = *index;
         *index += u128::from(count);
-        let name = self.quoted(names.of_items.get(&(space.number(), from)).map(String::as_str));
+        let name = u32::try_from(from).ok().and_then(|from| names.get(space, from));
+        let name = self.quoted(name);
         let word = space_word(space);
         let indices = match count {
             0 => return format!("no {word}"),
@@ -149,7 +137,13 @@ impl<W: Write> Printer<'_, W> {
             ItemTree::Custom { name, data } => {
                 let name = self.quoted(Some(name));
                 self.line(depth, &format!("{label}{name}, {} bytes", data.len()))?;
-                self.unread_names(depth + 1, end, item)?;
+                match DebugNames::new().read(item) {
+                    Err(NamesFault::BadSubsection { place }) => {
+                        let place = end - data.len() + place;
+                        self.placed(depth + 1, place, "names that aren't read")?;
+                    }
+                    Ok(()) | Err(NamesFault::Memory) => {}
+                }
             }
             other => {
                 let told = self.told(other);
@@ -216,50 +210,6 @@ impl<W: Write> Printer<'_, W> {
         }
         Ok(None)
     }
-
-    /// Says where names aren't read, of a section of names that ends at this place.
-    fn unread_names(&mut self, depth: usize, end: usize, item: &ItemTree) -> io::Result<()> {
-        match names_in(item, &mut |_| {}) {
-            [] => Ok(()),
-            unread => self.placed(depth, end - unread.len(), "names that aren't read"),
-        }
-    }
-}
-
-/// Hands over what a section of names has, and answers what of it isn't read. Another item has
-/// none.
-fn names_in<'a>(item: &'a ItemTree, found: &mut impl FnMut(Names)) -> &'a [u8] {
-    let ItemTree::Custom { name, data } = item else { return &[] };
-    if **name != *NAMES_LABEL {
-        return &[];
-    }
-    let mut rest = &**data;
-    while !rest.is_empty() {
-        let Ok((names, behind)) = names_of(Global, rest) else { return rest };
-        found(names);
-        rest = behind;
-    }
-    rest
-}
-
-/// The debug names that a component has of itself and its items. The first name of an item is
-/// taken.
-fn debug_names(sections: Sections) -> DebugNames {
-    let mut all = DebugNames::default();
-    let customs = sections.flatten().filter(|section| section.id() == 0);
-    for (_, item) in customs.flat_map(|section| section.items().flatten()) {
-        names_in(&item, &mut |names| match names {
-            Names::Component(name) => all.own = Some(name.to_string()),
-            Names::Items(sort, names) => {
-                for item in &names {
-                    let key = (space_of(sort).number(), u128::from(item.index));
-                    all.of_items.entry(key).or_insert_with(|| item.name.to_string());
-                }
-            }
-            Names::Raw(..) => {}
-        });
-    }
-    all
 }
 
 /// The fault of a component that stands at this place.
@@ -320,24 +270,5 @@ fn space_word(space: Space) -> &'static str {
         Space::Values => "value",
         Space::Components => "component",
         Space::Types => "type",
-    }
-}
-
-/// The space of the items of a sort.
-fn space_of(sort: Sort) -> Space {
-    match sort {
-        Sort::CoreFunc => Space::CoreFuncs,
-        Sort::CoreTable => Space::CoreTables,
-        Sort::CoreMemory => Space::CoreMemories,
-        Sort::CoreGlobal => Space::CoreGlobals,
-        Sort::CoreTag => Space::CoreTags,
-        Sort::CoreType => Space::CoreTypes,
-        Sort::CoreModule => Space::CoreModules,
-        Sort::CoreInstance => Space::CoreInstances,
-        Sort::Func => Space::Funcs,
-        Sort::Value => Space::Values,
-        Sort::Type => Space::Types,
-        Sort::Component => Space::Components,
-        Sort::Instance => Space::Instances,
     }
 }

@@ -31,7 +31,8 @@
 //!
 //! [`list`] reads a component back, as values of [`tree`], which [`tree::build`] makes again.
 //! [`Sections`] reads it section by section, and each can be written again byte for byte
-//! ([`SectionReader`]) or item by item ([`ItemSection`]).
+//! ([`SectionReader`]) or item by item ([`ItemSection`]). What was read can be renumbered:
+//! [`indices_mut`](tree::ItemTree::indices_mut) visits each index that an item contains.
 //!
 //! # What is proved
 //!
@@ -83,12 +84,14 @@ extern crate std;
 mod capi;
 mod component;
 mod core;
+mod core_sections;
 mod cursor;
 #[cfg(feature = "std")]
 mod dump;
 mod encode;
 mod error;
 mod list;
+mod names;
 #[cfg(feature = "std")]
 #[doc(hidden)]
 pub mod program;
@@ -101,10 +104,12 @@ mod twins;
 
 pub use self::core::*;
 pub use component::*;
-pub use cursor::{Items, SectionReader, Sections};
+pub use core_sections::{CoreSection, CoreSections, ModuleFault};
+pub use cursor::{Items, NestedSections, SectionReader, Sections};
 pub use encode::{Encode, encoding_size};
 pub use error::Error;
 pub use list::{ListFault, ListedSection, Listing, Unread, list};
+pub use names::{DebugNames, NamesFault};
 pub use raw::RawSection;
 pub use rewrite::ItemSection;
 

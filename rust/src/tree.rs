@@ -41,6 +41,8 @@
 mod conversions;
 mod core_types;
 mod encode;
+mod indices;
+mod space;
 
 use crate::Error;
 use crate::proved::wasm_encoder as proved;
@@ -49,6 +51,7 @@ pub use crate::proved::rt_std::alloc::{AllocError, AllocFailed, Global};
 pub use crate::proved::rt_std::boxed::Box;
 pub use crate::proved::rt_std::string::String;
 pub use crate::proved::rt_std::vec::Vec;
+pub use indices::{IndexUse, OuterFault, Scope};
 pub use proved::{
     AbstractHeapType, AliasTree, ArrayType, CanonTree, CaseTree, Command, ComponentDecl,
     CompositeType, CoreInstanceTree, CoreTypeTree, DefinedTree, EntityType, FieldType, FuncType,

@@ -1,0 +1,146 @@
+//! A core module section by section.
+
+use crate::SectionId;
+use crate::proved::rt_std::alloc::Global;
+use crate::proved::wenc_list::{behind_module_header, part_of};
+use crate::proved::wenc_read::{Refusal, name_of};
+use alloc::string::String;
+use core::fmt;
+use core::ops::Range;
+
+/// A section of a core module (WebAssembly 3.0, binary format, "Sections").
+#[derive(Clone, Debug, PartialEq, Eq)]
+pub struct CoreSection<'a> {
+    /// Its id, from 0 to 255.
+    pub id: u8,
+    /// The name of a custom section; `None` for every other section.
+    pub name: Option<String>,
+    /// Its content, after its size; of a custom section, what follows the name.
+    pub data: &'a [u8],
+    /// Its bytes in the module, from its id to the end of its content.
+    pub range: Range<usize>,
+}
+
+impl CoreSection<'_> {
+    /// Returns what the section's id stands for; `None` for an id above 13.
+    pub fn kind(&self) -> Option<SectionId> {
+        SectionId::ALL.into_iter().find(|kind| u8::from(*kind) == self.id)
+    }
+}
+
+impl SectionId {
+    /// All ids, in their order.
+    pub const ALL: [Self; 14] = [
+        Self::Custom,
+        Self::Type,
+        Self::Import,
+        Self::Function,
+        Self::Table,
+        Self::Memory,
+        Self::Global,
+        Self::Export,
+        Self::Start,
+        Self::Element,
+        Self::Code,
+        Self::Data,
+        Self::DataCount,
+        Self::Tag,
+    ];
+}
+
+/// The sections of a core module, in their order (WebAssembly 3.0, binary format, "Modules").
+/// Their contents aren't read, except for the names of custom sections, and nothing checks their
+/// order.
+///
+/// After a fault there are no further sections.
+///
+/// ```
+/// use wenc::{CoreSections, ModuleFault, SectionId};
+///
+/// let module = b"\0asm\x01\0\0\0\x01\x04\x01\x60\0\0\0\x03\x01x\x07\x0a";
+/// let mut sections = CoreSections::new(module)?;
+///
+/// let types = sections.next().unwrap()?;
+/// assert_eq!((types.kind(), types.range), (Some(SectionId::Type), 8..14));
+/// let custom = sections.next().unwrap()?;
+/// assert_eq!((custom.name.as_deref(), custom.data), (Some("x"), &[7][..]));
+///
+/// assert_eq!(sections.next(), Some(Err(ModuleFault::BadSection { place: 19 })));
+/// assert_eq!(sections.next(), None);
+/// # Ok::<(), ModuleFault>(())
+/// ```
+#[derive(Clone, Debug)]
+pub struct CoreSections<'a> {
+    /// The size of the module.
+    len: usize,
+    rest: &'a [u8],
+}
+
+impl<'a> CoreSections<'a> {
+    /// Returns the sections of the core module with these bytes.
+    ///
+    /// # Errors
+    ///
+    /// [`ModuleFault::NotAModule`] where the bytes don't begin with the header of a core module.
+    pub fn new(module: &'a [u8]) -> Result<Self, ModuleFault> {
+        let rest = behind_module_header(module).ok_or(ModuleFault::NotAModule)?;
+        Ok(Self { len: module.len(), rest })
+    }
+
+    /// The section that begins what is left, and what is after it.
+    fn first(&self) -> Result<(CoreSection<'a>, &'a [u8]), Refusal> {
+        let ((id, content), rest) = part_of(self.rest)?;
+        let (name, data) = if id == SectionId::Custom.into() {
+            let (name, data) = name_of(Global, content)?;
+            (Some(name.into()), data)
+        } else {
+            (None, content)
+        };
+        let range = self.len - self.rest.len()..self.len - rest.len();
+        Ok((CoreSection { id, name, data, range }, rest))
+    }
+}
+
+impl<'a> Iterator for CoreSections<'a> {
+    type Item = Result<CoreSection<'a>, ModuleFault>;
+
+    fn next(&mut self) -> Option<Self::Item> {
+        if self.rest.is_empty() {
+            return None;
+        }
+        let place = self.len - self.rest.len();
+        let first = self.first();
+        self.rest = first.as_ref().map_or(&[], |(_, rest)| rest);
+        Some(first.map(|(section, _)| section).map_err(|refusal| match refusal {
+            Refusal::Memory => ModuleFault::Memory,
+            Refusal::Malformed => ModuleFault::BadSection { place },
+        }))
+    }
+}
+
+/// Why a core module isn't read.
+#[derive(Clone, Copy, Debug, PartialEq, Eq)]
+pub enum ModuleFault {
+    /// An allocation was refused.
+    Memory,
+    /// The bytes don't begin with the header of a core module.
+    NotAModule,
+    /// A section without a size, or with one that is past the end of the module, or a custom
+    /// section without a name.
+    BadSection {
+        /// The byte offset of its id in the module.
+        place: usize,
+    },
+}
+
+impl fmt::Display for ModuleFault {
+    fn fmt(&self, f: &mut fmt::Formatter<'_>) -> fmt::Result {
+        match self {
+            Self::Memory => f.write_str("no memory"),
+            Self::NotAModule => f.write_str("no core module's header"),
+            Self::BadSection { place } => write!(f, "bad core section at {place:#x}"),
+        }
+    }
+}
+
+impl core::error::Error for ModuleFault {}
