@@ -2,7 +2,7 @@
 
 use crate::proved::rt_std::alloc::Global;
 use crate::proved::wenc_list as proved;
-use crate::tree::{ItemTree, NameTree};
+use crate::tree::{ItemTree, NameTree, Space};
 use crate::{
     ComponentExportKind, ComponentSectionId, ComponentTypeRef, DebugNames, ListFault, RawSection,
 };
@@ -81,6 +81,19 @@ impl<'a> Sections<'a> {
             Ok((_, ItemTree::Export { name, kind, index, ty: _ })) => Some(Ok((name, kind, index))),
             Ok(_) => None,
             Err(fault) => Some(Err(fault)),
+        })
+    }
+
+    /// Returns how many indices the items define in a space, as
+    /// [`Listing::count`](crate::Listing::count). All items are read.
+    ///
+    /// # Errors
+    ///
+    /// The first fault of a section or of an item.
+    pub fn index_count(self, space: Space) -> Result<u128, ListFault> {
+        self.items().try_fold(0, |count, item| match item?.1.indices() {
+            Some((of, more)) if of == space => Ok(count + u128::from(more)),
+            _ => Ok(count),
         })
     }
 
