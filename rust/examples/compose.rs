@@ -9,31 +9,16 @@
 //! passes between them are functions and interfaces of plain values: a resource that is exported
 //! would need its type exported in front of it.
 
-use wenc::tree::{ItemTree, NameTree};
-use wenc::{ComponentBuilder, ComponentExportKind as Kind, list};
+use wenc::{ComponentBuilder, ComponentExportKind as Kind, Listing, list};
 
-/// A name and the kind of what has it.
-type Named = (NameTree, Kind);
-
-/// What a component imports and exports.
-fn surface(component: &[u8]) -> Result<(Vec<Named>, Vec<Named>), String> {
-    let (mut imports, mut exports) = (Vec::new(), Vec::new());
-    let listing = list(component).map_err(|fault| fault.to_string())?;
-    for item in listing.sections.into_iter().flat_map(|section| section.items) {
-        match item {
-            ItemTree::Import { name, ty } => imports.push((name, ty.kind())),
-            ItemTree::Export { name, kind, .. } => exports.push((name, kind)),
-            _ => {}
-        }
-    }
-    Ok((imports, exports))
+fn listed(component: &[u8]) -> Result<Listing, String> {
+    list(component).map_err(|fault| fault.to_string())
 }
 
 /// The component of both, or what is wrong with them.
 pub fn compose(provider: &[u8], consumer: &[u8]) -> Result<Vec<u8>, String> {
-    let (needed, provided) = surface(provider)?;
-    let (imports, exports) = surface(consumer)?;
-    if let Some((import, _)) = needed.first() {
+    let (provided, consumed) = (listed(provider)?, listed(consumer)?);
+    if let Some((import, _)) = provided.imports().next() {
         return Err(format!("the provider imports {}", &*import.name));
     }
 
@@ -43,19 +28,19 @@ pub fn compose(provider: &[u8], consumer: &[u8]) -> Result<Vec<u8>, String> {
     let provider = builder.instantiate(Some("provider"), component, nothing);
 
     let mut arguments = Vec::new();
-    for (name, kind) in &imports {
-        let text = &*name.name;
-        if !provided.contains(&(name.clone(), *kind)) {
+    for (name, ty) in consumed.imports() {
+        let (text, kind) = (&*name.name, ty.kind());
+        if !provided.exports().any(|(export, of, _)| export == name && of == kind) {
             return Err(format!("nothing provides {text}"));
         }
-        arguments.push((text, *kind, builder.alias_export(provider, text, *kind)));
+        arguments.push((text, kind, builder.alias_export(provider, text, kind)));
     }
     let component = builder.component_raw(Some("consumer"), consumer);
     let consumer = builder.instantiate(Some("consumer"), component, arguments);
 
-    for (name, kind) in &exports {
-        let index = builder.alias_export(consumer, &name.name, *kind);
-        builder.export(name, *kind, index, None);
+    for (name, kind, _) in consumed.exports() {
+        let index = builder.alias_export(consumer, &name.name, kind);
+        builder.export(name, kind, index, None);
     }
     Ok(builder.finish())
 }

@@ -101,7 +101,7 @@ mod twins;
 pub use self::core::*;
 pub use component::*;
 pub use core_sections::{CoreSection, CoreSections, ModuleFault};
-pub use cursor::{Items, SectionReader, Sections};
+pub use cursor::{Items, NestedSections, SectionReader, Sections};
 pub use encode::{Encode, encoding_size};
 pub use error::Error;
 pub use list::{ListFault, ListedSection, Listing, Unread, list};

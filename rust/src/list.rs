@@ -28,7 +28,7 @@ pub enum ListFault {
     Memory,
     /// The bytes don't begin with the header of a component.
     NotAComponent {
-        /// It is 0.
+        /// It is 0, or that of a nested component.
         place: usize,
     },
     /// Here stands an id above 11, no size, a size past the end, or a custom section without a
@@ -44,11 +44,14 @@ pub enum ListFault {
         /// The first part of it that isn't read; `None` where there was no memory to look for that.
         unread: Option<Unread>,
     },
-    /// In this section types of components and instances stand more than 100 deep in one another.
+    /// In this section types of components and instances stand more than 100 deep in one another,
+    /// or it is a component that is nested deeper than [`Sections::nested`](crate::Sections::nested)
+    /// was told.
     TooDeep {
         /// The first section that isn't read.
         place: usize,
-        /// The item that does so; `None` where there was no memory to look for it.
+        /// The item that does so; `None` of a nested component, and where there was no memory to
+        /// look for it.
         unread: Option<Unread>,
     },
 }

@@ -47,6 +47,9 @@ pub struct DebugNames {
 }
 
 impl DebugNames {
+    /// The name of the custom section that contains debug names.
+    pub const SECTION: &str = NAMES_LABEL;
+
     /// Without names.
     pub fn new() -> Self {
         Self::default()

@@ -34,6 +34,7 @@
 //! ```
 
 mod conversions;
+mod indices;
 mod space;
 
 use crate::Error;
@@ -43,6 +44,7 @@ pub use crate::proved::rt_std::alloc::{AllocError, AllocFailed, Global};
 pub use crate::proved::rt_std::boxed::Box;
 pub use crate::proved::rt_std::string::String;
 pub use crate::proved::rt_std::vec::Vec;
+pub use indices::{IndexUse, OuterFault, Scope};
 pub use proved::{
     AbstractHeapType, AliasTree, ArrayType, CanonTree, CaseTree, Command, ComponentDecl,
     CompositeType, CoreInstanceTree, CoreTypeTree, DefinedTree, EntityType, FieldType, FuncType,
