@@ -4,6 +4,7 @@
 mod arguments;
 mod colours;
 mod core_types;
+mod entries;
 mod escape;
 mod fault;
 mod fold;

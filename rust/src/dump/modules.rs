@@ -1,112 +1,15 @@
-//! Goes through a core module, part by part. Its imports, exports and numbers are read by proved
-//! calls; of what has none, as code, the size is told.
+//! Goes through a core module, part by part.
 
-use super::fault::{Failure, Fault};
-use super::node::{Clause, Node, Scope, Tree};
+use super::entries::{Entry, Export, Import, Start};
+use super::fault::Failure;
+use super::node::Scope;
 use super::report::{Content, Part, Report};
-use super::walk::{Indices, Walk, moved};
-use crate::proved::rt_std::alloc::Global;
-use crate::proved::wenc_base::{EntityType, ExportKind};
-use crate::proved::wenc_decode::Decode;
+use super::walk::{Indices, Walk};
 use crate::proved::wenc_read::{Refusal, u32_of};
-use crate::tree::{Space, String};
 use crate::{CoreSection, CoreSections, ModuleFault, SectionId};
-use std::vec;
 
-/// An entry of a core section.
-trait Entry: Tree + Sized {
-    /// The space in which it has an index, if any.
-    fn space(&self) -> Option<Space>;
-
-    /// The entry that begins the bytes, and what is after it.
-    fn decode(bytes: &[u8]) -> Result<(Self, &[u8]), Refusal>;
-}
-
-/// An import.
-struct Import {
-    module: String,
-    name: String,
-    ty: EntityType,
-}
-
-impl Tree for Import {
-    fn node<'a>(&'a self, scope: Scope<'a>) -> Node<'a> {
-        Node::Phrase(vec![
-            Clause::new("module", "import", self.module.node(scope)),
-            Clause::new("name", "", self.name.node(scope)),
-            Clause::new("ty", "", self.ty.node(scope)),
-        ])
-    }
-}
-
-impl Entry for Import {
-    fn space(&self) -> Option<Space> {
-        Some(match self.ty {
-            EntityType::Function(_) => Space::CoreFuncs,
-            EntityType::Table(_) => Space::CoreTables,
-            EntityType::Memory(_) => Space::CoreMemories,
-            EntityType::Global(_) => Space::CoreGlobals,
-            EntityType::Tag(_) => Space::CoreTags,
-        })
-    }
-
-    fn decode(bytes: &[u8]) -> Result<(Self, &[u8]), Refusal> {
-        let (module, rest) = String::decode(Global, bytes)?;
-        let (name, rest) = String::decode(Global, rest)?;
-        let (ty, rest) = EntityType::decode(Global, rest)?;
-        Ok((Self { module, name, ty }, rest))
-    }
-}
-
-/// An export.
-struct Export((String, ExportKind, u32));
-
-impl Tree for Export {
-    fn node<'a>(&'a self, scope: Scope<'a>) -> Node<'a> {
-        let (name, kind, index) = &self.0;
-        Node::Phrase(vec![
-            Clause::new("name", "export", name.node(scope)),
-            Clause::new("kind", "", kind.node(scope)),
-            Clause::new("index", "", scope.index((*kind).into(), *index)),
-        ])
-    }
-}
-
-impl Entry for Export {
-    fn space(&self) -> Option<Space> {
-        None
-    }
-
-    fn decode(bytes: &[u8]) -> Result<(Self, &[u8]), Refusal> {
-        // as those of a core instance
-        let (export, rest) = Decode::decode(Global, bytes)?;
-        Ok((Self(export), rest))
-    }
-}
-
-/// The function that is called at instantiation.
-struct Start(u32);
-
-impl Tree for Start {
-    fn node<'a>(&'a self, scope: Scope<'a>) -> Node<'a> {
-        let function = scope.index(Space::CoreFuncs, self.0);
-        Node::Phrase(vec![Clause::new("function", "start of", function)])
-    }
-}
-
-impl Entry for Start {
-    fn space(&self) -> Option<Space> {
-        None
-    }
-
-    fn decode(bytes: &[u8]) -> Result<(Self, &[u8]), Refusal> {
-        let (function, rest) = u32_of(bytes)?;
-        Ok((Self(function), rest))
-    }
-}
-
-/// How many items the section says that it has, and where they begin in its content; a start is
-/// one. `None` where it has none, or doesn't say it.
+/// How many items the section says that it has, and their bytes; a start is one. `None` where it
+/// has none, or doesn't say how many.
 fn counted<'a>(section: &CoreSection<'a>) -> Option<(u32, &'a [u8])> {
     match section.kind() {
         None | Some(SectionId::Custom) => None,
@@ -115,9 +18,27 @@ fn counted<'a>(section: &CoreSection<'a>) -> Option<(u32, &'a [u8])> {
     }
 }
 
-impl<R: Report> Walk<'_, R> {
-    /// Reports the sections of a core module that begins at this byte offset, up to the first that
-    /// isn't read, and returns why it isn't.
+impl<R: Report> Walk<'_, '_, R> {
+    /// Reports the sections of a core module in a component, as far as they are read. It begins at
+    /// this byte offset.
+    pub(super) fn module(&mut self, at: usize, bytes: &[u8]) -> Result<(), Failure> {
+        let fault = match CoreSections::new(bytes) {
+            Ok(sections) => self.core_sections(at, sections)?,
+            Err(fault) => Some(fault),
+        };
+        match fault {
+            None => {}
+            Some(fault @ ModuleFault::Memory) => return Err(fault.into()),
+            Some(ModuleFault::NotAModule) => self.report.unread(at, "no core module's header")?,
+            Some(ModuleFault::BadSection { place }) => {
+                self.report.unread(at + place, "no core section")?;
+            }
+        }
+        Ok(())
+    }
+
+    /// Reports the sections of a core module up to the first that isn't read, and returns why that
+    /// isn't. The module begins at this byte offset.
     pub(super) fn core_sections(
         &mut self,
         at: usize,
@@ -140,29 +61,29 @@ impl<R: Report> Walk<'_, R> {
         next: &mut Indices,
     ) -> Result<(), Failure> {
         let kind = section.kind();
-        let has_entries =
-            matches!(kind, Some(SectionId::Import | SectionId::Export | SectionId::Start));
         let counted = counted(section);
+        let are_shown =
+            matches!(kind, Some(SectionId::Import | SectionId::Export | SectionId::Start));
+        let (start, end) = (at + section.range.start, at + section.range.end);
         self.report.open(&Part::CoreSection {
-            range: moved(section.range.clone(), at),
+            range: start..end,
             id: section.id,
             name: section.name.as_deref(),
             count: counted.map(|(count, _)| count),
-            bytes: if has_entries { &[] } else { section.data },
+            bytes: if are_shown { &[] } else { section.data },
         })?;
-        let end = at + section.range.end;
         match (kind, counted) {
+            (None | Some(SectionId::Custom), _) => {}
+            (_, None) => self.report.unread(end - section.data.len(), "no count")?,
             (Some(SectionId::Import), Some(items)) => self.entries::<Import>(end, items, next)?,
             (Some(SectionId::Export), Some(items)) => self.entries::<Export>(end, items, next)?,
             (Some(SectionId::Start), Some(items)) => self.entries::<Start>(end, items, next)?,
-            (None | Some(SectionId::Custom), _) | (_, Some(_)) => {}
-            (_, None) => self.report.unread(end - section.data.len(), "no count")?,
+            _ => {}
         }
         Ok(self.report.close()?)
     }
 
-    /// Reports so many entries that begin these bytes, up to the first that isn't read; the bytes
-    /// end at this byte offset of the file.
+    /// Reports so many items up to the first that isn't read. Their bytes end at this byte offset.
     fn entries<E: Entry>(
         &mut self,
         end: usize,
@@ -170,20 +91,19 @@ impl<R: Report> Walk<'_, R> {
         next: &mut Indices,
     ) -> Result<(), Failure> {
         for _ in 0..count {
+            let place = end - bytes.len();
             let (entry, rest) = match E::decode(bytes) {
                 Ok(read) => read,
-                Err(Refusal::Memory) => return Err(Fault::of_module(ModuleFault::Memory, 0).into()),
+                Err(Refusal::Memory) => return Err(ModuleFault::Memory.into()),
                 Err(Refusal::Malformed) => {
-                    return Ok(self.report.unread(end - bytes.len(), "items that aren't read")?);
+                    return Ok(self.report.unread(place, "items that aren't read")?);
                 }
             };
-            let (bytes_of_entry, range) =
-                (&bytes[..bytes.len() - rest.len()], end - bytes.len()..end - rest.len());
             self.report.open(&Part::Item {
-                range,
+                range: place..end - rest.len(),
                 label: entry.space().map(|space| next.take(space, 1, None)),
                 content: Content::Node(entry.node(Scope::of(&[]))),
-                bytes: bytes_of_entry,
+                bytes: &bytes[..bytes.len() - rest.len()],
             })?;
             self.report.close()?;
             bytes = rest;

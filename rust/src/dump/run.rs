@@ -6,7 +6,7 @@ use super::fault::{Failure, Fault};
 use super::json::Json;
 use super::report::Report;
 use super::text::Text;
-use super::walk::Walk;
+use super::walk::walk;
 use std::ffi::{OsStr, OsString};
 use std::format;
 use std::fs;
@@ -108,7 +108,7 @@ fn report(
     report.begin(name)?;
     let fault = match bytes {
         Err(error) => Some(Fault::of_input(&error)),
-        Ok(bytes) => match Walk::file(report, &bytes) {
+        Ok(bytes) => match walk(&bytes, report) {
             Ok(()) => None,
             Err(Failure::Fault(fault)) => Some(fault),
             Err(Failure::Write(error)) => return Err(error),
