@@ -8,7 +8,11 @@ use crate::proved::wenc_base::{
 };
 use crate::tree::{AbstractHeapType, Space};
 
-words! { AbstractHeapType }
+words! {
+    AbstractHeapType {
+        Func, Extern, Any, None, NoExtern, NoFunc, Eq, Struct, Array, I31, Exn, NoExn
+    }
+}
 
 records! {
     FieldType { element_type, mutable }

@@ -2,9 +2,10 @@
 
 use super::colours::Hue;
 use super::node::{Clause, Node};
+use std::borrow::Cow;
 use std::format;
 use std::ops::ControlFlow;
-use std::string::{String, ToString};
+use std::string::ToString;
 
 /// How many characters of a name are behind an index: a long one may be there many times.
 const NAME: usize = 80;
@@ -38,11 +39,11 @@ pub fn fits(node: &Node, columns: usize) -> bool {
 /// The members of a node between two brackets.
 pub struct Group<'n, 'a> {
     /// What opens it.
-    pub opening: String,
+    pub opening: Cow<'static, str>,
     /// What is in it.
     pub members: Members<'n, 'a>,
     /// What closes it.
-    pub closing: String,
+    pub closing: Cow<'static, str>,
     /// Whether spaces are inside the brackets on one line.
     is_spaced: bool,
 }
@@ -75,14 +76,15 @@ impl<'n, 'a> Members<'n, 'a> {
 
 /// The node as a group; `None` where nothing is in it.
 pub fn group<'n, 'a>(node: &'n Node<'a>) -> Option<Group<'n, 'a>> {
-    let made = |opening: &str, members: Members<'n, 'a>, closing: &str, is_spaced| {
+    let made = |opening: &'static str, members: Members<'n, 'a>, closing: &'static str| {
+        let is_spaced = matches!(members, Members::Fields(_));
         let group = Group { opening: opening.into(), members, closing: closing.into(), is_spaced };
         (members.len() > 0).then_some(group)
     };
     match node {
-        Node::List(values) => made("[", Members::Values(values), "]", false),
-        Node::Tuple(values) => made("(", Members::Values(values), ")", false),
-        Node::Record(fields) => made("{", Members::Fields(fields), "}", true),
+        Node::List(values) => made("[", Members::Values(values), "]"),
+        Node::Tuple(values) => made("(", Members::Values(values), ")"),
+        Node::Record(fields) => made("{", Members::Fields(fields), "}"),
         Node::Variant(name, part) => group(part).map(|group| named(name, part, group)),
         Node::Present(part) => group(part).map(|group| named("Some", part, group)),
         _ => None,
@@ -91,12 +93,12 @@ pub fn group<'n, 'a>(node: &'n Node<'a>) -> Option<Group<'n, 'a>> {
 
 /// The group of a variant, by that of its part.
 fn named<'n, 'a>(name: &str, part: &Node, group: Group<'n, 'a>) -> Group<'n, 'a> {
-    let Group { opening, closing, .. } = &group;
+    let (opening, closing) = (&group.opening, &group.closing);
     let (opening, closing) = match part {
         Node::Record(_) => (format!("{name} {opening}"), closing.clone()),
-        _ => (format!("{name}({opening}"), format!("{closing})")),
+        _ => (format!("{name}({opening}"), format!("{closing})").into()),
     };
-    Group { opening, closing, ..group }
+    Group { opening: opening.into(), closing, ..group }
 }
 
 /// Hands over the node as one line.

@@ -3,7 +3,6 @@
 use crate::DebugNames;
 use crate::tree::Space;
 use std::boxed::Box;
-use std::string::String;
 use std::vec::Vec;
 
 /// A value of [`tree`](crate::tree), or a part of one.
@@ -19,7 +18,7 @@ pub enum Node<'a> {
     /// A text.
     Text(&'a str),
     /// A variant without parts.
-    Word(String),
+    Word(&'static str),
     /// An index, and the debug name of what it refers to.
     Index(u32, Option<&'a str>),
     /// Values of one type.

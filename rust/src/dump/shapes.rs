@@ -22,7 +22,7 @@ macro_rules! record {
 /// The node of a variant.
 macro_rules! variant {
     ($name:ident) => {
-        Node::Word(stringify!($name).into())
+        Node::Word(stringify!($name))
     };
     ($name:ident $node:expr) => {
         Node::Variant(stringify!($name), std::boxed::Box::new($node))
@@ -61,10 +61,12 @@ macro_rules! records {
 
 /// Enumerations whose variants have no parts.
 macro_rules! words {
-    ($($ty:ty)+) => {$(
+    ($($ty:ty { $($name:ident),+ })+) => {$(
         impl Tree for $ty {
             fn node<'a>(&'a self, _: Scope<'a>) -> Node<'a> {
-                Node::Word(std::format!("{self:?}"))
+                Node::Word(match self {
+                    $(Self::$name => stringify!($name),)+
+                })
             }
         }
     )+};

@@ -14,7 +14,17 @@ use crate::{
 };
 use std::vec;
 
-words! { ComponentExportKind ComponentOuterAliasKind ExportKind PrimitiveValType }
+words! {
+    ComponentExportKind { Module, Func, Value, Type, Instance, Component }
+
+    ComponentOuterAliasKind { CoreModule, CoreType, Type, Component }
+
+    ExportKind { Func, Table, Memory, Global, Tag }
+
+    PrimitiveValType {
+        Bool, S8, U8, S16, U16, S32, U32, S64, U64, F32, F64, Char, String, ErrorContext
+    }
+}
 
 records! {
     CaseTree { name, ty }

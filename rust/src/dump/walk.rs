@@ -83,9 +83,12 @@ impl<'f, R: Report> Walk<'f, '_, R> {
         self.report.open(&Part::Section { range, id, count })?;
         for item in section.items() {
             let (range, item) = item?;
-            match item {
-                ItemTree::Component(_) => self.nested(range, section.component(), next)?,
-                item => self.item(range, &item, next)?,
+            if let ItemTree::Component(_) = item {
+                // its bytes aren't kept while its sections are reported
+                drop(item);
+                self.nested(range, section.component(), next)?;
+            } else {
+                self.item(range, &item, next)?;
             }
         }
         Ok(self.report.close()?)
