@@ -7,7 +7,7 @@ use std::format;
 use std::ops::ControlFlow;
 use std::string::ToString;
 
-/// How many characters of a name are behind an index: a long one may be there many times.
+/// How many characters of a name follow an index. A long one may be printed many times.
 const NAME: usize = 80;
 
 /// What pieces of text are handed to, in order, until it breaks.
@@ -122,7 +122,7 @@ pub fn flat(node: &Node, pieces: &mut impl Pieces) -> ControlFlow<()> {
     }
 }
 
-/// An index with the name of what it refers to behind it.
+/// An index, followed by the name of what it refers to.
 fn index_with_name(index: &str, name: Option<&str>, pieces: &mut impl Pieces) -> ControlFlow<()> {
     pieces.piece(Hue::Plain, index)?;
     match name {
@@ -152,7 +152,7 @@ fn flat_group(group: &Group, pieces: &mut impl Pieces) -> ControlFlow<()> {
     pieces.piece(Hue::Plain, &group.closing)
 }
 
-/// A variant whose part isn't a group. The name of an index is behind the bracket.
+/// A variant whose part isn't a group. The name of an index follows the bracket.
 fn flat_variant(name: &str, part: &Node, pieces: &mut impl Pieces) -> ControlFlow<()> {
     if let Node::Index(index, referred) = part {
         return index_with_name(&format!("{name}({index})"), *referred, pieces);

@@ -64,12 +64,12 @@ impl<'a> Clause<'a> {
     }
 }
 
-/// Where a value stands, which decides what an index in it refers to.
+/// Where a value is, which decides what an index in it refers to.
 #[derive(Clone, Copy)]
 pub struct Scope<'a> {
-    /// The debug names of the components that it stands in, the outermost first.
+    /// The debug names of the components that it is in, the outermost first.
     names: &'a [DebugNames],
-    /// How many types that declare items it stands in, inside the innermost component.
+    /// How many types that declare items it is in, inside the innermost component.
     types: usize,
 }
 

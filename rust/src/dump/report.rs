@@ -15,7 +15,7 @@ pub trait Report {
     fn open(&mut self, part: &Part) -> io::Result<()>;
 
     /// Notes that nothing is read from this byte offset to the end of the part that was opened
-    /// last, and what should stand there.
+    /// last, and what is missing there.
     fn unread(&mut self, place: usize, what: &str) -> io::Result<()>;
 
     /// Closes the part that was opened last.

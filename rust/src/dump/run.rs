@@ -38,7 +38,7 @@ pub fn run(
         }
         Ok(Request::Dump(options)) => dump(&options, has_colours, streams),
         Err(why) => {
-            told(streams.err, &format!("wenc-dump: {why}\n{USAGE}"));
+            complain(streams.err, &format!("wenc-dump: {why}\n{USAGE}"));
             return 2;
         }
     };
@@ -46,7 +46,7 @@ pub fn run(
         Ok(status) => status,
         Err(error) if error.kind() == io::ErrorKind::BrokenPipe => 0,
         Err(error) => {
-            told(streams.err, &format!("wenc-dump: standard output: {error}\n"));
+            complain(streams.err, &format!("wenc-dump: standard output: {error}\n"));
             1
         }
     }
@@ -58,8 +58,8 @@ fn print(out: &mut impl Write, text: &str) -> io::Result<u8> {
     Ok(0)
 }
 
-/// Prints a message. There is nowhere to tell that it failed.
-fn told(err: &mut impl Write, message: &str) {
+/// Prints a message. That this fails can't be reported.
+fn complain(err: &mut impl Write, message: &str) {
     let _ = err.write_all(message.as_bytes());
 }
 
@@ -79,10 +79,10 @@ fn dump(
             let mut text = Text::new(streams.out, has_colours, options.hex, has_titles);
             report(&mut text, &escaped(file), bytes)?
         };
-        // what stands in front of a fault is printed first
+        // what is before a fault is printed before its message
         streams.out.flush()?;
         if let Some(Fault { message, .. }) = fault {
-            told(streams.err, &format!("{}: {message}\n", escaped(file)));
+            complain(streams.err, &format!("{}: {message}\n", escaped(file)));
             status = 1;
         }
     }

@@ -75,7 +75,7 @@ impl<'o, W: Write> Text<'o, W> {
         Ok(())
     }
 
-    /// A byte offset, or the first of a range, where that is told too.
+    /// A range of byte offsets, or the first of them.
     fn place(&mut self, range: &Range<usize>, is_whole: bool) {
         let Range { start, end } = range;
         let text = if is_whole { format!("{start:#x}..{end:#x}") } else { format!("{start:#x}") };
@@ -154,12 +154,12 @@ impl<'o, W: Write> Text<'o, W> {
         Ok(())
     }
 
-    /// A node on a line of this depth, behind which so many columns are needed.
-    fn node(&mut self, node: &Node, depth: usize, behind: usize) -> io::Result<()> {
+    /// A node on a line of this depth. So many columns are needed after it.
+    fn node(&mut self, node: &Node, depth: usize, after: usize) -> io::Result<()> {
         if let Node::Phrase(clauses) = node {
-            return self.phrase(clauses, depth, behind);
+            return self.phrase(clauses, depth, after);
         }
-        let columns = COLUMNS.saturating_sub(self.columns + behind);
+        let columns = COLUMNS.saturating_sub(self.columns + after);
         match group(node) {
             Some(group) if !fits(node, columns) => self.unfold(&group, depth),
             _ => {
@@ -169,10 +169,10 @@ impl<'o, W: Write> Text<'o, W> {
         }
     }
 
-    fn phrase(&mut self, clauses: &[Clause], depth: usize, behind: usize) -> io::Result<()> {
+    fn phrase(&mut self, clauses: &[Clause], depth: usize, after: usize) -> io::Result<()> {
         for (at, (lead, node)) in spoken(clauses).enumerate() {
             let _ = clause_lead(at, lead, self);
-            self.node(node, depth, behind)?;
+            self.node(node, depth, after)?;
         }
         Ok(())
     }

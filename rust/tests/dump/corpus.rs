@@ -39,13 +39,13 @@ fn names() -> Vec<String> {
 }
 
 /// The lines of what is printed and their digest, with what is said of the component.
-fn line(name: &str, format: &str, told: &Output) -> String {
-    let lines = told.stdout.iter().filter(|byte| **byte == b'\n').count();
-    let err = String::from_utf8_lossy(&told.stderr);
+fn line(name: &str, format: &str, output: &Output) -> String {
+    let lines = output.stdout.iter().filter(|byte| **byte == b'\n').count();
+    let err = String::from_utf8_lossy(&output.stderr);
     let why = err.strip_suffix('\n').and_then(|err| err.split_once(".wasm: "));
-    assert_eq!(told.status.code(), Some(why.is_some().into()), "{name}");
+    assert_eq!(output.status.code(), Some(why.is_some().into()), "{name}");
     let why = why.map(|(_, why)| format!(", {why}")).unwrap_or_default();
-    format!("{name}{format}: {lines} lines, {:016x}{why}\n", digest(&told.stdout))
+    format!("{name}{format}: {lines} lines, {:016x}{why}\n", digest(&output.stdout))
 }
 
 /// `corpus/dumps.txt` has two lines for each component, of its text and of that with all bytes.
@@ -74,12 +74,12 @@ fn the_corpus() {
 fn whole_outputs_of_the_corpus() {
     for name in ["29-empty", "10-resource-export", "35-start"] {
         let stored = corpus(&format!("dumps/{name}.txt"));
-        let told = dump(&[], &corpus(&format!("wasm/{name}.wasm")));
+        let output = dump(&[], &corpus(&format!("wasm/{name}.wasm")));
         if std::env::var_os("DUMPS").is_some() {
-            fs::write(&stored, &told.stdout).expect("it is written");
+            fs::write(&stored, &output.stdout).expect("it is written");
         }
         let wanted = fs::read_to_string(stored).expect("it is there");
-        assert_eq!(String::from_utf8_lossy(&told.stdout), wanted, "{name}");
+        assert_eq!(String::from_utf8_lossy(&output.stdout), wanted, "{name}");
     }
 }
 
@@ -87,8 +87,8 @@ fn whole_outputs_of_the_corpus() {
 #[test]
 fn lines_are_folded() {
     for name in names() {
-        let told = dump(&[], &corpus(&format!("wasm/{name}.wasm")));
-        let text = String::from_utf8(told.stdout).expect("it is text");
+        let output = dump(&[], &corpus(&format!("wasm/{name}.wasm")));
+        let text = String::from_utf8(output.stdout).expect("it is text");
         for line in text.lines().filter(|line| line.chars().count() > 100) {
             assert!(!line.contains(['(', '{', '[']) || line.contains('"'), "{line}");
         }
@@ -96,14 +96,14 @@ fn lines_are_folded() {
 }
 
 /// The JSON of each component has the sections and the indices that `list` finds, and its sections
-/// are one behind the other.
+/// are one after the other.
 #[test]
 fn json_is_what_is_listed() {
     let mut compared = 0;
     for name in names() {
         let file = corpus(&format!("wasm/{name}.wasm"));
-        let told = dump(&["--json"], &file);
-        let json = Value::read(std::str::from_utf8(&told.stdout).expect("it is text"));
+        let output = dump(&["--json"], &file);
+        let json = Value::read(std::str::from_utf8(&output.stdout).expect("it is text"));
         let bytes = fs::read(file).expect("it is there");
         let Ok(listing) = list(&bytes) else {
             assert_ne!(json.at("fault"), &Value::Null, "{name}");

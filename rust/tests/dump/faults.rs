@@ -4,7 +4,7 @@ use crate::{dump, expect, expect_of, file_of};
 use std::path::Path;
 
 #[test]
-fn what_is_not_read_is_told() {
+fn faults_of_sections_and_items() {
     let bad = "bad item 1 at 0x10 in the section at 0x8";
     let out = "\
 0x0..0x10 component, 16 bytes
@@ -25,7 +25,7 @@ fn what_is_not_read_is_told() {
 }
 
 #[test]
-fn types_too_deep_are_told() {
+fn types_too_deep_are_a_fault() {
     // 101 instance types, each the only declaration of the one around it
     let mut ty = vec![0x42, 0];
     for _ in 0..100 {
@@ -41,7 +41,7 @@ fn types_too_deep_are_told() {
 }
 
 #[test]
-fn faults_of_nested_components_are_told() {
+fn faults_of_nested_components() {
     let out = "\
 0x0..0x16 component, 22 bytes
   0x8..0x16 component section, 14 bytes, 1 item
@@ -60,11 +60,11 @@ fn faults_of_nested_components_are_told() {
 }
 
 #[test]
-fn a_file_that_is_none_is_told() {
+fn files_that_are_none_of_both() {
     expect_of(&[], &file_of("empty", b""), "", Some("no component's header at 0x0"));
-    let told = dump(&[], Path::new("there is none"));
-    assert_eq!((told.status.code(), told.stdout.len()), (Some(1), 0));
-    assert!(told.stderr.starts_with(b"there is none: "));
+    let output = dump(&[], Path::new("there is none"));
+    assert_eq!((output.status.code(), output.stdout.len()), (Some(1), 0));
+    assert!(output.stderr.starts_with(b"there is none: "));
 }
 
 #[test]

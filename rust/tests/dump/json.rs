@@ -7,11 +7,11 @@ use std::process::Command;
 
 /// The file is printed so, with its name in front, and with this status.
 fn expect(options: &[&str], file: &Path, status: i32, out: &str) {
-    let told = dump(&[&["--json"], options].concat(), file);
+    let output = dump(&[&["--json"], options].concat(), file);
     let name = file.to_str().expect("it is text");
     let out = format!("{{\"file\":\"{name}\",{out}}}\n");
-    assert_eq!(String::from_utf8_lossy(&told.stdout), out);
-    assert_eq!(told.status.code(), Some(status));
+    assert_eq!(String::from_utf8_lossy(&output.stdout), out);
+    assert_eq!(output.status.code(), Some(status));
     Value::read(&out);
 }
 
@@ -55,8 +55,8 @@ fn items_are_as_serde_would_write_them() {
         r#"{"Resource":{"rep":"I32","dtor":null}}"#,
         r#"{"Module":[{"Export":{"name":"m","ty":{"Memory":{"minimum":1,"maximum":null,"#,
     ];
-    let told = dump(&["--json"], &file("json_items", sections));
-    let out = String::from_utf8(told.stdout).expect("it is text");
+    let output = dump(&["--json"], &file("json_items", sections));
+    let out = String::from_utf8(output.stdout).expect("it is text");
     let items: Vec<&str> = out.split("\"item\":").skip(1).collect();
     assert_eq!(items.len(), wanted.len());
     for (is, wanted) in items.iter().zip(wanted) {
@@ -132,16 +132,16 @@ fn texts_are_escaped() {
     let name = "\"\\\n\0\x1f\x7f\u{80}é漢🦀/";
     let len = u8::try_from(name.len()).expect("it is short");
     let export = [&[11, len + 6, 1, 0, len][..], name.as_bytes(), &[1, 0, 0]].concat();
-    let told = dump(&["--json"], &file("json_texts", &export));
-    let out = String::from_utf8(told.stdout).expect("it is text");
+    let output = dump(&["--json"], &file("json_texts", &export));
+    let out = String::from_utf8(output.stdout).expect("it is text");
     let escaped = "\"\\\"\\\\\\u000a\\u0000\\u001f\\u007f\u{80}é漢🦀/\"";
     assert!(out.contains(escaped), "{out}");
     let item = Value::read(&out);
     let item = &item.at("component").at("sections").list()[0].at("items").list()[0];
     assert_eq!(item.at("item").at("name").at("name").text(), name);
     // and the name of a file
-    let told = dump(&["--json"], Path::new("no \"file\"\n"));
-    let out = String::from_utf8(told.stdout).expect("it is text");
+    let output = dump(&["--json"], Path::new("no \"file\"\n"));
+    let out = String::from_utf8(output.stdout).expect("it is text");
     let value = Value::read(&out);
     assert_eq!(value.at("file").text(), "no \"file\"\n");
     assert_eq!(value.at("fault").at("place"), &Value::Null);
@@ -150,13 +150,13 @@ fn texts_are_escaped() {
 #[test]
 fn several_files_are_several_lines() {
     let (good, bad) = (file("json_good", FUNCTION), file_of("json_bad", b""));
-    let told = Command::new(PROGRAM).arg("--json").args([&good, &bad, &good]).output();
-    let told = told.expect("it runs");
+    let output = Command::new(PROGRAM).arg("--json").args([&good, &bad, &good]).output();
+    let output = output.expect("it runs");
     let alone = dump(&["--json"], &good);
-    let out = String::from_utf8(told.stdout).expect("it is text");
+    let out = String::from_utf8(output.stdout).expect("it is text");
     let lines: Vec<&str> = out.split_inclusive('\n').collect();
     assert_eq!(lines.len(), 3);
     assert_eq!((lines[0].as_bytes(), lines[2].as_bytes()), (&alone.stdout[..], &alone.stdout[..]));
     assert_eq!(Value::read(lines[1]).at("file").text(), bad.to_str().expect("it is text"));
-    assert_eq!(told.status.code(), Some(1));
+    assert_eq!(output.status.code(), Some(1));
 }

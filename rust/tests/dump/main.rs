@@ -56,10 +56,10 @@ fn expect(name: &str, sections: &[u8], out: &str, err: Option<&str>) {
 
 /// The file is printed so, and that is said of it, with its path in front.
 fn expect_of(options: &[&str], file: &Path, out: &str, err: Option<&str>) {
-    let told = dump(options, file);
+    let output = dump(options, file);
     let name = file.display();
-    assert_eq!(String::from_utf8_lossy(&told.stdout), out, "{name}");
+    assert_eq!(String::from_utf8_lossy(&output.stdout), out, "{name}");
     let err = err.map(|why| format!("{name}: {why}\n")).unwrap_or_default();
-    assert_eq!(String::from_utf8_lossy(&told.stderr), err, "{name}");
-    assert_eq!(told.status.code(), Some(i32::from(!err.is_empty())), "{name}");
+    assert_eq!(String::from_utf8_lossy(&output.stderr), err, "{name}");
+    assert_eq!(output.status.code(), Some(i32::from(!err.is_empty())), "{name}");
 }

@@ -1,5 +1,5 @@
-//! The debug names behind the indices that an item contains, of each form that contains one: the
-//! rows are those of the test `indices`.
+//! The debug names that follow the indices of an item, in each form that contains an index. The rows
+//! are those of the test `indices`.
 
 #[path = "../indices/canonicals.rs"]
 mod canonicals;
@@ -54,8 +54,7 @@ fn names_section(indices: &[Seen], out: u32) -> ComponentNameSection {
     ComponentNameSection::from(&names)
 }
 
-/// What is printed of the item, in a component in another, both of which have names, behind what
-/// the item is called itself.
+/// What is printed of the item after its own index, in a component in another, where both have names.
 fn printed(item: &ItemTree, indices: &[Seen]) -> String {
     let mut inner = build(&[Command::from(item.clone())]).expect("there is memory").bytes;
     names_section(indices, 0).append_to_component(&mut inner);
@@ -84,11 +83,11 @@ fn expect(item: ItemTree, indices: &[Seen]) {
     printed.sort_unstable();
     wanted.sort_unstable();
     assert_eq!(printed, wanted, "{text}");
-    // each name is behind its index
+    // each name follows its index
     for seen in indices {
         if let Some(name) = named(seen) {
-            let is_behind = [" ", ") "].map(|space| format!("{}{space}\"{name}\"", seen.2));
-            assert!(is_behind.iter().any(|is_behind| text.contains(is_behind)), "{text}");
+            let follows = [" ", ") "].map(|space| format!("{}{space}\"{name}\"", seen.2));
+            assert!(follows.iter().any(|follows| text.contains(follows)), "{text}");
         }
     }
 }

@@ -22,14 +22,14 @@ fn run(arguments: &[&str], input: &[u8]) -> Output {
 
 /// The program has this status, prints this and says that.
 fn expect_run(arguments: &[&str], input: &[u8], (status, out, err): (i32, &str, &str)) {
-    let told = run(arguments, input);
-    assert_eq!(String::from_utf8_lossy(&told.stdout), out, "{arguments:?}");
-    assert_eq!(String::from_utf8_lossy(&told.stderr), err, "{arguments:?}");
-    assert_eq!(told.status.code(), Some(status), "{arguments:?}");
+    let output = run(arguments, input);
+    assert_eq!(String::from_utf8_lossy(&output.stdout), out, "{arguments:?}");
+    assert_eq!(String::from_utf8_lossy(&output.stderr), err, "{arguments:?}");
+    assert_eq!(output.status.code(), Some(status), "{arguments:?}");
 }
 
 #[test]
-fn bad_arguments_have_the_usage_told() {
+fn bad_arguments_have_the_usage_printed() {
     expect_run(&[], b"", (2, "", &format!("wenc-dump: no file\n{USAGE}")));
     expect_run(&["-x", "--"], b"", (2, "", &format!("wenc-dump: no file\n{USAGE}")));
     let bad = format!("wenc-dump: no option --he\\n\n{USAGE}");
@@ -39,9 +39,9 @@ fn bad_arguments_have_the_usage_told() {
 #[test]
 fn help_and_version() {
     for help in [&["--help"][..], &["-h"], &["-x", "-", "-h"]] {
-        let told = run(help, b"");
-        let out = String::from_utf8(told.stdout).expect("it is text");
-        assert!(told.status.success() && told.stderr.is_empty());
+        let output = run(help, b"");
+        let out = String::from_utf8(output.stdout).expect("it is text");
+        assert!(output.status.success() && output.stderr.is_empty());
         assert!(out.starts_with(USAGE) && out.lines().all(|line| line.len() < 100));
         for word in ["--hex", "--json", "--help", "--version", "standard input", "\"fault\""] {
             assert!(out.contains(word), "{word}");
@@ -58,22 +58,22 @@ fn standard_input_is_read() {
     expect_run(&["-"], &component(FUNCTION), (0, FUNCTION_TEXT, ""));
     let bad = "-: no component's header at 0x0\n";
     expect_run(&["-"], b"", (1, "", bad));
-    // behind `--` all are files, and this one isn't there
-    let told = run(&["--", "--json"], b"");
-    assert_eq!(told.status.code(), Some(1));
-    assert!(told.stderr.starts_with(b"--json: "));
+    // after `--` all are files, and this one doesn't exist
+    let output = run(&["--", "--json"], b"");
+    assert_eq!(output.status.code(), Some(1));
+    assert!(output.stderr.starts_with(b"--json: "));
 }
 
 #[test]
 fn several_files_have_their_names_in_front() {
     let (good, bad) = (file("first of two", FUNCTION), file_of("second of two", b""));
-    let told = Command::new(PROGRAM).args([&good, &bad, &good]).output().expect("it runs");
+    let output = Command::new(PROGRAM).args([&good, &bad, &good]).output().expect("it runs");
     let front = format!("{}:\n{FUNCTION_TEXT}", good.display());
     let out = format!("{front}{}:\n{front}", bad.display());
-    assert_eq!(String::from_utf8_lossy(&told.stdout), out);
+    assert_eq!(String::from_utf8_lossy(&output.stdout), out);
     let err = format!("{}: no component's header at 0x0\n", bad.display());
-    assert_eq!(String::from_utf8_lossy(&told.stderr), err);
-    assert_eq!(told.status.code(), Some(1));
+    assert_eq!(String::from_utf8_lossy(&output.stderr), err);
+    assert_eq!(output.status.code(), Some(1));
 }
 
 #[test]
@@ -115,11 +115,11 @@ fn names_of_files_are_escaped() {
     use std::ffi::OsStr;
     use std::os::unix::ffi::OsStrExt;
     let name = OsStr::from_bytes(b"it's\n\x1b[2J \xe2\x80\xae\xff\\\"\xc3\xa9");
-    let told = dump(&[], Path::new(name));
-    let err = String::from_utf8(told.stderr).expect("it is text");
+    let output = dump(&[], Path::new(name));
+    let err = String::from_utf8(output.stderr).expect("it is text");
     let escaped = "it's\\n\\u{1b}[2J \\u{202e}\\xff\\\\\"é: ";
     assert!(err.starts_with(escaped), "{err}");
-    assert_eq!(told.status.code(), Some(1));
+    assert_eq!(output.status.code(), Some(1));
 }
 
 /// A writer whose reader leaves after so many bytes.
@@ -163,21 +163,21 @@ fn a_closed_pipe_ends_it_quietly() {
     out.read_line(&mut line).expect("it is printed");
     drop(out);
     assert_eq!(line, format!("{}:\n", path.display()));
-    let told = child.wait_with_output().expect("it ends");
-    assert_eq!((told.status.code(), told.stderr.len()), (Some(0), 0));
+    let output = child.wait_with_output().expect("it ends");
+    assert_eq!((output.status.code(), output.stderr.len()), (Some(0), 0));
 }
 
 /// A device that is full takes no byte.
 #[cfg(target_os = "linux")]
 #[test]
-fn a_write_that_fails_is_told() {
+fn a_write_that_fails_has_a_message() {
     for option in ["--hex", "--json", "--help"] {
         let full = fs::File::options().write(true).open("/dev/full").expect("it is there");
         let mut command = Command::new(PROGRAM);
         let command = command.arg(option).args([file("full", FUNCTION), file("full", FUNCTION)]);
-        let told = command.stdout(full).output().expect("it runs");
-        let err = String::from_utf8(told.stderr).expect("it is text");
+        let output = command.stdout(full).output().expect("it runs");
+        let err = String::from_utf8(output.stderr).expect("it is text");
         assert!(err.starts_with("wenc-dump: standard output: ") && err.lines().count() == 1);
-        assert_eq!(told.status.code(), Some(1));
+        assert_eq!(output.status.code(), Some(1));
     }
 }

@@ -21,9 +21,14 @@ fn nested(mut component: Component, depth: usize) -> Vec<u8> {
 fn sizes(name: &str, component: &[u8], status: i32) -> [usize; 4] {
     let file = file_of(name, component);
     [&[][..], &["-x"], &["--json"], &["--json", "-x"]].map(|options| {
-        let told = dump(options, &file);
-        assert_eq!(told.status.code(), Some(status), "{}", String::from_utf8_lossy(&told.stderr));
-        told.stdout.len()
+        let output = dump(options, &file);
+        assert_eq!(
+            output.status.code(),
+            Some(status),
+            "{}",
+            String::from_utf8_lossy(&output.stderr)
+        );
+        output.stdout.len()
     })
 }
 
@@ -33,13 +38,13 @@ fn components_more_than_100_deep_are_a_fault() {
     assert_eq!(dump(&[], &file_of("deep", &component)).status.code(), Some(0));
     let component = nested(Component::new(), 100);
     let file = file_of("too_deep", &component);
-    let told = dump(&[], &file);
+    let output = dump(&[], &file);
     let place = component.len() - 8;
     let err = format!("{}: components more than 100 deep at {place:#x}\n", file.display());
-    assert_eq!(String::from_utf8_lossy(&told.stderr), err);
-    assert_eq!(told.status.code(), Some(1));
+    assert_eq!(String::from_utf8_lossy(&output.stderr), err);
+    assert_eq!(output.status.code(), Some(1));
     // the file, and a section and a component for each of the others
-    let out = String::from_utf8(told.stdout).expect("it is text");
+    let out = String::from_utf8(output.stdout).expect("it is text");
     let lines: Vec<&str> = out.lines().collect();
     assert_eq!(lines.len(), 1 + 2 * 100);
     let last = format!("{:40}{place:#x}..{:#x} component 0, 8 bytes", "", component.len());

@@ -87,7 +87,7 @@ fn names_of_what_indices_refer_to() {
 }
 
 #[test]
-fn a_long_name_behind_an_index_is_cut() {
+fn a_long_name_after_an_index_is_cut() {
     let long = "é".repeat(100);
     let mut names = b"\x0ecomponent-name\x01".to_vec();
     names.extend([0xcd, 1, 3, 1, 0, 0xc8, 1]);
@@ -203,7 +203,7 @@ fn a_group_without_room_in_100_columns_is_folded() {
     expect("has_none", &enumeration(66), &format!("{out}{lines}"), None);
 }
 
-/// The comma behind a member counts.
+/// The comma after a member counts.
 #[test]
 fn a_member_without_room_in_100_columns_is_folded() {
     let variant = |len: u8| {
