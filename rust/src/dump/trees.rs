@@ -41,6 +41,8 @@ variants! {
         CoreType(index: CoreTypes),
     }
 
+    ComponentDecl { Import { name, ty }, Decl(declared) }
+
     ComponentTypeRef {
         Module(index: CoreTypes),
         Func(index: Types),
@@ -176,22 +178,10 @@ impl Tree for TypeTree {
     }
 }
 
-impl Tree for ComponentDecl {
-    fn node<'a>(&'a self, scope: Scope<'a>) -> Node<'a> {
-        match self {
-            Self::Import { name, ty } => variant!(Import record! {
-                name: part!(scope name),
-                ty: part!(scope ty)
-            }),
-            Self::Decl(declared) => declared.node(scope),
-        }
-    }
-}
-
 impl Tree for CoreTypeTree {
     fn node<'a>(&'a self, scope: Scope<'a>) -> Node<'a> {
         match self {
-            Self::Group(ty) => ty.node(scope),
+            Self::Group(ty) => variant!(Group part!(scope ty)),
             Self::Module(declared) => variant!(Module declared.node(scope.inner())),
         }
     }

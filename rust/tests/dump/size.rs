@@ -4,7 +4,7 @@ use crate::{dump, file_of};
 use wenc::tree::Space;
 use wenc::{
     Component, ComponentAliasSection, ComponentNameSection, ComponentTypeSection, DebugNames,
-    NestedComponentSection,
+    NestedComponentSection, PrimitiveValType,
 };
 
 /// This component, in so many others.
@@ -61,7 +61,7 @@ fn thousands_of_nested_components_are_printed_to_the_limit() {
 }
 
 /// So many times the size of the component, at most.
-const TIMES: usize = 128;
+const TIMES: usize = 150;
 
 fn expect_linear(name: &str, component: &[u8]) {
     let sizes = sizes(name, component, 0);
@@ -75,6 +75,18 @@ fn the_innermost_of_deep_components_is_linear() {
         inner.section(&ComponentAliasSection::new());
     }
     expect_linear("wide_and_deep", &nested(inner, 99));
+}
+
+/// Types of one byte each.
+#[test]
+fn many_types_are_linear() {
+    let mut types = ComponentTypeSection::new();
+    for _ in 0..50_000 {
+        types.defined_type().primitive(PrimitiveValType::U8);
+    }
+    let mut component = Component::new();
+    component.section(&types);
+    expect_linear("many_types", &component.finish());
 }
 
 #[test]
