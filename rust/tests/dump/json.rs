@@ -44,7 +44,9 @@ fn items_are_as_serde_would_write_them() {
         \x08\x0a\x02\0\0\x05\x02\0\x03\x01\x02\x05\
         \x0b\x0e\x01\x02\x01v\x01\x02\x02id\x01\0\x01\x01\x07\
         \x07\x09\x02\x72\x01\x01a\x79\x3f\x7f\0\
-        \x03\x09\x01\x50\x01\x03\x01m\x02\0\x01";
+        \x03\x09\x01\x50\x01\x03\x01m\x02\0\x01\
+        \x03\x05\x01\x60\x01\x7f\0\
+        \x07\x0c\x01\x41\x02\x03\0\x01m\x01\0\x01\x70\x7d";
     let wanted = [
         r#"{"function":0,"args":[3],"results":2}"#,
         r#"{"CoreInstanceExport":{"instance":2,"kind":"Func","name":"a"}}"#,
@@ -54,6 +56,8 @@ fn items_are_as_serde_would_write_them() {
         r#"{"Defined":{"Record":[["a",{"Primitive":"U32"}]]}}"#,
         r#"{"Resource":{"rep":"I32","dtor":null}}"#,
         r#"{"Module":[{"Export":{"name":"m","ty":{"Memory":{"minimum":1,"maximum":null,"#,
+        r#"{"Group":{"Sub":{"is_final":true,"supertype_idx":null,"composite_type":{"Func":"#,
+        r#"{"Component":[{"Import":{"name":{"name":"m","options":null},"ty":{"Func":0}}},"#,
     ];
     let output = dump(&["--json"], &file("json_items", sections));
     let out = String::from_utf8(output.stdout).expect("it is text");
@@ -65,6 +69,9 @@ fn items_are_as_serde_would_write_them() {
     let behind = r#""external_id":"id"}},"kind":"Func","index":0,"ty":{"Func":7}}}"#;
     assert!(items[4].contains(behind), "{out}");
     assert!(items[7].contains(r#""memory64":false,"shared":false}}}}]}"#), "{out}");
+    assert!(items[8].contains(r#"{"Func":{"params":["I32"],"results":[]}}}}}"#), "{out}");
+    let declared = r#",{"Decl":{"Type":{"Defined":{"List":{"Primitive":"U8"}}}}}]}"#;
+    assert!(items[9].contains(declared), "{out}");
     Value::read(&out);
 }
 
