@@ -2,7 +2,7 @@
 
 use crate::proved::rt_std::alloc::Global;
 use crate::proved::wenc_list as proved;
-use crate::tree::{ItemTree, NameTree};
+use crate::tree::{ItemTree, NameTree, Space};
 use crate::{ComponentExportKind, ComponentSectionId, ComponentTypeRef, DebugNames, ListFault};
 use alloc::vec::Vec;
 use core::iter;
@@ -77,6 +77,19 @@ impl<'a> Sections<'a> {
         })
     }
 
+    /// Returns how many indices the items define in a space, as
+    /// [`Listing::count`](crate::Listing::count). All items are read.
+    ///
+    /// # Errors
+    ///
+    /// The first fault of a section or of an item.
+    pub fn index_count(self, space: Space) -> Result<u128, ListFault> {
+        self.items().try_fold(0, |count, item| match item?.1.indices() {
+            Some((of, more)) if of == space => Ok(count + u128::from(more)),
+            _ => Ok(count),
+        })
+    }
+
     /// Returns the debug names of the component and of its items, as
     /// [`Listing::names`](crate::Listing::names). Those after a section that isn't framed are left
     /// out.
@@ -85,8 +98,8 @@ impl<'a> Sections<'a> {
         DebugNames::of(items.flatten().map(|(_, item)| item))
     }
 
-    /// Returns the sections of the component and of all that are nested in it, where components nest
-    /// up to `limit` deep.
+    /// Returns the sections of the component and of all components that are nested in it, up to
+    /// `limit` deep.
     pub fn nested(self, limit: usize) -> NestedSections<'a> {
         NestedSections { open: Vec::from([self]), limit, last: None }
     }

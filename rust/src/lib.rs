@@ -29,7 +29,9 @@
 //! );
 //! ```
 //!
-//! [`list`] reads a component back, as values of [`tree`], which [`tree::build`] makes again.
+//! [`list`] reads a component back, as values of [`tree`], which [`tree::build`] makes again;
+//! [`Sections`] reads it section by section. What was read can be renumbered:
+//! [`indices_mut`](tree::ItemTree::indices_mut) visits each index that an item contains.
 //!
 //! # What is proved
 //!

@@ -6,7 +6,7 @@ use core::fmt;
 
 pub use proved::{ListedSection, Listing, Unread};
 
-mod helpers;
+mod queries;
 
 /// Why a component is not listed. A place is counted in bytes from the front of the component, and
 /// one of a section is that of its id.

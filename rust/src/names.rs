@@ -50,7 +50,7 @@ impl DebugNames {
     /// The name of the custom section that contains debug names.
     pub const SECTION: &str = NAMES_LABEL;
 
-    /// Without names.
+    /// Returns debug names that name nothing.
     pub fn new() -> Self {
         Self::default()
     }

@@ -28,9 +28,8 @@ pub enum Scope {
     /// A component: 0 is the one that the item is in, 1 the component around that one, and so on
     /// outwards. Only outer aliases refer to another than 0.
     Component(u32),
-    /// A component type, an instance type or a module type that contains the index, and is the item
-    /// or a part of it: 1 is the outermost, the item itself, 2 a type that is declared in it, and so
-    /// on inwards.
+    /// A component type, an instance type or a module type that contains the index: 1 is the item
+    /// itself, 2 a type that is declared in it, and so on inwards.
     Type(u32),
 }
 

@@ -26,15 +26,3 @@ impl Space {
         Self::Types,
     ];
 }
-
-#[cfg(test)]
-mod tests {
-    use super::Space;
-
-    #[test]
-    fn each_space_is_at_its_number() {
-        for (number, space) in Space::ALL.into_iter().enumerate() {
-            assert_eq!(space.number(), number);
-        }
-    }
-}

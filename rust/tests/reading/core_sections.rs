@@ -37,7 +37,7 @@ fn faults_have_their_places() {
         assert_eq!(CoreSections::new(bytes).err(), Some(ModuleFault::NotAModule), "{bytes:x?}");
     }
     let (empty, bad) = (b"\0asm\x01\0\0\0\x01\0", Err(ModuleFault::BadSection { place: 10 }));
-    // no size, one that doesn't end, one past the end, no name, one past the end, one that is no text
+    // sizes: none, one that doesn't end, one past the end; names: none, one past the end, no text
     for bytes in
         [&b"\x01"[..], b"\x01\x80", b"\x01\x01", b"\0\0", b"\0\x02\x02x", b"\0\x02\x01\xff\x01\0"]
     {

@@ -32,6 +32,10 @@ fn listings_and_cursors_find_the_same() {
         exports += found.len();
 
         assert_eq!(sections(&bytes).names(), listing.names(), "{name}");
+        for space in Space::ALL {
+            let count = sections(&bytes).index_count(space);
+            assert_eq!(count, Ok(listing.count(space)), "{name}");
+        }
     }
     assert!(items > 1500 && imports > 30 && exports > 40, "{items} {imports} {exports}");
 }
@@ -52,6 +56,8 @@ fn the_first_fault_ends_what_is_found() {
     assert_eq!(items.len(), 4);
     assert_eq!(items.iter().filter(|item| item.is_ok()).count(), 3);
     assert_eq!(items[3], Err(fault));
+
+    assert_eq!(sections(&bytes).index_count(Space::Types), Err(fault));
 
     let imports: Vec<_> = sections(&bytes).imports().collect();
     assert_eq!(imports.len(), 2);

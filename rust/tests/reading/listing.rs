@@ -75,3 +75,10 @@ fn definitions_of_the_corpus() {
     }
     assert!(found > 1000, "{found} definitions");
 }
+
+#[test]
+fn each_space_is_at_its_number() {
+    for (number, space) in Space::ALL.into_iter().enumerate() {
+        assert_eq!(space.number(), number);
+    }
+}

@@ -7,6 +7,8 @@ mod compose;
 #[path = "../../examples/first.rs"]
 #[allow(dead_code)]
 mod first;
+#[path = "../../examples/merge.rs"]
+mod merge;
 #[path = "../../examples/strip.rs"]
 mod strip;
 #[path = "../../examples/world.rs"]
@@ -15,8 +17,8 @@ mod world;
 use crate::toolchain::linker;
 use crate::{again, corpus};
 use componentize::{Signature, componentize};
-use wenc::list;
-use wenc::tree::ItemTree;
+use wenc::tree::{ItemTree, NameTree};
+use wenc::{ComponentTypeRef, Listing, list};
 
 fn componentized(module: &[u8], signatures: &[&str]) -> Vec<u8> {
     let signatures = signatures.iter().map(|text| Signature::parse(text));
@@ -87,6 +89,77 @@ fn a_composed_component_is_valid() {
     let composed = compose::compose(&another, &consumer).expect("it is composed");
     let told = linker.refuses(&composed).expect("it takes another number");
     assert!(told.contains("expected primitive `u32` found primitive `s32`"), "{told}");
+}
+
+/// How many imports both have.
+fn shared(one: &Listing, other: &Listing) -> usize {
+    let is_shared = |import: &(&NameTree, ComponentTypeRef)| {
+        other.imports().any(|(name, ty)| name == import.0 && ty.kind() == import.1.kind())
+    };
+    one.imports().filter(is_shared).count()
+}
+
+/// Each component of the corpus with the one after it, and with all that import something of the
+/// same name. Of those few ask for the same type too.
+#[test]
+fn merged_components_are_valid() {
+    let linker = linker("merge");
+    let components = corpus::components().into_iter();
+    let components = components.filter_map(|(name, bytes)| Some((name, list(&bytes).ok()?, bytes)));
+    let components: Vec<_> = components.collect();
+    let (mut merged, mut imported_once, mut colliding, mut agreeing) = (0, 0, 0, Vec::new());
+    for (at, (name, one, first)) in components.iter().enumerate() {
+        for (other_at, (of, other, second)) in components.iter().enumerate().skip(at + 1) {
+            let shared = shared(one, other);
+            if shared == 0 && other_at > at + 1 {
+                continue;
+            }
+            let Ok(made) = merge::merge(first, second) else {
+                colliding += 1;
+                continue;
+            };
+            let told = list(&made).expect("it is listed");
+            assert_eq!(told.exports().count(), one.exports().count() + other.exports().count());
+            let imports = one.imports().count() + other.imports().count() - shared;
+            assert_eq!(told.imports().count(), imports, "{name} and {of}");
+            merged += 1;
+            imported_once += shared;
+            let Some(told) = linker.as_ref().map(|linker| linker.refuses(&made)) else { continue };
+            match told {
+                None if shared > 0 => agreeing.push([name.as_str(), of]),
+                told => assert!(told.is_none() || shared > 0, "{name} and {of}: {told:?}"),
+            }
+        }
+    }
+    assert_eq!((merged, imported_once, colliding), (48, 13, 5));
+    if linker.is_some() {
+        assert_eq!(agreeing, [["01-flat", "adapted"], ["15-includes", "35-start"]]);
+    }
+}
+
+/// A recursion group and the type of a module, which is imported; a type, and a nested component
+/// with an outer alias of it, which it imports a function of.
+fn with_groups_and_nested(import: u8, ty: u8) -> Vec<u8> {
+    let nested = b"\0asm\x0d\0\x01\0\x06\x05\x01\x03\x02\x01\0\x0a\x06\x01\0\x01f\x01\0";
+    [
+        &b"\0asm\x0d\0\x01\0\x03\x0b\x02\x4e\x02\x60\0\0\x60\0\0\x50\0"[..],
+        &[0x0a, 0x07, 1, 0, 1, import, 0, 0x11, 2],
+        &[0x07, 5, 1, ty, 0, 1, 0, 0x04, 23],
+        nested,
+    ]
+    .concat()
+}
+
+#[test]
+fn merged_groups_and_nested_components_are_valid() {
+    let one = with_groups_and_nested(b'm', 0x40);
+    let made = merge::merge(&one, &with_groups_and_nested(b'n', 0x43)).expect("it is merged");
+    let listing = list(&made).expect("it is listed");
+    let imports: Vec<_> = listing.imports().map(|(name, ty)| (&*name.name, ty)).collect();
+    let module = ComponentTypeRef::Module;
+    assert_eq!(imports, [("m", module(2)), ("n", module(5))]);
+    let Some(linker) = linker("merged groups") else { return };
+    assert_eq!(linker.refuses(&made), None);
 }
 
 #[test]

@@ -16,6 +16,7 @@ mod features;
 mod interfaces;
 mod names;
 mod random;
+mod renumbered;
 mod shown;
 mod toolchain;
 mod worlds;

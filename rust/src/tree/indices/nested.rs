@@ -24,18 +24,25 @@ impl ItemTree {
     ///
     /// ```
     /// use wenc::list;
-    /// use wenc::tree::{ItemTree, OuterFault, Scope, Space};
+    /// use wenc::tree::{Command, Scope, Space, Vec, build};
     ///
-    /// // an outer alias of type 2 of the parent, and an import of a function of that type
-    /// let nested = b"\0asm\x0d\0\x01\0\x06\x05\x01\x03\x02\x01\x02\x0a\x06\x01\0\x01f\x01\0";
-    /// let mut item = ItemTree::Component(nested.to_vec().into());
-    /// item.outer_indices_mut(8, |used| {
+    /// // two types, and a component with an outer alias of the first, the type of its import
+    /// let component = b"\0asm\x0d\0\x01\0\x07\x09\x02\x40\0\x01\0\x43\0\x01\0\
+    ///     \x04\x17\0asm\x0d\0\x01\0\x06\x05\x01\x03\x02\x01\0\x0a\x06\x01\0\x01f\x01\0";
+    ///
+    /// // the same with an outer alias of the second
+    /// let mut items: Vec<_> = list(component)?.into_items().collect();
+    /// items[2].outer_indices_mut(0, |used| {
     ///     assert_eq!((used.space, used.scope), (Space::Types, Scope::Component(0)));
-    ///     *used.index += 5;
+    ///     *used.index += 1;
     /// })?;
-    /// let again = b"\0asm\x0d\0\x01\0\x06\x05\x01\x03\x02\x01\x07\x0a\x06\x01\0\x01f\x01\0";
-    /// assert_eq!(item, ItemTree::Component(again.to_vec().into()));
-    /// # Ok::<(), OuterFault>(())
+    /// let commands: Vec<Command> = items.into_iter().map(Command::from).collect();
+    /// assert_eq!(
+    ///     build(&commands)?.bytes,
+    ///     b"\0asm\x0d\0\x01\0\x07\x09\x02\x40\0\x01\0\x43\0\x01\0\
+    ///       \x04\x17\0asm\x0d\0\x01\0\x06\x05\x01\x03\x02\x01\x01\x0a\x06\x01\0\x01f\x01\0",
+    /// );
+    /// # Ok::<(), Box<dyn std::error::Error>>(())
     /// ```
     pub fn outer_indices_mut(
         &mut self,

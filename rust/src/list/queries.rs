@@ -36,9 +36,22 @@ impl Listing {
         self.counts[space.number()]
     }
 
-    /// Returns the item that defines an index; `None` where the space has no such index.
+    /// Returns the item that defines an index; `None` where the space has no such index. It looks
+    /// at the items from the first on.
     ///
-    /// It counts the items from the first on.
+    /// Indices are counted as [`ItemTree::indices`] does: a recursion group of core types has one.
+    ///
+    /// ```
+    /// use wenc::tree::{ItemTree, Space};
+    /// use wenc::{ComponentTypeRef, list};
+    ///
+    /// let component = b"\0asm\x0d\0\x01\0\x07\x05\x01\x40\0\x01\0\x0a\x06\x01\0\x01f\x01\0";
+    /// let listing = list(component)?;
+    /// let (name, ty) = listing.imports().next().unwrap();
+    /// assert_eq!((&*name.name, ty), ("f", ComponentTypeRef::Func(0)));
+    /// assert!(matches!(listing.definition(Space::Types, 0), Some(ItemTree::Type(_))));
+    /// # Ok::<(), wenc::ListFault>(())
+    /// ```
     pub fn definition(&self, space: Space, index: u32) -> Option<&ItemTree> {
         let mut left = u64::from(index);
         self.items().find(|item| match item.indices() {
