@@ -1,11 +1,18 @@
-//! The program `wenc-dump FILE`: it prints what a component or a core module has.
+//! The program `wenc-dump`: it prints what components and core modules contain.
 
+use std::env;
 use std::io::{self, BufWriter, IsTerminal};
 use std::process::ExitCode;
+use wenc::program::{Streams, colours_are_wanted, dump};
 
 fn main() -> ExitCode {
     let out = io::stdout();
-    let colours = out.is_terminal();
-    let (mut out, mut err) = (BufWriter::new(out.lock()), io::stderr());
-    ExitCode::from(wenc::program::dump(std::env::args_os(), colours, &mut out, &mut err))
+    let (no_color, term) = (env::var_os("NO_COLOR"), env::var_os("TERM"));
+    let has_colours = colours_are_wanted(out.is_terminal(), no_color.as_deref(), term.as_deref());
+    let mut streams = Streams {
+        input: &mut io::stdin(),
+        out: &mut BufWriter::new(out.lock()),
+        err: &mut io::stderr(),
+    };
+    ExitCode::from(dump(env::args_os(), has_colours, &mut streams))
 }

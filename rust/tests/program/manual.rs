@@ -55,5 +55,5 @@ fn of_wenc() {
 
 #[test]
 fn of_wenc_dump() {
-    run("wenc-dump.1", 4);
+    run("wenc-dump.1", 5);
 }

@@ -1,0 +1,114 @@
+//! What is printed of large and of deep components is at most so many times their size.
+
+use crate::{dump, file_of};
+use wenc::tree::Space;
+use wenc::{
+    Component, ComponentAliasSection, ComponentNameSection, ComponentTypeSection, DebugNames,
+    NestedComponentSection, PrimitiveValType,
+};
+
+/// This component, in so many others.
+fn nested(mut component: Component, depth: usize) -> Vec<u8> {
+    for _ in 0..depth {
+        let mut outer = Component::new();
+        outer.section(&NestedComponentSection(&component));
+        component = outer;
+    }
+    component.finish()
+}
+
+/// The size of what is printed of a component, which has this status, in each format.
+fn sizes(name: &str, component: &[u8], status: i32) -> [usize; 4] {
+    let file = file_of(name, component);
+    [&[][..], &["-x"], &["--json"], &["--json", "-x"]].map(|options| {
+        let output = dump(options, &file);
+        assert_eq!(
+            output.status.code(),
+            Some(status),
+            "{}",
+            String::from_utf8_lossy(&output.stderr)
+        );
+        output.stdout.len()
+    })
+}
+
+#[test]
+fn components_more_than_100_deep_are_a_fault() {
+    let component = nested(Component::new(), 99);
+    assert_eq!(dump(&[], &file_of("deep", &component)).status.code(), Some(0));
+    let component = nested(Component::new(), 100);
+    let file = file_of("too_deep", &component);
+    let output = dump(&[], &file);
+    let place = component.len() - 8;
+    let err = format!("{}: components more than 100 deep at {place:#x}\n", file.display());
+    assert_eq!(String::from_utf8_lossy(&output.stderr), err);
+    assert_eq!(output.status.code(), Some(1));
+    // the file, and a section and a component for each of the others
+    let out = String::from_utf8(output.stdout).expect("it is text");
+    let lines: Vec<&str> = out.lines().collect();
+    assert_eq!(lines.len(), 1 + 2 * 100);
+    let last = format!("{:40}{place:#x}..{:#x} component 0, 8 bytes", "", component.len());
+    assert_eq!(lines[200], last);
+}
+
+#[test]
+fn thousands_of_nested_components_are_printed_to_the_limit() {
+    for depth in [6_500, 10_923] {
+        let component = nested(Component::new(), depth);
+        let sizes = sizes("thousands", &component, 1);
+        assert!(sizes.into_iter().all(|size| size < 24_000), "{sizes:?}");
+    }
+}
+
+/// So many times the size of the component, at most.
+const TIMES: usize = 150;
+
+fn expect_linear(name: &str, component: &[u8]) {
+    let sizes = sizes(name, component, 0);
+    assert!(sizes.into_iter().all(|size| size < TIMES * component.len()), "{name}: {sizes:?}");
+}
+
+#[test]
+fn the_innermost_of_deep_components_is_linear() {
+    let mut inner = Component::new();
+    for _ in 0..20_000 {
+        inner.section(&ComponentAliasSection::new());
+    }
+    expect_linear("wide_and_deep", &nested(inner, 99));
+}
+
+/// Types of one byte each.
+#[test]
+fn many_types_are_linear() {
+    let mut types = ComponentTypeSection::new();
+    for _ in 0..50_000 {
+        types.defined_type().primitive(PrimitiveValType::U8);
+    }
+    let mut component = Component::new();
+    component.section(&types);
+    expect_linear("many_types", &component.finish());
+}
+
+#[test]
+fn large_types_are_linear() {
+    let mut types = ComponentTypeSection::new();
+    let tuple = vec![wenc::ComponentValType::Type(0); 50_000];
+    types.defined_type().tuple(tuple);
+    let mut component = Component::new();
+    component.section(&types);
+    expect_linear("large_type", &nested(component, 99));
+}
+
+/// One name of 50,000 letters, of a type to which 50,000 others refer.
+#[test]
+fn long_names_are_linear() {
+    let mut types = ComponentTypeSection::new();
+    for _ in 0..50_000 {
+        types.defined_type().own(0);
+    }
+    let mut names = DebugNames::new();
+    names.insert(Space::Types, 0, "x".repeat(50_000));
+    let mut component = Component::new();
+    component.section(&types).section(&ComponentNameSection::from(&names));
+    expect_linear("long_names", &component.finish());
+}

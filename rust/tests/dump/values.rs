@@ -1,0 +1,144 @@
+//! A reader of JSON.
+
+use std::collections::BTreeMap;
+
+/// A value.
+#[derive(Debug, PartialEq, Eq)]
+pub enum Value {
+    Null,
+    Flag(bool),
+    Number(u128),
+    Text(String),
+    List(Vec<Value>),
+    Object(BTreeMap<String, Value>),
+}
+
+impl Value {
+    /// The value that all of this line is.
+    pub fn read(text: &str) -> Self {
+        let mut rest = text.strip_suffix('\n').expect("it is a line");
+        let value = value(&mut rest);
+        assert_eq!(rest, "");
+        value
+    }
+
+    /// A field of an object.
+    pub fn at(&self, key: &str) -> &Self {
+        match self {
+            Self::Object(fields) => fields.get(key).unwrap_or_else(|| panic!("no {key}")),
+            _ => panic!("no object: {self:?}"),
+        }
+    }
+
+    pub fn list(&self) -> &[Self] {
+        match self {
+            Self::List(values) => values,
+            _ => panic!("no list: {self:?}"),
+        }
+    }
+
+    pub fn number(&self) -> u128 {
+        match self {
+            Self::Number(number) => *number,
+            _ => panic!("no number: {self:?}"),
+        }
+    }
+
+    pub fn text(&self) -> &str {
+        match self {
+            Self::Text(text) => text,
+            _ => panic!("no text: {self:?}"),
+        }
+    }
+}
+
+/// Takes this from the front, if it is there.
+fn take(rest: &mut &str, front: &str) -> bool {
+    let behind = rest.strip_prefix(front);
+    *rest = behind.unwrap_or(rest);
+    behind.is_some()
+}
+
+fn value(rest: &mut &str) -> Value {
+    match rest.chars().next().expect("a value is there") {
+        'n' => word(rest, "null", Value::Null),
+        't' => word(rest, "true", Value::Flag(true)),
+        'f' => word(rest, "false", Value::Flag(false)),
+        '"' => Value::Text(text(rest)),
+        '[' => Value::List(members(rest, "[", "]", value)),
+        '{' => Value::Object(object(members(rest, "{", "}", field))),
+        _ => {
+            let digits = rest.find(|letter: char| !letter.is_ascii_digit()).unwrap_or(rest.len());
+            let (number, behind) = rest.split_at(digits);
+            *rest = behind;
+            Value::Number(number.parse().expect("it is a number"))
+        }
+    }
+}
+
+fn word(rest: &mut &str, word: &str, value: Value) -> Value {
+    assert!(take(rest, word), "{rest}");
+    value
+}
+
+/// Values between brackets, with commas.
+fn members<T>(rest: &mut &str, open: &str, close: &str, one: fn(&mut &str) -> T) -> Vec<T> {
+    assert!(take(rest, open));
+    let mut members = Vec::new();
+    if take(rest, close) {
+        return members;
+    }
+    loop {
+        members.push(one(rest));
+        if take(rest, close) {
+            return members;
+        }
+        assert!(take(rest, ","), "{rest}");
+    }
+}
+
+fn field(rest: &mut &str) -> (String, Value) {
+    let key = text(rest);
+    assert!(take(rest, ":"), "{rest}");
+    (key, value(rest))
+}
+
+/// Fields, of which no two have one key.
+fn object(fields: Vec<(String, Value)>) -> BTreeMap<String, Value> {
+    let len = fields.len();
+    let fields: BTreeMap<String, Value> = fields.into_iter().collect();
+    assert_eq!(fields.len(), len);
+    fields
+}
+
+fn text(rest: &mut &str) -> String {
+    assert!(take(rest, "\""), "{rest}");
+    let mut text = String::new();
+    loop {
+        let mut letters = rest.chars();
+        let letter = letters.next().expect("the text ends");
+        *rest = letters.as_str();
+        match letter {
+            '"' => return text,
+            '\\' => text.push(escaped(rest)),
+            _ => {
+                assert!(u32::from(letter) >= 0x20, "{rest}");
+                text.push(letter);
+            }
+        }
+    }
+}
+
+/// What is escaped, of what this crate escapes.
+fn escaped(rest: &mut &str) -> char {
+    for letter in ['"', '\\'] {
+        if take(rest, letter.encode_utf8(&mut [0; 4])) {
+            return letter;
+        }
+    }
+    assert!(take(rest, "u"), "{rest}");
+    let (digits, behind) = rest.split_at(4);
+    *rest = behind;
+    let number = u32::from_str_radix(digits, 16).expect("they are digits");
+    char::from_u32(number).expect("it is no surrogate")
+}
