@@ -25,8 +25,8 @@ impl ComponentSection for SectionReader<'_> {
     }
 }
 
-/// Encodes each item in its shortest form, as an [`ItemSection`] does. An item of another section is
-/// refused, and so is any number of items but one in a section without a count.
+/// Encodes each item in its shortest form, as an [`ItemSection`] does. An item of another section
+/// is refused, and so is any number of items but one in a section without a count.
 impl Encode for ListedSection {
     fn encode(&self, sink: &mut Vec<u8>) {
         let mut section = ItemSection::new(self.id);
@@ -47,8 +47,8 @@ impl ComponentSection for ListedSection {
 /// An item is added as a tree, which is encoded, or as the bytes that it has in a component, which
 /// are copied, so that padded numbers stay padded.
 ///
-/// Size and count are encoded with the section. A section without a count, which is a core module, a
-/// component, a start or a custom section, has one item: a second one is refused as
+/// Size and count are encoded with the section. A section without a count, which is a core module,
+/// a component, a start or a custom section, has one item: a second one is refused as
 /// [`TooMany`](Error::TooMany), and the section without one as [`Unfinished`](Error::Unfinished)
 /// when it is encoded.
 ///

@@ -8,8 +8,8 @@ use crate::tree::Command;
 /// Calls as data.
 impl ComponentBuilder {
     /// Makes the call that this command describes. Returns the index of the item that it adds, or
-    /// `None` for a custom section and for names. An item that [`list`](crate::list) returns becomes
-    /// a command by `From`; [`build`](crate::tree::build) runs commands on a new builder.
+    /// `None` for a custom section and for names. An item that [`list`](crate::list) returns
+    /// becomes a command by `From`; [`build`](crate::tree::build) runs commands on a new builder.
     ///
     /// # Errors
     ///
