@@ -18,4 +18,5 @@ loop-item-preserved g c =
 pub returns-clause-read : goal.returns-clause-read
 returns-clause-read g c ends bytes rest o =
     let t = c.loop-item.invariant in
-    (item_section c.args.items.id t.0, c.what_was_taken.ensures.read ends bytes rest c.args.items c.loop-item.left t.0 o t.1 (rw c.in-None.is at c.in_ok-item.ensures.taken))
+    let read = c.what_was_taken.ensures.read ends bytes rest c.args.items c.loop-item.left t.0 o t.1 (rw c.in-None.is at c.in_ok-item.ensures.taken) in
+    (item_section c.args.items.id t.0, read.0, read.1)
