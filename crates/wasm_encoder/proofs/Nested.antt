@@ -59,7 +59,7 @@ inner_more all left c i old new r a =
 pub inner_refused : (all left : Commands) (c : CommandTree) (fault : Fault) (old new : State) → InnerSo all (then c left) old → Answers old new (Err fault) c → IsRefusal (first_cause [] all) fault
 inner_refused all left c fault old new r a = refusal_as (cause r.so_far c) (first_cause [] all) (λ f x. r.causes f (inl x)) fault ((a.held r.so_far r.held).1)
 
-pub inner_stopped : (all left : Commands) (c : CommandTree) (fault : Fault) (old : State) → InnerSo all (then c left) old → StepsStop old fault c → IsRefusal (first_cause [] all) fault
+pub inner_stopped : (all left : Commands) (c : CommandTree) (fault : Fault) (old : State) {back : State} → InnerSo all (then c left) old → StepsStop old back fault c → IsRefusal (first_cause [] all) fault
 inner_stopped all left c fault old r stop = refusal_as (cause r.so_far c) (first_cause [] all) (λ f x. r.causes f (inl x)) fault (stop.refused r.so_far r.held)
 
 pub inner_all : (all : Commands) (s : State) → InnerSo all no_more s → Holds s (led [] all) × NoCause (first_cause [] all)
