@@ -11,7 +11,7 @@ use Rattle.wenc_builder.specs.Holds.{Holds}
 use Rattle.wasm_encoder.specs.Command.{CommandTree, command_view}
 use Rattle.wasm_encoder.specs.Cause.{cause}
 use Rattle.wasm_encoder.specs.Ran.{IsRefusal, IsDue, entries_after, RanFrom, Ran, HasRun, RunsNext, IsStopped}
-use Rattle.wasm_encoder.specs.inside.Steps.{Answers, StepsStop, IsRun}
+use Rattle.wasm_encoder.specs.inside.Steps.{Answers, StepsStop, HasRunSome}
 use Rattle.wasm_encoder.specs.declared.command.Command.{Command}
 
 -- one command more
@@ -91,11 +91,11 @@ ran_next old new a c step commands answers r =
 pub stop_answers : (old new : State) (fault : Fault) (c : CommandTree) → StepsStop old new fault c → Answers old new (Err fault) c
 stop_answers old new fault c stop = record { held = λ es h. (stop.kept es h, stop.refused es h) }
 
-pub run_new : (s : State) → Holds s [] → IsRun s
+pub run_new : (s : State) → Holds s [] → HasRunSome s
 run_new s h = ∣ ([], [], record { entries = []; ran = refl; held = h }) ∣₁
 
-pub run_more : (old new : State) (a : Result (Option ℕ) Fault) (c : CommandTree) → Answers old new a c → IsRun old → IsRun new
+pub run_more : (old new : State) (a : Result (Option ℕ) Fault) (c : CommandTree) → Answers old new a c → HasRunSome old → HasRunSome new
 run_more old new a c step some = ∥∥₁_map some (λ r. (r.0 ++ c ∷ [], r.1 ++ a ∷ [], ran_next old new a c step r.0 r.1 r.2))
 
-pub run_finished : (s : State) → IsRun s → IsTrue (builder_is_finished s)
+pub run_finished : (s : State) → HasRunSome s → IsTrue (builder_is_finished s)
 run_finished s some = ∥∥₁_elim some (Bool-set (builder_is_finished s) true) (λ r. rw r.2.held.finished refl)

@@ -390,13 +390,13 @@ pub struct Running<A: Allocator = Global> {
 
 impl<A: Allocator> Model for Running<A> {
     ghost use Rattle.wenc_builder.specs.Builder.{State};
-    ghost use Rattle.wasm_encoder.specs.inside.Steps.{IsRun};
+    ghost use Rattle.wasm_encoder.specs.inside.Steps.{HasRunSome};
 
     ghost Value = { State };
 
     ghost view = { λ r. r.builder };
 
-    ghost invariant = { λ r. IsRun r.builder };
+    ghost invariant = { λ r. HasRunSome r.builder };
 }
 
 impl<A: Allocator + Copy> Running<A> {

@@ -8,4 +8,3 @@ pub mod Sent
 pub mod Ended
 pub mod ListArgs
 pub mod ListEnded
-pub mod Untyped

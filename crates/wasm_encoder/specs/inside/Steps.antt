@@ -34,8 +34,8 @@ StepsBack old new outcome c =
     MatchResult outcome (λ answer. Answers old new answer c) (λ fault. StepsStop old new fault c)
 
 -- some commands ran
-abbrev pub IsRun : State → Type 0
-IsRun s =
+abbrev pub HasRunSome : State → Type 0
+HasRunSome s =
     ∥ ((commands : List CommandTree) × (answers : List (Result (Option ℕ) Fault))
     × HasRun s commands answers) ∥₁
 
