@@ -1,4 +1,5 @@
 pub mod Parted
+pub mod Decimal
 pub mod Numbers
 pub mod Commands
 pub mod Lines
