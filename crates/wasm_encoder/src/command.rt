@@ -418,10 +418,7 @@ impl<A: Allocator + Copy> Running<A> {
         ensures refused { OnErr result
             ((es : List Entry) → Holds self.old es → Holds self.new es) }
     {
-        match self.step(command) {
-            Ok(answer) => answer,
-            Err(fault) => Err(fault),
-        }
+        self.step(command)?
     }
 
     /// Makes the call that a command is. `Err`: the encoder of a type was refused, and that type is
