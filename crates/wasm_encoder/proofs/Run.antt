@@ -1,9 +1,9 @@
 -- A run of commands, step by step.
-use Rattle.std.proofs.Common.{◌≡◌, ℕ, ◌+◌, ◌<◌, ◌≤◌, List, [], ◌∷◌, ◌++◌, map, Result, Err, Option, true, refl, sym, ap, subst, ◌∙◌, length, drop, append_assoc, append-nil, add-one, drop-cons, get_or}
+use Rattle.std.proofs.Common.{◌≡◌, ℕ, ◌+◌, ◌<◌, ◌≤◌, List, [], ◌∷◌, ◌++◌, map, Result, Ok, Err, Option, true, refl, rules, sym, ap, subst, ◌∙◌, length, drop, append_assoc, append-nil, add-one, drop-cons, get_or}
 use Rattle.std.proofs.Math.Bool.{Bool-set}
 use Rattle.std.proofs.Math.Logic.{∥∥₁_map, ∥∥₁_elim}
 use Rattle.std.proofs.lemmas.List.{drop_all}
-use Rattle.std.specs.Prelude.{IsTrue}
+use Rattle.std.specs.Prelude.{IsTrue, OnErr}
 use Rattle.wenc_base.specs.declared.fault.Fault.{Fault}
 use Rattle.wenc_builder.specs.Builder.{State, builder_is_finished}
 use Rattle.wenc_builder.specs.Entry.{Entry}
@@ -91,6 +91,8 @@ ran_next old new a c step commands answers r =
 pub stop_answers : (old new : State) (fault : Fault) (c : CommandTree) → StepsStop old new fault c → Answers old new (Err fault) c
 stop_answers old new fault c stop = record { held = λ es h. (stop.kept es h, stop.refused es h) }
 
+-- ---- some commands ran, whichever
+
 pub run_new : (s : State) → Holds s [] → HasRunSome s
 run_new s h = ∣ ([], [], record { entries = []; ran = refl; held = h }) ∣₁
 
@@ -99,3 +101,16 @@ run_more old new a c step some = ∥∥₁_map some (λ r. (r.0 ++ c ∷ [], r.1
 
 pub run_finished : (s : State) → HasRunSome s → IsTrue (builder_is_finished s)
 run_finished s some = ∥∥₁_elim some (Bool-set (builder_is_finished s) true) (λ r. rw r.2.held.finished refl)
+
+pub next_stopped : (old new : State) (fault : Fault) (c : CommandTree) → StepsStop old new fault c → RunsNext old new (Err fault) c
+next_stopped old new fault c stop = ran_next old new (Err fault) c (stop_answers old new fault c stop)
+
+pub run_back : (old back new : State) (fault : Fault) (c : CommandTree) → StepsStop old back fault c → new ≡ back → HasRunSome old → HasRunSome new
+run_back old back new fault c stop same some = rw same (run_more old back (Err fault) c (stop_answers old back fault c stop) some)
+
+-- what is refused changes nothing
+pub kept_if_refused : (old new : State) (a : Result (Option ℕ) Fault) (c : CommandTree) → Answers old new a c → OnErr a ((es : List Entry) → Holds old es → Holds new es)
+kept_if_refused old new (Ok i) c step = search rules
+kept_if_refused old new (Err fault) c step = λ es h. (step.held es h).0
+
+pub ruleset one_more = (ran_next, next_stopped, kept_if_refused)

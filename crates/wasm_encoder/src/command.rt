@@ -413,16 +413,21 @@ impl<A: Allocator + Copy> Running<A> {
 
     /// Makes the call that a command is, after those so far. It returns the index of the item that
     /// is added, if that has one: custom sections and names have none.
+    #[tactic(auto, using(crate::proofs::Run::one_more))]
     pub fn run<B: Allocator>(&mut self, command: &Command<B>) -> Result<Option<u32>, Fault>
         ensures ran { RunsNext self.old self.new result (command_view command.now) }
         ensures refused { OnErr result
             ((es : List Entry) → Holds self.old es → Holds self.new es) }
     {
-        self.step(command)?
+        match self.step(command) {
+            Ok(outcome) => outcome,
+            Err(fault) => Err(fault),
+        }
     }
 
     /// Makes the call that a command is. `Err`: the encoder of a type was refused, and that type is
     /// given up.
+    #[tactic(auto, using(crate::proofs::Run::run_more, crate::proofs::Run::run_back))]
     fn step<B: Allocator>(
         &mut self,
         command: &Command<B>,
@@ -439,6 +444,7 @@ impl<A: Allocator + Copy> Running<A> {
     }
 
     /// All bytes of the component. It takes no memory, and is never refused.
+    #[tactic(auto, using(crate::proofs::Run::run_finished))]
     pub fn finish(self) -> Result<Vec<u8, A>, Fault>
         ensures ok { IsOk result }
         ensures held { (es : List Entry) → Holds self es

@@ -14,7 +14,7 @@ pub mod laws;
 mod of_item;
 mod of_producers;
 
-pub use command::{Built, Command, Running, build};
+pub use command::{Built, Command, build};
 pub use of_producers::producers_command;
 pub use wenc_base::{
     AbstractHeapType, ArrayType, CompositeType, CoreTypeEncoder, CustomSection, Delimited,

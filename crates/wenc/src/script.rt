@@ -6,7 +6,8 @@ ghost use Rattle.wenc.specs.inside.Lines.{IsTextInFront, RunsLine};
 use crate::failure::Failure;
 use crate::line::text_command;
 use std::alloc::{Allocator, Global};
-use wasm_encoder::{Built, Fault, Running};
+use wasm_encoder::command::Running;
+use wasm_encoder::{Built, Fault};
 
 /// The longest front of bytes that is a text, and whether that is all of them.
 fn text_in_front(bytes: &[u8]) -> (&str, bool)
@@ -47,11 +48,7 @@ fn run_line<A: Allocator + Copy>(
 
 /// Runs the commands of a script one by one. What a command owns is allocated by `names`, and freed
 /// before the next line is read. It fails at the first bad line, or where memory runs out.
-pub fn build<A: Allocator + Copy>(
-    alloc: A,
-    names: Global,
-    text: &[u8],
-) -> Result<Built<A>, Failure>
+pub fn build<A: Allocator + Copy>(alloc: A, names: Global, text: &[u8]) -> Result<Built<A>, Failure>
     ensures { Builds result (script text.now) }
 {
     let (front, is_whole) = text_in_front(text);

@@ -3,9 +3,9 @@
 use super::checks::HEADER;
 use super::trees::{NONE, Tree, Whole, commands};
 use crate::proved::rt_std::alloc::Global;
+use crate::proved::wasm_encoder::command::Running;
 use crate::proved::wasm_encoder::{
-    Command, ComponentTypeRef, ComponentValType, Fault, PrimitiveValType, Running, TypeBounds,
-    build,
+    Command, ComponentTypeRef, ComponentValType, Fault, PrimitiveValType, TypeBounds, build,
 };
 
 /// What a command is to answer: an index, none, or a fault.

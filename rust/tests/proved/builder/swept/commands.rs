@@ -5,7 +5,8 @@ use crate::proved::tests::builder::commands::{Answer, FUNCTION, OUTER_TYPE};
 use crate::proved::tests::builder::trees::{NONE, Tree, Whole, commands};
 use crate::proved::tests::refusing::Refusing;
 use crate::proved::tests::sweeping::REFUSED;
-use crate::proved::wasm_encoder::{Command, ComponentTypeRef, Fault, Running, build};
+use crate::proved::wasm_encoder::command::Running;
+use crate::proved::wasm_encoder::{Command, ComponentTypeRef, Fault, build};
 use std::collections::BTreeSet;
 use std::vec::Vec;
 
