@@ -401,6 +401,7 @@ impl<A: Allocator> Model for Running<A> {
 
 impl<A: Allocator + Copy> Running<A> {
     /// A component without items, for which no command ran. It is refused for want of memory alone.
+    #[tactic(auto, using(crate::proofs::Run::run_new))]
     pub fn new(alloc: A) -> Result<Self, Fault>
         ensures none { IfOk result (λ running. HasRun running [] []) }
         ensures refused { IfErr result IsMemory }

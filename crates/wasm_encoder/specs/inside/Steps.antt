@@ -22,11 +22,14 @@ pub record StepsStop (old given_up : State) (fault : Fault) (c : CommandTree) : 
   pub refused : (es : List Entry) → Holds old es → IsRefusal (cause es c) fault
   pub kept : (es : List Entry) → Holds old es → Holds given_up es
 
+-- The same, with that type left unfinished.
+pub record StepsLeft (old new : State) (fault : Fault) (c : CommandTree) : Type 0 where
+  pub stops : StepsStop old (item_given_up new) fault c
+
 -- what running a command does, where a type that is refused is left unfinished
 abbrev pub StepsRun : State → State → Result (Result (Option ℕ) Fault) Fault → CommandTree → Type 0
 StepsRun old new outcome c =
-    MatchResult outcome (λ answer. Answers old new answer c)
-    (λ fault. StepsStop old (item_given_up new) fault c)
+    MatchResult outcome (λ answer. Answers old new answer c) (λ fault. StepsLeft old new fault c)
 
 -- what it does, where that type is given up
 abbrev pub StepsBack : State → State → Result (Result (Option ℕ) Fault) Fault → CommandTree → Type 0
