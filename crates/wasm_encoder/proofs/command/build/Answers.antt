@@ -1,6 +1,4 @@
-use Rattle.std.proofs.Common.{ℕ, List, false, true, ◌≡◌, ◌↔◌, ◌+◌, ◌∷◌, drop, map, arith, refl, sym, subst, inr}
-use Rattle.std.specs.Prelude.{IsTrue}
-use Rattle.wenc_builder.specs.Builder.{builder_is_finished}
+use Rattle.std.proofs.Common.{ℕ, List, false, true, ◌≡◌, ◌↔◌, ◌+◌, ◌∷◌, drop, map, arith, sym, subst, inr}
 use Rattle.wenc_builder.specs.Entry.{items}
 use Rattle.wenc_builder.specs.Sections.{whole}
 use Rattle.wenc_builder.specs.laws.Reading.{of_bytes}
