@@ -1,4 +1,4 @@
-use Rattle.std.proofs.Common.{List, ℕ, arith, length, drop, lit<}
+use Rattle.std.proofs.Common.{List, [], ℕ, arith, length, drop, lit<}
 use Rattle.wenc.specs.Script.{script}
 use Rattle.wenc.proofs.Commands.{nothing_before, line_read, last_read, read_failed}
 use Rattle.wenc.proofs.Front.{front_and_behind, front_text, front_shorter, ends_badly, last_line, next_line}
@@ -34,7 +34,7 @@ pub returns-in_err-run_line : goal.returns-in_err-run_line
 returns-in_err-run_line g c =
     let more : List ℕ = drop (length c.text_in_front-is_whole.result.0.now) c.args.text.now in
     let next = next_line c.loop-line.last.now c.in-Some.line.now c.in-Some.behind.now more (c.in-Some.ensures.byte (lit< tt) (λ w o f. f)) c.loop-line.invariant.is_text in
-    read_failed _ c.loop-line.number _ _ _ _ next.2 c.loop-line.invariant.said c.from_residual.result c.in_err-run_line.field-0.0 _ c.from_residual.ensures.1 c.in_err-run_line.ensures
+    read_failed _ c.loop-line.number _ _ _ _ next.2 c.loop-line.invariant.said c.from_residual-in_err-run_line.result c.in_err-run_line.field-0.0 _ _ _ _ c.from_residual-in_err-run_line.ensures.1 c.in_err-run_line.ensures
 
 pub returns-then-not-is_whole : goal.returns-then-not-is_whole
 returns-then-not-is_whole g c =
@@ -44,7 +44,7 @@ returns-then-not-is_whole g c =
 pub returns-in_err-run_line-2 : goal.returns-in_err-run_line-2
 returns-in_err-run_line-2 g c =
     let line = last_line c.args.text.now _ c.loop-line.last.now _ c.text_in_front-is_whole.ensures c.if-not-is_whole.false (c.in_default.ensures.byte (lit< tt) (λ w o f. f)) in
-    read_failed _ c.loop-line.number _ _ _ _ line c.loop-line.invariant.said c.from_residual-in_err-run_line-2.result c.in_err-run_line-2.field-0.0 _ c.from_residual-in_err-run_line-2.ensures.1 c.in_err-run_line-2.ensures
+    read_failed _ c.loop-line.number _ _ _ _ line c.loop-line.invariant.said c.from_residual-in_err-run_line-2.result c.in_err-run_line-2.field-0.0 _ _ _ _ c.from_residual-in_err-run_line-2.ensures.1 c.in_err-run_line-2.ensures
 
 pub returns : goal.returns
 returns g c =
