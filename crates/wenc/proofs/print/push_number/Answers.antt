@@ -1,4 +1,4 @@
-use Rattle.std.proofs.Common.{◌≡◌, ◌+◌, ◌-◌, ◌<◌, rules, arith}
+use Rattle.std.proofs.Common.{◌≡◌, ◌+◌, ◌-◌, rules, arith}
 use Rattle.wenc.proofs.Decimal.{room_in_front, digit_written, first_written, appended}
 use Rattle.wenc.proofs.print.push_number.Goals as goal
 
