@@ -15,7 +15,7 @@ use Rattle.std.specs.String.{string_bytes}
 use Rattle.wasm_encoder.specs.Command.{CommandTree, Nest, Commands, no_more, then, command_view, row_view, commands_view}
 use Rattle.wasm_encoder.specs.Cause.{added, led, cause, first_cause}
 use Rattle.wasm_encoder.specs.Ran.{IsRefusal}
-use Rattle.wasm_encoder.specs.inside.Steps.{Answers, StepsStop, indexed}
+use Rattle.wasm_encoder.specs.inside.Steps.{Answers, StepsLeft, indexed}
 use Rattle.wasm_encoder.specs.declared.command.Command.{Command, Row_of-Command, end_of-Command, more_of-Command, items-the_row-Command, items_hidden-the_row-Command-0}
 use Rattle.wasm_encoder.specs.declared.command.Command as commands
 use Rattle.wasm_encoder.proofs.Called.{refusal_as, entered}
@@ -59,8 +59,8 @@ inner_more all left c i old new r a =
 pub inner_refused : (all left : Commands) (c : CommandTree) (fault : Fault) (old new : State) → InnerSo all (then c left) old → Answers old new (Err fault) c → IsRefusal (first_cause [] all) fault
 inner_refused all left c fault old new r a = refusal_as (cause r.so_far c) (first_cause [] all) (λ f x. r.causes f (inl x)) fault ((a.held r.so_far r.held).1)
 
-pub inner_stopped : (all left : Commands) (c : CommandTree) (fault : Fault) (old : State) → InnerSo all (then c left) old → StepsStop old fault c → IsRefusal (first_cause [] all) fault
-inner_stopped all left c fault old r stop = refusal_as (cause r.so_far c) (first_cause [] all) (λ f x. r.causes f (inl x)) fault (stop.refused r.so_far r.held)
+pub inner_stopped : (all left : Commands) (c : CommandTree) (fault : Fault) (old new : State) → InnerSo all (then c left) old → StepsLeft old new fault c → IsRefusal (first_cause [] all) fault
+inner_stopped all left c fault old new r stop = refusal_as (cause r.so_far c) (first_cause [] all) (λ f x. r.causes f (inl x)) fault (stop.stops.refused r.so_far r.held)
 
 pub inner_all : (all : Commands) (s : State) → InnerSo all no_more s → Holds s (led [] all) × NoCause (first_cause [] all)
 inner_all all s r = (rw r.leads r.held, r.clears (λ fault c. c))

@@ -4,17 +4,18 @@ use Rattle.std.proofs.Common.{◌≡◌, ℕ, List, [], ◌∷◌, ◌++◌, Ok,
 use Rattle.wenc_base.specs.Fault.{IsWarranted, either, NoCause}
 use Rattle.wenc_base.specs.declared.fault.Fault.{Fault}
 use Rattle.wenc_base.specs.laws.Serves.{still_warranted, itself_among}
-use Rattle.wenc_builder.specs.Builder.{State, Draft, item_begun, item_appended, item_ended}
+use Rattle.wenc_builder.specs.Builder.{State, Draft, item_begun, item_appended, item_ended, item_given_up}
 use Rattle.wenc_builder.specs.Cause.{EntryCause, BeginCause}
 use Rattle.wenc_builder.specs.Entry.{Entry, items}
 use Rattle.wenc_builder.specs.Holds.{Holds}
 use Rattle.wenc_builder.specs.Item.{item}
 use Rattle.wenc_builder.specs.LenderState.{no_room_in_section}
 use Rattle.wenc_builder.specs.Space.{Indices, next_index}
+use Rattle.wenc_builder.specs.laws.LenderState.{begun_given_up}
 use Rattle.wenc_builder.specs.laws.Typed.{IsWrittenType, WritingCause, opening_due, writing_due, written_free, written_holds}
 use Rattle.wasm_encoder.specs.Command.{Add}
 use Rattle.wasm_encoder.specs.Ran.{IsTyped}
-use Rattle.wasm_encoder.specs.inside.Steps.{Answers, StepsStop}
+use Rattle.wasm_encoder.specs.inside.Steps.{Answers, StepsLeft}
 use Rattle.wasm_encoder.proofs.Called.{refusal, due}
 
 -- why an item can't be written and ended by what was lent
@@ -45,13 +46,16 @@ type_accepted old lent new last index x d w begun indexed opens wrote fits write
 pub opening_refused : (old new : State) (fault : Fault) (x : Entry) (d : Draft) → IsWrittenType x d → new ≡ old → IsWarranted (BeginCause old d) fault → Answers old new (Err fault) (Add x)
 opening_refused old new fault x d w same why = due old new (Err fault) (Add x) (λ es h. (x ∷ [], EntryCause es x, refl, itself_among, (rw same h, refusal es x fault (still_warranted _ _ (opening_due old es x d w h) fault why))))
 
-pub type_refused : (old lent : State) (fault : Fault) (x : Entry) (d : Draft) → IsTyped x.item → IsWrittenType x d → lent ≡ item_begun old d
-    → IsWarranted (EndingCause lent x) fault → StepsStop old fault (Add x)
-type_refused old lent fault x d typed w begun why = record {
-  entry = x;
-  adds = refl;
-  typed = typed;
-  refused = λ es h.
-      let own : IsWarranted (WritingCause old x d) fault = subst (λ (s : State). IsWarranted (EndingCause s x) fault) begun why in
-      refusal es x fault (still_warranted _ _ (writing_due old es x d w h) fault own);
+pub type_refused : (old lent new last : State) (fault : Fault) (x : Entry) (d : Draft) → IsTyped x.item → IsWrittenType x d → lent ≡ item_begun old d
+    → IsWarranted (EndingCause lent x) fault → new ≡ lent → last ≡ new → StepsLeft old last fault (Add x)
+type_refused old lent new last fault x d typed w begun why unwritten same = record {
+  stops = record {
+    entry = x;
+    adds = refl;
+    typed = typed;
+    refused = λ es h.
+        let own : IsWarranted (WritingCause old x d) fault = subst (λ (s : State). IsWarranted (EndingCause s x) fault) begun why in
+        refusal es x fault (still_warranted _ _ (writing_due old es x d w h) fault own);
+    kept = λ es h. begun_given_up old last (item_given_up last) es d (same ∙ unwritten ∙ begun) refl h;
+  };
 }

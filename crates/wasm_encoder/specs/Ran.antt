@@ -3,7 +3,9 @@ use Rattle.std.specs.Prelude.{◌≡◌, ℕ, List, [], ◌∷◌, ◌++◌, Res
 use Rattle.wenc_base.specs.Fault.{IsWarranted, NoCause}
 use Rattle.wenc_base.specs.declared.fault.Fault.{Fault}
 use Rattle.wenc_base.specs.declared.fault.Fault.TheVariants.{Unfinished}
+use Rattle.wenc_builder.specs.Builder.{State}
 use Rattle.wenc_builder.specs.Entry.{Entry}
+use Rattle.wenc_builder.specs.Holds.{Holds}
 use Rattle.wenc_builder.specs.Item.{Item, CoreTypeItem, TypeItem}
 use Rattle.wasm_encoder.specs.Command.{CommandTree, Add}
 use Rattle.wasm_encoder.specs.Cause.{added, answer_of, cause}
@@ -34,6 +36,21 @@ RanFrom es commands answers all = ⊥
 -- one answer for each command, from no entries on
 abbrev pub Ran : List CommandTree → List (Result (Option ℕ) Fault) → List Entry → Type 0
 Ran commands answers all = RanFrom [] commands answers all
+
+-- ---- a run, command by command
+
+-- These commands got these answers, and the builder holds the entries that they led to.
+pub record HasRun (s : State) (commands : List CommandTree)
+    (answers : List (Result (Option ℕ) Fault)) : Type 0 where
+  pub entries : List Entry
+  pub ran : Ran commands answers entries
+  pub held : Holds s entries
+
+-- The command ran after those before it, and got this answer.
+abbrev pub RunsNext : State → State → Result (Option ℕ) Fault → CommandTree → Type 0
+RunsNext old new answer c =
+    (commands : List CommandTree) (answers : List (Result (Option ℕ) Fault))
+    → HasRun old commands answers → HasRun new (commands ++ c ∷ []) (answers ++ answer ∷ [])
 
 -- ---- what stops a run
 

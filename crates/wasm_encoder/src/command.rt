@@ -1,5 +1,5 @@
 //! Commands: the calls of a builder as data, and a run of them.
-ghost use Rattle.std.specs.Prelude.{◌≡◌, ◌↔◌, ◌⊎◌, List, [], Ok, IfOk, IfErr, map};
+ghost use Rattle.std.specs.Prelude.{◌≡◌, ◌↔◌, ◌⊎◌, List, [], Ok, IfOk, IfErr, OnErr, IsOk, map};
 ghost use Rattle.std.specs.Option.{option_copied, option_map};
 ghost use Rattle.std.specs.String.{string_bytes};
 ghost use Rattle.wenc_base.specs.Fault.{IsMemory, NoCause};
@@ -13,10 +13,11 @@ ghost use Rattle.wenc_types.specs.CoreTypeTrees.{core_type_view};
 ghost use Rattle.wenc_types.specs.TypeTrees.{type_view};
 ghost use Rattle.wasm_encoder.specs.Cause.{led, first_cause};
 ghost use Rattle.wasm_encoder.specs.Command.{Add, command_view, commands_view};
-ghost use Rattle.wasm_encoder.specs.Ran.{Ran, IsRefusal, IsStopped};
-ghost use Rattle.wasm_encoder.specs.inside.Steps.{StepsRun, indexed as indexed_of, without_index as without_index_of};
+ghost use Rattle.wasm_encoder.specs.Ran.{Ran, IsRefusal, IsStopped, HasRun, RunsNext};
+ghost use Rattle.wasm_encoder.specs.inside.Steps.{StepsRun, StepsBack, indexed as indexed_of, without_index as without_index_of};
 
 use std::alloc::{Allocator, Global};
+use std::marker::Model;
 use wenc_base::{CustomSection, Fault};
 use wenc_builder::ComponentBuilder;
 use wenc_parts::{AliasTree, ComponentExportKind, ComponentTypeRef, NameTree};
@@ -359,15 +360,102 @@ pub fn build<A: Allocator + Copy, B: Allocator>(
     ensures refused { IfErr result (λ fault. IsMemory fault
         ⊎ IsStopped (map command_view commands.now) fault) }
 {
-    let mut builder = ComponentBuilder::new(alloc)?;
+    let mut running = Running::new(alloc)?;
     let mut answers = Vec::new(alloc);
     for command in commands {
-        let answer = match run(command, alloc, &mut builder) {
+        let answer = match running.step(command) {
             Ok(answer) => answer,
             Err(fault) => return Err(fault),
         };
         answers.push(answer)?;
     }
-    let bytes = builder.finish()?;
+    let bytes = running.finish()?;
     Ok(Built { answers, bytes })
+}
+
+/// Runs commands one by one, where `build` has all of them at once. A refused command changes
+/// nothing, and the next one goes on as if it had not been made: a type that is refused while it is
+/// written is given up.
+///
+/// ```
+/// let mut running = Running::new(alloc)?;
+/// let index = running.run(&import)?;
+/// let bytes = running.finish()?;
+/// ```
+#[derive(Drop)]
+pub struct Running<A: Allocator = Global> {
+    builder: ComponentBuilder<A>,
+    alloc: A,
+}
+
+impl<A: Allocator> Model for Running<A> {
+    ghost use Rattle.wenc_builder.specs.Builder.{State};
+    ghost use Rattle.wasm_encoder.specs.inside.Steps.{HasRunSome};
+
+    ghost Value = { State };
+
+    ghost view = { λ r. r.builder };
+
+    ghost invariant = { λ r. HasRunSome r.builder };
+}
+
+impl<A: Allocator + Copy> Running<A> {
+    /// A component without items, for which no command ran. It is refused for want of memory alone.
+    #[tactic(auto, using(crate::proofs::Run::run_new))]
+    pub fn new(alloc: A) -> Result<Self, Fault>
+        ensures none { IfOk result (λ running. HasRun running [] []) }
+        ensures refused { IfErr result IsMemory }
+    {
+        Ok(Running {
+            builder: ComponentBuilder::new(alloc)?,
+            alloc,
+        })
+    }
+
+    /// Makes the call that a command is, after those so far. It returns the index of the item that
+    /// is added, if that has one: custom sections and names have none.
+    #[tactic(auto, using(crate::proofs::Run::one_more))]
+    pub fn run<B: Allocator>(&mut self, command: &Command<B>) -> Result<Option<u32>, Fault>
+        ensures ran { RunsNext self.old self.new result (command_view command.now) }
+        ensures refused { OnErr result
+            ((es : List Entry) → Holds self.old es → Holds self.new es) }
+    {
+        match self.step(command) {
+            Ok(outcome) => outcome,
+            Err(fault) => Err(fault),
+        }
+    }
+
+    /// Makes the call that a command is. `Err`: the encoder of a type was refused, and that type is
+    /// given up.
+    #[tactic(auto, using(crate::proofs::Run::run_more, crate::proofs::Run::run_back))]
+    fn step<B: Allocator>(
+        &mut self,
+        command: &Command<B>,
+    ) -> Result<Result<Option<u32>, Fault>, Fault>
+        ensures { StepsBack self.old self.new result (command_view command.now) }
+    {
+        match run(command, self.alloc, &mut self.builder) {
+            Ok(answer) => Ok(answer),
+            Err(fault) => {
+                self.builder.discard_unfinished();
+                Err(fault)
+            }
+        }
+    }
+
+    /// All bytes of the component. It takes no memory, and is never refused.
+    #[tactic(auto, using(crate::proofs::Run::run_finished))]
+    pub fn finish(self) -> Result<Vec<u8, A>, Fault>
+        ensures ok { IsOk result }
+        ensures held { (es : List Entry) → Holds self es
+            → IfOk result (λ v. v.items ≡ whole (items es)) }
+        // Where no item is raw they have one reading, strictly and widely: the sections into which
+        // the items are cut.
+        ensures one_reading { IfOk result (λ v. (es : List Entry) → Holds self es
+            → HasNoRaw (items es) → (mode : Spelling) (ss : List Section)
+            → Reading mode v.items ss ↔ (ss ≡ runs (items es))) }
+    {
+        self.builder.finish()
+    }
 }

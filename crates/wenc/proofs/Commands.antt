@@ -1,14 +1,17 @@
--- Commands after those that were read.
-use Rattle.std.proofs.Common.{◌≡◌, ℕ, ◌+◌, List, [], ◌∷◌, ◌++◌, Option, Some, None, Result, Ok, Err, sym, ap, ◌∙◌, append_assoc, append-nil, option_map, arith}
-use Rattle.wasm_encoder.specs.declared.command.Command.{Command}
+-- Commands after those that ran.
+use Rattle.std.proofs.Common.{◌≡◌, ℕ, ◌+◌, List, [], ◌∷◌, ◌++◌, Option, Some, None, Result, Ok, Err, false, length, refl, sym, ap, ◌∙◌, append_assoc, append-nil, option_map, arith}
+use Rattle.wasm_encoder.specs.declared.command.Built.{Built}
 use Rattle.wasm_encoder.specs.Command.{CommandTree}
+use Rattle.wasm_encoder.specs.Ran.{RunsNext}
 use Rattle.wenc.specs.Script.{commands_from, with_line, line_command}
-use Rattle.std.specs.Prelude.{Vec}
+use Rattle.std.specs.Prelude.{◌==◌}
 use Rattle.std.specs.Result.{IsErrAnd}
+use Rattle.wenc_base.specs.declared.fault.Fault.{Fault as FaultSpec}
+use Rattle.wenc_builder.specs.Builder.{State}
 use Rattle.wenc.specs.declared.failure.Failure.{Failure}
 use Rattle.wenc.specs.declared.failure.Failure.TheVariants.{BadLine, Fault}
-use Rattle.wenc.specs.Parsed.{Parses}
-use Rattle.wenc.specs.inside.Lines.{commands_of_line, ReadsLine}
+use Rattle.wenc.specs.Built.{Builds}
+use Rattle.wenc.specs.inside.Lines.{commands_of_line, RanLine, RunsLine}
 
 -- commands, and then what is said
 abbrev pub put_before : List CommandTree → Result (List CommandTree) ℕ → Result (List CommandTree) ℕ
@@ -42,15 +45,25 @@ module _ (commands : List CommandTree) (n : ℕ) (line : List ℕ) (lines parts 
   pub line_read : (after : List CommandTree) → option_map (λ (cs : List CommandTree). commands ++ cs) (commands_of_line line) ≡ Some after → put_before after (commands_from (n + 1) lines) ≡ all
   line_read after h = sym (more_said commands after n line lines h) ∙ (rw is at said)
 
-  -- reading it failed
-  pub read_failed : {A B : Type 0} (r : Result (Vec (Command B) A) Failure) (failure : Failure) (after : List CommandTree)
-      → IsErrAnd r (λ e. e ≡ failure) → ReadsLine {T = Unit {0}} (Err failure) n line commands after → Parses r all
-  read_failed (Ok cs) failure after e reads = absurd e
-  read_failed (Err e) (BadLine bad) after same reads = rw (same, reads.0) (sym (rw is at said) ∙ bad_line commands n line lines reads.1)
-  read_failed (Err e) (Fault fault) after same reads = rw same reads
-  read_failed (Err e) failure after same reads = absurd reads
+  -- it is bad, or memory ran out
+  pub read_failed : {A : Type 0} (r : Result (Built A) Failure) (failure : Failure) (old new : State) (before after : List (Result (Option ℕ) FaultSpec))
+      → IsErrAnd r (λ e. e ≡ failure) → RunsLine {T = Unit {0}} (Err failure) n line old new before after → Builds r all
+  read_failed (Ok built) failure old new before after e reads = absurd e
+  read_failed (Err e) (BadLine bad) old new before after same reads = rw (same, reads.0) (sym (rw is at said) ∙ bad_line commands n line lines reads.1)
+  read_failed (Err e) (Fault fault) old new before after same reads = rw same reads
+  read_failed (Err e) failure old new before after same reads = absurd reads
 
 -- the last line was read
 pub last_read : (commands : List CommandTree) (n : ℕ) (line : List ℕ) (parts : List (List ℕ)) (all : Result (List CommandTree) ℕ) → parts ≡ line ∷ [] → put_before commands (commands_from n parts) ≡ all
     → (after : List CommandTree) → option_map (λ (cs : List CommandTree). commands ++ cs) (commands_of_line line) ≡ Some after → all ≡ Ok after
 last_read commands n line parts all is said after h = sym (line_read commands n line [] parts all is said after h) ∙ ap Ok (append-nil after)
+
+-- what a line says, if it isn't empty
+one_said : (line : List ℕ) (c : CommandTree) → false ≡ (length line == 0) → Some c ≡ line_command line → commands_of_line line ≡ Some (c ∷ [])
+one_said [] c some says = absurd cc
+one_said (b ∷ line) c some says = ap (option_map (λ (x : CommandTree). x ∷ [])) (sym says)
+
+-- a line's command ran, and its answer is kept
+pub line_ran : (line : List ℕ) (old new : State) (before after : List (Result (Option ℕ) FaultSpec)) (c : CommandTree) (answer : Result (Option ℕ) FaultSpec) → false ≡ (length line == 0) → Some c ≡ line_command line
+    → RunsNext old new answer c → after ≡ before ++ answer ∷ [] → RanLine line old new before after
+line_ran line old new before after c answer some says ran is = record { next = λ commands r. (commands ++ c ∷ [], rw is (ran commands before r), rw (one_said line c some says) refl) }

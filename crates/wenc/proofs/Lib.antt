@@ -1,4 +1,5 @@
 pub mod Parted
+pub mod Decimal
 pub mod Numbers
 pub mod Commands
 pub mod Lines
@@ -8,4 +9,3 @@ pub mod Sent
 pub mod Ended
 pub mod ListArgs
 pub mod ListEnded
-pub mod Untyped

@@ -3,7 +3,7 @@ pub mod Fields
 pub mod Builtins
 pub mod Script
 pub mod Words
-pub mod Parsed
+pub mod Built
 pub mod Printed
 pub mod Run
 pub mod Listed

@@ -1,21 +1,44 @@
 //! The lines of the answers.
-ghost use Rattle.std.specs.Prelude.{◌≡◌, ◌++◌, IfOk, OnOk, string_bytes};
-ghost use Rattle.wenc.specs.Printed.{answer_line, answer_lines};
+ghost use Rattle.std.specs.Prelude.{◌≡◌, ◌++◌, IfOk, OnOk};
+ghost use Rattle.std.specs.Fmt.{decimal};
+ghost use Rattle.wenc.specs.Printed.{answer_line, answer_lines, line_of};
 
 use std::alloc::{AllocError, Allocator};
 use wasm_encoder::Fault;
 
+/// The most digits that a number has.
+const MOST_DIGITS: usize = 10;
+
+/// Appends the line of a number.
+fn push_number<A: Allocator>(text: &mut Vec<u8, A>, number: u32) -> Result<(), AllocError>
+    ensures { OnOk result (text.new.items ≡ text.old.items ++ line_of (decimal number)) }
+{
+    let mut line = [b'\n'; MOST_DIGITS + 1];
+    let mut start = MOST_DIGITS - 1;
+    let mut rest = number;
+    while rest >= 10 {
+        line[start] = b'0' + (rest % 10) as u8;
+        rest /= 10;
+        start -= 1;
+    }
+    line[start] = b'0' + rest as u8;
+    text.extend_from_slice(&line[start..])
+}
+
 /// Appends the line of an answer.
 fn push_answer<A: Allocator>(
-    text: &mut String<A>,
+    text: &mut Vec<u8, A>,
     given: &Result<Option<u32>, Fault>,
 ) -> Result<(), AllocError>
-    ensures { OnOk result (string_bytes text.new ≡ string_bytes text.old ++ answer_line given.now) }
+    ensures { OnOk result (text.new.items ≡ text.old.items ++ answer_line given.now) }
 {
     match given {
-        Ok(None) => text.push_str("-\n"),
-        Ok(Some(index)) => writeln!(text, "{index}"),
-        Err(fault) => writeln!(text, "refused {}", fault.number()),
+        Ok(None) => text.extend_from_slice(b"-\n"),
+        Ok(Some(index)) => push_number(text, *index),
+        Err(fault) => {
+            text.extend_from_slice(b"refused ")?;
+            push_number(text, u32::from(fault.number()))
+        }
     }
 }
 
@@ -26,9 +49,9 @@ pub fn answer_lines<A: Allocator>(
 ) -> Result<Vec<u8, A>, AllocError>
     ensures { IfOk result (λ lines. lines.items ≡ answer_lines answers.now) }
 {
-    let mut text = String::new(alloc);
+    let mut text = Vec::new(alloc);
     for answer in answers {
         push_answer(&mut text, answer)?;
     }
-    Ok(text.into_bytes())
+    Ok(text)
 }

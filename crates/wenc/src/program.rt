@@ -12,11 +12,11 @@ use crate::input::{MAX_READS, read_all};
 use crate::list::run_list;
 use crate::output::{send_with_hex, write_with_status};
 use crate::print::answer_lines;
-use crate::script::parse;
+use crate::script::build;
 use crate::status::{DONE, MALFORMED, REFUSED, TRANSFER_FAILED};
 use std::alloc::{Allocator, Global};
 use std::io::{Read, Write};
-use wasm_encoder::{Fault, build};
+use wasm_encoder::Fault;
 
 /// What is printed for a script.
 #[derive(Drop)]
@@ -45,7 +45,7 @@ fn status_of(answers: &[Result<Option<u32>, Fault>]) -> u8
 }
 
 /// Runs the commands of a script, which allocate by `names` what they own. The text is freed once
-/// it is parsed, and the commands once they ran.
+/// they ran.
 pub fn translate<A: Allocator + Copy>(
     alloc: A,
     names: Global,
@@ -53,10 +53,8 @@ pub fn translate<A: Allocator + Copy>(
 ) -> Result<Printout<A>, Failure>
     ensures { Translates result text.items }
 {
-    let commands = parse(alloc, names, text.as_slice())?;
+    let built = build(alloc, names, text.as_slice())?;
     drop(text);
-    let built = build(alloc, commands.as_slice())?;
-    drop(commands);
     let answers = built.answers.as_slice();
     Ok(Printout {
         lines: answer_lines(alloc, answers)?,

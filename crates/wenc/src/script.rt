@@ -1,14 +1,13 @@
-//! A script, as its commands.
-ghost use Rattle.std.specs.Prelude.{◌≡◌, ◌+◌, ◌<◌, map};
-ghost use Rattle.wasm_encoder.specs.Command.{command_view};
+//! A run of a script, line by line.
 ghost use Rattle.wenc.specs.Script.{script};
-ghost use Rattle.wenc.specs.Parsed.{Parses};
-ghost use Rattle.wenc.specs.inside.Lines.{IsTextInFront, ReadsLine};
+ghost use Rattle.wenc.specs.Built.{Builds};
+ghost use Rattle.wenc.specs.inside.Lines.{IsTextInFront, RunsLine};
 
 use crate::failure::Failure;
 use crate::line::text_command;
 use std::alloc::{Allocator, Global};
-use wasm_encoder::Command;
+use wasm_encoder::command::Running;
+use wasm_encoder::{Built, Fault};
 
 /// The longest front of bytes that is a text, and whether that is all of them.
 fn text_in_front(bytes: &[u8]) -> (&str, bool)
@@ -23,36 +22,42 @@ fn text_in_front(bytes: &[u8]) -> (&str, bool)
     }
 }
 
-/// Appends the command that the line with this number says. An empty line says nothing.
-fn read_line<A: Allocator>(
-    commands: &mut Vec<Command, A>,
+/// Runs the command that the line with this number says, and keeps its answer. An empty line says
+/// nothing.
+fn run_line<A: Allocator + Copy>(
+    running: &mut Running<A>,
+    answers: &mut Vec<Result<Option<u32>, Fault>, A>,
     names: Global,
     line: &str,
     number: usize,
 ) -> Result<(), Failure>
-    ensures { ReadsLine result number line.now (map command_view commands.old.items)
-        (map command_view commands.new.items) }
+    ensures { RunsLine result number line.now running.old running.new
+        answers.old.items answers.new.items }
 {
     if line.is_empty() {
         return Ok(());
     }
     match text_command(names, line)? {
-        Some(command) => Ok(commands.push(command)?),
+        Some(command) => {
+            let answer = running.run(&command);
+            Ok(answers.push(answer)?)
+        }
         None => Err(Failure::BadLine(number)),
     }
 }
 
-/// The commands of a script, whose names are allocated by `names`. It fails at the first bad line,
-/// or where memory runs out.
-pub fn parse<A: Allocator>(alloc: A, names: Global, text: &[u8]) -> Result<Vec<Command, A>, Failure>
-    ensures { Parses result (script text.now) }
+/// Runs the commands of a script one by one. What a command owns is allocated by `names`, and freed
+/// before the next line is read. It fails at the first bad line, or where memory runs out.
+pub fn build<A: Allocator + Copy>(alloc: A, names: Global, text: &[u8]) -> Result<Built<A>, Failure>
+    ensures { Builds result (script text.now) }
 {
     let (front, is_whole) = text_in_front(text);
-    let mut commands = Vec::new(alloc);
+    let mut running = Running::new(alloc)?;
+    let mut answers = Vec::new(alloc);
     let mut number = 1usize;
     let mut last = front;
     while let Some((line, behind)) = last.split_once('\n') {
-        read_line(&mut commands, names, line, number)?;
+        run_line(&mut running, &mut answers, names, line, number)?;
         number += 1;
         last = behind;
     }
@@ -60,6 +65,7 @@ pub fn parse<A: Allocator>(alloc: A, names: Global, text: &[u8]) -> Result<Vec<C
     if !is_whole {
         return Err(Failure::BadLine(number));
     }
-    read_line(&mut commands, names, last, number)?;
-    Ok(commands)
+    run_line(&mut running, &mut answers, names, last, number)?;
+    let bytes = running.finish()?;
+    Ok(Built { answers, bytes })
 }

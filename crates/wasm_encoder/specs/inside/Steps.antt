@@ -1,12 +1,12 @@
 -- What running one command does to a builder.
 use Rattle.std.specs.Prelude.{◌≡◌, ℕ, List, Result, Ok, Err, MatchResult, Option, Some, None}
 use Rattle.wenc_base.specs.declared.fault.Fault.{Fault}
-use Rattle.wenc_builder.specs.Builder.{State}
+use Rattle.wenc_builder.specs.Builder.{State, item_given_up}
 use Rattle.wenc_builder.specs.Entry.{Entry}
 use Rattle.wenc_builder.specs.Holds.{Holds}
 use Rattle.wasm_encoder.specs.Command.{CommandTree, Add}
 use Rattle.wasm_encoder.specs.Cause.{cause}
-use Rattle.wasm_encoder.specs.Ran.{IsRefusal, IsDue, entries_after, IsTyped}
+use Rattle.wasm_encoder.specs.Ran.{IsRefusal, IsDue, entries_after, IsTyped, HasRun}
 
 -- A command got an answer, for every list of entries that was held.
 pub record Answers (old new : State) (answer : Result (Option ℕ) Fault)
@@ -14,17 +14,33 @@ pub record Answers (old new : State) (answer : Result (Option ℕ) Fault)
   pub held : (es : List Entry) → Holds old es
       → Holds new (entries_after es c answer) × IsDue es c answer
 
--- A command's type was refused by its encoder, so that the builder is unfinished.
-pub record StepsStop (old : State) (fault : Fault) (c : CommandTree) : Type 0 where
+-- A command's type was refused by its encoder. What was held is held once the type is given up.
+pub record StepsStop (old given_up : State) (fault : Fault) (c : CommandTree) : Type 0 where
   pub entry : Entry
   pub adds : c ≡ Add entry
   pub typed : IsTyped entry.item
   pub refused : (es : List Entry) → Holds old es → IsRefusal (cause es c) fault
+  pub kept : (es : List Entry) → Holds old es → Holds given_up es
 
--- what running a command does
+-- The same, with that type left unfinished.
+pub record StepsLeft (old new : State) (fault : Fault) (c : CommandTree) : Type 0 where
+  pub stops : StepsStop old (item_given_up new) fault c
+
+-- what running a command does, where a type that is refused is left unfinished
 abbrev pub StepsRun : State → State → Result (Result (Option ℕ) Fault) Fault → CommandTree → Type 0
 StepsRun old new outcome c =
-    MatchResult outcome (λ answer. Answers old new answer c) (λ fault. StepsStop old fault c)
+    MatchResult outcome (λ answer. Answers old new answer c) (λ fault. StepsLeft old new fault c)
+
+-- what it does, where that type is given up
+abbrev pub StepsBack : State → State → Result (Result (Option ℕ) Fault) Fault → CommandTree → Type 0
+StepsBack old new outcome c =
+    MatchResult outcome (λ answer. Answers old new answer c) (λ fault. StepsStop old new fault c)
+
+-- some commands ran
+abbrev pub HasRunSome : State → Type 0
+HasRunSome s =
+    ∥ ((commands : List CommandTree) × (answers : List (Result (Option ℕ) Fault))
+    × HasRun s commands answers) ∥₁
 
 -- the answer of a call that answers an index
 abbrev pub indexed : Result ℕ Fault → Result (Option ℕ) Fault

@@ -1,10 +1,13 @@
--- How a script is read line by line.
+-- How a script runs line by line.
 use Rattle.std.specs.Prelude.{◌≡◌, ℕ, List, [], ◌∷◌, ◌++◌, Bool, length, take, Option, Some, None}
 use Rattle.std.specs.Prelude.{option_map, Result, Ok, Err}
 use Rattle.std.specs.Bool.{MatchBool}
 use Rattle.std.specs.Str.{IsUtf8, IsValidUpTo}
 use Rattle.wasm_encoder.specs.Command.{CommandTree}
+use Rattle.wasm_encoder.specs.Ran.{HasRun}
 use Rattle.wenc_base.specs.Fault.{IsMemory}
+use Rattle.wenc_base.specs.declared.fault.Fault.{Fault as FaultSpec}
+use Rattle.wenc_builder.specs.Builder.{State}
 use Rattle.wenc.specs.Script.{line_command}
 use Rattle.wenc.specs.declared.failure.Failure.{Failure}
 use Rattle.wenc.specs.declared.failure.Failure.TheVariants.{Arguments, BadLine, Fault, Transfer}
@@ -20,13 +23,19 @@ abbrev pub commands_of_line : List ℕ → Option (List CommandTree)
 commands_of_line [] = Some []
 commands_of_line (b ∷ line) = option_map (λ c. c ∷ []) (line_command (b ∷ line))
 
--- The line with this number was read: what it says follows the commands of the lines before it.
-abbrev pub ReadsLine : {T : Type 0} → Result T Failure → ℕ → List ℕ → List CommandTree
-    → List CommandTree → Type 0
-ReadsLine (Ok done) number line before after =
-    option_map (λ said. before ++ said) (commands_of_line line) ≡ Some after
-ReadsLine (Err (BadLine bad)) number line before after =
+-- What a line says ran after the commands of the lines before it.
+pub record RanLine (line : List ℕ) (old new : State)
+    (before after : List (Result (Option ℕ) FaultSpec)) : Type 0 where
+  pub next : (commands : List CommandTree) → HasRun old commands before
+      → (all : List CommandTree) × HasRun new all after
+      × (option_map (λ said. commands ++ said) (commands_of_line line) ≡ Some all)
+
+-- That, or the line with this number is bad, or memory ran out.
+abbrev pub RunsLine : {T : Type 0} → Result T Failure → ℕ → List ℕ → State → State
+    → List (Result (Option ℕ) FaultSpec) → List (Result (Option ℕ) FaultSpec) → Type 0
+RunsLine (Ok done) number line old new before after = RanLine line old new before after
+RunsLine (Err (BadLine bad)) number line old new before after =
     (bad ≡ number) × (commands_of_line line ≡ None)
-ReadsLine (Err (Fault fault)) number line before after = IsMemory fault
-ReadsLine (Err Transfer) number line before after = ⊥
-ReadsLine (Err Arguments) number line before after = ⊥
+RunsLine (Err (Fault fault)) number line old new before after = IsMemory fault
+RunsLine (Err Transfer) number line old new before after = ⊥
+RunsLine (Err Arguments) number line old new before after = ⊥

@@ -3,6 +3,7 @@
 use super::checks::HEADER;
 use super::trees::{NONE, Tree, Whole, commands};
 use crate::proved::rt_std::alloc::Global;
+use crate::proved::wasm_encoder::command::Running;
 use crate::proved::wasm_encoder::{
     Command, ComponentTypeRef, ComponentValType, Fault, PrimitiveValType, TypeBounds, build,
 };
@@ -211,11 +212,18 @@ const NESTED: &[Row<'static>] = &[
     (&[MOST, BYTE], &[Err(Fault::TooMany)], b""),
 ];
 
-/// The commands are answered so, and make the component with these bytes after its header.
+/// The commands are answered so, and make the component with these bytes after its header, at once
+/// and one by one.
 pub fn builds(commands: &[Command], answers: &[Answer], wanted: &[u8]) {
     let built = build(Global, commands).unwrap();
     assert_eq!(built.answers.as_slice(), answers);
     assert_eq!(built.bytes.as_slice().strip_prefix(HEADER), Some(wanted));
+    let mut running = Running::new(Global).unwrap();
+    for (command, answer) in commands.iter().zip(answers) {
+        assert_eq!(running.run(command), *answer);
+    }
+    let bytes = running.finish().unwrap();
+    assert_eq!(bytes.as_slice().strip_prefix(HEADER), Some(wanted));
 }
 
 #[test]

@@ -11,7 +11,7 @@ use crate::proved::wenc::list::run_list;
 use crate::proved::wenc::number::flag;
 use crate::proved::wenc::output::{send, send_with_hex, write_with_status};
 use crate::proved::wenc::program::{report, translate};
-use crate::proved::wenc::script::parse;
+use crate::proved::wenc::script::build;
 use crate::proved::wenc::unlisted::Unlisted;
 use crate::proved::wenc::words::Words;
 use std::vec::Vec as RustVec;
@@ -20,7 +20,9 @@ const SCRIPT: &[u8] = b"start 7 4294967295\nimport v value 0\n";
 
 #[test]
 fn scripts() {
-    assert_eq!(parse(Global, Global, SCRIPT).unwrap().len(), 2);
+    let built = build(Global, Global, SCRIPT).unwrap();
+    assert_eq!(built.answers.as_slice(), [Ok(Some(0)), Err(Fault::TooMany)]);
+    assert_eq!(digits(&built.bytes), "0061736d0d00010009070700ffffffff0f");
     let text = Vec::from(SCRIPT.to_vec());
     let printout = translate(Global, Global, text).unwrap();
     assert_eq!(printout.status, 2);

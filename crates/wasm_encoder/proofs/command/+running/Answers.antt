@@ -127,7 +127,7 @@ run_all-returns-in-Err-run-clause-refused g t c =
     let i = c.loop-command.command-index in
     let inside : i < length items = rw c.deref-command-items.ensures.value at c.loop-command-test.true in
     let split : drop i items ≡ c.command-item.result ∷ drop (i + 1) items = next_is items i c.command-item.result c.command-item.result inside (rw c.deref-command-items.ensures.value at c.command-item.is) in
-    inner_stopped (commands_view c.args.commands.now.items) _ (command_view c.command-item.result) c.in-Err-run.fault c.loop-command.builder (rw split at c.loop-command.invariant) c.in-Err-run.ensures
+    inner_stopped (commands_view c.args.commands.now.items) _ (command_view c.command-item.result) c.in-Err-run.fault c.loop-command.builder _ (rw split at c.loop-command.invariant) c.in-Err-run.ensures
 
 pub run_all-run-requires : goal.run_all-run-requires
 run_all-run-requires g t c = λ κs lives.

@@ -1,6 +1,4 @@
-use Rattle.std.proofs.Common.{ℕ, List, false, true, ◌≡◌, ◌↔◌, ◌+◌, ◌∷◌, drop, map, arith, refl, sym, subst, inr}
-use Rattle.std.specs.Prelude.{IsTrue}
-use Rattle.wenc_builder.specs.Builder.{builder_is_finished}
+use Rattle.std.proofs.Common.{ℕ, List, false, true, ◌≡◌, ◌↔◌, ◌+◌, ◌∷◌, drop, map, arith, sym, subst, inr}
 use Rattle.wenc_builder.specs.Entry.{items}
 use Rattle.wenc_builder.specs.Sections.{whole}
 use Rattle.wenc_builder.specs.laws.Reading.{of_bytes}
@@ -9,7 +7,7 @@ use Rattle.wasm_encoder.proofs.Run.{ran_none, ran_more, ran_all, ran_held, ran_s
 use Rattle.wasm_encoder.proofs.command.build.Goals as goal
 
 pub loop-command-init : goal.loop-command-init
-loop-command-init g c = rw c.new-answers.ensures.items (ran_none (map command_view c.args.commands.now) c.in_ok-builder.builder c.in_ok-builder.ensures.held)
+loop-command-init g c = rw c.new-answers.ensures.items (ran_none (map command_view c.args.commands.now) c.in_ok-running.running c.in_ok-running.ensures.none)
 
 pub loop-command-preserved : goal.loop-command-preserved
 loop-command-preserved g c =
@@ -22,9 +20,7 @@ returns-in-Err-clause-refused g c =
     inr (ran_stopped (map command_view c.args.commands.now) _ (command_view c.command-item.result) _ c.in-Err.fault _ (rw split at c.loop-command.invariant) c.in-Err.ensures)
 
 pub returns-in_err-bytes-clause-refused : goal.returns-in_err-bytes-clause-refused
-returns-in_err-bytes-clause-refused g c =
-    let finished : IsTrue (builder_is_finished c.loop-command.builder) = rw c.loop-command.invariant.held.finished refl in
-    let no : false ≡ true = c.in_err-bytes.ensures.ok.1 finished in cc
+returns-in_err-bytes-clause-refused g c = let no : false ≡ true = c.in_err-bytes.ensures.ok in cc
 
 pub returns-clause-ran : goal.returns-clause-ran
 returns-clause-ran g c =

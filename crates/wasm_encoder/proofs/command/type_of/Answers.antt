@@ -20,7 +20,7 @@ pub returns-in-Err-tree : goal.returns-in-Err-tree
 returns-in-Err-tree g c =
     let n = option_copied c.args.debug_name in
     let t = type_view c.args.ty.now in
-    type_refused c.args.builder.now _ c.in-Err-tree.fault (type_entry n t) (draft_in ids.«Type» spaces.Types n []) tt (type_is_written n t) c.in-Ok.ensures.begun.begun c.in-Err-tree.ensures.warranted
+    type_refused c.args.builder.now _ _ _ c.in-Err-tree.fault (type_entry n t) (draft_in ids.«Type» spaces.Types n []) tt (type_is_written n t) c.in-Ok.ensures.begun.begun c.in-Err-tree.ensures.warranted c.in-Err-tree.ensures.err (search rules)
 
 pub returns-in-Err : goal.returns-in-Err
 returns-in-Err g c =

@@ -1,12 +1,14 @@
-//! Commands, with each growth of a whole `build` refused in turn.
+//! Commands, at once and one by one, with each growth of the whole refused in turn.
 
 use super::between::BOTH;
 use crate::proved::tests::builder::commands::{Answer, FUNCTION, OUTER_TYPE};
 use crate::proved::tests::builder::trees::{NONE, Tree, Whole, commands};
 use crate::proved::tests::refusing::Refusing;
 use crate::proved::tests::sweeping::REFUSED;
-use crate::proved::wasm_encoder::{Command, ComponentTypeRef, build};
+use crate::proved::wasm_encoder::command::Running;
+use crate::proved::wasm_encoder::{Command, ComponentTypeRef, Fault, build};
 use std::collections::BTreeSet;
+use std::vec::Vec;
 
 /// Answers, and the component.
 type Wanted<'a> = (&'a [Answer], &'a [u8]);
@@ -24,21 +26,35 @@ enum Refused {
     Nothing,
 }
 
+/// What runs commands, and returns their answers and the component.
+type Run = fn(&Refusing, &[Command]) -> Result<(Vec<Answer>, Vec<u8>), Fault>;
+
+fn at_once(heap: &Refusing, commands: &[Command]) -> Result<(Vec<Answer>, Vec<u8>), Fault> {
+    let built = build(heap, commands)?;
+    Ok((built.answers.as_slice().to_vec(), built.bytes.as_slice().to_vec()))
+}
+
+fn one_by_one(heap: &Refusing, commands: &[Command]) -> Result<(Vec<Answer>, Vec<u8>), Fault> {
+    let mut running = Running::new(heap)?;
+    let answers = commands.iter().map(|command| running.run(command)).collect();
+    let bytes = running.finish().expect("it is never refused");
+    Ok((answers, bytes.as_slice().to_vec()))
+}
+
 /// Growth number `n` is refused, where there is one.
-fn refuse(heap: &Refusing, commands: &[Command], case: &Case<'_>, n: u64) -> Refused {
+fn refuse(heap: &Refusing, run: Run, commands: &[Command], case: &Case<'_>, n: u64) -> Refused {
     heap.refuse_nth(n);
-    let built = match build(heap, commands) {
-        Ok(built) => built,
+    let (answers, bytes) = match run(heap, commands) {
+        Ok(ran) => ran,
         Err(fault) => {
             assert!(heap.was_refused() && fault == REFUSED);
             return Refused::Whole;
         }
     };
-    let answers = built.answers.as_slice();
     let place = answers.iter().position(|answer| answer.is_err());
     assert_eq!(place.is_some(), heap.was_refused());
     let wanted = place.map_or(case.accepted, |place| case.refused[place]);
-    assert_eq!((answers, built.bytes.as_slice()), wanted);
+    assert_eq!((answers.as_slice(), bytes.as_slice()), wanted);
     place.map_or(Refused::Nothing, Refused::Command)
 }
 
@@ -109,6 +125,25 @@ const RECORD: &Case<'static> = &Case {
     ),
 };
 
+/// What is refused while it is written is given up: the alias takes its index.
+const RECORD_BETWEEN: &Case<'static> = &Case {
+    refused: &[
+        (
+            &[Err(REFUSED), Ok(Some(0)), Ok(Some(1))],
+            b"\x00asm\x0d\x00\x01\x00\x07\x09\x01\x72\x02\x01\x61\x7f\x01\x62\x7f\x06\x05\x01\x03\x02\x00\x01",
+        ),
+        REFUSED_BETWEEN,
+        (
+            LAST_REFUSED,
+            b"\x00asm\x0d\x00\x01\x00\x06\x06\x01\x01\x00\x00\x01f\x07\x09\x01\x72\x02\x01\x61\x7f\x01\x62\x7f",
+        ),
+    ],
+    accepted: (
+        &[Ok(Some(0)), Ok(Some(0)), Ok(Some(1))],
+        b"\x00asm\x0d\x00\x01\x00\x06\x06\x01\x01\x00\x00\x01f\x07\x09\x01\x72\x02\x01\x61\x7f\x01\x62\x7f\x06\x05\x01\x03\x02\x00\x01",
+    ),
+};
+
 const SHORT: Tree<'static> = Tree::Whole(Whole::Module(NONE, &[0xaa]));
 
 const NAMED: Tree<'static> = Tree::Whole(Whole::Module(b"\x01\x01m", &[0xaa]));
@@ -125,28 +160,29 @@ const LONG_IMPORT: Tree<'static> = Tree::Import(
 
 const FIELDS: Tree<'static> = Tree::Type(b"\x72\x02\x01\x61\x7f\x01\x62\x7f");
 
-/// Commands, what they come to, and whether some growth is that of the one in the middle. What is
-/// refused adds nothing, and those after it run all the same. The short module has room without a
-/// growth, and its name hasn't. Where the opening of a record is refused, so is the command; where
-/// the rest of the type is, so is the whole.
-const ROWS: &[(&[Tree<'static>], &Case<'static>, bool)] = &[
-    (&[FUNCTION, SHORT, OUTER_TYPE], MODULE, false),
-    (&[FUNCTION, NAMED, OUTER_TYPE], MODULE, true),
-    (&[FUNCTION, LONG, OUTER_TYPE], LONG_MODULE, true),
-    (&[FUNCTION, LONG_IMPORT, OUTER_TYPE], IMPORT, true),
-    (&[FIELDS], RECORD, true),
+/// Commands, what they come to, and whether some growth is that of the one in the middle, at once
+/// and one by one. What is refused adds nothing, and those after it run all the same. The short
+/// module has room without a growth, and its name hasn't. Where the opening of a record is refused,
+/// so is the command; where the rest of the type is, so is the whole, but one by one the command.
+const ROWS: &[(&[Tree<'static>], &Case<'static>, [bool; 2])] = &[
+    (&[FUNCTION, SHORT, OUTER_TYPE], MODULE, [false; 2]),
+    (&[FUNCTION, NAMED, OUTER_TYPE], MODULE, [true; 2]),
+    (&[FUNCTION, LONG, OUTER_TYPE], LONG_MODULE, [true; 2]),
+    (&[FUNCTION, LONG_IMPORT, OUTER_TYPE], IMPORT, [true; 2]),
+    (&[FIELDS], RECORD, [true; 2]),
+    (&[FUNCTION, FIELDS, OUTER_TYPE], RECORD_BETWEEN, [false, true]),
 ];
 
 /// The places of the commands that are refused, growth by growth.
-fn places(heap: &Refusing, commands: &[Command], case: &Case<'_>) -> BTreeSet<usize> {
+fn places(heap: &Refusing, run: Run, commands: &[Command], case: &Case<'_>) -> BTreeSet<usize> {
     let mut places = BTreeSet::new();
     let mut whole = 0;
     for n in 1..60 {
-        match refuse(heap, commands, case, n) {
+        match refuse(heap, run, commands, case, n) {
             Refused::Command(place) => _ = places.insert(place),
             Refused::Whole => whole += 1,
             Refused::Nothing => {
-                assert!(whole > 0, "the answers take memory");
+                assert!(whole > 0, "the builder takes memory");
                 return places;
             }
         }
@@ -157,9 +193,12 @@ fn places(heap: &Refusing, commands: &[Command], case: &Case<'_>) -> BTreeSet<us
 #[test]
 fn commands_are_swept() {
     let heap = Refusing::new();
-    for (trees, case, is_refused) in ROWS {
-        let places = places(&heap, commands(trees).as_slice(), case);
-        assert!(places.contains(&0));
-        assert_eq!(places.contains(&(trees.len() / 2)), *is_refused);
+    let runs: [Run; 2] = [at_once, one_by_one];
+    for (trees, case, are_refused) in ROWS {
+        for (run, is_refused) in runs.into_iter().zip(*are_refused) {
+            let places = places(&heap, run, commands(trees).as_slice(), case);
+            assert!(places.contains(&0));
+            assert_eq!(places.contains(&(trees.len() / 2)), is_refused);
+        }
     }
 }

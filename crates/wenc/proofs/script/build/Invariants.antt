@@ -1,16 +1,19 @@
-use Rattle.std.proofs.Common.{◌≡◌, ◌+◌, ◌≤◌, ◌++◌, map, length, drop}
+use Rattle.std.proofs.Common.{◌≡◌, ◌+◌, ◌≤◌, ◌++◌, List, length, drop}
 use denote.Text.{Utf8}
 use denote.Shadow.{shadow}
 use Rattle.wenc.specs.Parts.{parted}
-use Rattle.wasm_encoder.specs.Command.{command_view}
+use Rattle.wasm_encoder.specs.Command.{CommandTree}
+use Rattle.wasm_encoder.specs.Ran.{HasRun}
 use Rattle.wenc.specs.Script.{script, commands_from}
 use Rattle.wenc.proofs.Commands.{put_before}
-use Rattle.wenc.proofs.script.parse.Given as goal
+use Rattle.wenc.proofs.script.build.Given as goal
 
 abbrev pub invariant-loop-line : goal.invariant-loop-line
 invariant-loop-line g l = record {
+  commands : List CommandTree;
+  ran : HasRun l.running commands l.answers.items;
   is_text : shadow (Utf8 l.last);
-  said : put_before (map command_view l.commands.items) (commands_from l.number (parted 10 (l.last ++ drop (length l.initial.last) l.text))) ≡ script l.text;
+  said : put_before commands (commands_from l.number (parted 10 (l.last ++ drop (length l.initial.last) l.text))) ≡ script l.text;
   counted : l.number + length l.last ≤ length l.text + 1;
 }
 
