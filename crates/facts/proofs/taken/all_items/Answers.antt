@@ -1,5 +1,6 @@
-use Rattle.std.proofs.Common.{◌++◌, ◌∷◌, []}
+use Rattle.std.proofs.Common.{◌++◌, ◌∷◌, [], rules}
 use Rattle.std.proofs.lemmas.Result.{err_from_is_err_and}
+use Rattle.wenc_list.specs.Cursor.{IsSpent}
 use Rattle.wenc_list.specs.Items.{item_view, item_section}
 use Rattle.facts.proofs.taken.all_items.Goals as goal
 
@@ -18,5 +19,6 @@ loop-item-preserved g c =
 pub returns-clause-read : goal.returns-clause-read
 returns-clause-read g c ends bytes rest o =
     let t = c.loop-item.invariant in
-    let read = c.what_was_taken.ensures.read ends bytes rest c.args.items c.loop-item.left t.0 o t.1 (rw c.in-None.is at c.in_ok-item.ensures.taken) in
+    let spent : IsSpent c.loop-item.left = search rules in
+    let read = c.what_was_taken.ensures.read ends bytes rest c.args.items c.loop-item.left t.0 o t.1 spent in
     (item_section c.args.items.id t.0, read.0, read.1)
