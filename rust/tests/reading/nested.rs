@@ -73,7 +73,7 @@ fn faults_are_placed_in_the_outermost() {
 /// the outermost.
 fn listed(bytes: &[u8], depth: usize, from: usize) -> Vec<(usize, usize, List<ItemTree>)> {
     let mut found = Vec::new();
-    for ListedSection { id: _, place, items } in list(bytes).expect("it is listed").sections {
+    for ListedSection { place, items, .. } in list(bytes).expect("it is listed").sections {
         let inner = match items.as_slice() {
             [ItemTree::Component(inner)] => Vec::from(inner.clone()),
             _ => Vec::new(),
