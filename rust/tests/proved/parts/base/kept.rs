@@ -44,3 +44,14 @@ fn all_are_kept() {
     is_whole(&holder, 1, &[0x02, 0x01, 0x2a]);
     assert!(has_parts(holder, &[0xaa, 0xbb, 0x03, 0x00, 0x10, 0x11, 0x2a], 6, 1));
 }
+
+// What follows is written after the bytes that moved up. The next member is the first after it.
+#[test]
+fn bytes_after_all_that_is_kept() {
+    let mut holder = over_four_bytes(Global).unwrap();
+    holder.keep_bytes(0, 2, &[0xcc], &[0x10], &[0x11, 0x12]).unwrap();
+    assert_eq!(holder.kept_len(), 6);
+    is_whole(&holder, 0, &[0x01, 0x00]);
+    holder.add_encoded(&42u32).unwrap();
+    assert!(has_parts(holder, &[0xcc, 0x03, 0x00, 0x10, 0x11, 0x12, 0x2a], 6, 1));
+}
