@@ -235,7 +235,9 @@ const SCRIPT: &[u8] = b"0\n0061736d0d00010001080061736d01000000\n";
 
 #[test]
 fn runs() {
-    drop(builder::command(Global).unwrap());
+    let import = builder::command(Global).unwrap();
+    let (index, bytes) = builder::running(Global, import).unwrap();
+    assert!(index == Some(0) && bytes.as_slice() == RUN);
     let (bytes, refused) = builder::run(Global).unwrap();
     assert!(!refused && bytes.as_slice() == RUN);
     assert!(list::imports(Global, RUN).unwrap());

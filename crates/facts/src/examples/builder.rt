@@ -1,6 +1,8 @@
 //! Of `wenc_builder`, and of commands.
-ghost use Rattle.std.specs.Prelude.{◌≡◌, ◌∷◌, [], IfOk, None, codes};
-ghost use Rattle.wenc_builder.specs.Entry.{import_entry, export_entry, items};
+ghost use Rattle.std.specs.Prelude.{◌≡◌, ◌∷◌, [], List, IfOk, None, Ok, codes};
+ghost use Rattle.wasm_encoder.specs.Command.{command_view};
+ghost use Rattle.wasm_encoder.specs.Ran.{Ran};
+ghost use Rattle.wenc_builder.specs.Entry.{Entry, import_entry, export_entry, items};
 ghost use Rattle.wenc_builder.specs.Sections.{whole};
 ghost use Rattle.wenc_parts.specs.declared.exports.ComponentExportKind.{ComponentExportKind};
 ghost use Rattle.wenc_parts.specs.declared.imports.ComponentTypeRef.{ComponentTypeRef};
@@ -8,6 +10,7 @@ ghost use Rattle.wenc_parts.specs.declared.imports.TypeBounds.{TypeBounds};
 ghost use Rattle.wenc_parts.specs.Imports.{plain_name};
 
 use std::alloc::{Allocator, Global};
+use wasm_encoder::command::Running;
 use wasm_encoder::{
     Built, Command, ComponentBuilder, ComponentExportKind, ComponentTypeRef, ComponentValType,
     Fault, NameTree, PrimitiveValType, TypeBounds, build,
@@ -60,4 +63,16 @@ pub fn run(alloc: Global) -> Result<(Vec<u8>, bool), Fault> {
     }
     let bytes = built.bytes;
     Ok((bytes, refused))
+}
+
+/// `Running`.
+pub fn running(alloc: Global, import: Command) -> Result<(Option<u32>, Vec<u8>), Fault>
+    ensures { IfOk result (λ x. (es : List Entry)
+        × Ran (command_view import ∷ []) (Ok x.0 ∷ []) es
+        × (x.1.items ≡ whole (items es))) }
+{
+    let mut running = Running::new(alloc)?;
+    let index = running.run(&import)?;
+    let bytes = running.finish()?;
+    Ok((index, bytes))
 }
