@@ -10,7 +10,7 @@
 //!     cargo bench --offline -- N nested     a component by hand in another, around a core module of N bytes
 //!
 //! `turns` compiles this file over upstream too, with `use wenc::*;` alone changed;
-//! `count` counts the instructions that `work` takes.
+//! `count` counts the instructions that `work` takes. `reader.rs` reads what is built here.
 
 use std::hint::black_box;
 use std::time::Instant;
@@ -49,7 +49,7 @@ const CALLS: [fn(&mut ComponentBuilder, u32, &Names); 7] = [
 ];
 
 /// The names of round `i`: `i`, `e` or `a`, then the round in decimal.
-struct Names {
+pub struct Names {
     import: String,
     export: String,
     alias: String,
@@ -57,7 +57,7 @@ struct Names {
 
 /// What is timed: the calls, up to the bytes.
 #[inline(never)]
-fn work(n: u32, what: &str, names: &[Names], module: &[u8]) -> Vec<u8> {
+pub fn work(n: u32, what: &str, names: &[Names], module: &[u8]) -> Vec<u8> {
     black_box(match what {
         "" => rounds(names),
         "grouped" => grouped(names),
@@ -140,6 +140,13 @@ fn nested(module: &[u8]) -> Vec<u8> {
     outer.finish()
 }
 
+/// The names of so many rounds.
+pub fn names(n: u32) -> Vec<Names> {
+    let named =
+        |i| Names { import: format!("i{i}"), export: format!("e{i}"), alias: format!("a{i}") };
+    (0..n).map(named).collect()
+}
+
 fn fnv1a(bytes: &[u8]) -> u64 {
     let step = |hash: u64, byte: &u8| (hash ^ u64::from(*byte)).wrapping_mul(0x0000_0100_0000_01b3);
     bytes.iter().fold(0xcbf2_9ce4_8422_2325, step)
@@ -150,10 +157,8 @@ fn main() {
     let words: Vec<String> = std::env::args().skip(1).filter(|word| word != "--bench").collect();
     let n = words.first().map_or(Ok(1000), |word| word.parse()).expect("a number of rounds");
     let what = words.get(1).map_or("", |word| word.as_str());
-    let named =
-        |i| Names { import: format!("i{i}"), export: format!("e{i}"), alias: format!("a{i}") };
     let (named_len, module_len) = if what == "nested" { (0, n) } else { (n, 0) };
-    let names: Vec<Names> = (0..named_len).map(named).collect();
+    let names = names(named_len);
     let module = vec![7; module_len as usize];
     let begin = Instant::now();
     let bytes = work(n, what, &names, &module);
