@@ -1,14 +1,15 @@
 //! What building costs. Names and a module are made before the time is taken; what is printed is how
 //! many bytes came, how long it took, and the hash of the bytes, which are upstream's.
 //!
-//!     cargo bench --offline --bench builder -- N            N rounds of seven calls, each of which opens a section
-//!     cargo bench --offline --bench builder -- N grouped    these calls, each N times: neighbours share a section
-//!     cargo bench --offline --bench builder -- N imports    a section by hand of N imports
-//!     cargo bench --offline --bench builder -- N exports    an instance type of N exports
-//!     cargo bench --offline --bench builder -- N numbers    `Encode` of N numbers
-//!     cargo bench --offline --bench builder -- N variant    a variant of N cases
-//!     cargo bench --offline --bench builder -- N nested     a component in another, by hand, around a
-//!                                                           core module of N bytes
+//! `cargo bench --offline --bench builder -- N` makes N rounds of seven calls, each of which opens
+//! another section; with a word after N
+//!
+//!     grouped    these calls, each N times: neighbours share a section
+//!     imports    a section by hand of N imports
+//!     exports    an instance type of N exports
+//!     numbers    `Encode` of N numbers
+//!     variant    a variant of N cases
+//!     nested     a component by hand in another, around a core module of N bytes
 //!
 //! `turns` compiles this file over upstream too, with `use wenc::*;` alone changed;
 //! `count` counts the instructions that `work` takes. `reader.rs` reads what is built here.
