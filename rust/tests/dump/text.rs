@@ -253,3 +253,30 @@ fn no_color_and_dumb_terminals_have_none() {
     assert!(!wanted(true, Some("1"), Some("xterm")) && !wanted(true, Some("0"), None));
     assert!(!wanted(true, None, Some("dumb")) && !wanted(true, Some(""), Some("dumb")));
 }
+
+/// A custom section and one without items, of a module that is by itself.
+#[test]
+fn short_core_module() {
+    let module = b"\0asm\x01\0\0\0\0\x02\x01x\x01\x01\0";
+    let out = "\
+0x0..0xf core module, 15 bytes
+  0x8..0xc custom section \"x\", 4 bytes
+  0xc..0xf type section, 3 bytes, 0 items
+";
+    expect_of(&[], &file_of("short_core_module", module), out, None);
+}
+
+#[test]
+fn names_of_the_component_and_of_a_function() {
+    let names = b"\0\x1a\x0ecomponent-name\0\x02\x01c\x01\x05\x01\x01\0\x01g";
+    let out = "\
+0x0..0x33 component \"c\", 51 bytes
+  0x8..0xf type section, 7 bytes, 1 item
+    0xb type 0: Func { is_async: false, params: [], result: None }
+  0xf..0x17 import section, 8 bytes, 1 item
+    0x12 func 0 \"g\": import \"f\" Func(0)
+  0x17..0x33 custom section, 28 bytes, 1 item
+    0x19 custom \"component-name\", 11 bytes
+";
+    expect("debug_names", &[FUNCTION, names].concat(), out, None);
+}
