@@ -207,7 +207,13 @@ impl<A: Allocator> Buffer<A> {
         lead.unsigned(u64::from(len));
         let head = open_head(self.kind, self.holder.len(), self.holder.as_slice().len());
         let kept = self.holder.kept_len();
-        self.holder.keep_bytes(self.closed_len, kept, head.as_slice(), lead.as_slice(), bytes)?;
+        self.holder.keep_bytes(
+            self.closed_len,
+            kept,
+            head.as_slice(),
+            lead.as_slice(),
+            bytes,
+        )?;
         self.closed_len = self.holder.kept_len();
         self.kind = None;
         Ok(())
