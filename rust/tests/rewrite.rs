@@ -248,7 +248,7 @@ fn parts_of_items_encode_themselves() {
     is_encoded(&NameTree::from(String::from("f")), "000166");
 }
 
-/// Each encoder ends a type by its tree, whoever lent itself.
+/// Each encoder ends a type by its tree, whatever its parent is.
 #[test]
 fn encoders_take_trees() {
     let list = || DefinedTree::List(PrimitiveValType::U8.into());
