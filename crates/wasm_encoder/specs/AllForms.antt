@@ -1,4 +1,4 @@
--- The forms of the format by their names, all but the raw sections, whose bytes are their caller's.
+-- The forms of the format by their names, but for raw sections and subsections of names.
 use Rattle.std.specs.Prelude.{true, List}
 use Rattle.wenc_base.specs.Composites.{storage_type, field_type, composite_type}
 use Rattle.wenc_base.specs.Composites.{Single, sub_type, rec_type, standing}
