@@ -92,6 +92,11 @@ fn a_changed_source_has_another_digest() {
     }
 }
 
+fn public_functions(text: &[u8]) -> usize {
+    let text = std::str::from_utf8(text).expect("a source is UTF-8");
+    text.lines().filter(|line| line.trim_start().starts_with("pub fn ")).count()
+}
+
 #[test]
 fn numbers_are_those_of_the_files() {
     let number = |before: &str| {
@@ -100,7 +105,12 @@ fn numbers_are_those_of_the_files() {
     };
     assert!(wenc::PROOF.starts_with("logic: "));
     assert!(wenc::PROOF.lines().any(|line| line.starts_with("kits: rattle-kit-")));
-    assert!(number("functions proved: ") > 1000);
+    // Private functions, those of traits and derived ones are proved too.
+    let sources = folders().into_iter().filter(|(at, _)| at.ends_with("/src"));
+    let public =
+        sources.flat_map(|(_, files)| files.into_values()).map(|text| public_functions(&text));
+    let public = public.sum::<usize>();
+    assert!(public > 0 && number("functions proved: ") > public, "{public} public functions");
     // In a package there are no edits.
     let edits = folders().into_iter().filter(|(at, _)| at.ends_with("/must-fail"));
     let edits = edits.map(|(_, files)| files.len()).sum::<usize>();

@@ -167,13 +167,17 @@ fn merged_groups_and_nested_components_are_valid() {
 #[test]
 fn stripped_components_have_all_else() {
     let linker = linker("strip");
+    let mut not_listed = 0;
     for (name, bytes) in corpus::components() {
         let stripped = strip::strip(&bytes).expect("it is stripped");
         assert!(stripped.len() < bytes.len(), "{name}");
         if let Some(linker) = &linker {
             assert_eq!(linker.refuses(&stripped), None, "{name}");
         }
-        let Ok(listing) = list(&bytes) else { continue };
+        let Ok(listing) = list(&bytes) else {
+            not_listed += 1;
+            continue;
+        };
         let has_nested = items(&bytes).iter().any(|item| matches!(item, ItemTree::Component(_)));
         if has_nested {
             let counts = list(&stripped).expect("it is listed").counts;
@@ -182,6 +186,8 @@ fn stripped_components_have_all_else() {
             assert!(items(&stripped) == items(&bytes), "{name}");
         }
     }
+    // Those that hold functions which moved between versions.
+    assert_eq!(not_listed, 6);
 }
 
 /// The name of an import, and another one for it, with `-x` behind the word that ends it or stands
