@@ -5,7 +5,7 @@
 mod sha256;
 
 use sha256::sha256;
-use std::collections::BTreeMap;
+use std::collections::{BTreeMap, HashSet};
 use std::fs;
 use std::path::Path;
 
@@ -115,6 +115,26 @@ fn numbers_are_those_of_the_files() {
     let edits = folders().into_iter().filter(|(at, _)| at.ends_with("/must-fail"));
     let edits = edits.map(|(_, files)| files.len()).sum::<usize>();
     assert!(edits == 0 || edits == number("edits refused: "), "{edits} edits");
+}
+
+/// The definitions that the guide quotes are lines of `specs`.
+#[test]
+fn quoted_definitions_are_in_the_sources() {
+    let folder = Path::new(env!("CARGO_MANIFEST_DIR"));
+    let specs = folders().into_iter().filter(|(at, _)| at.ends_with("/specs"));
+    let specs = specs.flat_map(|(_, files)| files.into_values()).collect::<Vec<_>>();
+    // A package has neither.
+    let Ok(guide) = fs::read_to_string(folder.join("docs/DEFINITIONS.md")) else {
+        return assert!(specs.is_empty());
+    };
+    let specs = specs.iter().map(|text| std::str::from_utf8(text).expect("a source is UTF-8"));
+    let lines = specs.flat_map(str::lines).map(str::trim).collect::<HashSet<_>>();
+    let mut quoted = 0;
+    for line in guide.lines().filter_map(|line| line.strip_prefix("    ")) {
+        assert!(lines.contains(line), "{line}");
+        quoted += 1;
+    }
+    assert!(quoted > 0);
 }
 
 #[test]
