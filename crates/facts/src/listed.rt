@@ -1,57 +1,64 @@
 //! What ran, and what was built, is listed.
-ghost use Rattle.std.specs.Prelude.{◌≡◌, ◌⊎◌, ℕ, List, Option, Result, IfSome, MatchResult, map};
+ghost use Rattle.std.specs.Prelude.{◌≡◌, ◌⊎◌, ℕ, List, Option as Optional, Result as Outcome, IfErr, IfOk, MatchResult, map};
 ghost use Rattle.wasm_encoder.specs.Command.{CommandTree, command_view};
-ghost use Rattle.wasm_encoder.specs.Ran.{Ran};
+ghost use Rattle.wasm_encoder.specs.Ran.{Ran, IsStopped};
+ghost use Rattle.wenc_base.specs.Piece.{Wide};
 ghost use Rattle.wenc_builder.specs.Item.{HasNoRaw};
-ghost use Rattle.wenc_base.specs.declared.fault.Fault.{Fault};
+ghost use Rattle.wenc_base.specs.declared.fault.Fault.{Fault as FaultSpec};
+ghost use Rattle.wenc_base.specs.Fault.{IsMemory};
 ghost use Rattle.wenc_builder.specs.Entry.{Entry, items as items_of};
-ghost use Rattle.wenc_builder.specs.Sections.{runs, whole, IsEncodable};
+ghost use Rattle.wenc_builder.specs.Sections.{Section, Reading, runs, whole, IsEncodable};
 ghost use Rattle.wenc_list.specs.Items.{section_view};
 ghost use Rattle.wenc_list.specs.Listing.{AreWithin, IsFaultOf, IsMemoryOrTooDeep};
 ghost use Rattle.wenc_list.specs.declared.fault.ListFault.TheVariants.{Memory, TooDeep};
 ghost use Rattle.wenc_list.specs.declared.fault.ListFault.{ListFault};
 
 use std::alloc::Allocator;
-use wasm_encoder::laws::one_reading;
+use wasm_encoder::laws::listed;
 use wasm_encoder::{Built, Command, build};
-use wenc_list::laws::faults_of_what_is_read;
+use wenc_base::Fault;
 use wenc_list::{ListFault, Listing, list};
 
-/// Where commands ran, and led to items that can be encoded and are not raw, and no type in them is
-/// deeper than 100, no fault of a lister stands against the bytes of the component, but want of
-/// memory. Where a type is deeper, every other fault that stands is `TooDeep`.
-pub fn faults_of_what_ran()
-    ensures no_fault { (commands : List CommandTree) (answers : List (Result (Option ℕ) Fault))
+/// Where commands ran, and led to items that can be encoded and are not raw, what is listed is the
+/// sections into which these are cut. Only two faults can stand against that: an allocation that
+/// fails, and a type deeper than 100 where an item is or has one.
+pub fn what_ran_is_listed()
+    ensures sections { (commands : List CommandTree) (answers : List (Outcome (Optional ℕ) FaultSpec))
+        (es : List Entry) → Ran commands answers es → HasNoRaw (items_of es)
+        → IsEncodable (items_of es) → (ss : List Section) → Reading Wide (whole (items_of es)) ss
+        → ss ≡ runs (items_of es) }
+    ensures faults { (commands : List CommandTree) (answers : List (Outcome (Optional ℕ) FaultSpec))
         (es : List Entry) → Ran commands answers es → HasNoRaw (items_of es)
         → IsEncodable (items_of es) → AreWithin 100 (runs (items_of es))
         → (fault : ListFault) → IsFaultOf (whole (items_of es)) fault → fault ≡ Memory }
-    ensures too_deep { (commands : List CommandTree) (answers : List (Result (Option ℕ) Fault))
+    ensures too_deep { (commands : List CommandTree) (answers : List (Outcome (Optional ℕ) FaultSpec))
         (es : List Entry) → Ran commands answers es → HasNoRaw (items_of es)
-        → IsEncodable (items_of es)
-        → (fault : ListFault) → IsFaultOf (whole (items_of es)) fault
-        → (fault ≡ Memory) ⊎ ((place : ℕ) × (fault ≡ TooDeep place)) }
+        → IsEncodable (items_of es) → (fault : ListFault) → IsFaultOf (whole (items_of es)) fault
+        → (fault ≡ Memory) ⊎ ((place : ℕ) × (fault ≡ TooDeep place)
+        × (AreWithin 100 (runs (items_of es)) → ⊥)) }
 {
-    one_reading();
-    faults_of_what_is_read();
+    listed();
 }
 
-/// Builds a component, and lists it. Without a raw item its sections are the runs of the accepted
-/// commands' items, or memory is wanting, or a type in them is deeper than 100, and the fault is
-/// that.
+/// Builds a component, and lists it. Without a raw item its sections are those into which the
+/// accepted commands' items are cut, unless an allocation fails or a type in them is deeper than
+/// 100, and the fault is that. There is nothing to list only where `build` failed.
 pub fn built_and_listed<A: Allocator + Copy>(
     alloc: A,
     commands: &[Command<A>],
-) -> Option<(Built<A>, Result<Listing<A>, ListFault>)>
-    ensures { IfSome result (λ x. (es : List Entry)
+) -> Result<(Built<A>, Result<Listing<A>, ListFault>), Fault>
+    ensures read { IfOk result (λ x. (es : List Entry)
         → Ran (map command_view commands.now) x.0.answers.items es → HasNoRaw (items_of es)
         → MatchResult x.1 (λ listing. map section_view listing.sections.items ≡ runs (items_of es))
         (IsMemoryOrTooDeep (runs (items_of es)))) }
+    ensures refused { IfErr result (λ fault. IsMemory fault
+        ⊎ IsStopped (map command_view commands.now) fault) }
 {
     match build(alloc, commands) {
         Ok(built) => {
             let listed = list(alloc, built.bytes.as_slice());
-            Some((built, listed))
+            Ok((built, listed))
         }
-        Err(_) => None,
+        Err(fault) => Err(fault),
     }
 }

@@ -28,6 +28,7 @@ ghost use Rattle.wasm_encoder.specs.AllForms.{FormName, value_of, form_of};
 
 mod of_builders;
 mod of_holders;
+mod of_listings;
 
 pub use of_builders::{
     an_item_becomes_its_command, counts_never_fall, encoded_types_are_entries,
@@ -35,6 +36,7 @@ pub use of_builders::{
     nested_runs, one_item_counts_once, one_kind_is_one_section,
 };
 pub use of_holders::{sections_are_read, what_is_finished_has_some};
+pub use of_listings::listed;
 use wenc_base::{Delimited, DelimitedEq};
 
 /// The text of an unsigned number is the shortest list of bytes that spells it, and the only one so

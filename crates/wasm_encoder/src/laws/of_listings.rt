@@ -1,0 +1,28 @@
+//! What is listed of a component that was built.
+ghost use Rattle.std.specs.Prelude.{◌≡◌, ◌↔◌, ◌⊎◌, ℕ, List};
+ghost use Rattle.wenc_base.specs.Piece.{Wide};
+ghost use Rattle.wenc_builder.specs.Item.{Item, HasNoRaw};
+ghost use Rattle.wenc_builder.specs.Sections.{Section, runs, Reading, whole, IsEncodable};
+ghost use Rattle.wenc_list.specs.Listing.{AreWithin, IsFaultOf};
+ghost use Rattle.wenc_list.specs.declared.fault.ListFault.TheVariants.{Memory, TooDeep};
+ghost use Rattle.wenc_list.specs.declared.fault.ListFault.{ListFault};
+
+use super::one_reading;
+use wenc_list::laws::faults_of_what_is_read;
+
+/// The component of items without a raw one has one listing: the sections into which they are cut.
+/// Only two faults can stand against it: an allocation that fails, and a type deeper than 100 where
+/// one of the items is or has such a type.
+pub fn listed()
+    ensures sections { (xs : List Item) → HasNoRaw xs → IsEncodable xs
+        → (ss : List Section) → Reading Wide (whole xs) ss ↔ (ss ≡ runs xs) }
+    ensures no_fault { (xs : List Item) → HasNoRaw xs → IsEncodable xs → AreWithin 100 (runs xs)
+        → (fault : ListFault) → IsFaultOf (whole xs) fault → fault ≡ Memory }
+    ensures too_deep { (xs : List Item) → HasNoRaw xs → IsEncodable xs
+        → (fault : ListFault) → IsFaultOf (whole xs) fault
+        → (fault ≡ Memory) ⊎ ((place : ℕ) × (fault ≡ TooDeep place)
+        × (AreWithin 100 (runs xs) → ⊥)) }
+{
+    one_reading();
+    faults_of_what_is_read();
+}
