@@ -13,9 +13,11 @@ pub mod command;
 pub mod laws;
 mod of_item;
 mod of_producers;
+mod reading;
 
-pub use command::{Built, Command, build};
+pub use command::{Built, Command, Running, build};
 pub use of_producers::producers_command;
+pub use reading::*;
 pub use wenc_base::{
     AbstractHeapType, ArrayType, CompositeType, CoreTypeEncoder, CustomSection, Delimited,
     DelimitedEq, Encode, EntityType, ExportKind, Fault, FieldType, FuncType, GlobalType, GroupTree,
@@ -25,7 +27,6 @@ pub use wenc_base::{
 };
 pub use wenc_builder::{ComponentBuilder, Space};
 pub use wenc_canon::{AddsBuiltin, AddsSlot, CanonicalFunctionSection, CanonicalOption};
-pub use wenc_list::{ItemTree, ListFault, ListedSection, Listing, Unread, first_unread, list};
 pub use wenc_parts::{
     Alias, AliasTree, Component, ComponentExportKind, ComponentExternName, ComponentOuterAliasKind,
     ComponentSection, ComponentSectionId, ComponentTypeRef, ComponentValType, ModuleArg,

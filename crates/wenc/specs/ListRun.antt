@@ -7,14 +7,16 @@ use Rattle.wenc_list.specs.declared.fault.ListFault.{ListFault}
 use Rattle.wenc_list.specs.declared.fault.ListFault.TheVariants.{Memory}
 use Rattle.wenc_list.specs.declared.listing.Listing.{Listing}
 use Rattle.wenc_list.specs.Items.{section_view}
-use Rattle.wenc_list.specs.Listing.{ArePlaced, count_of_sections, IsFaultOf}
+use Rattle.wenc_list.specs.Listing.{AreWithin, ArePlaced, count_of_sections, IsFaultOf}
 use Rattle.wenc.specs.Listed.{text_bytes, listing_text, bad_text, fault_line}
 
--- The text says bytes, of which this listing has the sections with their places, and the counts.
+-- The text says bytes, of which this listing has the sections with their places, no type deeper than
+-- 100, and the counts.
 pub record IsListingOf {A : Type 0} (text : List ℕ) (listing : Listing A) : Type 0 where
   pub bytes : List ℕ
   pub says : text_bytes text ≡ Some bytes
   pub reading : Reading Wide bytes (map section_view listing.sections.items)
+  pub within : AreWithin 100 (map section_view listing.sections.items)
   pub placed : ArePlaced bytes listing.sections.items
   pub counted : (k : ℕ)
       → slice_index listing.counts k ≡ count_of_sections k (map section_view listing.sections.items)

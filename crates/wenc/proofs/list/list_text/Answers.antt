@@ -8,6 +8,7 @@ returns g c =
         bytes = c.in_ok-bytes.bytes.items;
         says = c.in_ok-bytes.ensures;
         reading = rw c.as_slice.ensures.value at read.reading;
+        within = read.within;
         placed = rw c.as_slice.ensures.value at read.placed;
         counted = read.counted;
       },

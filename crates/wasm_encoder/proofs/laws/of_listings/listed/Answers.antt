@@ -21,6 +21,10 @@ returns-clause-too_deep c xs no_raw fits fault stands =
     let reading = (c.one_reading.ensures.of_items Wide xs (runs xs) no_raw fits).1 refl in
     elim (c.faults_of_what_is_read.ensures.too_deep (whole xs) (runs xs) reading fault stands) [
       | inl is_memory ↦ inl is_memory
-      | inr is_deep ↦ inr (is_deep.0, is_deep.1, λ within.
-        memory_is_no_depth (sym (c.faults_of_what_is_read.ensures.no_fault (whole xs) (runs xs) reading within fault stands) ∙ is_deep.1))
+      | inr is_deep ↦ inr (
+        is_deep.0,
+        is_deep.1,
+        λ within.
+            memory_is_no_depth (sym (c.faults_of_what_is_read.ensures.no_fault (whole xs) (runs xs) reading within fault stands) ∙ is_deep.1),
+      )
     ]
