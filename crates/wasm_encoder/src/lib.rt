@@ -13,20 +13,21 @@ pub mod command;
 pub mod laws;
 mod of_item;
 mod of_producers;
-mod reading;
 
 pub use command::{Built, Command, Running, build};
 pub use of_producers::producers_command;
-pub use reading::*;
 pub use wenc_base::{
-    AbstractHeapType, ArrayType, CompositeType, CoreTypeEncoder, CustomSection, Delimited,
-    DelimitedEq, Encode, EntityType, ExportKind, Fault, FieldType, FuncType, GlobalType, GroupTree,
-    HeapType, Holder, Lender, MemoryType, Module, NameMap, ProducersField, ProducersSection,
-    RawCustomSection, RawSection, RefType, Section, SectionId, StorageType, StructType, SubType,
-    TableType, TagType, ValType, encode_list, encoding_size, section_size,
+    AbstractHeapType, ArrayType, CompositeType, CoreTypeEncoder, CustomSection, Delimited, Encode,
+    EntityType, ExportKind, Fault, FieldType, FuncType, GlobalType, GroupTree, HeapType, Holder,
+    Lender, MemoryType, Module, NameMap, ProducersField, ProducersSection, RawCustomSection,
+    RawSection, RefType, Section, SectionId, StorageType, StructType, SubType, TableType, TagType,
+    ValType, encode_list, encoding_size, section_size,
 };
 pub use wenc_builder::{ComponentBuilder, Space};
 pub use wenc_canon::{AddsBuiltin, AddsSlot, CanonicalFunctionSection, CanonicalOption};
+pub use wenc_list::{
+    ItemTree, ListFault, ListedSection, Listing, SectionItems, Sections, Unread, first_unread, list,
+};
 pub use wenc_parts::{
     Alias, AliasTree, Component, ComponentExportKind, ComponentExternName, ComponentOuterAliasKind,
     ComponentSection, ComponentSectionId, ComponentTypeRef, ComponentValType, ModuleArg,
@@ -40,7 +41,6 @@ pub use wenc_sections::{
 };
 pub use wenc_types::{
     CaseTree, ComponentCoreTypeEncoder, ComponentDecl, ComponentDefinedTypeEncoder,
-    ComponentFuncTypeEncoder, ComponentType, ComponentTypeEncoder, CoreTypeTree, Declarations,
-    DeclaringKind, DefinedTree, FuncStage, InstanceDecl, InstanceType, ModuleDecl, ModuleType,
-    TypeTree,
+    ComponentFuncTypeEncoder, ComponentType, ComponentTypeEncoder, CoreTypeTree, DefinedTree,
+    FuncStage, InstanceDecl, InstanceType, ModuleDecl, ModuleType, TypeTree,
 };

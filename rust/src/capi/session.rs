@@ -8,10 +8,11 @@ use crate::proved::wasm_encoder::{
     Alias, CanonicalFunctionSection, Component, ComponentAliasSection, ComponentBuilder,
     ComponentExportKind, ComponentExportSection, ComponentExternName, ComponentImportSection,
     ComponentInstanceSection, ComponentNameSection, ComponentOuterAliasKind, ComponentSection,
-    ComponentType, ComponentTypeRef, ComponentTypeSection, CoreTypeSection, Declarations,
-    DeclaringKind, Fault, InstanceSection, InstanceType, ModuleType, Space,
+    ComponentType, ComponentTypeRef, ComponentTypeSection, CoreTypeSection, Fault, InstanceSection,
+    InstanceType, ModuleType, Space,
 };
 use crate::proved::wenc_types::counts::{Sort, sort_of_alias, sort_of_kind};
+use crate::proved::wenc_types::{Declarations, DeclaringKind};
 
 /// What a handle owns.
 pub enum Session {
