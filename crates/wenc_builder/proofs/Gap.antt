@@ -14,7 +14,7 @@ length_between : (k n : ℕ) (xs : List ℕ) → n ≤ length xs → length (dro
 length_between k n xs h = omega (arith, length-drop k (take n xs), length-take-le n xs)
 
 -- a section's head in front of its items is its text
-headed : (id count : ℕ) (body rest : List ℕ) → section_head id count (number_size count + length body) ++ (body ++ rest)
+pub headed : (id count : ℕ) (body rest : List ℕ) → section_head id count (number_size count + length body) ++ (body ++ rest)
     ≡ open_text_of (record { id = id; count = count; body = body }) ++ rest
 headed id count body rest = simp append_assoc
 

@@ -3,13 +3,14 @@
 -- section is being written, it keeps that section too, and a gap after it, and the item is its
 -- only member.
 use Rattle.std.specs.Prelude.{◌≡◌, ℕ, List, [], ◌∷◌, ◌++◌, ◌+◌, ◌-◌, ◌<◌, ◌≤◌, ◌^◌, length, take}
-use Rattle.std.specs.Prelude.{drop, Option, Some, None, is_none, false}
+use Rattle.std.specs.Prelude.{drop, Option, Some, None, is_none, false, Result, OnOk, OnErr, IfErr}
 use Rattle.wenc_base.specs.Number.{unsigned_text, number_size}
 use Rattle.wenc_base.specs.Holder.{HolderState, content_size}
 use Rattle.wenc_base.specs.declared.holder.openings.Opening.{Opening}
-use Rattle.wenc_base.specs.Fault.{either, size_cause}
+use Rattle.wenc_base.specs.Fault.{either, size_cause, IsWarranted, NoCause}
 use Rattle.wenc_base.specs.Forms.{byte_list}
 use Rattle.wenc_base.specs.Piece.{Piece, refused_for}
+use Rattle.wenc_base.specs.declared.fault.Fault.{Fault}
 use Rattle.wenc_base.specs.declared.fault.Fault.TheVariants.{Unfinished}
 use Rattle.wenc_parts.specs.declared.component.ComponentSectionId.TheVariants as ids
 use Rattle.wenc_parts.specs.SectionIds.{section_number}
@@ -103,6 +104,16 @@ buffer_given_up b = record { settled = b.settled; writing = None }
 -- something that stands alone after all sections
 abbrev pub buffer_with : Buffered → List ℕ → Buffered
 buffer_with b text = record { settled = stood_alone b.settled text; writing = None }
+
+-- A call writes this piece alone after all sections, or is refused for the piece's own cause and
+-- changes nothing.
+pub record StandsAlone (old new : Buffered) (outcome : Result (Unit {0}) Fault)
+    (p : Piece) : Type 0 where
+  pub ok : OnOk outcome (new ≡ buffer_with old p.text)
+  pub fits : OnOk outcome p.Fits
+  pub free : OnOk outcome (NoCause p.Cause)
+  pub err : OnErr outcome (new ≡ old)
+  pub warranted : IfErr outcome (IsWarranted p.Cause)
 
 abbrev pub SectionFits : Option OpenSection → Type 0
 SectionFits None = Unit {0}

@@ -2,14 +2,15 @@
 ghost use Rattle.std.specs.Prelude.{◌≡◌, ◌<◌, ◌^◌, length, OnOk, OnErr, IfOk, IfErr, is_none, None, Err, false};
 ghost use Rattle.std.specs.Iterator.{IsFinite};
 ghost use Rattle.wenc_base.specs.Encode.{Appends};
-ghost use Rattle.wenc_base.specs.Forms.{AreBytes, byte_list, list};
+ghost use Rattle.wenc_base.specs.Forms.{AreBytes, list};
 ghost use Rattle.wenc_base.specs.Fault.{IsMemory, IsWarranted, NoCause};
-ghost use Rattle.wenc_base.specs.Piece.{◌▸◌, behind_bytes};
+ghost use Rattle.wenc_base.specs.Piece.{behind_bytes};
 ghost use Rattle.wenc_base.specs.Lender.{Extends, ExtendsListed};
 ghost use Rattle.wenc_base.specs.declared.fault.Fault.TheVariants.{Unfinished};
 ghost use Rattle.wenc_builder.specs.Builder.{sections_text};
 ghost use Rattle.wenc_builder.specs.Cause.{SectionCause, NoRoom};
-ghost use Rattle.wenc_builder.specs.inside.Layout.{kind_id, OpensAnother, nothing_buffered, buffer_begun, section_begun, buffer_appended, section_appended, buffer_ended, buffer_given_up, buffer_with, nested};
+ghost use Rattle.wenc_builder.specs.inside.Layout.{kind_id, OpensAnother, nothing_buffered, buffer_begun, section_begun, buffer_appended, section_appended, buffer_ended, buffer_given_up, StandsAlone, nested};
+ghost use Rattle.wenc_builder.specs.inside.Alone.{with_bytes};
 
 use super::earlier::Earlier;
 use super::flush::{GAP, close_earlier, open_head, section_head};
@@ -163,57 +164,31 @@ impl<A: Allocator> Buffer<A> {
         }
     }
 
-    /// Writes what stands alone after all sections, of which none is open then. It is refused for
-    /// that value's own cause alone.
-    pub fn stand_alone<E: Encode>(&mut self, section: &E) -> Result<(), Fault>
+    /// Writes what stands alone after all sections, of which none is open then: the text of `lead`,
+    /// and these bytes, which are written where they stay.
+    ///
+    /// # Errors
+    ///
+    /// Fails for the lead's own cause, or where there is no memory, and changes nothing then.
+    #[tactic(auto, using(wenc_base::proofs::Groups::size_at_most_5))]
+    pub fn stand_alone<E: Encode>(&mut self, lead: &E, bytes: &[u8]) -> Result<(), Fault>
         requires { self.old.writing ≡ None }
-        ensures ok { OnOk result (self.new ≡ buffer_with self.old (E.piece section.now).text) }
-        ensures fits { OnOk result (E.piece section.now).Fits }
-        ensures bytes { OnOk result (AreBytes (E.piece section.now).text) }
-        ensures free { OnOk result (NoCause (E.piece section.now).Cause) }
-        ensures err { OnErr result (self.new ≡ self.old) }
-        ensures warranted { IfErr result (IsWarranted (E.piece section.now).Cause) }
+        ensures stood { StandsAlone self.old self.new result
+            (with_bytes (E.piece lead.now) bytes.now) }
+        ensures bytes { OnOk result (AreBytes (E.piece lead.now).text) }
     {
         let count = self.holder.len();
-        let items_end = self.holder.keep_all(section)?;
-        let earlier = Earlier {
-            kind: self.kind,
-            count,
-            closed_len: self.closed_len,
-            items_end,
-        };
-        close_earlier(&mut self.holder, &earlier);
-        self.closed_len = self.holder.kept_len();
-        self.kind = None;
-        Ok(())
-    }
-
-    /// Writes these bytes, with their number, alone after all sections, under this section id. They
-    /// are written where they stay, also after an open section. Fails as `stand_alone` does.
-    #[tactic(auto, using(wenc_base::proofs::Groups::size_at_most_5))]
-    pub fn stand_alone_bytes(&mut self, id: u8, bytes: &[u8]) -> Result<(), Fault>
-        requires { self.old.writing ≡ None }
-        ensures ok { OnOk result (self.new ≡ buffer_with self.old (id ▸ byte_list bytes.now).text) }
-        ensures fits { OnOk result (id ▸ byte_list bytes.now).Fits }
-        ensures free { OnOk result (NoCause (id ▸ byte_list bytes.now).Cause) }
-        ensures err { OnErr result (self.new ≡ self.old) }
-        ensures warranted { IfErr result (IsWarranted (id ▸ byte_list bytes.now).Cause) }
-    {
-        let Ok(len) = u32::try_from(bytes.len()) else {
-            return Err(Fault::TooLarge);
-        };
-        let mut lead = Short::new();
-        lead.push(id);
-        lead.unsigned(u64::from(len));
-        let head = open_head(self.kind, self.holder.len(), self.holder.as_slice().len());
         let kept = self.holder.kept_len();
-        self.holder.keep_bytes(
-            self.closed_len,
-            kept,
-            head.as_slice(),
-            lead.as_slice(),
-            bytes,
-        )?;
+        let head = open_head(self.kind, count, self.holder.as_slice().len());
+        let items_end = self.holder.keep_all(lead)?;
+        let head = head.as_slice();
+        if let Err(fault) = self
+            .holder
+            .keep_bytes(self.closed_len, kept, head, &[], bytes)
+        {
+            self.holder.go_back(kept, items_end, count);
+            return Err(fault);
+        }
         self.closed_len = self.holder.kept_len();
         self.kind = None;
         Ok(())

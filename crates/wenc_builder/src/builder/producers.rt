@@ -34,6 +34,6 @@ impl<A: Allocator> ComponentBuilder<A> {
             return Err(Fault::Unfinished);
         }
         let section = Tagged(ComponentSectionId::CoreCustom.into(), producers);
-        self.buffer.stand_alone(&section)
+        self.buffer.stand_alone(&section, &[])
     }
 }
