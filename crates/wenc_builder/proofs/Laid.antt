@@ -4,7 +4,7 @@ use Rattle.std.proofs.lemmas.List.{append-nil, take_at, drop_at, take_all, take-
 use Rattle.std.proofs.lemmas.Bool.{ne_eqb, eq-eqb}
 use Rattle.std.specs.Result.{OnOk, IfErr}
 use Rattle.wenc_base.specs.Number.{number_size}
-use Rattle.wenc_base.specs.Holder.{HolderState, is_finished, holding, all_bytes, filled, content_size, AddCause}
+use Rattle.wenc_base.specs.Holder.{HolderState, is_finished, holding, all_bytes, filled, with_kept, content_size, AddCause}
 use Rattle.wenc_base.specs.Lender.{Extends, ExtendsListed}
 use Rattle.wenc_base.specs.Piece.{Piece}
 use Rattle.wenc_base.specs.Fault.{NoCause, either}
@@ -18,10 +18,10 @@ use Rattle.wenc_builder.specs.Builder.{SectionsState, sections_text, open_text_o
 use Rattle.wenc_builder.specs.Sections.{OpenSection}
 use Rattle.wenc_builder.specs.Cause.{SectionCause, NoRoom}
 use Rattle.wenc_builder.specs.laws.Caused.{cause_is}
-use Rattle.wenc_builder.specs.inside.Layout.{kind_id, open_head, OpensAnother, Buffered, buffered_content, buffer_appended, section_appended, buffer_with, SectionFits, open_view, earlier_view, buffer_view, kept_before, SectionIsIn, MembersAreIn, BegunIsIn, EarlierIsIn, IsApart, IsLaidOut}
+use Rattle.wenc_builder.specs.inside.Layout.{kind_id, open_head, OpensAnother, Buffered, buffered_content, buffer_appended, section_appended, buffer_with, SectionFits, open_view, buffer_view, kept_before, SectionIsIn, MembersAreIn, BegunIsIn, EarlierIsIn, IsApart, IsLaidOut}
 use Rattle.wenc_builder.specs.declared.builder.earlier.Earlier.{Earlier}
 use Rattle.wenc_builder.specs.declared.builder.kind.Kind.{Kind}
-use Rattle.wenc_builder.proofs.Gap.{headed}
+use Rattle.wenc_builder.proofs.Gap.{headed, gap_filled}
 
 size_of_one : number_size 1 ≡ 1
 size_of_one = size_1 1 (omega arith)
@@ -274,16 +274,20 @@ headed_is h text closed_len (Some k) m =
     rw (append_assoc h.kept h.body text, take-append-le closed_len h.kept (h.body ++ text) (within_kept h closed_len (Some k) m), drop_at h.kept (h.body ++ text) (length h.kept) refl)
     (ap (λ (t : List ℕ). take closed_len h.kept ++ t) (headed (kind_id k) h.count h.body text) ∙ sym (append_assoc (take closed_len h.kept) (open_text_of o) text))
 
--- and then all bytes are closed
-pub stood : (h new : HolderState) (text bytes : List ℕ) (closed_len new_len : ℕ) (kind : Option Kind) (earlier : Option Earlier) (now : Buffered) → IsLaidOut h closed_len kind earlier → buffer_view h closed_len kind earlier ≡ now → now.writing ≡ None
-    → new ≡ holding (filled (all_bytes (holding (all_bytes h ++ text) 0 [])) closed_len (length h.kept) (open_head kind h.count (length h.body)) ++ bytes) 0 [] → new_len ≡ length new.kept
-    → buffer_view new new_len None earlier ≡ buffer_with now (text ++ bytes)
-stood h new text bytes closed_len new_len kind earlier now l view none is n =
+-- and then all bytes are closed, those among them too whose gap a head fills
+pub stood : (h kept new : HolderState) (text first more head : List ℕ) (gap end closed_len new_len : ℕ) (kind : Option Kind) (earlier : Option Earlier) (now : Buffered) → IsLaidOut h closed_len kind earlier → buffer_view h closed_len kind earlier ≡ now → now.writing ≡ None
+    → kept ≡ holding (filled (all_bytes (holding (all_bytes h ++ text) 0 [])) closed_len (length h.kept) (open_head kind h.count (length h.body)) ++ (first ++ more)) 0 []
+    → gap ≤ length first → end ≡ length kept.kept - length more → new ≡ with_kept kept (filled kept.kept (end - gap) end head) → new_len ≡ length new.kept
+    → buffer_view new new_len None earlier ≡ buffer_with now (text ++ (take (length first - gap) first ++ (head ++ more)))
+stood h kept new text first more head gap end closed_len new_len kind earlier now l view none k room e is n =
     let idle = none_is_written h closed_len kind earlier (ap (λ (b : Buffered). b.writing) view ∙ none) in
     let members : MembersAreIn kind closed_len h × BegunIsIn h.opening h.count (length h.body) = (rw idle.0 at l).indices in
     let before = sections_text (record { closed = take closed_len h.kept; current = open_view kind h.count h.body }) in
+    let bytes = take (length first - gap) first ++ (head ++ more) in
+    let whole : kept ≡ holding ((before ++ text) ++ (first ++ more)) 0 [] = k ∙ rw (append-nil (all_bytes h ++ text), headed_is h text closed_len kind members.0) refl in
+    let size : end ≡ length ((before ++ text) ++ (first ++ more)) - length more = rw whole at e in
     let all : new ≡ holding (before ++ (text ++ bytes)) 0 [] =
-    is ∙ rw (append-nil (all_bytes h ++ text), headed_is h text closed_len kind members.0) (ap (λ (b : List ℕ). holding b 0 []) (append_assoc before text bytes)) in
+    is ∙ rw (whole, gap_filled (before ++ text) first more head gap end room size) (ap (λ (b : List ℕ). holding b 0 []) (append_assoc before text bytes)) in
     let closed = before ++ (text ++ bytes) in
     rw (n, all, idle.0) (rw (← view, idle.0, idle.1, take_all (length closed) closed (omega arith)) refl)
 

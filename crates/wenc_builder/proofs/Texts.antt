@@ -1,5 +1,5 @@
 -- What the calls of a builder write serves as items.
-use Rattle.std.proofs.Common.{◌≡◌, ℕ, ◌+◌, ◌<◌, ◌^◌, List, [], ◌∷◌, ◌++◌, length, true, is_none, Option, Result, Ok, Err, OnOk, refl, ap, subst, inl, inr, arith, append_assoc, length-append}
+use Rattle.std.proofs.Common.{◌≡◌, ℕ, ◌+◌, ◌<◌, ◌^◌, List, [], ◌∷◌, ◌++◌, length, Option, Result, Ok, Err, OnOk, refl, ap, inl, inr, arith, append_assoc, length-append}
 use Rattle.std.proofs.lemmas.List.{append-nil}
 use Rattle.wenc_base.specs.Encode.{Serves, in_order}
 use Rattle.wenc_base.specs.Forms.{option, byte_list, name}
@@ -10,14 +10,10 @@ use Rattle.wenc_base.specs.declared.fault.Fault.{Fault}
 use Rattle.wenc_base.specs.laws.Serves.{serves_itself, order_serves}
 use Rattle.wenc_parts.specs.Exports.{component_export_kind}
 use Rattle.wenc_parts.specs.Imports.{ExternName, extern_name, type_reference}
-use Rattle.wenc_parts.specs.SectionIds.{section_number}
-use Rattle.wenc_parts.specs.declared.component.ComponentSectionId.TheVariants as ids
 use Rattle.wenc_parts.specs.declared.exports.ComponentExportKind.{ComponentExportKind}
 use Rattle.wenc_parts.specs.declared.imports.ComponentTypeRef.{ComponentTypeRef}
-use Rattle.wenc_builder.specs.Builder.{sections_text}
-use Rattle.wenc_builder.specs.Item.{Item, ComponentItem, CustomItem, ExportItem, RawItem, item, collected}
+use Rattle.wenc_builder.specs.Item.{Item, CustomItem, ExportItem, RawItem, item, collected}
 use Rattle.wenc_builder.specs.inside.Alone.{with_bytes, custom_lead}
-use Rattle.wenc_builder.specs.inside.Layout.{Buffered, nested}
 use Rattle.wenc_builder.specs.inside.Takes.{IsItemPiece}
 use Rattle.wenc_builder.specs.Space.{defines}
 
@@ -69,12 +65,3 @@ pub export_serves : (n : ExternName) (kind : ComponentExportKind) (index : ℕ) 
     → Serves (in_order (extern_name n) (in_order (component_export_kind kind) (in_order (u32 index) (option type_reference what)))) (item (ExportItem (record { name = n; kind = kind; index = index; ty = what })))
 export_serves n kind index what =
     order_serves (serves_itself {p = extern_name n}) (order_serves (serves_itself {p = component_export_kind kind}) (order_serves (serves_itself {p = u32 index}) (serves_itself {p = option type_reference what})))
-
--- a builder that is finished is written as its bytes
-pub nested_serves : (b : Buffered) (bytes : List ℕ) → sections_text b.settled ≡ bytes → is_none b.writing ≡ true → Serves (with_bytes (section_number ids.Component ▸ nested b) []) (item (ComponentItem bytes))
-nested_serves b bytes e none = subst (λ (bs : List ℕ). Serves (with_bytes (section_number ids.Component ▸ nested b) []) (item (ComponentItem bs))) e (record {
-  text = append-nil (section_number ids.Component ▸ nested b).text;
-  fits = λ h. h.0;
-  among = λ fault c. elim c [ inl own ↦ elim own [ inl large ↦ inl large | inr stopped ↦ (let unfinished = stopped.1 in cc) ] | inr never ↦ absurd never ];
-  free = λ free fault c. elim c [ inl own ↦ free fault (inl (inl own)) | inr never ↦ never ];
-})

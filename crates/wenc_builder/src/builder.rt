@@ -34,17 +34,15 @@ mod instances;
 mod kind;
 mod names;
 mod namespace;
-mod nested;
 mod producers;
 mod space;
 mod spaces;
 mod trees;
 mod types;
 
-use alone::{CustomLead, Size};
+use alone::{CustomLead, Ready, Size};
 use buffer::Buffer;
 use kind::Kind;
-use nested::Nested;
 pub use space::Space;
 use spaces::Spaces;
 use std::alloc::{Allocator, Global};
@@ -326,7 +324,7 @@ impl<A: Allocator> ComponentBuilder<A> {
         number: u32,
         name: Option<&str>,
         lead: &E,
-        bytes: &[u8],
+        bytes: &Ready<'_>,
     ) -> Result<u32, Fault>
         requires { IsItemPiece None (some_in space number)
             (with_bytes (E.piece lead.now) bytes.now) }
@@ -352,7 +350,7 @@ impl<A: Allocator> ComponentBuilder<A> {
     }
 
     /// Adds what stands alone and has no index: the text of `lead`, and these bytes.
-    fn add_alone<E: Encode>(&mut self, lead: &E, bytes: &[u8]) -> Result<(), Fault>
+    fn add_alone<E: Encode>(&mut self, lead: &E, bytes: &Ready<'_>) -> Result<(), Fault>
         requires { IsItemPiece None None (with_bytes (E.piece lead.now) bytes.now) }
         ensures { TakesNoIndex self.old self.new result
             (with_bytes (E.piece lead.now) bytes.now) }
@@ -395,7 +393,7 @@ impl<A: Allocator> ComponentBuilder<A> {
         let content = (NAMES_LABEL, names);
         let sized = WithSize(&content);
         let section = Tagged(ComponentSectionId::CoreCustom.into(), &sized);
-        self.buffer.stand_alone(&section, &[])
+        self.buffer.stand_alone(&section, &Ready::whole(&[]))
     }
 
     /// Adds a core module, with a debug name or none, and answers its index (component model,
@@ -420,7 +418,8 @@ impl<A: Allocator> ComponentBuilder<A> {
     {
         let size = Size(bytes.len());
         let lead = Tagged(ComponentSectionId::CoreModule.into(), &size);
-        self.stand_alone(Space::CoreModules, 1, debug_name, &lead, bytes)
+        let bytes = Ready::whole(bytes);
+        self.stand_alone(Space::CoreModules, 1, debug_name, &lead, &bytes)
     }
 
     /// Adds an alias of an export of a core instance, with a debug name or none, and answers its
@@ -548,9 +547,10 @@ impl<A: Allocator> ComponentBuilder<A> {
         if !component.is_finished() {
             return Err(Fault::Unfinished);
         }
-        let nested = Nested(&component.buffer);
-        let section = Tagged(ComponentSectionId::Component.into(), &nested);
-        self.stand_alone(Space::Components, 1, debug_name, &section, &[])
+        let bytes = component.buffer.ready();
+        let size = Size(bytes.len());
+        let lead = Tagged(ComponentSectionId::Component.into(), &size);
+        self.stand_alone(Space::Components, 1, debug_name, &lead, &bytes)
     }
 
     /// Adds the component with these bytes, with a debug name or none, and answers its index
@@ -566,7 +566,8 @@ impl<A: Allocator> ComponentBuilder<A> {
     {
         let size = Size(component.len());
         let lead = Tagged(ComponentSectionId::Component.into(), &size);
-        self.stand_alone(Space::Components, 1, debug_name, &lead, component)
+        let bytes = Ready::whole(component);
+        self.stand_alone(Space::Components, 1, debug_name, &lead, &bytes)
     }
 
     /// Has a function called with these values when the component is instantiated. Answers the
@@ -587,7 +588,7 @@ impl<A: Allocator> ComponentBuilder<A> {
             results,
         };
         let section = Tagged(ComponentSectionId::Start.into(), &start);
-        self.stand_alone(Space::Values, results, None, &section, &[])
+        self.stand_alone(Space::Values, results, None, &section, &Ready::whole(&[]))
     }
 
     /// Adds a custom section (component model, binary format, "Component Definitions"). Refused as
@@ -598,7 +599,7 @@ impl<A: Allocator> ComponentBuilder<A> {
     {
         let lead = CustomLead(section);
         let lead = Tagged(ComponentSectionId::CoreCustom.into(), &lead);
-        self.add_alone(&lead, section.data)
+        self.add_alone(&lead, &Ready::whole(section.data))
     }
 
     /// Adds a custom section with these bytes after its id (component model, binary format,
@@ -607,7 +608,8 @@ impl<A: Allocator> ComponentBuilder<A> {
     pub fn raw_custom_section(&mut self, section: &[u8]) -> Result<(), Fault>
         ensures { EntersWithoutIndex self.old self.new result (raw_entry section.now) }
     {
-        self.add_alone(&Tagged(ComponentSectionId::CoreCustom.into(), &()), section)
+        let lead = Tagged(ComponentSectionId::CoreCustom.into(), &());
+        self.add_alone(&lead, &Ready::whole(section))
     }
 
     /// Whether no item is being written. Then the builder holds some entries, whoever made which

@@ -3,21 +3,19 @@
 -- section is being written, it keeps that section too, and a gap after it, and the item is its
 -- only member.
 use Rattle.std.specs.Prelude.{◌≡◌, ℕ, List, [], ◌∷◌, ◌++◌, ◌+◌, ◌-◌, ◌<◌, ◌≤◌, ◌^◌, length, take}
-use Rattle.std.specs.Prelude.{drop, Option, Some, None, is_none, false, Result, OnOk, OnErr, IfErr}
+use Rattle.std.specs.Prelude.{drop, Option, Some, None, Result, OnOk, OnErr, IfErr}
 use Rattle.wenc_base.specs.Number.{unsigned_text, number_size}
 use Rattle.wenc_base.specs.Holder.{HolderState, content_size}
 use Rattle.wenc_base.specs.declared.holder.openings.Opening.{Opening}
-use Rattle.wenc_base.specs.Fault.{either, size_cause, IsWarranted, NoCause}
-use Rattle.wenc_base.specs.Forms.{byte_list}
-use Rattle.wenc_base.specs.Piece.{Piece, refused_for}
+use Rattle.wenc_base.specs.Fault.{IsWarranted, NoCause}
+use Rattle.wenc_base.specs.Piece.{Piece}
 use Rattle.wenc_base.specs.declared.fault.Fault.{Fault}
-use Rattle.wenc_base.specs.declared.fault.Fault.TheVariants.{Unfinished}
 use Rattle.wenc_parts.specs.declared.component.ComponentSectionId.TheVariants as ids
 use Rattle.wenc_parts.specs.SectionIds.{section_number}
 use Rattle.wenc_parts.specs.Component.{preamble}
 use Rattle.wenc_builder.specs.Space.{space_number}
 use Rattle.wenc_builder.specs.Sections.{OpenSection}
-use Rattle.wenc_builder.specs.Builder.{SectionsState, sections_text, entered, stood_alone}
+use Rattle.wenc_builder.specs.Builder.{SectionsState, entered, stood_alone}
 use Rattle.wenc_builder.specs.Builder.{open_text, Draft, draft}
 use Rattle.wenc_builder.specs.declared.builder.space.Space.{Space}
 use Rattle.wenc_builder.specs.declared.builder.kind.Kind.{Kind}
@@ -218,13 +216,3 @@ closed_with kept e = take e.closed_len kept ++ open_text (earlier_view kept e)
 -- the kept bytes with that section closed, and still after it what stood there
 abbrev pub kept_with : List ℕ → Earlier → List ℕ
 kept_with kept e = closed_with kept e ++ drop e.items_end kept
-
--- ---- why the buffer refuses
-
--- all bytes as those of a nested component: refused where there are too many, or while an item is
--- being written
-abbrev pub nested : Buffered → Piece
-nested b =
-    refused_for (either (size_cause (length (sections_text b.settled)))
-    (λ fault. (fault ≡ Unfinished) × (is_none b.writing ≡ false)))
-    (byte_list (sections_text b.settled))

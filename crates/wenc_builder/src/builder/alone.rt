@@ -1,6 +1,50 @@
-//! What comes before bytes that stand alone, after their section's id.
+//! Bytes that stand alone, and what comes before them, after their section's id.
+ghost use Rattle.std.specs.Prelude.{◌≡◌, length};
+
 use std::alloc::Allocator;
-use wenc_base::{CustomSection, Encode, Fault, section_size};
+use std::marker::Model;
+use wenc_base::{CustomSection, Encode, Fault, Short, section_size};
+
+/// Bytes that lie ready: some, the last of which are a gap, a head that fills it, and more.
+#[derive(Drop)]
+pub struct Ready<'a> {
+    pub first: &'a [u8],
+    /// How many of the first bytes are the gap.
+    pub gap: usize,
+    pub head: Short,
+    pub more: &'a [u8],
+}
+
+impl<'a> Model for Ready<'a> {
+    ghost use Rattle.std.specs.Prelude.{List, ℕ, ◌-◌, ◌≤◌, ◌++◌, length, take};
+
+    ghost Value = { List ℕ };
+
+    ghost view = { λ r. take (length r.first.now - r.gap) r.first.now ++ (r.head ++ r.more.now) };
+
+    ghost invariant = { λ r. (r.gap ≤ length r.first.now) × (length r.head ≤ r.gap) };
+}
+
+impl<'a> Ready<'a> {
+    /// These bytes, without a gap.
+    pub fn whole(bytes: &'a [u8]) -> Ready<'a>
+        ensures { result ≡ bytes.now }
+    {
+        Ready {
+            first: bytes,
+            gap: 0,
+            head: Short::new(),
+            more: &[],
+        }
+    }
+
+    /// How many bytes they are.
+    pub fn len(&self) -> usize
+        ensures { result ≡ length self.now }
+    {
+        self.first.len() - self.gap + self.head.as_slice().len() + self.more.len()
+    }
+}
 
 /// How many bytes follow. More than 4294967295 are refused with `TooLarge`.
 #[derive(Clone, Copy)]

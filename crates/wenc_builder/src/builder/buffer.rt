@@ -1,7 +1,6 @@
 //! The bytes of a component, where its last section may be open.
-ghost use Rattle.std.specs.Prelude.{◌≡◌, ◌<◌, ◌^◌, length, OnOk, OnErr, IfOk, IfErr, is_none, None, Err, false};
+ghost use Rattle.std.specs.Prelude.{◌≡◌, ◌-◌, ◌≤◌, ◌++◌, length, take, OnOk, OnErr, IfOk, IfErr, is_none, None, Err, false};
 ghost use Rattle.std.specs.Iterator.{IsFinite};
-ghost use Rattle.wenc_base.specs.Encode.{Appends};
 ghost use Rattle.wenc_base.specs.Forms.{AreBytes, list};
 ghost use Rattle.wenc_base.specs.Fault.{IsMemory, IsWarranted, NoCause};
 ghost use Rattle.wenc_base.specs.Piece.{behind_bytes};
@@ -9,15 +8,16 @@ ghost use Rattle.wenc_base.specs.Lender.{Extends, ExtendsListed};
 ghost use Rattle.wenc_base.specs.declared.fault.Fault.TheVariants.{Unfinished};
 ghost use Rattle.wenc_builder.specs.Builder.{sections_text};
 ghost use Rattle.wenc_builder.specs.Cause.{SectionCause, NoRoom};
-ghost use Rattle.wenc_builder.specs.inside.Layout.{kind_id, OpensAnother, nothing_buffered, buffer_begun, section_begun, buffer_appended, section_appended, buffer_ended, buffer_given_up, StandsAlone, nested};
+ghost use Rattle.wenc_builder.specs.inside.Layout.{kind_id, OpensAnother, nothing_buffered, buffer_begun, section_begun, buffer_appended, section_appended, buffer_ended, buffer_given_up, StandsAlone};
 ghost use Rattle.wenc_builder.specs.inside.Alone.{with_bytes};
 
+use super::alone::Ready;
 use super::earlier::Earlier;
 use super::flush::{GAP, close_earlier, open_head, section_head};
 use super::kind::Kind;
 use std::alloc::{Allocator, Global};
 use std::marker::Model;
-use wenc_base::{Encode, Fault, Holder, Short, Verbatim, extend_in_room};
+use wenc_base::{Encode, Fault, Holder, Verbatim};
 use wenc_parts::Component;
 
 /// All sections of a component in one holder: it keeps the closed bytes and a gap, and its members
@@ -170,58 +170,66 @@ impl<A: Allocator> Buffer<A> {
     /// # Errors
     ///
     /// Fails for the lead's own cause, or where there is no memory, and changes nothing then.
-    #[tactic(auto, using(wenc_base::proofs::Groups::size_at_most_5))]
-    pub fn stand_alone<E: Encode>(&mut self, lead: &E, bytes: &[u8]) -> Result<(), Fault>
+    pub fn stand_alone<E: Encode>(&mut self, lead: &E, bytes: &Ready<'_>) -> Result<(), Fault>
         requires { self.old.writing ≡ None }
         ensures stood { StandsAlone self.old self.new result
             (with_bytes (E.piece lead.now) bytes.now) }
         ensures bytes { OnOk result (AreBytes (E.piece lead.now).text) }
     {
+        let head = bytes.head.as_slice();
+        self.write_alone(lead, bytes.first, bytes.gap, head, bytes.more)
+    }
+
+    /// Writes the text of `lead` and these bytes after all sections, as `stand_alone` does. The
+    /// head fills the last `gap` of the first bytes.
+    #[tactic(auto, using(wenc_base::proofs::Groups::size_at_most_5))]
+    fn write_alone<E: Encode>(
+        &mut self,
+        lead: &E,
+        first: &[u8],
+        gap: usize,
+        head: &[u8],
+        more: &[u8],
+    ) -> Result<(), Fault>
+        requires settled { self.old.writing ≡ None }
+        requires gap_is_in { gap ≤ length first.now }
+        requires short { length head.now ≤ gap }
+        ensures stood { StandsAlone self.old self.new result (with_bytes (E.piece lead.now)
+            (take (length first.now - gap) first.now ++ (head.now ++ more.now))) }
+        ensures bytes { OnOk result (AreBytes (E.piece lead.now).text) }
+    {
         let count = self.holder.len();
         let kept = self.holder.kept_len();
-        let head = open_head(self.kind, count, self.holder.as_slice().len());
+        let own_head = open_head(self.kind, count, self.holder.as_slice().len());
+        let own_head = own_head.as_slice();
         let items_end = self.holder.keep_all(lead)?;
-        let head = head.as_slice();
         if let Err(fault) = self
             .holder
-            .keep_bytes(self.closed_len, kept, head, &[], bytes)
+            .keep_bytes(self.closed_len, kept, own_head, first, more)
         {
             self.holder.go_back(kept, items_end, count);
             return Err(fault);
         }
+        let end = self.holder.kept_len() - more.len();
+        self.holder.fill_kept(end - gap, end, head);
         self.closed_len = self.holder.kept_len();
         self.kind = None;
         Ok(())
     }
 
-    /// Appends all bytes as a list of bytes, the open section in its place, which stays open here.
-    /// It is refused where there are more than 4294967295 bytes (`TooLarge`), and while an item is
-    /// being written (`Unfinished`).
+    /// All bytes, the open section in its place, which stays open here.
     #[tactic(auto, using(wenc_base::proofs::Groups::size_at_most_5))]
-    pub fn append_to<B: Allocator>(&self, sink: &mut Vec<u8, B>) -> Result<(), Fault>
-        ensures appended { Appends (nested self.now).text (nested self.now).Cause
-            (is_none self.now.writing ≡ false) sink.old.items sink.new.items result }
-        ensures fits { OnOk result (length (sections_text self.now.settled) < 2 ^ 32) }
+    pub fn ready(&self) -> Ready<'_>
+        requires { self.now.writing ≡ None }
+        ensures { result ≡ sections_text self.now.settled }
     {
-        if !self.is_finished() {
-            return Err(Fault::Unfinished);
+        let more = self.holder.as_slice();
+        Ready {
+            first: self.holder.kept(),
+            gap: self.holder.kept_len() - self.closed_len,
+            head: open_head(self.kind, self.holder.len(), more.len()),
+            more,
         }
-        let closed = &self.holder.kept()[..self.closed_len];
-        let items = self.holder.as_slice();
-        let head = open_head(self.kind, self.holder.len(), items.len());
-        let head = head.as_slice();
-        let Ok(len) = u32::try_from(closed.len() + head.len() + items.len()) else {
-            return Err(Fault::TooLarge);
-        };
-        let mut lead = Short::new();
-        lead.unsigned(u64::from(len));
-        let lead = lead.as_slice();
-        sink.try_reserve(lead.len() + len as usize)?;
-        extend_in_room(sink, lead);
-        extend_in_room(sink, closed);
-        extend_in_room(sink, head);
-        extend_in_room(sink, items);
-        Ok(())
     }
 
     /// All bytes, the open section in its place. It takes no memory.

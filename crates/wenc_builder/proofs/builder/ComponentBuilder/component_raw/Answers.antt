@@ -13,7 +13,7 @@ use Rattle.wenc_builder.proofs.builder.ComponentBuilder.component_raw.Goals as g
 pub returns : goal.returns
 returns g c =
     alone_enters c.args.self.now c.stand_alone.new.self c.stand_alone.result (component_entry (option_copied c.args.debug_name) c.args.component.now) (indices_in spaces.Components 1) (option_copied c.args.debug_name)
-    (record { alone = refl; defined = refl; named = refl }) (rw c.into.ensures (bytes_serve (section_number ids.Component) c.args.component.now)) c.stand_alone.ensures
+    (record { alone = refl; defined = refl; named = refl }) (rw (c.into.ensures, c.whole-bytes.ensures) (bytes_serve (section_number ids.Component) c.args.component.now)) c.stand_alone.ensures
 
 pub stand_alone-requires : goal.stand_alone-requires
-stand_alone-requires g c = rw c.into.ensures (item_piece (ComponentItem c.args.component.now) (bytes_serve (section_number ids.Component) c.args.component.now))
+stand_alone-requires g c = rw (c.into.ensures, c.whole-bytes.ensures) (item_piece (ComponentItem c.args.component.now) (bytes_serve (section_number ids.Component) c.args.component.now))

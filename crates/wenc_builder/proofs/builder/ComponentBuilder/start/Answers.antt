@@ -12,7 +12,7 @@ use Rattle.wenc_builder.proofs.builder.ComponentBuilder.start.Goals as goal
 pub returns : goal.returns
 returns g c =
     alone_enters c.args.self.now c.stand_alone.new.self c.stand_alone.result (entry (StartItem (started c.args.function_index (g.V.AsSlice.items c.args.args) c.args.results)) None) (indices_in spaces.Values c.args.results) None
-    (record { alone = refl; defined = refl; named = refl }) (rw (c.into.ensures, c.as_slice.ensures) plain_serves) c.stand_alone.ensures
+    (record { alone = refl; defined = refl; named = refl }) (rw (c.into.ensures, c.as_slice.ensures, c.whole.ensures) plain_serves) c.stand_alone.ensures
 
 pub stand_alone-requires : goal.stand_alone-requires
-stand_alone-requires g c = rw (c.into.ensures, c.as_slice.ensures) (item_piece (StartItem (started c.args.function_index (g.V.AsSlice.items c.args.args) c.args.results)) plain_serves)
+stand_alone-requires g c = rw (c.into.ensures, c.as_slice.ensures, c.whole.ensures) (item_piece (StartItem (started c.args.function_index (g.V.AsSlice.items c.args.args) c.args.results)) plain_serves)
