@@ -1,8 +1,8 @@
 -- Something that stands alone, with indices in a space.
-use Rattle.std.proofs.Common.{◌≡◌, ℕ, ◌<◌, true, is_none, List, length, Option, Some, None, Result, Ok, Err, sym, inl, inr, arith, subst}
+use Rattle.std.proofs.Common.{◌≡◌, ℕ, ◌<◌, true, is_none, List, length, Option, Some, None, Result, Ok, Err, refl, sym, inl, inr, arith, subst}
 use Rattle.std.proofs.lemmas.List.{get_or-set_same}
-use Rattle.std.specs.Result.{OnOk, OnErr, IfErr}
-use Rattle.wenc_base.specs.Fault.{IsWarranted, NoCause}
+use Rattle.wenc_base.specs.Encode.{Serves}
+use Rattle.wenc_base.specs.Fault.{IsWarranted}
 use Rattle.wenc_base.specs.Piece.{Piece}
 use Rattle.wenc_base.specs.declared.fault.Fault.{Fault}
 use Rattle.wenc_base.specs.laws.Serves.{still_warranted}
@@ -10,7 +10,7 @@ use Rattle.wenc_builder.specs.Builder.{State, no_names, namespace_at, namespace_
 use Rattle.wenc_builder.specs.Entry.{Namespace}
 use Rattle.wenc_builder.specs.Cause.{SpaceCause, CallCause}
 use Rattle.wenc_builder.specs.inside.Takes.{TakesAlone, TakesNoIndex, with_alone}
-use Rattle.wenc_builder.specs.inside.Layout.{Buffered}
+use Rattle.wenc_builder.specs.inside.Layout.{Buffered, buffer_with, StandsAlone}
 use Rattle.wenc_builder.specs.Space.{Indices}
 use Rattle.wenc_builder.specs.inside.Spaces.{Spaced}
 use Rattle.wenc_builder.specs.inside.View.{Agree, builder_view}
@@ -42,13 +42,23 @@ alone_without_indices b s old new fault d name p a view w same all within refuse
 
 -- ---- without an index
 
-pub stood_nowhere : (b : Buffered) (s : Spaced) (old new : State) (result : Result (Unit {0}) Fault) (p : Piece) → Agree b.writing s.taking → builder_view b s ≡ old
-    → is_none b.writing ≡ true → OnOk result (new ≡ record { settled = with_alone old.settled None None p.text; begun = None }) → OnOk result p.Fits → OnOk result (NoCause p.Cause) → OnErr result (new ≡ old) → IfErr result (IsWarranted p.Cause)
-    → TakesNoIndex old new result p
-stood_nowhere b s old new (Ok u) p a view w is fits own same refused = record {
+-- a call that writes what serves as a piece writes that piece
+pub stands_as : {p q : Piece} (old new : Buffered) (result : Result (Unit {0}) Fault) → Serves p q → StandsAlone old new result p → StandsAlone old new result q
+stands_as old new (Ok u) s t = record {
+  ok = subst (λ (text : List ℕ). new ≡ buffer_with old text) s.text t.ok;
+  fits = s.fits t.fits;
+  free = s.free t.free;
+  err = tt;
+  warranted = tt;
+}
+stands_as old new (Err fault) s t = record { ok = tt; fits = tt; free = tt; err = t.err; warranted = still_warranted _ _ s.among fault t.warranted }
+
+pub stood_nowhere : (b next : Buffered) (s : Spaced) (old : State) (result : Result (Unit {0}) Fault) (p : Piece) → Agree b.writing s.taking → builder_view b s ≡ old → is_none b.writing ≡ true → StandsAlone b next result p
+    → TakesNoIndex old (builder_view next s) result p
+stood_nowhere b next s old (Ok u) p a view w t = record {
   told = tt;
-  ok = is;
-  fits = fits;
+  ok = rw (t.ok, ← view) refl;
+  fits = t.fits;
   free = free;
   err = tt;
   warranted = tt;
@@ -56,17 +66,17 @@ stood_nowhere b s old new (Ok u) p a view w is fits own same refused = record {
 }
   where
     free : (fault : Fault) → CallCause old p.Cause (with_alone old.settled None None p.text) None fault → ⊥
-    free fault (inl (inl c)) = own fault c
+    free fault (inl (inl c)) = t.free fault c
     free fault (inl (inr (inl c))) = c
     free fault (inl (inr (inr c))) = c
     free fault (inr c) = let none = settled_before b s old a view w in let unfinished = c.1 in cc
-stood_nowhere b s old new (Err fault) p a view w is fits own same refused = record {
+stood_nowhere b next s old (Err fault) p a view w t = record {
   told = tt;
   ok = tt;
   fits = tt;
   free = tt;
-  err = same;
-  warranted = still_warranted _ _ refuses fault refused;
+  err = rw t.err view;
+  warranted = still_warranted _ _ refuses fault t.warranted;
   unfinished_first = λ e. let none = settled_before b s old a view w in cc;
 }
   where

@@ -1,10 +1,14 @@
--- What is written after its size is bytes, as all of it is.
-use Rattle.std.proofs.Common.{ℕ, ◌<◌, ◌^◌, ◌++◌, List, length, Result, Ok, Err, OnOk}
+-- Lists of bytes.
+use Rattle.std.proofs.Common.{ℕ, zero, suc, List, [], ◌∷◌, ◌++◌, take}
 use Rattle.wenc_base.specs.Forms.{AreBytes}
-use Rattle.wenc_base.specs.Number.{unsigned_text}
-use Rattle.wenc_base.specs.declared.fault.Fault.{Fault}
-use Rattle.wenc_base.proofs.Bytes.{last_below}
 
-pub content_below : (bytes : List ℕ) (outcome : Result (Unit {0}) Fault) → OnOk outcome (length bytes < 2 ^ 32) → OnOk outcome (AreBytes (unsigned_text (length bytes) ++ bytes)) → OnOk outcome ((length bytes < 2 ^ 32) × AreBytes bytes)
-content_below bytes (Ok u) small all = (small, last_below (unsigned_text (length bytes)) bytes all)
-content_below bytes (Err fault) small all = tt
+-- one after the other
+pub both_below : (xs ys : List ℕ) → AreBytes xs → AreBytes ys → AreBytes (xs ++ ys)
+both_below [] ys a b = b
+both_below (x ∷ xs) ys a b = (a.0, both_below xs ys a.1 b)
+
+-- the first of them
+pub first_below : (n : ℕ) (xs : List ℕ) → AreBytes xs → AreBytes (take n xs)
+first_below zero xs a = tt
+first_below (suc n) [] a = tt
+first_below (suc n) (x ∷ xs) a = (a.0, first_below n xs a.1)

@@ -1,10 +1,10 @@
 -- What keeps a buffer's layout.
-use Rattle.std.proofs.Common.{◌≡◌, ℕ, ◌+◌, ◌-◌, ◌<◌, ◌≤◌, ◌^◌, inl, inr, false, List, [], ◌++◌, length, take, drop, Option, Some, None, Result, Ok, Err, is_none, refl, arith, append_assoc, length-append, length-drop, length-take-le, take-append-drop, ap, subst, ◌∙◌}
-use Rattle.std.proofs.lemmas.List.{take_at, drop_at, take_all, take-append-le, drop-append-le}
+use Rattle.std.proofs.Common.{◌≡◌, ℕ, ◌+◌, ◌-◌, ◌<◌, ◌≤◌, ◌^◌, inl, inr, false, List, [], ◌++◌, length, take, drop, Option, Some, None, Result, Ok, Err, is_none, refl, sym, arith, append_assoc, length-append, length-drop, length-take-le, take-append-drop, ap, subst, ◌∙◌}
+use Rattle.std.proofs.lemmas.List.{append-nil, take_at, drop_at, take_all, take-append-le, drop-append-le}
 use Rattle.std.proofs.lemmas.Bool.{ne_eqb, eq-eqb}
 use Rattle.std.specs.Result.{OnOk, IfErr}
 use Rattle.wenc_base.specs.Number.{number_size}
-use Rattle.wenc_base.specs.Holder.{HolderState, is_finished, holding, all_bytes, with_kept, content_size, AddCause}
+use Rattle.wenc_base.specs.Holder.{HolderState, is_finished, holding, all_bytes, filled, with_kept, content_size, AddCause}
 use Rattle.wenc_base.specs.Lender.{Extends, ExtendsListed}
 use Rattle.wenc_base.specs.Piece.{Piece}
 use Rattle.wenc_base.specs.Fault.{NoCause, either}
@@ -14,13 +14,14 @@ use Rattle.wenc_base.specs.declared.holder.openings.Opening.{Opening}
 use Rattle.wenc_base.specs.declared.fault.Fault.{Fault}
 use Rattle.wenc_base.specs.declared.fault.Fault.TheVariants.{Memory, TooMany, TooLarge, Unfinished}
 use Rattle.wenc_base.proofs.Groups.{size_1}
-use Rattle.wenc_builder.specs.Builder.{SectionsState, sections_text, entered, entered_at}
+use Rattle.wenc_builder.specs.Builder.{SectionsState, sections_text, open_text_of, entered, entered_at}
 use Rattle.wenc_builder.specs.Sections.{OpenSection}
 use Rattle.wenc_builder.specs.Cause.{SectionCause, NoRoom}
 use Rattle.wenc_builder.specs.laws.Caused.{cause_is}
-use Rattle.wenc_builder.specs.inside.Layout.{kind_id, OpensAnother, Buffered, buffered_content, buffer_appended, section_appended, buffer_with, SectionFits, open_view, earlier_view, buffer_view, kept_before, kept_with, SectionIsIn, MembersAreIn, BegunIsIn, EarlierIsIn, IsApart, IsLaidOut}
+use Rattle.wenc_builder.specs.inside.Layout.{kind_id, open_head, OpensAnother, Buffered, buffered_content, buffer_appended, section_appended, buffer_with, SectionFits, open_view, buffer_view, kept_before, SectionIsIn, MembersAreIn, BegunIsIn, EarlierIsIn, IsApart, IsLaidOut}
 use Rattle.wenc_builder.specs.declared.builder.earlier.Earlier.{Earlier}
 use Rattle.wenc_builder.specs.declared.builder.kind.Kind.{Kind}
+use Rattle.wenc_builder.proofs.Gap.{headed, gap_filled}
 
 size_of_one : number_size 1 ≡ 1
 size_of_one = size_1 1 (omega arith)
@@ -262,35 +263,32 @@ within_kept : (h : HolderState) (closed_len : ℕ) (kind : Option Kind) → Memb
 within_kept h closed_len None m = omega (arith, m.0)
 within_kept h closed_len (Some k) m = omega (arith, m)
 
-abbrev earlier_at : HolderState → ℕ → Option Kind → Earlier
-earlier_at h closed_len kind = record { kind = kind; count = h.count; closed_len = closed_len; items_end = length (all_bytes h) }
+-- the open section is closed, and a text follows it
+headed_is : (h : HolderState) (text : List ℕ) (closed_len : ℕ) (kind : Option Kind) → MembersAreIn kind closed_len h
+    → filled (all_bytes h ++ text) closed_len (length h.kept) (open_head kind h.count (length h.body)) ≡ sections_text (record { closed = take closed_len h.kept; current = open_view kind h.count h.body }) ++ text
+headed_is h text closed_len None m =
+    rw (append_assoc h.kept h.body text, take-append-le closed_len h.kept (h.body ++ text) (within_kept h closed_len None m), drop_at h.kept (h.body ++ text) (length h.kept) refl, m.1)
+    (sym (append_assoc (take closed_len h.kept) [] text))
+headed_is h text closed_len (Some k) m =
+    let o : OpenSection = record { id = kind_id k; count = h.count; body = h.body } in
+    rw (append_assoc h.kept h.body text, take-append-le closed_len h.kept (h.body ++ text) (within_kept h closed_len (Some k) m), drop_at h.kept (h.body ++ text) (length h.kept) refl)
+    (ap (λ (t : List ℕ). take closed_len h.kept ++ t) (headed (kind_id k) h.count h.body text) ∙ sym (append_assoc (take closed_len h.kept) (open_text_of o) text))
 
-earlier_is : (h : HolderState) (text : List ℕ) (closed_len : ℕ) (kind : Option Kind) → MembersAreIn kind closed_len h → earlier_view (all_bytes h ++ text) (earlier_at h closed_len kind) ≡ open_view kind h.count h.body
-earlier_is h text closed_len None m = refl
-earlier_is h text closed_len (Some k) m = rw (take_at (all_bytes h) text (length (all_bytes h)) refl, ← m, drop_at h.kept h.body (length h.kept) refl) refl
-
-closed_is : (h : HolderState) (text : List ℕ) (closed_len : ℕ) (kind : Option Kind) → MembersAreIn kind closed_len h
-    → kept_with (all_bytes h ++ text) (earlier_at h closed_len kind) ≡ sections_text (record { closed = take closed_len h.kept; current = open_view kind h.count h.body }) ++ text
-closed_is h text closed_len kind m =
-    let within = within_kept h closed_len kind m in
-    rw (
-      drop_at (all_bytes h) text (length (all_bytes h)) refl,
-      earlier_is h text closed_len kind m,
-      take-append-le closed_len (all_bytes h) text (omega (arith, within, length-append h.kept h.body)),
-      take-append-le closed_len h.kept h.body within,
-    ) refl
-
--- and then all bytes are closed
-pub stood : (h kept new : HolderState) (text : List ℕ) (closed_len new_len : ℕ) (kind : Option Kind) (earlier : Option Earlier) (count items_end : ℕ) (now : Buffered) → IsLaidOut h closed_len kind earlier
-    → buffer_view h closed_len kind earlier ≡ now → now.writing ≡ None → count ≡ h.count → items_end ≡ length (all_bytes h) → kept ≡ holding (all_bytes h ++ text) 0 []
-    → new ≡ with_kept kept (kept_with kept.kept (record { kind = kind; count = count; closed_len = closed_len; items_end = items_end })) → new_len ≡ length new.kept
-    → IsLaidOut new new_len None earlier × (buffer_view new new_len None earlier ≡ buffer_with now text)
-stood h kept new text closed_len new_len kind earlier count items_end now l view none c e k w n =
+-- and then all bytes are closed, those among them too whose gap a head fills
+pub stood : (h kept new : HolderState) (text first more head : List ℕ) (gap end closed_len new_len : ℕ) (kind : Option Kind) (earlier : Option Earlier) (now : Buffered) → IsLaidOut h closed_len kind earlier → buffer_view h closed_len kind earlier ≡ now → now.writing ≡ None
+    → kept ≡ holding (filled (all_bytes (holding (all_bytes h ++ text) 0 [])) closed_len (length h.kept) (open_head kind h.count (length h.body)) ++ (first ++ more)) 0 []
+    → gap ≤ length first → end ≡ length kept.kept - length more → new ≡ with_kept kept (filled kept.kept (end - gap) end head) → new_len ≡ length new.kept
+    → buffer_view new new_len None earlier ≡ buffer_with now (text ++ (take (length first - gap) first ++ (head ++ more)))
+stood h kept new text first more head gap end closed_len new_len kind earlier now l view none k room e is n =
     let idle = none_is_written h closed_len kind earlier (ap (λ (b : Buffered). b.writing) view ∙ none) in
     let members : MembersAreIn kind closed_len h × BegunIsIn h.opening h.count (length h.body) = (rw idle.0 at l).indices in
-    let all : new ≡ holding (sections_text (record { closed = take closed_len h.kept; current = open_view kind h.count h.body }) ++ text) 0 [] =
-    w ∙ rw (k, c, e) (ap (λ (b : List ℕ). holding b 0 []) (closed_is h text closed_len kind members.0)) in
-    let closed = sections_text (record { closed = take closed_len h.kept; current = open_view kind h.count h.body }) ++ text in
-    rw (n, all, idle.0) (record { indices = ((refl, refl, refl), tt) }, rw (← view, idle.0, idle.1, take_all (length closed) closed (omega arith)) refl)
+    let before = sections_text (record { closed = take closed_len h.kept; current = open_view kind h.count h.body }) in
+    let bytes = take (length first - gap) first ++ (head ++ more) in
+    let whole : kept ≡ holding ((before ++ text) ++ (first ++ more)) 0 [] = k ∙ rw (append-nil (all_bytes h ++ text), headed_is h text closed_len kind members.0) refl in
+    let size : end ≡ length ((before ++ text) ++ (first ++ more)) - length more = rw whole at e in
+    let all : new ≡ holding (before ++ (text ++ bytes)) 0 [] =
+    is ∙ rw (whole, gap_filled (before ++ text) first more head gap end room size) (ap (λ (b : List ℕ). holding b 0 []) (append_assoc before text bytes)) in
+    let closed = before ++ (text ++ bytes) in
+    rw (n, all, idle.0) (rw (← view, idle.0, idle.1, take_all (length closed) closed (omega arith)) refl)
 
 -- ---- all bytes

@@ -6,9 +6,9 @@ use Rattle.std.proofs.lemmas.Bool.Decides.{eqb_tells}
 use Rattle.std.proofs.lemmas.Grind.{flat_map-append}
 use Rattle.std.proofs.lemmas.List.Folds.{flat_map-map}
 use Rattle.std.specs.Option.{MatchOption}
-use Rattle.std.specs.Result.{IfErr, OnOk, OnErr}
+use Rattle.std.specs.Result.{OnOk}
 use Rattle.wenc_base.specs.Encode.{Serves, in_order, sized_in_order}
-use Rattle.wenc_base.specs.Fault.{IsWarranted, NoCause, size_cause}
+use Rattle.wenc_base.specs.Fault.{NoCause, size_cause}
 use Rattle.wenc_base.specs.Forms.{AreBytes, name as name_form}
 use Rattle.wenc_base.specs.Holder.{HolderState, holding, held_text}
 use Rattle.wenc_base.specs.Names.{NameAssociation, names_text}
@@ -22,20 +22,22 @@ use Rattle.wenc_sections.specs.declared.names.Sort.TheVariants as sorts
 use Rattle.wenc_builder.specs.Entry.{Entry, custom_entry, names}
 use Rattle.wenc_builder.specs.Builder.{namespace_at, State, builder_is_finished}
 use Rattle.wenc_builder.specs.Enters.{EntersWithoutIndex}
-use Rattle.wenc_builder.specs.inside.Takes.{TakesNoIndex, with_alone}
+use Rattle.wenc_builder.specs.inside.Alone.{with_bytes}
+use Rattle.wenc_builder.specs.inside.Takes.{TakesNoIndex}
 use Rattle.wenc_builder.specs.Holds.{Holds}
 use Rattle.wenc_builder.specs.Names.{named_sorts, by_sort, named_entry, AddsNames, names_held, space_names, none_named, kept_names}
 use Rattle.wenc_builder.specs.Space.{space_number}
 use Rattle.wenc_builder.specs.declared.builder.space.Space.{Space}
 use Rattle.wenc_builder.specs.laws.Step.{space_within}
 use Rattle.wenc_builder.specs.Item.{CustomItem, item}
-use Rattle.wenc_builder.specs.inside.Layout.{Buffered, buffer_with}
+use Rattle.wenc_builder.specs.inside.Layout.{Buffered, StandsAlone}
 use Rattle.wenc_builder.specs.LenderState.{IsItemText}
 use Rattle.wenc_builder.specs.inside.Spaces.{Spaced}
 use Rattle.wenc_builder.specs.inside.View.{Agree, builder_view}
 use Rattle.wenc_base.proofs.Bytes.{last_below}
-use Rattle.wenc_builder.proofs.Alone.{stood_nowhere}
+use Rattle.wenc_builder.proofs.Alone.{stands_as, stood_nowhere}
 use Rattle.wenc_builder.proofs.Entered.{without_index_enters}
+use Rattle.wenc_builder.proofs.Texts.{plain_serves}
 use Rattle.wenc_builder.proofs.Viewed.{finished_is}
 
 -- the subsections, one after the other
@@ -143,7 +145,7 @@ module _ {N : Type 0} (seen : N → Sort × HolderState) where
   all_long (n ∷ ns) fault (inr c) = let k = all_long ns fault c in (k.0, omega (arith, k.1, length-append (space_names (seen n)).text (seen_names ns).text))
 
   -- the section as it is written, whose text is bytes
-  abbrev section_of : List N → Piece
+  abbrev pub section_of : List N → Piece
   section_of ns = 0x00 ▸ sized_in_order (in_order (name_form names_label) (seen_names ns))
 
   abbrev pub written : List N → Piece
@@ -208,7 +210,7 @@ nothing_named old ps is none finished = record {
 
 -- ---- by the parts of a builder
 
-pub both_fit : (P Q : Type 0) (r : Result (Unit {0}) Fault) → OnOk r P → OnOk r Q → OnOk r (P × Q)
+both_fit : (P Q : Type 0) (r : Result (Unit {0}) Fault) → OnOk r P → OnOk r Q → OnOk r (P × Q)
 both_fit P Q (Ok u) h k = (h, k)
 both_fit P Q (Err f) h k = tt
 
@@ -229,15 +231,11 @@ module _ {N : Type 0} (b : Buffered) (s : Spaced) (old : State) (seen : N → So
     is = refl;
   } ∣₁
 
-  pub names_there : (next : Buffered) (result : Result (Unit {0}) Fault) → none_named (map seen ns) ≡ false → OnOk result (next ≡ buffer_with b (written seen ns).text) → OnOk result (section_of seen ns).Fits → OnOk result (AreBytes (written seen ns).text)
-      → OnOk result (NoCause (written seen ns).Cause) → OnErr result (next ≡ b) → IfErr result (IsWarranted (written seen ns).Cause) → AddsNames old (builder_view next s) result
-  names_there next result some ok fits bytes free err warranted =
-      adds_names seen ns old (builder_view next s) result is_there some (stood_nowhere b s old (builder_view next s) result (written seen ns) agree view finished (stood result ok) (both_fit _ _ result fits bytes) free (same result err) warranted)
-    where
-      stood : (r : Result (Unit {0}) Fault) → OnOk r (next ≡ buffer_with b (written seen ns).text) → OnOk r (builder_view next s ≡ record { settled = with_alone old.settled None None (written seen ns).text; begun = None })
-      stood (Ok u) e = rw (e, ← view) refl
-      stood (Err f) e = tt
+  module _ (next : Buffered) (result : Result (Unit {0}) Fault) (lead : StandsAlone b next result (with_bytes (section_of seen ns) [])) (bytes : OnOk result (AreBytes (section_of seen ns).text)) where
+    pub names_stood : StandsAlone b next result (written seen ns)
+    names_stood =
+        let stood = stands_as b next result plain_serves lead in
+        record { ok = stood.ok; fits = both_fit _ _ result stood.fits bytes; free = stood.free; err = stood.err; warranted = stood.warranted }
 
-      same : (r : Result (Unit {0}) Fault) → OnErr r (next ≡ b) → OnErr r (builder_view next s ≡ old)
-      same (Ok u) e = tt
-      same (Err f) e = rw e view
+    pub names_there : none_named (map seen ns) ≡ false → AddsNames old (builder_view next s) result
+    names_there some = adds_names seen ns old (builder_view next s) result is_there some (stood_nowhere b next s old result (written seen ns) agree view finished names_stood)

@@ -1,6 +1,6 @@
 -- A producers section that is held, as the item that it is.
-use Rattle.std.proofs.Common.{◌≡◌, Bool, true, false, is_none, ℕ, List, ◌++◌, length, Result, Ok, Err, None, refl}
-use Rattle.std.specs.Result.{IfErr, OnOk, OnErr}
+use Rattle.std.proofs.Common.{◌≡◌, Bool, true, false, is_none, ℕ, List, ◌++◌, length, Result, Ok, Err, [], refl}
+use Rattle.std.specs.Result.{IfErr, OnOk}
 use Rattle.wenc_base.specs.Fault.{IsWarranted, NoCause}
 use Rattle.wenc_base.specs.Forms.{AreBytes, name as name_form}
 use Rattle.wenc_base.specs.Holder.{HolderState, Contains, held_text, is_finished}
@@ -16,15 +16,15 @@ use Rattle.wenc_builder.specs.Enters.{EntersWithoutIndex}
 use Rattle.wenc_builder.specs.Entry.{custom_entry}
 use Rattle.wenc_builder.specs.Producers.{producers_entry}
 use Rattle.wenc_builder.specs.Item.{Item, CustomItem, item}
-use Rattle.wenc_builder.specs.inside.Layout.{Buffered, buffer_with}
+use Rattle.wenc_builder.specs.inside.Alone.{with_bytes}
+use Rattle.wenc_builder.specs.inside.Layout.{Buffered, StandsAlone}
 use Rattle.wenc_builder.specs.inside.Spaces.{Spaced}
-use Rattle.wenc_builder.specs.inside.Takes.{with_alone}
 use Rattle.wenc_builder.specs.inside.View.{Agree, IsBuilder, builder_view}
 use Rattle.wenc_base.proofs.Bytes.{last_below}
-use Rattle.wenc_builder.proofs.Alone.{stood_nowhere}
+use Rattle.wenc_builder.proofs.Alone.{stands_as, stood_nowhere}
 use Rattle.wenc_builder.proofs.Entered.{without_index_enters}
 use Rattle.wenc_builder.proofs.Standing.{without_index_outcome}
-use Rattle.wenc_builder.proofs.Texts.{item_piece}
+use Rattle.wenc_builder.proofs.Texts.{item_piece, plain_serves}
 
 -- the section as it is written, after its id
 abbrev pub written : HolderState → Piece
@@ -50,33 +50,32 @@ module _ (h : HolderState) where
   item_warranted finished (Ok u) w = tt
   item_warranted finished (Err f) w = still_warranted (written h).Cause (item (held_item h)).Cause (λ fault c. let unfinished = c.1 in cc) f w
 
-  pub only_finished : (r : Result (Unit {0}) Fault) → OnOk r (NoCause (written h).Cause) → OnOk r (is_finished h ≡ true)
-  only_finished (Ok u) none = either (is_finished h) refl
+  free_finished : (r : Result (Unit {0}) Fault) → OnOk r (NoCause (written h).Cause) → OnOk r (is_finished h ≡ true)
+  free_finished (Ok u) none = either (is_finished h) refl
     where
       either : (b : Bool) → is_finished h ≡ b → b ≡ true
       either true e = refl
       either false e = absurd (none Unfinished (refl, e))
-  only_finished (Err f) none = tt
+  free_finished (Err f) none = tt
 
-  module _ (b : Buffered) (s : Spaced) (next : Buffered) (result : Result (Unit {0}) Fault) (settled : is_none b.writing ≡ true) (ok : OnOk result (next ≡ buffer_with b (written h).text)) (fits : OnOk result (written h).Fits)
-      (bytes : OnOk result (AreBytes (written h).text)) (err : OnErr result (next ≡ b)) where
+  module _ (b : Buffered) (s : Spaced) (next : Buffered) (result : Result (Unit {0}) Fault) (settled : is_none b.writing ≡ true) (lead : StandsAlone b next result (with_bytes (written h) [])) (bytes : OnOk result (AreBytes (written h).text)) where
+    stood : StandsAlone b next result (written h)
+    stood = stands_as b next result plain_serves lead
+
+    fits : OnOk result (item (held_item h)).Fits
+    fits = item_fits result stood.fits bytes
+
+    pub only_finished : OnOk result (is_finished h ≡ true)
+    only_finished = free_finished result stood.free
+
     pub still_builder : IsBuilder b s → IsBuilder next s
-    still_builder i = without_index_outcome b s i settled next result (item (held_item h)) (item_piece (held_item h) serves_itself) (item_fits result fits bytes) ok err
+    still_builder i = without_index_outcome b s i settled next result (item (held_item h)) (item_piece (held_item h) serves_itself) fits stood.ok stood.err
 
-    module _ (old : State) (agree : Agree b.writing s.taking) (view : builder_view b s ≡ old) (warranted : IfErr result (IsWarranted (written h).Cause)) where
-      stood : (r : Result (Unit {0}) Fault) → OnOk r (next ≡ buffer_with b (written h).text) → OnOk r (builder_view next s ≡ record { settled = with_alone old.settled None None (written h).text; begun = None })
-      stood (Ok u) e = rw (e, ← view) refl
-      stood (Err f) e = tt
-
-      same : (r : Result (Unit {0}) Fault) → OnErr r (next ≡ b) → OnErr r (builder_view next s ≡ old)
-      same (Ok u) e = tt
-      same (Err f) e = rw e view
-
+    module _ (old : State) (agree : Agree b.writing s.taking) (view : builder_view b s ≡ old) where
       pub section_enters : is_finished h ≡ true → EntersWithoutIndex old (builder_view next s) result (custom_entry producers_label (held_text h))
       section_enters finished =
-          let there = item_fits result fits bytes in
           without_index_enters old (builder_view next s) result (custom_entry producers_label (held_text h)) (record { alone = refl; defined = refl; named = refl }) (serves_itself {p = item (held_item h)})
-          (stood_nowhere b s old (builder_view next s) result (item (held_item h)) agree view settled (stood result ok) there (item_free result there) (same result err) (item_warranted finished result warranted))
+          (stood_nowhere b next s old result (item (held_item h)) agree view settled (record { ok = stood.ok; fits = fits; free = item_free result fits; err = stood.err; warranted = item_warranted finished result stood.warranted }))
 
       -- with the fields that it has
       pub fields_enter : (fields : List Producers) → Contains producers_field h fields → EntersWithoutIndex old (builder_view next s) result (producers_entry fields)

@@ -15,7 +15,7 @@ use Rattle.wenc_builder.specs.inside.View.{builder_view, IsBuilder}
 use Rattle.wenc_builder.specs.laws.Held.{some_begun, some_appended, some_ended, some_given_up, some_alone}
 use Rattle.wenc_builder.proofs.Viewed.{appended_is, appended_section, still_agree, ended_is, not_taking}
 
-writing_none : (b : Buffered) → is_none b.writing ≡ true → b.writing ≡ None
+pub writing_none : (b : Buffered) → is_none b.writing ≡ true → b.writing ≡ None
 writing_none b e = at b.writing e
   where
     at : {A : Type 0} (o : Option A) → is_none o ≡ true → o ≡ None

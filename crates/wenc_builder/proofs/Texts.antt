@@ -1,19 +1,19 @@
 -- What the calls of a builder write serves as items.
-use Rattle.std.proofs.Common.{◌≡◌, ℕ, List, true, is_none, Option, refl, subst, inl, inr}
+use Rattle.std.proofs.Common.{◌≡◌, ℕ, ◌+◌, ◌<◌, ◌^◌, List, [], ◌∷◌, ◌++◌, length, Option, Result, Ok, Err, OnOk, refl, ap, inl, inr, arith, append_assoc, length-append}
+use Rattle.std.proofs.lemmas.List.{append-nil}
 use Rattle.wenc_base.specs.Encode.{Serves, in_order}
-use Rattle.wenc_base.specs.Forms.{option}
-use Rattle.wenc_base.specs.Number.{u32}
-use Rattle.wenc_base.specs.Piece.{Piece, verbatim, ◌▸◌}
+use Rattle.wenc_base.specs.Forms.{option, byte_list, name}
+use Rattle.wenc_base.specs.Holder.{content_size}
+use Rattle.wenc_base.specs.Number.{u32, size, unsigned_text}
+use Rattle.wenc_base.specs.Piece.{Piece, nothing, ◌▸◌}
+use Rattle.wenc_base.specs.declared.fault.Fault.{Fault}
 use Rattle.wenc_base.specs.laws.Serves.{serves_itself, order_serves}
 use Rattle.wenc_parts.specs.Exports.{component_export_kind}
 use Rattle.wenc_parts.specs.Imports.{ExternName, extern_name, type_reference}
-use Rattle.wenc_parts.specs.SectionIds.{section_number}
-use Rattle.wenc_parts.specs.declared.component.ComponentSectionId.TheVariants as ids
 use Rattle.wenc_parts.specs.declared.exports.ComponentExportKind.{ComponentExportKind}
 use Rattle.wenc_parts.specs.declared.imports.ComponentTypeRef.{ComponentTypeRef}
-use Rattle.wenc_builder.specs.Builder.{sections_text}
-use Rattle.wenc_builder.specs.Item.{Item, ComponentItem, ExportItem, RawItem, item, collected}
-use Rattle.wenc_builder.specs.inside.Layout.{Buffered, nested}
+use Rattle.wenc_builder.specs.Item.{Item, CustomItem, ExportItem, RawItem, item, collected}
+use Rattle.wenc_builder.specs.inside.Alone.{with_bytes, custom_lead}
 use Rattle.wenc_builder.specs.inside.Takes.{IsItemPiece}
 use Rattle.wenc_builder.specs.Space.{defines}
 
@@ -21,21 +21,47 @@ use Rattle.wenc_builder.specs.Space.{defines}
 pub item_piece : {p : Piece} (x : Item) → Serves p (item x) → IsItemPiece (collected x) (defines x) p
 item_piece x s fits = ∣ record { value = x; collects = refl; takes = refl; fits = s.fits fits; is = s.text } ∣₁
 
+-- a lead without bytes after it
+pub plain_serves : {p : Piece} → Serves (with_bytes p []) p
+plain_serves {p} = record {
+  text = append-nil p.text;
+  fits = λ h. h.0;
+  among = λ fault c. elim c [ inl own ↦ own | inr never ↦ absurd never ];
+  free = λ none fault c. none fault (inl c);
+}
+
+-- bytes after their number
+pub bytes_serve : (id : ℕ) (bytes : List ℕ) → Serves (with_bytes (id ▸ size (length bytes)) bytes) (id ▸ byte_list bytes)
+bytes_serve id bytes = record { text = refl; fits = λ h. h; among = λ fault c. c; free = λ none. none }
+
+-- the data of a custom section after its size and its name
+pub custom_serves : (label bytes : List ℕ) → Serves (with_bytes (0x00 ▸ custom_lead label bytes) bytes) (item (CustomItem (record { label = label; bytes = bytes })))
+custom_serves label bytes = record {
+  text = ap (λ (text : List ℕ). 0x00 ∷ text) (append_assoc (unsigned_text (length ((name label).text ++ bytes))) (name label).text bytes);
+  fits = λ h. (h.0.0, (h.0.1, h.1));
+  among = λ fault c. elim c [ inl own ↦ elim own [ inl large ↦ inl large | inr long ↦ inr (inl long) ] | inr never ↦ absurd never ];
+  free = λ none fault c. elim c [ inl large ↦ none fault (inl (inl large)) | inr more ↦ elim more [ inl long ↦ none fault (inl (inr long)) | inr never ↦ never ] ];
+}
+
+-- and what is before them fits where it was written
+pub lead_fits : (label bytes : List ℕ) (name_len n : ℕ) (outcome : Result (Unit {0}) Fault) → name_len ≡ length label → (n ≡ content_size name_len (name_len + length bytes)) × (n < 2 ^ 32) → OnOk outcome ((n < 2 ^ 32) × (name label).Fits)
+    → OnOk outcome (custom_lead label bytes).Fits
+lead_fits label bytes name_len n (Ok u) e s fits =
+    let small : content_size (length label) (length label + length bytes) < 2 ^ 32 = rw (s.0, e) at s.1 in
+    (omega (arith, small, length-append (unsigned_text (length label) ++ label) bytes, length-append (unsigned_text (length label)) label), fits.1)
+lead_fits label bytes name_len n (Err fault) e s fits = tt
+
 -- the bytes of a raw section
-pub raw_serves : (bytes : List ℕ) → Serves (0x00 ▸ verbatim bytes) (item (RawItem bytes))
-raw_serves bytes = record { text = refl; fits = λ h. h; among = λ fault c. c; free = λ none. none }
+pub raw_serves : (bytes : List ℕ) → Serves (with_bytes (0x00 ▸ nothing) bytes) (item (RawItem bytes))
+raw_serves bytes = record {
+  text = refl;
+  fits = λ h. tt;
+  among = λ fault c. elim c [ inl never ↦ never | inr never ↦ never ];
+  free = λ none fault c. c;
+}
 
 -- an export's name, kind, index and type
 pub export_serves : (n : ExternName) (kind : ComponentExportKind) (index : ℕ) (what : Option ComponentTypeRef)
     → Serves (in_order (extern_name n) (in_order (component_export_kind kind) (in_order (u32 index) (option type_reference what)))) (item (ExportItem (record { name = n; kind = kind; index = index; ty = what })))
 export_serves n kind index what =
     order_serves (serves_itself {p = extern_name n}) (order_serves (serves_itself {p = component_export_kind kind}) (order_serves (serves_itself {p = u32 index}) (serves_itself {p = option type_reference what})))
-
--- a builder that is finished is written as its bytes
-pub nested_serves : (b : Buffered) (bytes : List ℕ) → sections_text b.settled ≡ bytes → is_none b.writing ≡ true → Serves (section_number ids.Component ▸ nested b) (item (ComponentItem bytes))
-nested_serves b bytes e none = subst (λ (bs : List ℕ). Serves (section_number ids.Component ▸ nested b) (item (ComponentItem bs))) e (record {
-  text = refl;
-  fits = λ h. h;
-  among = λ fault c. elim c [ inl own ↦ inl own | inr stopped ↦ (let unfinished = stopped.1 in cc) ];
-  free = λ free fault c. elim c [ inl own ↦ free fault (inl own) | inr never ↦ never ];
-})

@@ -4,8 +4,7 @@ ghost use Rattle.std.specs.Iterator.{IsFinite};
 ghost use Rattle.std.specs.Option.{option_copied};
 ghost use Rattle.wenc_base.specs.Fault.{IsMemory};
 ghost use Rattle.wenc_base.specs.Holder.{listed};
-ghost use Rattle.wenc_base.specs.Forms.{byte_list};
-ghost use Rattle.wenc_base.specs.Piece.{◌▸◌, nothing, Spelling};
+ghost use Rattle.wenc_base.specs.Piece.{nothing, Spelling};
 ghost use Rattle.wenc_base.specs.Lender.{GivesUp};
 ghost use Rattle.wenc_base.specs.declared.fault.Fault.TheVariants.{Unfinished};
 ghost use Rattle.wenc_parts.specs.Imports.{extern_name_view};
@@ -21,9 +20,11 @@ ghost use Rattle.wenc_builder.specs.inside.Takes.{TakesAlone, TakesNoIndex, Appe
 ghost use Rattle.wenc_builder.specs.Space.{indices_in, some_in, canonical_space};
 ghost use Rattle.wenc_builder.specs.LenderState.{is_whole};
 ghost use Rattle.wenc_builder.specs.Item.{HasNoRaw};
+ghost use Rattle.wenc_builder.specs.inside.Alone.{with_bytes};
 ghost use Rattle.wenc_builder.specs.inside.Layout.{draft_of, kind_id};
 ghost use Rattle.wenc_builder.specs.Names.{AddsNames};
 
+mod alone;
 mod buffer;
 mod canonicals;
 mod earlier;
@@ -33,24 +34,21 @@ mod instances;
 mod kind;
 mod names;
 mod namespace;
-mod nested;
 mod producers;
 mod space;
 mod spaces;
 mod trees;
 mod types;
 
+use alone::{CustomLead, Ready, Size};
 use buffer::Buffer;
 use kind::Kind;
-use nested::Nested;
 pub use space::Space;
 use spaces::Spaces;
 use std::alloc::{Allocator, Global};
 use std::convert::AsSlice;
 use std::marker::Model;
-use wenc_base::{
-    CustomSection, Encode, ExportKind, Fault, Lender, Module, RawCustomSection, Tagged, WithSize,
-};
+use wenc_base::{CustomSection, Encode, ExportKind, Fault, Lender, Module, Tagged, WithSize};
 use wenc_canon::CanonicalOption;
 use wenc_parts::{
     Alias, ComponentExportKind, ComponentExternName, ComponentSectionId, ComponentTypeRef,
@@ -318,25 +316,27 @@ impl<A: Allocator> ComponentBuilder<A> {
         }
     }
 
-    /// Adds what stands alone, with so many indices in a space, of which the first has a debug name
-    /// or none. Answers the index of that.
+    /// Adds what stands alone, the text of `lead` and these bytes, with so many indices in a space,
+    /// of which the first has a debug name or none. Answers the index of that.
     fn stand_alone<E: Encode>(
         &mut self,
         space: Space,
         number: u32,
         name: Option<&str>,
-        section: &E,
+        lead: &E,
+        bytes: &Ready<'_>,
     ) -> Result<u32, Fault>
-        requires { IsItemPiece None (some_in space number) (E.piece section.now) }
+        requires { IsItemPiece None (some_in space number)
+            (with_bytes (E.piece lead.now) bytes.now) }
         ensures { TakesAlone self.old self.new result (indices_in space number)
-            (option_copied name.entry) (E.piece section.now) }
+            (option_copied name.entry) (with_bytes (E.piece lead.now) bytes.now) }
     {
         if !self.buffer.is_finished() {
             return Err(Fault::Unfinished);
         }
         match self.spaces.begin(space, number, name) {
             Err(fault) => Err(fault),
-            Ok(index) => match self.buffer.stand_alone(section) {
+            Ok(index) => match self.buffer.stand_alone(lead, bytes) {
                 Ok(()) => {
                     self.spaces.end();
                     Ok(index)
@@ -349,46 +349,16 @@ impl<A: Allocator> ComponentBuilder<A> {
         }
     }
 
-    /// Adds these bytes, with their number, alone under this section id, with one index in a space
-    /// and a debug name or none. Returns the index.
-    fn stand_alone_bytes(
-        &mut self,
-        space: Space,
-        name: Option<&str>,
-        id: u8,
-        bytes: &[u8],
-    ) -> Result<u32, Fault>
-        requires { IsItemPiece None (some_in space 1) (id ▸ byte_list bytes.now) }
-        ensures { TakesAlone self.old self.new result (indices_in space 1)
-            (option_copied name.entry) (id ▸ byte_list bytes.now) }
+    /// Adds what stands alone and has no index: the text of `lead`, and these bytes.
+    fn add_alone<E: Encode>(&mut self, lead: &E, bytes: &Ready<'_>) -> Result<(), Fault>
+        requires { IsItemPiece None None (with_bytes (E.piece lead.now) bytes.now) }
+        ensures { TakesNoIndex self.old self.new result
+            (with_bytes (E.piece lead.now) bytes.now) }
     {
         if !self.buffer.is_finished() {
             return Err(Fault::Unfinished);
         }
-        match self.spaces.begin(space, 1, name) {
-            Err(fault) => Err(fault),
-            Ok(index) => match self.buffer.stand_alone_bytes(id, bytes) {
-                Ok(()) => {
-                    self.spaces.end();
-                    Ok(index)
-                }
-                Err(fault) => {
-                    self.spaces.give_up();
-                    Err(fault)
-                }
-            },
-        }
-    }
-
-    /// Adds what stands alone and has no index.
-    fn add_alone<E: Encode>(&mut self, section: &E) -> Result<(), Fault>
-        requires { IsItemPiece None None (E.piece section.now) }
-        ensures { TakesNoIndex self.old self.new result (E.piece section.now) }
-    {
-        if !self.buffer.is_finished() {
-            return Err(Fault::Unfinished);
-        }
-        self.buffer.stand_alone(section)
+        self.buffer.stand_alone(lead, bytes)
     }
 
     /// Adds a canonical function, which has its index in this space, with a debug name or none.
@@ -423,7 +393,7 @@ impl<A: Allocator> ComponentBuilder<A> {
         let content = (NAMES_LABEL, names);
         let sized = WithSize(&content);
         let section = Tagged(ComponentSectionId::CoreCustom.into(), &sized);
-        self.buffer.stand_alone(&section)
+        self.buffer.stand_alone(&section, &Ready::whole(&[]))
     }
 
     /// Adds a core module, with a debug name or none, and answers its index (component model,
@@ -446,8 +416,10 @@ impl<A: Allocator> ComponentBuilder<A> {
         ensures { Enters self.old self.new result
             (module_entry (option_copied debug_name.entry) bytes.now) }
     {
-        let id = ComponentSectionId::CoreModule.into();
-        self.stand_alone_bytes(Space::CoreModules, debug_name, id, bytes)
+        let size = Size(bytes.len());
+        let lead = Tagged(ComponentSectionId::CoreModule.into(), &size);
+        let bytes = Ready::whole(bytes);
+        self.stand_alone(Space::CoreModules, 1, debug_name, &lead, &bytes)
     }
 
     /// Adds an alias of an export of a core instance, with a debug name or none, and answers its
@@ -575,9 +547,10 @@ impl<A: Allocator> ComponentBuilder<A> {
         if !component.is_finished() {
             return Err(Fault::Unfinished);
         }
-        let nested = Nested(&component.buffer);
-        let section = Tagged(ComponentSectionId::Component.into(), &nested);
-        self.stand_alone(Space::Components, 1, debug_name, &section)
+        let bytes = component.buffer.ready();
+        let size = Size(bytes.len());
+        let lead = Tagged(ComponentSectionId::Component.into(), &size);
+        self.stand_alone(Space::Components, 1, debug_name, &lead, &bytes)
     }
 
     /// Adds the component with these bytes, with a debug name or none, and answers its index
@@ -591,8 +564,10 @@ impl<A: Allocator> ComponentBuilder<A> {
         ensures { Enters self.old self.new result
             (component_entry (option_copied debug_name.entry) component.now) }
     {
-        let id = ComponentSectionId::Component.into();
-        self.stand_alone_bytes(Space::Components, debug_name, id, component)
+        let size = Size(component.len());
+        let lead = Tagged(ComponentSectionId::Component.into(), &size);
+        let bytes = Ready::whole(component);
+        self.stand_alone(Space::Components, 1, debug_name, &lead, &bytes)
     }
 
     /// Has a function called with these values when the component is instantiated. Answers the
@@ -613,7 +588,7 @@ impl<A: Allocator> ComponentBuilder<A> {
             results,
         };
         let section = Tagged(ComponentSectionId::Start.into(), &start);
-        self.stand_alone(Space::Values, results, None, &section)
+        self.stand_alone(Space::Values, results, None, &section, &Ready::whole(&[]))
     }
 
     /// Adds a custom section (component model, binary format, "Component Definitions"). Refused as
@@ -622,7 +597,9 @@ impl<A: Allocator> ComponentBuilder<A> {
         ensures { EntersWithoutIndex self.old self.new result
             (custom_entry section.now.name.now section.now.data.now) }
     {
-        self.add_alone(&Tagged(ComponentSectionId::CoreCustom.into(), section))
+        let lead = CustomLead(section);
+        let lead = Tagged(ComponentSectionId::CoreCustom.into(), &lead);
+        self.add_alone(&lead, &Ready::whole(section.data))
     }
 
     /// Adds a custom section with these bytes after its id (component model, binary format,
@@ -631,8 +608,8 @@ impl<A: Allocator> ComponentBuilder<A> {
     pub fn raw_custom_section(&mut self, section: &[u8]) -> Result<(), Fault>
         ensures { EntersWithoutIndex self.old self.new result (raw_entry section.now) }
     {
-        let raw = RawCustomSection(section);
-        self.add_alone(&Tagged(ComponentSectionId::CoreCustom.into(), &raw))
+        let lead = Tagged(ComponentSectionId::CoreCustom.into(), &());
+        self.add_alone(&lead, &Ready::whole(section))
     }
 
     /// Whether no item is being written. Then the builder holds some entries, whoever made which

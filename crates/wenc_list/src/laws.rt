@@ -45,7 +45,7 @@ pub fn where_it_stands()
     ensures header { (bytes rest : List ℕ) → preamble.Reads Wide bytes rest → EndsWith bytes rest }
     ensures section { (ends : ℕ) (bytes before rest : List ℕ) (s : SectionItems)
         → EndsWith bytes before → Opens ends before s rest → EndsWith bytes rest }
-    // So that stands behind the bytes before its place.
+    // So what is left follows the bytes before its place.
     ensures place { (bytes left : List ℕ) → EndsWith bytes left
         → drop (length bytes - length left) bytes ≡ left }
     ensures reached { (bytes before rest : List ℕ) (first : SectionItems) (xs : List Item)

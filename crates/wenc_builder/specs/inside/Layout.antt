@@ -3,20 +3,19 @@
 -- section is being written, it keeps that section too, and a gap after it, and the item is its
 -- only member.
 use Rattle.std.specs.Prelude.{◌≡◌, ℕ, List, [], ◌∷◌, ◌++◌, ◌+◌, ◌-◌, ◌<◌, ◌≤◌, ◌^◌, length, take}
-use Rattle.std.specs.Prelude.{drop, Option, Some, None, is_none, false}
+use Rattle.std.specs.Prelude.{drop, Option, Some, None, Result, OnOk, OnErr, IfErr}
 use Rattle.wenc_base.specs.Number.{unsigned_text, number_size}
 use Rattle.wenc_base.specs.Holder.{HolderState, content_size}
 use Rattle.wenc_base.specs.declared.holder.openings.Opening.{Opening}
-use Rattle.wenc_base.specs.Fault.{either, size_cause}
-use Rattle.wenc_base.specs.Forms.{byte_list}
-use Rattle.wenc_base.specs.Piece.{Piece, refused_for}
-use Rattle.wenc_base.specs.declared.fault.Fault.TheVariants.{Unfinished}
+use Rattle.wenc_base.specs.Fault.{IsWarranted, NoCause}
+use Rattle.wenc_base.specs.Piece.{Piece}
+use Rattle.wenc_base.specs.declared.fault.Fault.{Fault}
 use Rattle.wenc_parts.specs.declared.component.ComponentSectionId.TheVariants as ids
 use Rattle.wenc_parts.specs.SectionIds.{section_number}
 use Rattle.wenc_parts.specs.Component.{preamble}
 use Rattle.wenc_builder.specs.Space.{space_number}
 use Rattle.wenc_builder.specs.Sections.{OpenSection}
-use Rattle.wenc_builder.specs.Builder.{SectionsState, sections_text, entered, stood_alone}
+use Rattle.wenc_builder.specs.Builder.{SectionsState, entered, stood_alone}
 use Rattle.wenc_builder.specs.Builder.{open_text, Draft, draft}
 use Rattle.wenc_builder.specs.declared.builder.space.Space.{Space}
 use Rattle.wenc_builder.specs.declared.builder.kind.Kind.{Kind}
@@ -103,6 +102,16 @@ buffer_given_up b = record { settled = b.settled; writing = None }
 -- something that stands alone after all sections
 abbrev pub buffer_with : Buffered → List ℕ → Buffered
 buffer_with b text = record { settled = stood_alone b.settled text; writing = None }
+
+-- A call writes this piece alone after all sections, or is refused for the piece's own cause and
+-- changes nothing.
+pub record StandsAlone (old new : Buffered) (outcome : Result (Unit {0}) Fault)
+    (p : Piece) : Type 0 where
+  pub ok : OnOk outcome (new ≡ buffer_with old p.text)
+  pub fits : OnOk outcome p.Fits
+  pub free : OnOk outcome (NoCause p.Cause)
+  pub err : OnErr outcome (new ≡ old)
+  pub warranted : IfErr outcome (IsWarranted p.Cause)
 
 abbrev pub SectionFits : Option OpenSection → Type 0
 SectionFits None = Unit {0}
@@ -207,13 +216,3 @@ closed_with kept e = take e.closed_len kept ++ open_text (earlier_view kept e)
 -- the kept bytes with that section closed, and still after it what stood there
 abbrev pub kept_with : List ℕ → Earlier → List ℕ
 kept_with kept e = closed_with kept e ++ drop e.items_end kept
-
--- ---- why the buffer refuses
-
--- all bytes as those of a nested component: refused where there are too many, or while an item is
--- being written
-abbrev pub nested : Buffered → Piece
-nested b =
-    refused_for (either (size_cause (length (sections_text b.settled)))
-    (λ fault. (fault ≡ Unfinished) × (is_none b.writing ≡ false)))
-    (byte_list (sections_text b.settled))

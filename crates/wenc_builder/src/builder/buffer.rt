@@ -1,22 +1,23 @@
 //! The bytes of a component, where its last section may be open.
-ghost use Rattle.std.specs.Prelude.{◌≡◌, ◌<◌, ◌^◌, length, OnOk, OnErr, IfOk, IfErr, is_none, None, Err, false};
+ghost use Rattle.std.specs.Prelude.{◌≡◌, ◌-◌, ◌≤◌, ◌++◌, length, take, OnOk, OnErr, IfOk, IfErr, is_none, None, Err, false};
 ghost use Rattle.std.specs.Iterator.{IsFinite};
-ghost use Rattle.wenc_base.specs.Encode.{Appends};
-ghost use Rattle.wenc_base.specs.Forms.{AreBytes, byte_list, list};
+ghost use Rattle.wenc_base.specs.Forms.{AreBytes, list};
 ghost use Rattle.wenc_base.specs.Fault.{IsMemory, IsWarranted, NoCause};
-ghost use Rattle.wenc_base.specs.Piece.{◌▸◌, behind_bytes};
+ghost use Rattle.wenc_base.specs.Piece.{behind_bytes};
 ghost use Rattle.wenc_base.specs.Lender.{Extends, ExtendsListed};
 ghost use Rattle.wenc_base.specs.declared.fault.Fault.TheVariants.{Unfinished};
 ghost use Rattle.wenc_builder.specs.Builder.{sections_text};
 ghost use Rattle.wenc_builder.specs.Cause.{SectionCause, NoRoom};
-ghost use Rattle.wenc_builder.specs.inside.Layout.{kind_id, OpensAnother, nothing_buffered, buffer_begun, section_begun, buffer_appended, section_appended, buffer_ended, buffer_given_up, buffer_with, nested};
+ghost use Rattle.wenc_builder.specs.inside.Layout.{kind_id, OpensAnother, nothing_buffered, buffer_begun, section_begun, buffer_appended, section_appended, buffer_ended, buffer_given_up, StandsAlone};
+ghost use Rattle.wenc_builder.specs.inside.Alone.{with_bytes};
 
+use super::alone::Ready;
 use super::earlier::Earlier;
 use super::flush::{GAP, close_earlier, open_head, section_head};
 use super::kind::Kind;
 use std::alloc::{Allocator, Global};
 use std::marker::Model;
-use wenc_base::{Encode, Fault, Holder, Short, Verbatim, extend_in_room};
+use wenc_base::{Encode, Fault, Holder, Verbatim};
 use wenc_parts::Component;
 
 /// All sections of a component in one holder: it keeps the closed bytes and a gap, and its members
@@ -163,90 +164,72 @@ impl<A: Allocator> Buffer<A> {
         }
     }
 
-    /// Writes what stands alone after all sections, of which none is open then. It is refused for
-    /// that value's own cause alone.
-    pub fn stand_alone<E: Encode>(&mut self, section: &E) -> Result<(), Fault>
+    /// Writes what stands alone after all sections, of which none is open then: the text of `lead`,
+    /// and these bytes, which are written where they stay.
+    ///
+    /// # Errors
+    ///
+    /// Fails for the lead's own cause, or where there is no memory, and changes nothing then.
+    pub fn stand_alone<E: Encode>(&mut self, lead: &E, bytes: &Ready<'_>) -> Result<(), Fault>
         requires { self.old.writing ≡ None }
-        ensures ok { OnOk result (self.new ≡ buffer_with self.old (E.piece section.now).text) }
-        ensures fits { OnOk result (E.piece section.now).Fits }
-        ensures bytes { OnOk result (AreBytes (E.piece section.now).text) }
-        ensures free { OnOk result (NoCause (E.piece section.now).Cause) }
-        ensures err { OnErr result (self.new ≡ self.old) }
-        ensures warranted { IfErr result (IsWarranted (E.piece section.now).Cause) }
+        ensures stood { StandsAlone self.old self.new result
+            (with_bytes (E.piece lead.now) bytes.now) }
+        ensures bytes { OnOk result (AreBytes (E.piece lead.now).text) }
+    {
+        let head = bytes.head.as_slice();
+        self.write_alone(lead, bytes.first, bytes.gap, head, bytes.more)
+    }
+
+    /// Writes the text of `lead` and these bytes after all sections, as `stand_alone` does. The
+    /// head fills the last `gap` of the first bytes.
+    #[tactic(auto, using(wenc_base::proofs::Groups::size_at_most_5))]
+    fn write_alone<E: Encode>(
+        &mut self,
+        lead: &E,
+        first: &[u8],
+        gap: usize,
+        head: &[u8],
+        more: &[u8],
+    ) -> Result<(), Fault>
+        requires settled { self.old.writing ≡ None }
+        requires gap_is_in { gap ≤ length first.now }
+        requires short { length head.now ≤ gap }
+        ensures stood { StandsAlone self.old self.new result (with_bytes (E.piece lead.now)
+            (take (length first.now - gap) first.now ++ (head.now ++ more.now))) }
+        ensures bytes { OnOk result (AreBytes (E.piece lead.now).text) }
     {
         let count = self.holder.len();
-        let items_end = self.holder.keep_all(section)?;
-        let earlier = Earlier {
-            kind: self.kind,
-            count,
-            closed_len: self.closed_len,
-            items_end,
-        };
-        close_earlier(&mut self.holder, &earlier);
-        self.closed_len = self.holder.kept_len();
-        self.kind = None;
-        Ok(())
-    }
-
-    /// Writes these bytes, with their number, alone after all sections, under this section id. They
-    /// are written where they stay, also after an open section. Fails as `stand_alone` does.
-    #[tactic(auto, using(wenc_base::proofs::Groups::size_at_most_5))]
-    pub fn stand_alone_bytes(&mut self, id: u8, bytes: &[u8]) -> Result<(), Fault>
-        requires { self.old.writing ≡ None }
-        ensures ok { OnOk result (self.new ≡ buffer_with self.old (id ▸ byte_list bytes.now).text) }
-        ensures fits { OnOk result (id ▸ byte_list bytes.now).Fits }
-        ensures free { OnOk result (NoCause (id ▸ byte_list bytes.now).Cause) }
-        ensures err { OnErr result (self.new ≡ self.old) }
-        ensures warranted { IfErr result (IsWarranted (id ▸ byte_list bytes.now).Cause) }
-    {
-        let Ok(len) = u32::try_from(bytes.len()) else {
-            return Err(Fault::TooLarge);
-        };
-        let mut lead = Short::new();
-        lead.push(id);
-        lead.unsigned(u64::from(len));
-        let head = open_head(self.kind, self.holder.len(), self.holder.as_slice().len());
         let kept = self.holder.kept_len();
-        self.holder.keep_bytes(
-            self.closed_len,
-            kept,
-            head.as_slice(),
-            lead.as_slice(),
-            bytes,
-        )?;
+        let own_head = open_head(self.kind, count, self.holder.as_slice().len());
+        let own_head = own_head.as_slice();
+        let items_end = self.holder.keep_all(lead)?;
+        if let Err(fault) = self
+            .holder
+            .keep_bytes(self.closed_len, kept, own_head, first, more)
+        {
+            self.holder.go_back(kept, items_end, count);
+            return Err(fault);
+        }
+        let end = self.holder.kept_len() - more.len();
+        self.holder.fill_kept(end - gap, end, head);
         self.closed_len = self.holder.kept_len();
         self.kind = None;
         Ok(())
     }
 
-    /// Appends all bytes as a list of bytes, the open section in its place, which stays open here.
-    /// It is refused where there are more than 4294967295 bytes (`TooLarge`), and while an item is
-    /// being written (`Unfinished`).
+    /// All bytes, the open section in its place, which stays open here.
     #[tactic(auto, using(wenc_base::proofs::Groups::size_at_most_5))]
-    pub fn append_to<B: Allocator>(&self, sink: &mut Vec<u8, B>) -> Result<(), Fault>
-        ensures appended { Appends (nested self.now).text (nested self.now).Cause
-            (is_none self.now.writing ≡ false) sink.old.items sink.new.items result }
-        ensures fits { OnOk result (length (sections_text self.now.settled) < 2 ^ 32) }
+    pub fn ready(&self) -> Ready<'_>
+        requires { self.now.writing ≡ None }
+        ensures { result ≡ sections_text self.now.settled }
     {
-        if !self.is_finished() {
-            return Err(Fault::Unfinished);
+        let more = self.holder.as_slice();
+        Ready {
+            first: self.holder.kept(),
+            gap: self.holder.kept_len() - self.closed_len,
+            head: open_head(self.kind, self.holder.len(), more.len()),
+            more,
         }
-        let closed = &self.holder.kept()[..self.closed_len];
-        let items = self.holder.as_slice();
-        let head = open_head(self.kind, self.holder.len(), items.len());
-        let head = head.as_slice();
-        let Ok(len) = u32::try_from(closed.len() + head.len() + items.len()) else {
-            return Err(Fault::TooLarge);
-        };
-        let mut lead = Short::new();
-        lead.unsigned(u64::from(len));
-        let lead = lead.as_slice();
-        sink.try_reserve(lead.len() + len as usize)?;
-        extend_in_room(sink, lead);
-        extend_in_room(sink, closed);
-        extend_in_room(sink, head);
-        extend_in_room(sink, items);
-        Ok(())
     }
 
     /// All bytes, the open section in its place. It takes no memory.

@@ -9,6 +9,7 @@ ghost use Rattle.wenc_builder.specs.Entry.{custom_entry};
 ghost use Rattle.wenc_builder.specs.Producers.{producers_entry};
 
 use super::ComponentBuilder;
+use super::alone::Ready;
 use std::alloc::Allocator;
 use wenc_base::{Fault, ProducersSection, Tagged};
 use wenc_parts::ComponentSectionId;
@@ -34,6 +35,6 @@ impl<A: Allocator> ComponentBuilder<A> {
             return Err(Fault::Unfinished);
         }
         let section = Tagged(ComponentSectionId::CoreCustom.into(), producers);
-        self.buffer.stand_alone(&section)
+        self.buffer.stand_alone(&section, &Ready::whole(&[]))
     }
 }

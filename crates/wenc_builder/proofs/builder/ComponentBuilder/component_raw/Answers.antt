@@ -1,18 +1,19 @@
 use Rattle.std.proofs.Common.{refl}
-use Rattle.wenc_base.specs.laws.Serves.{serves_itself}
+use Rattle.wenc_parts.specs.SectionIds.{section_number}
+use Rattle.wenc_parts.specs.declared.component.ComponentSectionId.TheVariants as ids
 use Rattle.wenc_builder.specs.Space.{indices_in}
 use Rattle.std.specs.Option.{option_copied}
 use Rattle.wenc_builder.specs.Entry.{component_entry}
 use Rattle.wenc_builder.specs.Item.{ComponentItem}
 use Rattle.wenc_builder.specs.declared.builder.space.Space.TheVariants as spaces
 use Rattle.wenc_builder.proofs.Entered.{alone_enters}
-use Rattle.wenc_builder.proofs.Texts.{item_piece}
+use Rattle.wenc_builder.proofs.Texts.{item_piece, bytes_serve}
 use Rattle.wenc_builder.proofs.builder.ComponentBuilder.component_raw.Goals as goal
 
 pub returns : goal.returns
 returns g c =
-    alone_enters c.args.self.now c.stand_alone_bytes.new.self c.stand_alone_bytes.result (component_entry (option_copied c.args.debug_name) c.args.component.now) (indices_in spaces.Components 1) (option_copied c.args.debug_name)
-    (record { alone = refl; defined = refl; named = refl }) (rw c.into-id.ensures serves_itself) c.stand_alone_bytes.ensures
+    alone_enters c.args.self.now c.stand_alone.new.self c.stand_alone.result (component_entry (option_copied c.args.debug_name) c.args.component.now) (indices_in spaces.Components 1) (option_copied c.args.debug_name)
+    (record { alone = refl; defined = refl; named = refl }) (rw (c.into.ensures, c.whole-bytes.ensures) (bytes_serve (section_number ids.Component) c.args.component.now)) c.stand_alone.ensures
 
-pub stand_alone_bytes-requires : goal.stand_alone_bytes-requires
-stand_alone_bytes-requires g c = rw c.into-id.ensures (item_piece (ComponentItem c.args.component.now) serves_itself)
+pub stand_alone-requires : goal.stand_alone-requires
+stand_alone-requires g c = rw (c.into.ensures, c.whole-bytes.ensures) (item_piece (ComponentItem c.args.component.now) (bytes_serve (section_number ids.Component) c.args.component.now))

@@ -1,15 +1,14 @@
 use Rattle.std.proofs.Common.{refl}
-use Rattle.wenc_base.specs.laws.Serves.{serves_itself}
 use Rattle.wenc_builder.specs.Entry.{custom_entry}
 use Rattle.wenc_builder.specs.Item.{CustomItem}
 use Rattle.wenc_builder.proofs.Entered.{without_index_enters}
-use Rattle.wenc_builder.proofs.Texts.{item_piece}
+use Rattle.wenc_builder.proofs.Texts.{item_piece, custom_serves}
 use Rattle.wenc_builder.proofs.builder.ComponentBuilder.custom_section.Goals as goal
 
 pub returns : goal.returns
 returns g c =
     without_index_enters c.args.self.now c.add_alone.new.self c.add_alone.result (custom_entry c.args.section.now.name.now c.args.section.now.data.now)
-    (record { alone = refl; defined = refl; named = refl }) (rw c.into.ensures serves_itself) c.add_alone.ensures
+    (record { alone = refl; defined = refl; named = refl }) (rw (c.into.ensures, c.whole.ensures) (custom_serves c.args.section.now.name.now c.args.section.now.data.now)) c.add_alone.ensures
 
 pub add_alone-requires : goal.add_alone-requires
-add_alone-requires g c = rw c.into.ensures (item_piece (CustomItem (record { label = c.args.section.now.name.now; bytes = c.args.section.now.data.now })) serves_itself)
+add_alone-requires g c = rw (c.into.ensures, c.whole.ensures) (item_piece (CustomItem (record { label = c.args.section.now.name.now; bytes = c.args.section.now.data.now })) (custom_serves c.args.section.now.name.now c.args.section.now.data.now))

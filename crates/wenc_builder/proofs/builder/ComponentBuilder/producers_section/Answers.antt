@@ -4,20 +4,20 @@ use Rattle.wenc_builder.proofs.builder.ComponentBuilder.producers_section.Goals 
 
 pub returns-clause-entered : goal.returns-clause-entered
 returns-clause-entered g c fields holds =
-    let call = c.stand_alone.ensures in
-    fields_enter c.args.producers.now c.self.inside.buffer c.self.inside.spaces c.stand_alone.new.self c.stand_alone.result (sym c.if-not-is_finished.ensures) (rw c.into.ensures at call.ok) call.fits (rw c.into.ensures at call.bytes) call.err
-    c.args.self.now c.self.invariant.agree c.self.view_is call.warranted fields holds
+    let call = rw (c.into.ensures, c.whole.ensures) at c.stand_alone.ensures in
+    fields_enter c.args.producers.now c.self.inside.buffer c.self.inside.spaces c.stand_alone.new.self c.stand_alone.result (sym c.if-not-is_finished.ensures) call.stood call.bytes c.args.self.now c.self.invariant.agree c.self.view_is fields holds
 
 pub returns-clause-bytes : goal.returns-clause-bytes
 returns-clause-bytes g c done =
-    let call = c.stand_alone.ensures in
-    section_enters c.args.producers.now c.self.inside.buffer c.self.inside.spaces c.stand_alone.new.self c.stand_alone.result (sym c.if-not-is_finished.ensures) (rw c.into.ensures at call.ok) call.fits (rw c.into.ensures at call.bytes) call.err
-    c.args.self.now c.self.invariant.agree c.self.view_is call.warranted done
+    let call = rw (c.into.ensures, c.whole.ensures) at c.stand_alone.ensures in
+    section_enters c.args.producers.now c.self.inside.buffer c.self.inside.spaces c.stand_alone.new.self c.stand_alone.result (sym c.if-not-is_finished.ensures) call.stood call.bytes c.args.self.now c.self.invariant.agree c.self.view_is done
 
 pub returns-clause-finished : goal.returns-clause-finished
-returns-clause-finished g c = only_finished c.args.producers.now c.stand_alone.result c.stand_alone.ensures.free
+returns-clause-finished g c =
+    let call = rw (c.into.ensures, c.whole.ensures) at c.stand_alone.ensures in
+    only_finished c.args.producers.now c.self.inside.buffer c.self.inside.spaces c.stand_alone.new.self c.stand_alone.result (sym c.if-not-is_finished.ensures) call.stood call.bytes
 
 pub invariant_of-self : goal.invariant_of-self
 invariant_of-self g c =
-    let call = c.stand_alone.ensures in
-    still_builder c.args.producers.now c.self.inside.buffer c.self.inside.spaces c.stand_alone.new.self c.stand_alone.result (sym c.if-not-is_finished.ensures) (rw c.into.ensures at call.ok) call.fits (rw c.into.ensures at call.bytes) call.err c.self.invariant
+    let call = rw (c.into.ensures, c.whole.ensures) at c.stand_alone.ensures in
+    still_builder c.args.producers.now c.self.inside.buffer c.self.inside.spaces c.stand_alone.new.self c.stand_alone.result (sym c.if-not-is_finished.ensures) call.stood call.bytes c.self.invariant

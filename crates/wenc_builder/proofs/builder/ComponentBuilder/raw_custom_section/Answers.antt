@@ -9,7 +9,7 @@ use Rattle.wenc_builder.proofs.builder.ComponentBuilder.raw_custom_section.Goals
 pub returns : goal.returns
 returns g c =
     without_index_enters c.args.self.now c.add_alone.new.self c.add_alone.result (raw_entry c.args.section.now)
-    (record { alone = refl; defined = refl; named = refl }) (rw c.into.ensures (raw_serves c.args.section.now)) c.add_alone.ensures
+    (record { alone = refl; defined = refl; named = refl }) (rw (c.into.ensures, c.whole.ensures) (raw_serves c.args.section.now)) c.add_alone.ensures
 
 pub add_alone-requires : goal.add_alone-requires
-add_alone-requires g c = rw c.into.ensures (item_piece (RawItem c.args.section.now) (raw_serves c.args.section.now))
+add_alone-requires g c = rw (c.into.ensures, c.whole.ensures) (item_piece (RawItem c.args.section.now) (raw_serves c.args.section.now))

@@ -1,5 +1,4 @@
 use Rattle.std.proofs.Common.{refl}
-use Rattle.wenc_base.specs.laws.Serves.{serves_itself}
 use Rattle.wenc_builder.specs.Space.{indices_in}
 use Rattle.std.proofs.Common.{None}
 use Rattle.wenc_sections.specs.Start.{started}
@@ -7,13 +6,13 @@ use Rattle.wenc_builder.specs.Entry.{entry}
 use Rattle.wenc_builder.specs.Item.{StartItem}
 use Rattle.wenc_builder.specs.declared.builder.space.Space.TheVariants as spaces
 use Rattle.wenc_builder.proofs.Entered.{alone_enters}
-use Rattle.wenc_builder.proofs.Texts.{item_piece}
+use Rattle.wenc_builder.proofs.Texts.{item_piece, plain_serves}
 use Rattle.wenc_builder.proofs.builder.ComponentBuilder.start.Goals as goal
 
 pub returns : goal.returns
 returns g c =
     alone_enters c.args.self.now c.stand_alone.new.self c.stand_alone.result (entry (StartItem (started c.args.function_index (g.V.AsSlice.items c.args.args) c.args.results)) None) (indices_in spaces.Values c.args.results) None
-    (record { alone = refl; defined = refl; named = refl }) (rw (c.into.ensures, c.as_slice.ensures) serves_itself) c.stand_alone.ensures
+    (record { alone = refl; defined = refl; named = refl }) (rw (c.into.ensures, c.as_slice.ensures, c.whole.ensures) plain_serves) c.stand_alone.ensures
 
 pub stand_alone-requires : goal.stand_alone-requires
-stand_alone-requires g c = rw (c.into.ensures, c.as_slice.ensures) (item_piece (StartItem (started c.args.function_index (g.V.AsSlice.items c.args.args) c.args.results)) serves_itself)
+stand_alone-requires g c = rw (c.into.ensures, c.as_slice.ensures, c.whole.ensures) (item_piece (StartItem (started c.args.function_index (g.V.AsSlice.items c.args.args) c.args.results)) plain_serves)

@@ -1,0 +1,84 @@
+//! Bytes that stand alone, and what comes before them, after their section's id.
+ghost use Rattle.std.specs.Prelude.{◌≡◌, length};
+
+use std::alloc::Allocator;
+use std::marker::Model;
+use wenc_base::{CustomSection, Encode, Fault, Short, section_size};
+
+/// Bytes that lie ready: some, the last of which are a gap, a head that fills it, and more.
+#[derive(Drop)]
+pub struct Ready<'a> {
+    pub first: &'a [u8],
+    /// How many of the first bytes are the gap.
+    pub gap: usize,
+    pub head: Short,
+    pub more: &'a [u8],
+}
+
+impl<'a> Model for Ready<'a> {
+    ghost use Rattle.std.specs.Prelude.{List, ℕ, ◌-◌, ◌≤◌, ◌++◌, length, take};
+
+    ghost Value = { List ℕ };
+
+    ghost view = { λ r. take (length r.first.now - r.gap) r.first.now ++ (r.head ++ r.more.now) };
+
+    ghost invariant = { λ r. (r.gap ≤ length r.first.now) × (length r.head ≤ r.gap) };
+}
+
+impl<'a> Ready<'a> {
+    /// These bytes, without a gap.
+    pub fn whole(bytes: &'a [u8]) -> Ready<'a>
+        ensures { result ≡ bytes.now }
+    {
+        Ready {
+            first: bytes,
+            gap: 0,
+            head: Short::new(),
+            more: &[],
+        }
+    }
+
+    /// How many bytes they are.
+    pub fn len(&self) -> usize
+        ensures { result ≡ length self.now }
+    {
+        self.first.len() - self.gap + self.head.as_slice().len() + self.more.len()
+    }
+}
+
+/// How many bytes follow. More than 4294967295 are refused with `TooLarge`.
+#[derive(Clone, Copy)]
+pub struct Size(pub usize);
+
+impl Encode for Size {
+    ghost use Rattle.wenc_base.specs.Number.{size};
+
+    ghost piece = { λ s. size s.0 };
+
+    fn encode<A: Allocator>(&self, sink: &mut Vec<u8, A>) -> Result<(), Fault> {
+        match u32::try_from(self.0) {
+            Ok(size) => size.encode(sink),
+            Err(_) => Err(Fault::TooLarge),
+        }
+    }
+}
+
+/// What comes before the data of a custom section: its size, and its name. It is refused where the
+/// section would have more than 4294967295 bytes (`TooLarge`).
+#[derive(Clone, Copy)]
+pub struct CustomLead<'a>(pub &'a CustomSection<'a>);
+
+impl<'a> Encode for CustomLead<'a> {
+    ghost use Rattle.wenc_builder.specs.inside.Alone.{custom_lead};
+
+    ghost piece = { λ l. custom_lead l.0.now.name.now l.0.now.data.now };
+
+    fn encode<A: Allocator>(&self, sink: &mut Vec<u8, A>) -> Result<(), Fault> {
+        let CustomSection { name, data } = *self.0;
+        let Ok(name_len) = u32::try_from(name.len()) else {
+            return Err(Fault::TooLarge);
+        };
+        let size = section_size(name_len, u64::from(name_len) + data.len() as u64)?;
+        (size, name).encode(sink)
+    }
+}
