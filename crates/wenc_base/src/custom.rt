@@ -6,8 +6,10 @@ use crate::section::{Section, SectionId};
 use crate::short::Short;
 use std::alloc::Allocator;
 
-/// A section that the standard gives no meaning (WebAssembly 3.0, binary format, "Custom Section").
-/// It is refused where it would have too many bytes after its size (`TooLarge`).
+/// A custom section, to which the standard gives no meaning (WebAssembly 3.0, binary format,
+/// "Custom Section").
+///
+/// Encoding fails with `TooLarge` if more than 4294967295 bytes follow the section's size.
 ///
 /// ```
 /// let mut component = Component::new(alloc)?;
@@ -57,9 +59,11 @@ impl<'a> Section for CustomSection<'a> {
     }
 }
 
-/// The bytes of a custom section after its id, with its size, as they are (WebAssembly 3.0, binary
-/// format, "Custom Section"). Nothing checks that they are such a section. It is refused for want
-/// of memory alone.
+/// A custom section given by the bytes that follow its id, its size included (WebAssembly 3.0,
+/// binary format, "Custom Section").
+///
+/// The bytes are written unchanged, and nothing checks that they form such a section. Encoding
+/// fails only if an allocation fails.
 #[derive(Clone, Copy, Debug)]
 pub struct RawCustomSection<'a>(pub &'a [u8]);
 

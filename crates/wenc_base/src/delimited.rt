@@ -1,4 +1,4 @@
-//! The trait `Delimited`: values that can be read again from their text.
+//! The trait `Delimited`: values that can be read back from their encoding.
 ghost use Rattle.std.specs.Cmp.{IsEquivalence};
 ghost use Rattle.std.specs.Prelude.{Bool, ℕ, ℤ, List};
 ghost use Rattle.wenc_base.specs.Delimited.{IsReadable, IsWritten, AlikeIsEqual};
@@ -11,29 +11,31 @@ mod made;
 use crate::encode::Encode;
 use std::alloc::Allocator;
 
-/// A value whose text tells which value it is, whatever follows the text. A type of your own may
-/// implement it too: it owes a form, that this form can be read, and that it is written as the form
-/// says.
+/// A value whose encoding is self-delimiting: it determines the value, whatever bytes follow.
+///
+/// You may implement this trait for types of your own. An implementation supplies a form, a proof
+/// that the form can be read, and a proof that `encode` writes what the form says.
 pub trait Delimited: Encode {
-    /// What a value is, wherever it stands: of a reference, what it refers to.
+    /// The value as it is compared, independent of where it is stored: for a reference, the value
+    /// that it refers to.
     ghost Seen: { Type 0 };
 
-    /// The value as such.
+    /// The value itself.
     ghost seen: { Self → Seen };
 
-    /// How it is written, and read.
+    /// How the value is written and read.
     ghost form: { Form Seen };
 
-    /// What is written is read again, in one way only.
+    /// What is written can be read back, in one way only.
     ghost readable: { IsReadable form };
 
-    /// What is encoded is what the form says.
+    /// `encode` writes what the form says.
     ghost written: { IsWritten Self.piece seen form };
 }
 
-/// A `Delimited` value that can be compared. Values that are seen alike are equal.
+/// A `Delimited` value that can be compared: values that are seen as equal are equal.
 pub trait DelimitedEq: Delimited + Eq {
-    /// Equality goes by what is seen.
+    /// Equality is decided by what is seen.
     ghost alike: { IsEquivalence Self.eq → AlikeIsEqual Self.eq Self.seen };
 }
 

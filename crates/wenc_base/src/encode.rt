@@ -1,4 +1,4 @@
-//! The trait `Encode`: numbers and values, appended to a vector of bytes.
+//! The trait `Encode`, which appends numbers and other values to a vector of bytes.
 ghost use Rattle.std.specs.Prelude.{◌≡◌, ◌+◌, ◌<◌, ◌≤◌, ◌^◌, ◌++◌, ◌∷◌, [], length, vec_len, vec_capacity, OnOk, true};
 ghost use Rattle.wenc_base.specs.Encode.{Appends};
 ghost use Rattle.wenc_base.specs.Fault.{size_cause};
@@ -19,8 +19,9 @@ pub use named::Named;
 pub use sized::WithSize;
 use std::alloc::Allocator;
 
-/// A value with a binary text (WebAssembly 3.0, binary format, "Values"). A type of your own may
-/// implement it too.
+/// A value with an encoding in the binary format (WebAssembly 3.0, binary format, "Values").
+///
+/// You may implement this trait for types of your own.
 ///
 /// ```
 /// let mut sink = Vec::new(alloc);
@@ -28,22 +29,25 @@ use std::alloc::Allocator;
 /// [1u32, 2].as_slice().encode(&mut sink)?;
 /// ```
 pub trait Encode {
-    /// The bytes of the value, and why it can't be encoded.
+    /// The bytes of the value, and the causes for which it can't be encoded.
     ghost piece: { Self → Piece };
 
-    /// The value has something in it that was begun and not ended, which is reported before all
-    /// else.
+    /// The value contains something that was begun and not ended. This error comes before all
+    /// others.
     ghost unfinished: { Self → Type 0 } = { λ _. ⊥ };
 
-    /// Appends the text to the sink. It is refused for want of memory, or where the value has a
-    /// cause, and then the sink stays as it was. Where it is accepted the value fits.
+    /// Appends the value's encoding to `sink`. If it succeeds, the value fits its form.
+    ///
+    /// # Errors
+    ///
+    /// Fails if an allocation fails or if the value can't be encoded; `sink` is then unchanged.
     fn encode<A: Allocator>(&self, sink: &mut Vec<u8, A>) -> Result<(), Fault>
         ensures appended { Appends (piece self.now).text (piece self.now).Cause
             (unfinished self.now) sink.old.items sink.new.items result }
         ensures fits { OnOk result (piece self.now).Fits };
 }
 
-/// Nothing: no byte.
+/// Encodes to no bytes.
 impl Encode for () {
     ghost use Rattle.wenc_base.specs.Piece.{nothing};
 
@@ -85,7 +89,7 @@ impl Encode for u64 {
     }
 }
 
-/// A number of 32 bits. Another is refused with `TooMany`.
+/// Encodes as a 32-bit number. Fails with `TooMany` if the number is above 4294967295.
 impl Encode for usize {
     ghost use Rattle.wenc_base.specs.Number.{count};
 
@@ -128,7 +132,7 @@ impl Encode for i64 {
     }
 }
 
-/// Appends the text of any signed number, by what room there is.
+/// Appends the encoding of any signed number, whatever the spare capacity.
 #[tactic(auto, using(crate::proofs::Groups::signed_length))]
 #[cold]
 #[inline(never)]
@@ -172,7 +176,7 @@ impl Encode for &[u8] {
     }
 }
 
-/// Appends the number of bytes, and the bytes, in one growth.
+/// Appends the number of bytes, then the bytes, with a single reservation.
 #[tactic(auto, using(crate::proofs::Groups::groups_below))]
 fn encode_bytes<A: Allocator>(bytes: &[u8], sink: &mut Vec<u8, A>) -> Result<(), Fault>
     ensures appended { Appends (unsigned_text (length bytes.now) ++ bytes.now)
@@ -188,7 +192,7 @@ fn encode_bytes<A: Allocator>(bytes: &[u8], sink: &mut Vec<u8, A>) -> Result<(),
     encode_short_bytes(bytes, sink)
 }
 
-/// Appends the number of bytes, and the bytes. Most are few, and have room.
+/// Appends the number of bytes, then the bytes. Fast path: below 128 bytes, within the capacity.
 #[tactic(auto, using(crate::proofs::Groups::groups_below))]
 #[inline(never)]
 fn encode_short_bytes<A: Allocator>(bytes: &[u8], sink: &mut Vec<u8, A>) -> Result<(), Fault>
@@ -204,7 +208,7 @@ fn encode_short_bytes<A: Allocator>(bytes: &[u8], sink: &mut Vec<u8, A>) -> Resu
     Ok(())
 }
 
-/// Appends the number of bytes, and the bytes, however many they are, in one growth.
+/// Appends the number of bytes, then the bytes, however many, with a single reservation.
 #[cold]
 #[inline(never)]
 fn encode_long_bytes<A: Allocator>(bytes: &[u8], sink: &mut Vec<u8, A>) -> Result<(), Fault>
@@ -221,7 +225,7 @@ fn encode_long_bytes<A: Allocator>(bytes: &[u8], sink: &mut Vec<u8, A>) -> Resul
     Ok(())
 }
 
-/// Appends the text of a number. Most have few bytes, and room.
+/// Appends the encoding of a number. Fast path: at most three bytes, within the capacity.
 #[tactic(auto, using(crate::proofs::Groups::groups_below, crate::proofs::Groups::text_2, crate::proofs::Groups::text_3))]
 fn encode_number<A: Allocator>(n: u64, sink: &mut Vec<u8, A>) -> Result<(), Fault>
     ensures { Appends (unsigned_text n) (λ _. ⊥) ⊥ sink.old.items sink.new.items result }
@@ -246,7 +250,7 @@ fn encode_number<A: Allocator>(n: u64, sink: &mut Vec<u8, A>) -> Result<(), Faul
     Ok(())
 }
 
-/// Appends the text of a number. Most that are long have four or five bytes, and room.
+/// Appends the encoding of a number. Fast path: four or five bytes, within the capacity.
 #[tactic(auto, using(crate::proofs::Groups::text_4, crate::proofs::Groups::text_5))]
 #[inline(never)]
 fn encode_long<A: Allocator>(n: u64, sink: &mut Vec<u8, A>) -> Result<(), Fault>
@@ -280,7 +284,7 @@ fn encode_long<A: Allocator>(n: u64, sink: &mut Vec<u8, A>) -> Result<(), Fault>
     Ok(())
 }
 
-/// Appends the text of any number, by what room there is.
+/// Appends the encoding of any number, whatever the spare capacity.
 #[tactic(auto, using(crate::proofs::Groups::groups_length))]
 #[cold]
 #[inline(never)]
@@ -293,7 +297,7 @@ fn encode_any<A: Allocator>(n: u64, sink: &mut Vec<u8, A>) -> Result<(), Fault>
     Ok(())
 }
 
-/// Appends the text of a number where there is room, which takes no memory.
+/// Appends the encoding of a number within the capacity, without allocating.
 #[tactic(auto, using(crate::proofs::Groups::size_of_u32))]
 pub(crate) fn number_in_room<A: Allocator>(n: u32, sink: &mut Vec<u8, A>)
     requires { vec_len sink.old + number_size n ≤ vec_capacity sink.old }
@@ -306,7 +310,7 @@ pub(crate) fn number_in_room<A: Allocator>(n: u32, sink: &mut Vec<u8, A>)
     extend_in_room(sink, text.as_slice());
 }
 
-/// Appends the text of a number that has one byte, where there is room.
+/// Appends the encoding of a number below 128, which is one byte, within the capacity.
 #[tactic(auto, using(crate::proofs::Groups::groups_below))]
 #[inline]
 fn short_number_in_room<A: Allocator>(n: u8, sink: &mut Vec<u8, A>)
@@ -319,7 +323,7 @@ fn short_number_in_room<A: Allocator>(n: u8, sink: &mut Vec<u8, A>)
     extend_in_room(sink, &[n]);
 }
 
-/// Whether there is room for so many more bytes.
+/// Returns whether the spare capacity suffices for `more` bytes.
 #[inline]
 pub(crate) fn has_room<A: Allocator>(sink: &Vec<u8, A>, more: usize) -> bool
     ensures { result ≡ true → vec_len sink.now + more ≤ vec_capacity sink.now }
@@ -328,6 +332,10 @@ pub(crate) fn has_room<A: Allocator>(sink: &Vec<u8, A>, more: usize) -> bool
 }
 
 /// Appends a byte.
+///
+/// # Errors
+///
+/// Fails only if an allocation fails; `sink` is then unchanged.
 #[inline]
 pub fn encode_byte<A: Allocator>(byte: u8, sink: &mut Vec<u8, A>) -> Result<(), Fault>
     ensures { Appends (byte ∷ []) (λ _. ⊥) ⊥ sink.old.items sink.new.items result }
@@ -339,7 +347,7 @@ pub fn encode_byte<A: Allocator>(byte: u8, sink: &mut Vec<u8, A>) -> Result<(), 
     Ok(())
 }
 
-/// Appends a byte that needs memory.
+/// Appends a byte for which there is no spare capacity.
 #[cold]
 #[inline(never)]
 fn encode_byte_apart<A: Allocator>(byte: u8, sink: &mut Vec<u8, A>) -> Result<(), Fault>
@@ -349,8 +357,8 @@ fn encode_byte_apart<A: Allocator>(byte: u8, sink: &mut Vec<u8, A>) -> Result<()
     Ok(())
 }
 
-/// Appends the texts of two numbers, of which the first has at most three bytes and the other one,
-/// where there is room.
+/// Appends the encodings of two numbers within the capacity: of `n`, which has at most three bytes,
+/// and of `last`, which has one.
 #[tactic(auto, using(crate::proofs::Groups::groups_below, crate::proofs::Groups::text_2, crate::proofs::Groups::text_3))]
 #[inline]
 pub(crate) fn short_numbers_in_room<A: Allocator>(n: u32, last: u8, sink: &mut Vec<u8, A>)
@@ -379,7 +387,7 @@ pub(crate) fn short_numbers_in_room<A: Allocator>(n: u32, last: u8, sink: &mut V
     }
 }
 
-/// Appends a byte where there is room, which takes no memory.
+/// Appends a byte within the capacity, without allocating.
 #[inline]
 fn push_in_room<A: Allocator>(sink: &mut Vec<u8, A>, byte: u8)
     requires { vec_len sink.old < vec_capacity sink.old }
@@ -390,7 +398,8 @@ fn push_in_room<A: Allocator>(sink: &mut Vec<u8, A>, byte: u8)
     let _ = sink.push(byte);
 }
 
-/// Appends where there is room, which takes no memory.
+/// Appends bytes within the capacity, without allocating. The spare capacity of `sink` has to
+/// suffice.
 #[inline]
 pub fn extend_in_room<A: Allocator>(sink: &mut Vec<u8, A>, bytes: &[u8])
     requires { vec_len sink.old + length bytes.now ≤ vec_capacity sink.old }
@@ -401,12 +410,12 @@ pub fn extend_in_room<A: Allocator>(sink: &mut Vec<u8, A>, bytes: &[u8])
     let _ = sink.extend_from_slice(bytes);
 }
 
-/// A byte that says what comes, then a value.
+/// A byte that says what follows, such as an opcode, then a value.
 #[derive(Clone, Copy)]
 pub struct Tagged<'a, T>(pub u8, pub &'a T);
 
-/// The value's own refusal comes before that of the byte, so that an unfinished value is always
-/// answered as such: where the sink is full, the value is written first.
+/// An error of the value takes precedence over an allocation failure for the byte, so that an
+/// unfinished value always fails as unfinished: without spare capacity, the value is written first.
 impl<'a, T: Encode> Encode for Tagged<'a, T> {
     ghost use Rattle.wenc_base.specs.Piece.{◌▸◌};
 
@@ -431,7 +440,7 @@ impl<'a, T: Encode> Encode for Tagged<'a, T> {
     }
 }
 
-/// Appends a value, then puts the byte before it, which needs memory.
+/// Appends a value, then inserts the byte before it, which allocates.
 #[cold]
 #[inline(never)]
 fn encode_value_first<T: Encode, A: Allocator>(
@@ -452,7 +461,7 @@ fn encode_value_first<T: Encode, A: Allocator>(
     Ok(())
 }
 
-/// A byte `00`, or a byte `01` and a value.
+/// Encodes as the byte `00`, or as the byte `01` and the value.
 impl<T: Encode> Encode for Option<T> {
     ghost use Rattle.std.specs.Prelude.{Some};
     ghost use Rattle.wenc_base.specs.Forms.{option};
@@ -472,7 +481,7 @@ impl<T: Encode> Encode for Option<T> {
     }
 }
 
-/// One value, then another. The first refusal that is met is answered.
+/// Encodes one value, then the other. Fails with the first error met.
 impl<T: Encode, U: Encode> Encode for (T, U) {
     ghost use Rattle.wenc_base.specs.Encode.{in_order};
 
@@ -494,7 +503,7 @@ impl<T: Encode, U: Encode> Encode for (T, U) {
     }
 }
 
-/// Three values, one after the other. The first refusal that is met is answered.
+/// Encodes three values in order. Fails with the first error met.
 impl<T: Encode, U: Encode, V: Encode> Encode for (T, U, V) {
     ghost use Rattle.wenc_base.specs.Encode.{in_order};
 
@@ -507,7 +516,7 @@ impl<T: Encode, U: Encode, V: Encode> Encode for (T, U, V) {
     }
 }
 
-/// A value that is lent.
+/// A borrowed value, encoded as the value itself.
 #[derive(Clone, Copy)]
 pub struct ByRef<'a, T>(pub &'a T);
 
@@ -521,7 +530,7 @@ impl<'a, T: Encode> Encode for ByRef<'a, T> {
     }
 }
 
-/// The bytes as they are.
+/// Bytes that are written unchanged.
 #[derive(Clone, Copy)]
 pub struct Verbatim<'a>(pub &'a [u8]);
 

@@ -1,4 +1,4 @@
-//! Kinds of what core modules export and import.
+//! Kinds of the exports and imports of core modules.
 ghost use Rattle.std.specs.Prelude.{◌≡◌};
 ghost use Rattle.wenc_base.specs.Exports.{export_kind_byte};
 ghost use Rattle.wenc_base.specs.laws.Delimited.{itself};
@@ -9,7 +9,7 @@ use crate::encode::Encode;
 use crate::fault::Fault;
 use std::alloc::Allocator;
 
-/// The kind of what a core module exports or imports (WebAssembly 3.0, binary format, "Export
+/// The kind of an export or import of a core module (WebAssembly 3.0, binary format, "Export
 /// Section").
 #[derive(Clone, Copy, Debug, PartialEq, Eq)]
 pub enum ExportKind {
@@ -21,11 +21,11 @@ pub enum ExportKind {
     Memory,
     /// A global variable.
     Global,
-    /// A tag of exceptions.
+    /// An exception tag.
     Tag,
 }
 
-/// The kind's byte.
+/// Returns the byte of a kind.
 fn kind_byte(kind: ExportKind) -> u8
     ensures { result ≡ export_kind_byte kind }
 {

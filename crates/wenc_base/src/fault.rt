@@ -1,26 +1,27 @@
-//! Why a call is refused.
+//! Errors.
 ghost use Rattle.std.specs.Prelude.{◌≡◌, alloc_error};
 ghost use Rattle.wenc_base.specs.declared.fault.Fault.TheVariants.{Memory};
 
 use std::alloc::{AllocError, AllocFailed};
 use thiserror::Error;
 
-/// Why a call was refused. A refused call changes nothing, but for what it was given to keep, and
-/// what an encoder had begun, which stays unfinished.
+/// Why a call failed.
 ///
-/// - `Memory`: the allocator refused a growth during this call.
-/// - `TooMany`: a list's length, a count or an index space would pass 4294967295.
-/// - `TooLarge`: a text, a map of names, a section, or else what has its size in front, would have
-///   more bytes than that.
-/// - `Unfinished`: an item that was begun has not been ended.
+/// A call that fails changes nothing, with two exceptions: arguments passed by value are consumed,
+/// and an encoder leaves its parent unfinished.
 #[derive(Clone, Copy, Debug, PartialEq, Eq, Error)]
 pub enum Fault {
+    /// An allocation failed.
     #[error("no memory")]
     Memory(AllocError),
+    /// The length of a list, a count or an index space would exceed 4294967295.
     #[error("too many")]
     TooMany,
+    /// A string, a name map, a section, or anything else preceded by its size, would exceed
+    /// 4294967295 bytes.
     #[error("too large")]
     TooLarge,
+    /// An item was begun and not ended.
     #[error("unfinished")]
     Unfinished,
 }
@@ -28,7 +29,7 @@ pub enum Fault {
 impl Fault {
     ghost use Rattle.wenc_base.specs.Fault.{fault_number};
 
-    /// The fault's number, from 1 to 4 in the order of the cases.
+    /// Returns the number of the error, from 1 to 4 in the order of the variants.
     pub fn number(self) -> u8
         ensures { result ≡ fault_number self }
     {

@@ -11,9 +11,9 @@ use std::alloc::Allocator;
 /// The type of a global variable (WebAssembly 3.0, binary format, "Global Types").
 #[derive(Clone, Copy, Debug, PartialEq, Eq)]
 pub struct GlobalType {
-    /// What it contains.
+    /// The type of its value.
     pub val_type: ValType,
-    /// Whether it can be changed.
+    /// Whether it is mutable.
     pub mutable: bool,
 }
 

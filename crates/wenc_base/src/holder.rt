@@ -1,4 +1,5 @@
-//! What counted sections and types keep: the number of their members, and their texts.
+//! `Holder`, the storage of counted sections and types: the number of their members, and the
+//! members' encodings.
 ghost use Rattle.std.specs.Prelude.{◌≡◌, ◌+◌, ◌-◌, ◌<◌, ◌≤◌, ◌^◌, ◌⊎◌, length, OnOk, OnErr, IfOk, IfErr, true, false, take, drop};
 ghost use Rattle.std.specs.Iterator.{IsFinite};
 ghost use Rattle.std.specs.Iterator.Runs.{SomeRun, WholeRun};
@@ -22,11 +23,15 @@ use openings::{Opening, keep_in_room};
 use std::alloc::{Allocator, Global};
 use std::marker::Model;
 
-/// What a counted section is at most, with its count: the largest size that can be written.
+/// The largest size that can be encoded: that of a counted section, its count included.
 const LIMIT: u64 = 4294967295;
 
-/// How many bytes a section has after its size: the bytes of its count and those of its members, of
-/// which there are `body`. It is refused with `TooLarge` alone, and takes no memory.
+/// Returns the size of a section with `count` members whose encodings have `body` bytes in total:
+/// the bytes of the encoded count, and `body`. Does not allocate.
+///
+/// # Errors
+///
+/// Fails only with `TooLarge`, if the size would exceed 4294967295.
 pub fn section_size(count: u32, body: u64) -> Result<u32, Fault>
     ensures ok { IfOk result (λ size. (size ≡ content_size count body) × (size < 2 ^ 32)) }
     ensures refused { IfErr result (λ fault.
@@ -39,8 +44,9 @@ pub fn section_size(count: u32, body: u64) -> Result<u32, Fault>
     Ok((lead + body) as u32)
 }
 
-/// What every counted section and type keeps: the number of its members, and their texts, one after
-/// the other. A refused call leaves it as it was.
+/// The number of members of a counted section or type, and the members' encodings, concatenated.
+///
+/// A call that fails leaves the holder unchanged.
 ///
 /// ```
 /// let mut holder = Holder::new(alloc);
@@ -50,11 +56,11 @@ pub fn section_size(count: u32, body: u64) -> Result<u32, Fault>
 /// ```
 #[derive(Drop)]
 pub struct Holder<A: Allocator = Global> {
-    /// Bytes that are kept in front, then the texts of the members.
+    /// The kept prefix, then the encodings of the members.
     bytes: Vec<u8, A>,
     kept: usize,
     count: u32,
-    /// Where the last member begins, while it is being written.
+    /// Where the last member begins, while it is open.
     opening: Option<Opening>,
 }
 
@@ -77,7 +83,7 @@ impl<A: Allocator> Model for Holder<A> {
 }
 
 impl<A: Allocator> Holder<A> {
-    /// No members. It takes no memory.
+    /// Creates a holder without members. Does not allocate.
     #[tactic(auto, using(crate::proofs::Groups::size_1))]
     pub fn new(alloc: A) -> Self
         ensures { result ≡ no_members }
@@ -90,8 +96,11 @@ impl<A: Allocator> Holder<A> {
         }
     }
 
-    /// A holder over bytes of which the first `kept` are kept in front, and the others are the
-    /// texts of `count` members. It takes no memory.
+    /// Creates a holder from bytes of which the first `kept` are the kept prefix, and the others
+    /// are the encodings of `count` members. Does not allocate.
+    ///
+    /// `kept` is at most the number of bytes, and the section of the members has to have at most
+    /// 4294967295 bytes after its size.
     pub fn over(bytes: Vec<u8, A>, kept: usize, count: u32) -> Self
         requires within { kept ≤ length bytes.items }
         requires fits { content_size count (length (drop kept bytes.items)) < 2 ^ 32 }
@@ -105,8 +114,8 @@ impl<A: Allocator> Holder<A> {
         }
     }
 
-    /// All bytes, how many of them are kept in front, the number of members, and whether none is
-    /// being written.
+    /// Returns all bytes, the length of the kept prefix, the number of members, and whether the
+    /// holder is finished.
     pub fn into_parts(self) -> (Vec<u8, A>, usize, u32, bool)
         ensures bytes { result.0.items ≡ all_bytes self }
         ensures kept { result.1 ≡ length self.kept }
@@ -124,7 +133,7 @@ impl<A: Allocator> Holder<A> {
         (bytes, kept, count, finished)
     }
 
-    /// How many members there are, one that is being written among them.
+    /// Returns the number of members, an open one included.
     pub fn len(&self) -> u32
         ensures count { result ≡ self.now.count }
         ensures fits { content_size self.now.count (length self.now.body) < 2 ^ 32 }
@@ -132,21 +141,25 @@ impl<A: Allocator> Holder<A> {
         self.count
     }
 
-    /// The texts of the members, one after the other.
+    /// Returns the encodings of the members, concatenated.
     pub fn as_slice(&self) -> &[u8]
         ensures { result.now ≡ self.now.body }
     {
         &self.bytes[self.kept..]
     }
 
-    /// Whether no member is being written.
+    /// Returns whether no member is open.
     pub fn is_finished(&self) -> bool
         ensures { result ≡ is_finished self.now }
     {
         self.opening.is_none()
     }
 
-    /// A copy of the holder. It is refused for want of memory alone.
+    /// Returns a copy of the holder.
+    ///
+    /// # Errors
+    ///
+    /// Fails only if an allocation fails.
     pub fn clone(&self) -> Result<Self, Fault>
     where
         A: Clone,
@@ -163,15 +176,23 @@ impl<A: Allocator> Holder<A> {
         })
     }
 
-    /// Adds one member with this text, as it is. It is refused where there would be too many
-    /// members (`TooMany`), or too many bytes with those of their number (`TooLarge`).
+    /// Adds a member with this encoding, unchanged.
+    ///
+    /// # Errors
+    ///
+    /// Fails with `Unfinished` while a member is open, with `TooMany` if the number of members
+    /// would exceed 4294967295, and with `TooLarge` if the size of their section would.
     pub fn add(&mut self, text: &[u8]) -> Result<(), Fault>
         ensures { AddsMember (verbatim text.now) self.old self.new result }
     {
         self.add_encoded(&Verbatim(text))
     }
 
-    /// Adds one member with the text of this value. It is refused as `add` is, or as the value is.
+    /// Adds a member with the encoding of this value.
+    ///
+    /// # Errors
+    ///
+    /// Fails as `add` does, or as the value's `encode` does.
     pub fn add_encoded<E: Encode>(&mut self, value: &E) -> Result<(), Fault>
         ensures added { AddsMember (E.piece value.now) self.old self.new result }
         ensures unfinished_value { E.unfinished value.now → result ≡ Err Unfinished }
@@ -185,8 +206,13 @@ impl<A: Allocator> Holder<A> {
         Ok(())
     }
 
-    /// Adds one member: the text of `lead`, the values as a list, the text of `tail`. It is refused
-    /// as `add` is, or as these are. Until it returns the member is one that is being written.
+    /// Adds a member: the encoding of `lead`, the values as a list, the encoding of `tail`.
+    ///
+    /// The member is open until the call returns.
+    ///
+    /// # Errors
+    ///
+    /// Fails as `add` does, or as encoding `lead`, the values or `tail` does.
     pub fn add_listed<E: Encode, T: Encode + Drop, I: Iterator<Item = T> + Drop, F: Encode>(
         &mut self,
         lead: &E,
@@ -217,8 +243,8 @@ impl<A: Allocator> Holder<A> {
         }
     }
 
-    /// Adds the text of `lead`, the values as a list, and the text of `tail` to the member that is
-    /// being written. It is refused as `append` is, or as these are.
+    /// Appends the encoding of `lead`, the values as a list, and the encoding of `tail` to the open
+    /// member. Fails as `append` does, or as encoding these does.
     fn append_between<E: Encode, T: Encode + Drop, I: Iterator<Item = T> + Drop, F: Encode>(
         &mut self,
         lead: &E,
@@ -238,7 +264,8 @@ impl<A: Allocator> Holder<A> {
         keep_in_room(&mut self.bytes, self.kept, start, self.count)
     }
 
-    /// What is told of a member that has no room: what its lead is refused for, or else this fault.
+    /// Returns the error for a member that can't be opened: that of encoding its lead, if there is
+    /// one, else `fault`.
     #[cold]
     #[inline(never)]
     fn refusal_of_lead<E: Encode>(&mut self, lead: &E, fault: Fault) -> Fault
@@ -256,8 +283,11 @@ impl<A: Allocator> Holder<A> {
         }
     }
 
-    /// Takes back the last members, so that there are `len` in the first `bytes` bytes of their
-    /// texts. It takes no memory.
+    /// Removes the last members, so that `len` remain, in the first `bytes` bytes of their
+    /// encodings. Does not allocate.
+    ///
+    /// The holder has to be finished, and neither argument may exceed what it has. Nothing checks
+    /// that `bytes` is where a member ends.
     pub fn cut_back(&mut self, len: u32, bytes: usize)
         requires finished { is_finished self.old ≡ true }
         requires within { (len ≤ self.old.count) × (bytes ≤ length self.old.body) }
@@ -267,8 +297,11 @@ impl<A: Allocator> Holder<A> {
         self.count = len;
     }
 
-    /// Appends the section's size, the number of members, and their texts. A finished one is
-    /// refused for want of memory alone.
+    /// Appends the section's size, the number of members, and their encodings.
+    ///
+    /// # Errors
+    ///
+    /// Fails with `Unfinished` while a member is open, else only if an allocation fails.
     #[tactic(auto, using(crate::proofs::Groups::size_of_u32))]
     pub fn encode_section<B: Allocator>(&self, sink: &mut Vec<u8, B>) -> Result<(), Fault>
         ensures appended { Appends (section_text self.now) (EncodeCause self.now)
@@ -291,7 +324,8 @@ impl<A: Allocator> Holder<A> {
     }
 }
 
-/// The number of members, and their texts. A finished one is refused for want of memory alone.
+/// Encodes the number of members, then the members. Fails with `Unfinished` while a member is open,
+/// else only if an allocation fails.
 impl<A: Allocator> Encode for Holder<A> {
     ghost piece = { held_members };
 
@@ -305,7 +339,7 @@ impl<A: Allocator> Encode for Holder<A> {
     }
 }
 
-/// Appends the text of a value, a list of values, and the text of another value.
+/// Appends the encodings of a value, a list of values, and another value.
 fn encode_listed<
     E: Encode,
     T: Encode + Drop,
@@ -338,7 +372,8 @@ fn encode_listed<
     }
 }
 
-/// Counts a member that was written from `start` on, or cuts it off where there is no room for it.
+/// Counts a member that was written from `start` on. If there is no room for it, removes it and
+/// fails.
 fn end_member<A: Allocator>(
     bytes: &mut Vec<u8, A>,
     kept: usize,
@@ -363,7 +398,8 @@ fn end_member<A: Allocator>(
     }
 }
 
-/// The number of members with one more, with which their texts have `body` bytes.
+/// Returns the number of members with one more, when their encodings then have `body` bytes in
+/// total.
 #[inline]
 pub(crate) fn next_count(count: u32, body: usize) -> Result<u32, Fault>
     ensures ok { IfOk result (λ next. (next ≡ count + 1) × (content_size next body < 2 ^ 32)) }
@@ -377,7 +413,8 @@ pub(crate) fn next_count(count: u32, body: usize) -> Result<u32, Fault>
     Ok(next)
 }
 
-/// Refuses what is too large for a section, with `TooLarge` alone. Most have far less.
+/// Fails with `TooLarge`, and no other error, if a section would be too large. Fast path: far below
+/// the limit.
 #[tactic(auto, using(crate::proofs::Groups::size_of_u32))]
 #[inline]
 pub(crate) fn size_fits(count: u32, body: u64) -> Result<(), Fault>
@@ -391,7 +428,7 @@ pub(crate) fn size_fits(count: u32, body: u64) -> Result<(), Fault>
     large_fits(count, body)
 }
 
-/// Refuses what is too large for a section, by the size itself, which is near the limit.
+/// Fails with `TooLarge`, and no other error, if a section would be too large, by its exact size.
 #[cold]
 #[inline(never)]
 fn large_fits(count: u32, body: u64) -> Result<(), Fault>

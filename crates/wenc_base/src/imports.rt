@@ -1,4 +1,4 @@
-//! Types of what core modules import and export.
+//! Types of the imports and exports of core modules.
 ghost use Rattle.wenc_base.specs.laws.Delimited.{itself};
 ghost use Rattle.wenc_base.specs.laws.Serves.{serves_itself};
 
@@ -11,11 +11,11 @@ use crate::tables::TableType;
 use crate::tags::TagType;
 use std::alloc::Allocator;
 
-/// The type of what a core module imports or exports (WebAssembly 3.0, binary format, "External
+/// The type of an import or export of a core module (WebAssembly 3.0, binary format, "External
 /// Types").
 #[derive(Clone, Copy, Debug, PartialEq, Eq)]
 pub enum EntityType {
-    /// A function, whose type has this index, from 0 to 4294967295.
+    /// A function, by the index of its type, from 0 to 4294967295.
     Function(u32),
     /// A table.
     Table(TableType),
@@ -23,7 +23,7 @@ pub enum EntityType {
     Memory(MemoryType),
     /// A global variable.
     Global(GlobalType),
-    /// A tag of exceptions.
+    /// An exception tag.
     Tag(TagType),
 }
 

@@ -1,4 +1,5 @@
-//! What encoders borrow: a holder, or a type, a section or a builder that has one.
+//! The trait `Lender`: the parents of encoders, which are a holder, or a type, a section or a
+//! builder that contains one.
 ghost use Rattle.std.specs.Iterator.{IsFinite};
 ghost use Rattle.std.specs.Prelude.{◌≡◌, ℕ, List, ◌++◌, Bool, true, false};
 ghost use Rattle.wenc_base.specs.Forms.{list};
@@ -12,40 +13,41 @@ use crate::fault::Fault;
 use crate::holder::Holder;
 use std::alloc::Allocator;
 
-/// A value that has a member which is being written, and lends itself to the encoder that writes
-/// it. Only a whole member can be ended: whoever ends it shows that what was written is one of the
-/// kind that was opened.
+/// The parent of an encoder: a value with an open member, which the encoder borrows and writes.
+///
+/// Only a complete member can be ended: the caller of `end_member` proves that the bytes written
+/// form a member of the kind that was opened.
 pub trait Lender {
-    /// No member is being written.
+    /// No member is open.
     ghost finished: { Self → Bool };
 
-    /// A member is being written of which there is the lead alone.
+    /// A member is open that consists of its lead alone.
     ghost opened: { Self → Bool };
 
-    /// The value with more bytes of the member.
+    /// The parent with these bytes appended to the open member.
     ghost appended: { Self → List ℕ → Self };
 
-    /// What was written since the opening is a whole member of the kind that was opened.
+    /// The bytes written since the member was opened form a complete member of its kind.
     ghost is_whole: { Self → Type 0 };
 
-    /// The value with the member ended.
+    /// The parent with the member ended.
     ghost ended: { Self → Self };
 
-    /// Why these bytes can't be added to the member.
+    /// Why these bytes can't be appended to the member.
     ghost refuses: { Self → List ℕ → FaultSpec → Type 0 };
 
-    /// What is opened is being written.
+    /// A member that consists of its lead alone is open.
     ghost begins: { (x : Self) → opened x ≡ true → finished x ≡ false };
 
-    /// The member stays unfinished.
+    /// The member stays open when bytes are appended.
     ghost stays: { (x : Self) (text : List ℕ)
         → finished x ≡ false → finished (appended x text) ≡ false };
 
-    /// Bytes and then more are all of them.
+    /// Appending twice appends the concatenation.
     ghost joins: { (x : Self) (text more : List ℕ)
         → appended (appended x text) more ≡ appended x (text ++ more) };
 
-    /// Adds the text of a value to the member. A refused call changes nothing.
+    /// Appends the encoding of a value to the open member. If it fails, nothing changes.
     fn append_value<E: Encode>(&mut self, value: &E) -> Result<(), Fault>
         requires { finished self.old ≡ false }
         ensures appended { Extends self.old self.new
@@ -53,7 +55,8 @@ pub trait Lender {
             (refuses self.old (E.piece value.now).text) }
         ensures unfinished_value { E.unfinished value.now → result ≡ Err Unfinished };
 
-    /// Adds these bytes to the member, then the values as a list. A refused call changes nothing.
+    /// Appends these bytes to the open member, then the values as a list. If it fails, nothing
+    /// changes.
     fn append_list<T: Encode + Drop, I: Iterator<Item = T> + Drop>(
         &mut self,
         lead: &[u8],
@@ -65,13 +68,13 @@ pub trait Lender {
         ensures { ExtendsListed I.next_gives values self.old self.new result (appended self.old)
             (refuses self.old) (λ vs. behind_bytes lead.now (list T.piece vs)) };
 
-    /// Ends the member, which is whole. It takes no memory.
+    /// Ends the open member, which is complete. Does not allocate.
     fn end_member(&mut self)
         requires { ∥ is_whole self.old ∥₁ }
         ensures { self.new ≡ ended self.old };
 
-    /// Adds the text of a value to the member, which is whole then, and ends it. A refused call
-    /// changes nothing.
+    /// Appends the encoding of a value to the open member, which completes it, and ends it. If it
+    /// fails, nothing changes.
     fn end_with<E: Encode>(&mut self, value: &E) -> Result<(), Fault>
         requires unfinished { finished self.old ≡ false }
         requires whole { MakesWhole is_whole appended self.old (E.piece value.now) }
@@ -84,8 +87,8 @@ pub trait Lender {
         Ok(())
     }
 
-    /// Adds these bytes to the member, then the values as a list; it is whole then, and ended. A
-    /// refused call changes nothing.
+    /// Appends these bytes to the open member, then the values as a list, which completes it, and
+    /// ends it. If it fails, nothing changes.
     fn end_with_list<T: Encode + Drop, I: Iterator<Item = T> + Drop>(
         &mut self,
         lead: &[u8],
@@ -116,7 +119,7 @@ impl<A: Allocator> Lender for Holder<A> {
 
     ghost appended = { member_appended };
 
-    // Its members are any bytes.
+    // The members of a holder are arbitrary bytes.
     ghost is_whole = { λ _. Unit {0} };
 
     ghost ended = { member_ended };

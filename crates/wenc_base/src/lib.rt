@@ -1,10 +1,12 @@
-//! What everything that writes WebAssembly components stands on: numbers, texts, lists, faults, the
-//! traits `Encode` and `Delimited`, the holder of a section's members, core types, custom sections
-//! and modules.
+//! The foundation of everything that writes WebAssembly components: numbers, strings, lists,
+//! errors, the traits `Encode` and `Delimited`, the holder of a section's members, core types,
+//! custom sections and modules.
 //!
-//! Indices, and the lengths of texts and lists, counts and sizes that are written, are numbers of
-//! 32 bits, at most 4294967295. What would be more is refused: too many values or members with
-//! `Fault::TooMany`, too many bytes with `Fault::TooLarge`.
+//!
+//! Indices, lengths of strings and lists, counts and sizes are encoded as 32-bit numbers, at most
+//! 4294967295. What would exceed that is an error: `Fault::TooMany` for too many values or members,
+//! `Fault::TooLarge` for too many bytes. Each call that allocates may also fail with
+//! `Fault::Memory`.
 #![tactic(auto)]
 
 pub mod custom;

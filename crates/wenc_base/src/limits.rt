@@ -6,17 +6,17 @@ use crate::encode::{Encode, Tagged};
 use crate::fault::Fault;
 use std::alloc::Allocator;
 
-/// How large a table or a memory is (WebAssembly 3.0, binary format, "Limits"). A shared one isn't
-/// in that standard; it is written as in the proposal for threads.
+/// The size range of a table or a memory (WebAssembly 3.0, binary format, "Limits"). The threads
+/// proposal, not that standard, defines shared ones.
 #[derive(Clone, Copy)]
 pub struct Limits {
-    /// What it has at first, from 0 to 2^64 - 1.
+    /// The initial size, from 0 to 2^64 - 1.
     pub minimum: u64,
-    /// What it has at most, from 0 to 2^64 - 1, if there is a bound.
+    /// The maximum size, from 0 to 2^64 - 1, if there is one.
     pub maximum: Option<u64>,
-    /// Whether threads share it.
+    /// Whether it is shared between threads.
     pub is_shared: bool,
-    /// Whether its addresses have 64 bits.
+    /// Whether its addresses are 64-bit.
     pub is_long: bool,
 }
 
@@ -39,14 +39,14 @@ impl Encode for Limits {
     }
 }
 
-/// The byte that says what follows, and of what.
+/// Returns the flags byte, which says whether a maximum follows, and of what.
 fn flags(is_bounded: bool, is_shared: bool, is_long: bool) -> u8
     ensures { result ≡ limit_flags is_bounded is_shared is_long }
 {
     bit(1, is_bounded) + (bit(2, is_shared) + bit(4, is_long))
 }
 
-/// The number, or 0.
+/// Returns `number` if the bit is set, else 0.
 fn bit(number: u8, is_set: bool) -> u8
     ensures is { result ≡ bit_of number is_set }
     ensures most { result ≤ number }

@@ -8,17 +8,17 @@ use crate::fault::Fault;
 use crate::limits::Limits;
 use std::alloc::Allocator;
 
-/// The type of a memory (WebAssembly 3.0, binary format, "Memory Types"). A shared one isn't in
+/// The type of a memory (WebAssembly 3.0, binary format, "Memory Types"). Shared memories aren't in
 /// that standard.
 #[derive(Clone, Copy, Debug, PartialEq, Eq)]
 pub struct MemoryType {
-    /// How many pages it has at first, from 0 to 18446744073709551615.
+    /// The initial size in pages, from 0 to 18446744073709551615.
     pub minimum: u64,
-    /// How many it has at most, from 0 to 18446744073709551615, if there is a bound.
+    /// The maximum size in pages, from 0 to 18446744073709551615, if there is one.
     pub maximum: Option<u64>,
-    /// Whether its addresses have 64 bits.
+    /// Whether its addresses are 64-bit.
     pub memory64: bool,
-    /// Whether threads share it.
+    /// Whether it is shared between threads.
     pub shared: bool,
 }
 

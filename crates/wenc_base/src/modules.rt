@@ -1,4 +1,4 @@
-//! Core modules, section by section.
+//! Core modules, written section by section.
 ghost use Rattle.std.specs.Prelude.{◌≡◌, IfOk, IfErr, OnOk};
 ghost use Rattle.wenc_base.specs.Encode.{Appends};
 ghost use Rattle.wenc_base.specs.Fault.{IsMemory};
@@ -10,8 +10,10 @@ use crate::section::Section;
 use std::alloc::{Allocator, Global};
 use std::marker::Model;
 
-/// The bytes of a core module: its header, and the sections that were appended (WebAssembly 3.0,
-/// binary format, "Modules"). Nothing checks their order.
+/// The bytes of a core module: its header, and the sections appended so far (WebAssembly 3.0,
+/// binary format, "Modules").
+///
+/// Nothing checks the order of the sections.
 ///
 /// ```
 /// let mut module = Module::new(alloc)?;
@@ -35,12 +37,16 @@ impl<A: Allocator> Model for Module<A> {
 }
 
 impl Module {
-    /// What each module begins with (WebAssembly 3.0, binary format, "Modules").
+    /// The header of each module (WebAssembly 3.0, binary format, "Modules").
     pub const HEADER: [u8; 8] = [0x00, 0x61, 0x73, 0x6d, 0x01, 0x00, 0x00, 0x00];
 }
 
 impl<A: Allocator> Module<A> {
-    /// A module without sections. It is refused for want of memory alone.
+    /// Creates a module without sections.
+    ///
+    /// # Errors
+    ///
+    /// Fails only if an allocation fails.
     pub fn new(alloc: A) -> Result<Self, Fault>
         ensures ok { IfOk result (λ m. m ≡ module_preamble.text) }
         ensures refused { IfErr result IsMemory }
@@ -50,8 +56,11 @@ impl<A: Allocator> Module<A> {
         Ok(Module { bytes })
     }
 
-    /// Appends a section. It is refused as the section's `encode` is, and then the module stays as
-    /// it was.
+    /// Appends a section.
+    ///
+    /// # Errors
+    ///
+    /// Fails as the section's `encode` does; the module is then unchanged.
     pub fn section<S: Section>(&mut self, section: &S) -> Result<(), Fault>
         ensures appended { Appends (S.section_id section.now ▸ S.piece section.now).text
             (S.piece section.now).Cause (S.unfinished section.now) self.old self.new result }
@@ -60,14 +69,14 @@ impl<A: Allocator> Module<A> {
         section.append_to(&mut self.bytes)
     }
 
-    /// The bytes so far.
+    /// Returns the bytes written so far.
     pub fn as_slice(&self) -> &[u8]
         ensures { result.now ≡ self.now }
     {
         self.bytes.as_slice()
     }
 
-    /// The bytes.
+    /// Returns the bytes of the module.
     pub fn finish(self) -> Vec<u8, A>
         ensures { result.items ≡ self }
     {
@@ -75,7 +84,11 @@ impl<A: Allocator> Module<A> {
         bytes
     }
 
-    /// A copy of the module. It is refused for want of memory alone.
+    /// Returns a copy of the module.
+    ///
+    /// # Errors
+    ///
+    /// Fails only if an allocation fails.
     pub fn clone(&self) -> Result<Self, Fault>
     where
         A: Clone,

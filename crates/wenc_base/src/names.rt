@@ -1,4 +1,4 @@
-//! Maps of names.
+//! Name maps.
 ghost use Rattle.std.specs.Prelude.{◌≡◌, ◌==◌, ◌<◌, ◌≤◌, ◌^◌, [], length, IfOk, IfErr};
 ghost use Rattle.wenc_base.specs.Fault.{IsMemory};
 ghost use Rattle.wenc_base.specs.Holder.{no_members, holding, held_text, cut_to, AddsMember};
@@ -13,8 +13,10 @@ use crate::number::encoding_size;
 use std::alloc::{Allocator, Global};
 use std::marker::Model;
 
-/// Names of items, each with the item's index, in the order in which they were appended
-/// (WebAssembly 3.0, binary format, "Name Maps"). A call that is refused leaves it as it was.
+/// Names of items, each with its item's index, in the order in which they were appended
+/// (WebAssembly 3.0, binary format, "Name Maps").
+///
+/// A call that fails leaves the map unchanged.
 ///
 /// ```
 /// let mut names = NameMap::new(alloc);
@@ -25,7 +27,7 @@ use std::marker::Model;
 #[derive(Drop)]
 pub struct NameMap<A: Allocator = Global> {
     count: u32,
-    /// The texts of the names, each after that of its index.
+    /// The encodings of the names, each preceded by that of its index.
     names: Vec<u8, A>,
 }
 
@@ -40,11 +42,11 @@ impl<A: Allocator> Model for NameMap<A> {
     ghost invariant = { λ m. content_size m.count (length m.names.items) < 2 ^ 32 };
 }
 
-/// From so many bytes on, one short name more could be too many.
+/// The number of bytes from which on one more short name could be too many.
 const NEARLY_FULL: u64 = (1 << 32) - 256;
 
 impl<A: Allocator> NameMap<A> {
-    /// No names. It takes no memory.
+    /// Creates an empty map. Does not allocate.
     #[tactic(auto, using(crate::proofs::Groups::size_1))]
     pub fn new(alloc: A) -> Self
         ensures { result ≡ no_members }
@@ -55,9 +57,12 @@ impl<A: Allocator> NameMap<A> {
         }
     }
 
-    /// Names the item with this index. Nothing is asked of the order of indices. It is refused
-    /// where there would be too many names (`TooMany`), or too many bytes in the name or in the map
-    /// (`TooLarge`).
+    /// Names the item with this index. Indices may come in any order.
+    ///
+    /// # Errors
+    ///
+    /// Fails with `TooMany` if the number of names would exceed 4294967295, and with `TooLarge` if
+    /// the bytes of the name or of the map would.
     #[tactic(auto, using(crate::proofs::Groups::size_of_u32))]
     pub fn append(&mut self, idx: u32, name: &str) -> Result<(), Fault>
         ensures { let entry : NameAssociation = record { index = idx; name = name.now } in
@@ -77,7 +82,7 @@ impl<A: Allocator> NameMap<A> {
         self.append_long(idx, name)
     }
 
-    /// Names the item with this index, whatever the name, by what room there is.
+    /// Names the item with this index, whatever the name and the spare capacity.
     #[tactic(auto, using(crate::proofs::Groups::size_of_u32))]
     #[cold]
     #[inline(never)]
@@ -99,14 +104,14 @@ impl<A: Allocator> NameMap<A> {
         Ok(())
     }
 
-    /// How many bytes the names have, after their count.
+    /// Returns the number of bytes of the names, without their count.
     pub fn names_len(&self) -> usize
         ensures { result ≡ length self.now.body }
     {
         self.names.len()
     }
 
-    /// How many bytes `encode` appends.
+    /// Returns the number of bytes that `encode` appends.
     pub fn size(&self) -> usize
         ensures is { result ≡ length (held_text self.now) }
         ensures fits { result < 2 ^ 32 }
@@ -114,7 +119,7 @@ impl<A: Allocator> NameMap<A> {
         encoding_size(self.count) + self.names.len()
     }
 
-    /// How many names there are. The map is never unfinished.
+    /// Returns the number of names. A map is never unfinished.
     pub fn len(&self) -> u32
         ensures count { result ≡ self.now.count }
         ensures finished { self.now ≡ holding [] self.now.count self.now.body }
@@ -122,15 +127,18 @@ impl<A: Allocator> NameMap<A> {
         self.count
     }
 
-    /// Whether there are none.
+    /// Returns whether there are no names.
     pub fn is_empty(&self) -> bool
         ensures { result ≡ (self.now.count == 0) }
     {
         self.count == 0
     }
 
-    /// Takes back the last names, so that there are `len`, in the first `bytes` bytes after the
-    /// map's count. It takes no memory.
+    /// Removes the last names, so that `len` remain, in the first `bytes` bytes after the map's
+    /// count. Does not allocate.
+    ///
+    /// Neither argument may exceed what the map has. Nothing checks that `bytes` is where a name
+    /// ends.
     #[tactic(auto, using(crate::proofs::Groups::size_monotone))]
     pub fn cut_back(&mut self, len: u32, bytes: usize)
         requires { (len ≤ self.old.count) × (bytes ≤ length self.old.body) }
@@ -140,7 +148,11 @@ impl<A: Allocator> NameMap<A> {
         self.count = len;
     }
 
-    /// A copy of the names. It is refused for want of memory alone.
+    /// Returns a copy of the map.
+    ///
+    /// # Errors
+    ///
+    /// Fails only if an allocation fails.
     pub fn clone(&self) -> Result<Self, Fault>
     where
         A: Clone,
@@ -156,7 +168,8 @@ impl<A: Allocator> NameMap<A> {
     }
 }
 
-/// How many names there are, then each after its index. It is refused for want of memory alone.
+/// Encodes the number of names, then each, preceded by its index. Fails only if an allocation
+/// fails.
 impl<A: Allocator> Encode for NameMap<A> {
     ghost use Rattle.wenc_base.specs.Piece.{verbatim};
 

@@ -1,8 +1,8 @@
-//! How many bytes the text of a number has.
+//! The size of an encoded number.
 ghost use Rattle.std.specs.Prelude.{◌≡◌, ◌≤◌};
 ghost use Rattle.wenc_base.specs.Number.{number_size};
 
-/// How many bytes the text of a number has, from 1 to 5.
+/// Returns the number of bytes in the encoding of a number, from 1 to 5.
 #[tactic(auto, using(crate::proofs::Groups::size_1, crate::proofs::Groups::size_2, crate::proofs::Groups::size_3, crate::proofs::Groups::size_4, crate::proofs::Groups::size_5))]
 pub fn encoding_size(n: u32) -> usize
     ensures is { result ≡ number_size n }

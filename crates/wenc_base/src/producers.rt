@@ -15,10 +15,10 @@ use crate::section::{Section, SectionId};
 use std::alloc::{Allocator, Global};
 use std::marker::Model;
 
-/// How many bytes the section's name has, with its length.
+/// The size of the section's name, its length included.
 const LABEL_SIZE: u64 = 10;
 
-/// The tools that did one thing, such as `processed-by`, each with its version (tool conventions,
+/// The values of one field, such as `processed-by`: tools, each with its version (tool conventions,
 /// "Producers Section").
 #[derive(Drop)]
 pub struct ProducersField<A: Allocator = Global> {
@@ -34,7 +34,7 @@ impl<A: Allocator> Model for ProducersField<A> {
 }
 
 impl<A: Allocator> ProducersField<A> {
-    /// No tools. It takes no memory.
+    /// Creates a field without tools. Does not allocate.
     pub fn new(alloc: A) -> Self
         ensures { result ≡ no_members }
     {
@@ -43,8 +43,12 @@ impl<A: Allocator> ProducersField<A> {
         }
     }
 
-    /// Adds a tool and its version. It is refused where there would be too many tools (`TooMany`)
-    /// or bytes (`TooLarge`), and then the field stays as it was.
+    /// Adds a tool and its version.
+    ///
+    /// # Errors
+    ///
+    /// Fails with `TooMany` if the number of tools would exceed 4294967295, and with `TooLarge` if
+    /// the bytes of a string or of the field would. The field is then unchanged.
     #[tactic(auto, using(crate::specs::laws::Holders::adds_as))]
     pub fn value(&mut self, name: &str, version: &str) -> Result<(), Fault>
         ensures { let tool : Producer = record { tool = name.now; version = version.now } in
@@ -53,7 +57,11 @@ impl<A: Allocator> ProducersField<A> {
         self.values.add_encoded(&(name, version))
     }
 
-    /// A copy of the tools. It is refused for want of memory alone.
+    /// Returns a copy of the field.
+    ///
+    /// # Errors
+    ///
+    /// Fails only if an allocation fails.
     pub fn clone(&self) -> Result<Self, Fault>
     where
         A: Clone,
@@ -65,7 +73,7 @@ impl<A: Allocator> ProducersField<A> {
     }
 }
 
-/// The number of tools, and each. A finished one is refused for want of memory alone.
+/// Encodes the number of tools, then each. A finished field fails only if an allocation fails.
 impl<A: Allocator> Encode for ProducersField<A> {
     ghost piece = { held_members };
 
@@ -76,8 +84,8 @@ impl<A: Allocator> Encode for ProducersField<A> {
     }
 }
 
-/// What the tools did that made a module or a component, and which they were: a custom section
-/// (tool conventions, "Producers Section").
+/// The tools that made a module or a component, by what each did: a custom section (tool
+/// conventions, "Producers Section").
 ///
 /// ```
 /// let mut languages = ProducersField::new(alloc);
@@ -106,7 +114,7 @@ impl<A: Allocator> Model for ProducersSection<A> {
 }
 
 impl<A: Allocator> ProducersSection<A> {
-    /// No fields. It takes no memory.
+    /// Creates a section without fields. Does not allocate.
     #[tactic(auto, using(crate::proofs::Groups::size_1))]
     pub fn new(alloc: A) -> Self
         ensures { result ≡ no_members }
@@ -116,9 +124,13 @@ impl<A: Allocator> ProducersSection<A> {
         }
     }
 
-    /// Adds a field of this name with its tools. It is refused where these are unfinished, where
-    /// there would be too many fields (`TooMany`), or too many bytes in the name or after the
-    /// section's size (`TooLarge`), and then the section stays as it was.
+    /// Adds a field with this name and these tools.
+    ///
+    /// # Errors
+    ///
+    /// Fails with `Unfinished` if the field is unfinished, with `TooMany` if the number of fields
+    /// would exceed 4294967295, and with `TooLarge` if the bytes of the name or of the section
+    /// would. The section is then unchanged.
     pub fn field<B: Allocator>(
         &mut self,
         name: &str,
@@ -158,8 +170,11 @@ impl<A: Allocator> ProducersSection<A> {
         Ok(())
     }
 
-    /// Appends the data of the custom section: the number of fields, and each. It is refused for
-    /// want of memory, or where the section is unfinished.
+    /// Appends the contents of the custom section: the number of fields, then each.
+    ///
+    /// # Errors
+    ///
+    /// Fails with `Unfinished` if the section is unfinished, else only if an allocation fails.
     #[tactic(auto, using(crate::proofs::Produced::data_of_fields))]
     pub fn encode_data<B: Allocator>(&self, sink: &mut Vec<u8, B>) -> Result<(), Fault>
         ensures appended { Appends (held_text self.now) (EncodeCause self.now)
@@ -171,7 +186,11 @@ impl<A: Allocator> ProducersSection<A> {
         self.fields.encode(sink)
     }
 
-    /// A copy of the fields. It is refused for want of memory alone.
+    /// Returns a copy of the section.
+    ///
+    /// # Errors
+    ///
+    /// Fails only if an allocation fails.
     pub fn clone(&self) -> Result<Self, Fault>
     where
         A: Clone,
@@ -183,7 +202,7 @@ impl<A: Allocator> ProducersSection<A> {
     }
 }
 
-/// A finished one is refused for want of memory alone.
+/// A finished section fails to encode only if an allocation fails.
 impl<A: Allocator> Encode for ProducersSection<A> {
     ghost piece = { producers_held };
 

@@ -1,16 +1,18 @@
-//! Sections of any id, by their bytes.
+//! Sections of any id, given by their bytes.
 use crate::encode::Encode;
 use crate::fault::Fault;
 use crate::section::Section;
 use std::alloc::Allocator;
 
-/// A section with any id, from 0 to 255, whose bytes are written after their size (WebAssembly 3.0,
-/// binary format, "Sections"). It is refused where there are more than 4294967295 (`TooLarge`).
+/// A section with any id, from 0 to 255, given by its contents (WebAssembly 3.0, binary format,
+/// "Sections").
+///
+/// Encoding fails with `TooLarge` if the contents have more than 4294967295 bytes.
 #[derive(Clone, Copy, Debug)]
 pub struct RawSection<'a> {
     /// The id.
     pub id: u8,
-    /// The bytes after the size.
+    /// The contents: the bytes after the size.
     pub data: &'a [u8],
 }
 

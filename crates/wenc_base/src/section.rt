@@ -7,18 +7,21 @@ use crate::encode::{Encode, Tagged};
 use crate::fault::Fault;
 use std::alloc::Allocator;
 
-/// A section of a core module (WebAssembly 3.0, binary format, "Sections"). A type of your own may
-/// implement it too.
+/// A section of a core module (WebAssembly 3.0, binary format, "Sections"). You may implement this
+/// trait for types of your own.
 pub trait Section: Encode {
-    /// What `id` answers.
+    /// What `id` returns.
     ghost section_id: { Self → ℕ };
 
-    /// The section's id, from 0 to 255.
+    /// Returns the section's id, from 0 to 255.
     fn id(&self) -> u8
         ensures { result ≡ section_id self.now };
 
-    /// Appends the section's id and its text. It is refused as `encode` is, and then the sink stays
-    /// as it was.
+    /// Appends the section's id and its encoding.
+    ///
+    /// # Errors
+    ///
+    /// Fails as `encode` does; `sink` is then unchanged.
     fn append_to<A: Allocator>(&self, sink: &mut Vec<u8, A>) -> Result<(), Fault>
     where
         Self: Sized,
@@ -31,8 +34,8 @@ pub trait Section: Encode {
     }
 }
 
-/// The id of a section that may stand in a module (WebAssembly 3.0, binary format, "Sections"): of
-/// those that the standard names, the one whose section is written here.
+/// The ids of sections in a core module (WebAssembly 3.0, binary format, "Sections"): of those that
+/// the standard names, the one of a section that this crate writes.
 #[derive(Clone, Copy, Debug, PartialEq, Eq)]
 #[repr(u8)]
 pub enum SectionId {

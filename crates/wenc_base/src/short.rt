@@ -1,10 +1,10 @@
-//! A few bytes, without memory.
+//! A few bytes on the stack.
 ghost use Rattle.std.specs.Prelude.{◌≡◌, ◌+◌, ◌-◌, ◌<◌, ◌≤◌, ◌++◌, ◌∷◌, [], length, if◌then◌else◌};
 ghost use Rattle.wenc_base.specs.Number.{groups, complement, turned, unsigned_text, signed_text};
 
 use std::marker::Model;
 
-/// A few bytes, without memory: room for a section's id, size and count at their longest, or for
+/// Up to 11 bytes on the stack: room for a section's id, size and count at their longest, or for
 /// one number.
 #[derive(Drop)]
 pub struct Short {
@@ -23,7 +23,7 @@ impl Model for Short {
 }
 
 impl Short {
-    /// No bytes.
+    /// Creates an empty buffer.
     pub fn new() -> Short
         ensures { result ≡ [] }
     {
@@ -33,7 +33,7 @@ impl Short {
         }
     }
 
-    /// The bytes.
+    /// Returns the bytes.
     pub fn as_slice(&self) -> &[u8]
         ensures same { result.now ≡ self.now }
         ensures short { length self.now ≤ 11 }
@@ -41,7 +41,7 @@ impl Short {
         &self.bytes[..self.len]
     }
 
-    /// Appends a byte.
+    /// Appends a byte. There has to be room for it.
     pub fn push(&mut self, byte: u8)
         requires { length self.old < 11 }
         ensures { self.new ≡ self.old ++ byte ∷ [] }
@@ -50,7 +50,7 @@ impl Short {
         self.len += 1;
     }
 
-    /// Appends the text of an unsigned number.
+    /// Appends the encoding of an unsigned number. There has to be room for it.
     pub fn unsigned(&mut self, n: u64)
         requires { length self.old + length (unsigned_text n) ≤ 11 }
         ensures { self.new ≡ self.old ++ unsigned_text n }
@@ -63,7 +63,7 @@ impl Short {
         self.push(rest as u8);
     }
 
-    /// Appends the text of a signed number.
+    /// Appends the encoding of a signed number. There has to be room for it.
     pub fn signed(&mut self, n: i64)
         requires { length self.old + length (signed_text n) ≤ 11 }
         ensures { self.new ≡ self.old ++ signed_text n }
@@ -75,7 +75,7 @@ impl Short {
         }
     }
 
-    /// Appends the groups of a signed number, turned over if it is negative.
+    /// Appends the groups of seven bits of a signed number, inverted if it is negative.
     #[tactic(auto, using(crate::proofs::Groups::writing_more))]
     fn signed_groups(&mut self, magnitude: u64, is_negative: bool)
         requires { length self.old + length (turned is_negative (groups 64 9 magnitude)) ≤ 11 }
@@ -90,7 +90,7 @@ impl Short {
     }
 }
 
-/// A byte of a signed number, whose seven bits are turned over if the number is negative.
+/// Returns a byte of a signed number, its seven bits inverted if the number is negative.
 fn turned_byte(byte: u8, is_negative: bool) -> u8
     ensures { result ≡ (if is_negative then complement byte else byte) }
 {

@@ -12,13 +12,13 @@ use std::alloc::Allocator;
 /// The type of a table (WebAssembly 3.0, binary format, "Table Types").
 #[derive(Clone, Copy, Debug, PartialEq, Eq)]
 pub struct TableType {
-    /// What it contains.
+    /// The type of its elements.
     pub element_type: RefType,
-    /// Whether its indices have 64 bits.
+    /// Whether its indices are 64-bit.
     pub table64: bool,
-    /// How many elements it has at first, from 0 to 18446744073709551615.
+    /// The initial number of elements, from 0 to 18446744073709551615.
     pub minimum: u64,
-    /// How many it has at most, from 0 to 18446744073709551615, if there is a bound.
+    /// The maximum number of elements, from 0 to 18446744073709551615, if there is one.
     pub maximum: Option<u64>,
 }
 

@@ -1,4 +1,4 @@
-//! Types of tags.
+//! Types of exception tags.
 ghost use Rattle.wenc_base.specs.laws.Delimited.{itself};
 ghost use Rattle.wenc_base.specs.laws.Serves.{serves_itself};
 
@@ -7,10 +7,11 @@ use crate::encode::{Encode, Tagged};
 use crate::fault::Fault;
 use std::alloc::Allocator;
 
-/// The type of a tag of exceptions (WebAssembly 3.0, binary format, "Tag Types").
+/// The type of an exception tag (WebAssembly 3.0, binary format, "Tag Types").
 #[derive(Clone, Copy, Debug, PartialEq, Eq)]
 pub struct TagType {
-    /// The index of the function type whose parameters an exception carries, from 0 to 4294967295.
+    /// The index of the function type that is the exception's signature, from 0 to 4294967295: its
+    /// parameters are what an exception carries.
     pub func_type_idx: u32,
 }
 

@@ -1,4 +1,4 @@
-//! Core types: those of values, references and heaps. The modules below have those that core
+//! Core types: value types, reference types and heap types. The submodules have the types that core
 //! modules define.
 ghost use Rattle.std.specs.Prelude.{◌≡◌};
 ghost use Rattle.wenc_base.specs.laws.Delimited.{itself};
@@ -130,9 +130,9 @@ impl DelimitedEq for RefType {
 /// What a reference refers to (WebAssembly 3.0, binary format, "Heap Types").
 #[derive(Clone, Copy, Debug, PartialEq, Eq)]
 pub enum HeapType {
-    /// Something of this kind.
+    /// An abstract heap type.
     Abstract(AbstractHeapType),
-    /// Something of the type with this index.
+    /// The type with this index, from 0 to 4294967295.
     Concrete(u32),
 }
 
@@ -170,32 +170,32 @@ impl DelimitedEq for HeapType {
     ghost alike = { itself _ };
 }
 
-/// A heap type that the standard names (WebAssembly 3.0, binary format, "Heap Types").
+/// An abstract heap type, which the standard names (WebAssembly 3.0, binary format, "Heap Types").
 #[derive(Clone, Copy, Debug, PartialEq, Eq)]
 pub enum AbstractHeapType {
     /// All functions.
     Func,
-    /// Whatever the host refers to.
+    /// External host references.
     Extern,
-    /// Whatever a module refers to but functions, exceptions and the host's things.
+    /// Top of the `any` hierarchy: internal references, other than to functions and exceptions.
     Any,
-    /// What no `Any` is.
+    /// Bottom of the `any` hierarchy.
     None,
-    /// What no `Extern` is.
+    /// Bottom of the `extern` hierarchy.
     NoExtern,
-    /// What no `Func` is.
+    /// Bottom of the `func` hierarchy.
     NoFunc,
-    /// What can be compared.
+    /// What can be compared: structures, arrays and 31-bit integers.
     Eq,
     /// All structures.
     Struct,
     /// All arrays.
     Array,
-    /// Integers of 31 bits without a box.
+    /// Unboxed 31-bit integers.
     I31,
     /// Exceptions.
     Exn,
-    /// What no `Exn` is.
+    /// Bottom of the `exn` hierarchy.
     NoExn,
 }
 

@@ -1,4 +1,4 @@
-//! The section of canonical functions, and the options that functions may have.
+//! The section of canonical functions, and canonical options.
 ghost use Rattle.std.specs.Prelude.{◌≡◌, ◌==◌, false, OnOk, IfOk, IfErr};
 ghost use Rattle.std.specs.Iterator.{IsFinite};
 ghost use Rattle.wenc_base.specs.Fault.{IsMemory};
@@ -20,28 +20,28 @@ use wenc_base::{Delimited, DelimitedEq, Encode, Fault, Holder, Tagged, ValType};
 use wenc_parts::{ComponentSection, ComponentSectionId};
 
 /// An option of a function that is lifted or lowered, or of a builtin that reads or writes values
-/// (component model, binary format, `canonopt`).
+/// (component model, binary format, `canonopt`). Indices are from 0 to 4294967295.
 #[derive(Clone, Copy, Debug, PartialEq, Eq)]
 pub enum CanonicalOption {
-    /// Texts are UTF-8.
+    /// Strings are UTF-8.
     UTF8,
-    /// Texts are UTF-16.
+    /// Strings are UTF-16.
     UTF16,
-    /// Texts are Latin-1 or UTF-16.
+    /// Strings are Latin-1 or UTF-16.
     CompactUTF16,
     /// The core memory with this index is read and written.
     Memory(u32),
-    /// The core function with this index gives memory.
+    /// The core function with this index allocates memory.
     Realloc(u32),
     /// The core function with this index is called after the function has returned.
     PostReturn(u32),
-    /// The function is lifted or lowered for calls that may wait.
+    /// The function is lifted or lowered as asynchronous: its calls may wait.
     Async,
-    /// The core function with this index is told what happened to a task that waits.
+    /// The core function with this index receives the events of a waiting task.
     Callback(u32),
     /// The function is lowered to the core type with this index.
     CoreType(u32),
-    /// Values are those of WebAssembly's garbage collection.
+    /// Values have the types of WebAssembly's garbage collection.
     Gc,
 }
 
@@ -102,8 +102,11 @@ impl DelimitedEq for CanonicalOption {
 /// let bytes = component.finish();
 /// ```
 ///
-/// A call that adds a function is refused where there is no memory for it, where there would be too
-/// many functions or options (`TooMany`), or too many bytes (`TooLarge`). Then it changes nothing.
+/// # Errors
+///
+/// Each call that adds a function fails with `Memory` if an allocation fails, with `TooMany` if the
+/// number of functions or options would exceed 4294967295, and with `TooLarge` if the size of the
+/// section would. The section is then unchanged.
 #[derive(Drop)]
 pub struct CanonicalFunctionSection<A: Allocator = Global> {
     functions: Holder<A>,
@@ -123,7 +126,7 @@ impl<A: Allocator> Model for CanonicalFunctionSection<A> {
 }
 
 impl<A: Allocator> CanonicalFunctionSection<A> {
-    /// No functions. It takes no memory.
+    /// Creates a section without functions. Does not allocate.
     pub fn new(alloc: A) -> Self
         ensures { result ≡ no_members }
     {
@@ -132,14 +135,13 @@ impl<A: Allocator> CanonicalFunctionSection<A> {
         }
     }
 
-    /// The section whose functions are the members of this holder, which are texts of such
-    /// functions. It takes no memory.
+    /// Creates a section whose functions are the members of this holder, which have to be encodings
+    /// of canonical functions. Does not allocate.
     ///
-    /// So a section may be written after bytes that are kept: `Holder::over` begins it there, the
-    /// calls that add leave these bytes where they are, and `encode` writes the section alone.
-    /// `into_holder` and `Holder::into_parts` give all of them back. Where the holder has a member
-    /// that is being written, the section is unfinished: a call that adds, and `encode`, answer
-    /// `Unfinished`.
+    /// With `Holder::over`, a section can thus be written after bytes that are already there:
+    /// adding functions leaves these bytes in place, and `encode` writes the section alone.
+    /// `into_holder` and `Holder::into_parts` return all bytes. If a member of the holder is open,
+    /// the section is unfinished: adding functions and `encode` fail with `Unfinished`.
     ///
     /// ```
     /// let kept = bytes.len();
@@ -154,8 +156,7 @@ impl<A: Allocator> CanonicalFunctionSection<A> {
         CanonicalFunctionSection { functions }
     }
 
-    /// The holder of the functions, with the bytes that it keeps in front of them. It takes no
-    /// memory.
+    /// Returns the holder of the functions, its kept prefix included. Does not allocate.
     pub fn into_holder(self) -> Holder<A>
         ensures same { result ≡ self }
         ensures functions { HasMembers (HasForm canonical) result }
@@ -164,21 +165,25 @@ impl<A: Allocator> CanonicalFunctionSection<A> {
         functions
     }
 
-    /// How many functions the section has.
+    /// Returns the number of functions.
     pub fn len(&self) -> u32
         ensures { result ≡ self.now.count }
     {
         self.functions.len()
     }
 
-    /// Whether it has none.
+    /// Returns whether there are no functions.
     pub fn is_empty(&self) -> bool
         ensures { result ≡ (self.now.count == 0) }
     {
         self.len() == 0
     }
 
-    /// A copy of the section. It is refused for want of memory alone.
+    /// Returns a copy of the section.
+    ///
+    /// # Errors
+    ///
+    /// Fails only if an allocation fails.
     pub fn clone(&self) -> Result<Self, Fault>
     where
         A: Clone,
@@ -189,8 +194,8 @@ impl<A: Allocator> CanonicalFunctionSection<A> {
         Ok(CanonicalFunctionSection { functions })
     }
 
-    /// Lifts the core function with this index to a function of the component type with that one.
-    /// Refused as the type says.
+    /// Lifts the core function with the index `core_func` to a component function whose type has
+    /// the index `ty` (`canon lift`). Fails as described at the type.
     pub fn lift<I: Iterator<Item = CanonicalOption> + Drop>(
         &mut self,
         core_func: u32,
@@ -207,7 +212,8 @@ impl<A: Allocator> CanonicalFunctionSection<A> {
             .add_listed(&Tagged(rows::LIFT.1, &lead), options, &ty)
     }
 
-    /// Lowers the component function with this index to a core function. Refused as the type says.
+    /// Lowers the component function with the index `func` to a core function (`canon lower`).
+    /// Fails as described at the type.
     pub fn lower<I: Iterator<Item = CanonicalOption> + Drop>(
         &mut self,
         func: u32,
@@ -259,8 +265,8 @@ impl<A: Allocator> AddsBuiltin for CanonicalFunctionSection<A> {}
 
 impl<A: Allocator> AddsSlot for CanonicalFunctionSection<A> {}
 
-/// A finished section is refused for want of memory alone. What is written has some functions,
-/// whoever made which calls.
+/// A finished section fails to encode only if an allocation fails. What is written consists of
+/// canonical functions, whatever calls were made.
 impl<A: Allocator> Encode for CanonicalFunctionSection<A> {
     ghost piece = { held_section };
 

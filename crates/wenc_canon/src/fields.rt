@@ -1,4 +1,4 @@
-//! What follows the opcodes of builtins.
+//! The fields after the opcodes of builtins.
 ghost use Rattle.std.specs.Prelude.{List};
 ghost use Rattle.wenc_base.specs.Delimited.{IsWritten};
 ghost use Rattle.wenc_base.specs.laws.Serves.{serves_itself};
@@ -9,20 +9,20 @@ use std::alloc::Allocator;
 use wenc_base::{Encode, Fault, ValType};
 use wenc_parts::ResultList;
 
-/// What follows the opcode of a builtin, in front of its options if it takes some (component model,
-/// binary format, "Canonical Definitions").
+/// The fields after the opcode of a builtin, and before its options if it takes any (component
+/// model, binary format, "Canonical Definitions").
 pub trait Fields: Encode {
-    /// The fields, one by one.
+    /// The kinds of the fields, in order.
     ghost kinds: { List Field };
 
-    /// Their values.
+    /// The values of the fields.
     ghost values: { Self → Values kinds };
 
-    /// They are written as the fields are.
+    /// The value is encoded as its fields are.
     ghost written: { IsWritten Self.piece values (fields kinds) };
 }
 
-/// That a function that waits can't be cancelled: a byte says so.
+/// States that a waiting function can't be cancelled: the byte `00`.
 #[derive(Clone, Copy)]
 pub struct NotCancellable;
 

@@ -1,7 +1,7 @@
 //! Canonical functions, and the section that defines them.
 //!
 //! A section has at most 4294967295 functions, each with at most that many options, and at most
-//! that many bytes after its size. An index is from 0 to 4294967295; it is handed in as it is.
+//! that many bytes after its size. Indices are from 0 to 4294967295, and are not checked.
 #![tactic(auto)]
 
 pub mod adds_builtin;

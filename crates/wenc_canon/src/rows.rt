@@ -1,18 +1,18 @@
 //! The name and the opcode of each canonical function (component model, explainer, "Canonical
 //! Built-ins", and binary format, "Canonical Definitions"; docs/FORMAT.md lists their fields).
 
-/// The name of a canonical function, without the number of a slot, and its opcode: the byte that it
-/// begins with.
+/// The name of a canonical function, without the number of a slot, and its opcode: the first byte
+/// of its encoding.
 #[derive(Clone, Copy, Debug)]
 pub struct Row(pub &'static str, pub u8);
 
-/// What follows the opcodes of `LIFT` and `LOWER`.
+/// The byte after the opcodes of `LIFT` and `LOWER`.
 pub const PLAIN: u8 = 0x00;
 
-/// `lift`: the byte `PLAIN` follows it.
+/// `lift`, followed by the byte `PLAIN`.
 pub const LIFT: Row = Row("lift", 0x00);
 
-/// `lower`: the byte `PLAIN` follows it.
+/// `lower`, followed by the byte `PLAIN`.
 pub const LOWER: Row = Row("lower", 0x01);
 
 /// `resource.new`.

@@ -1,4 +1,4 @@
-//! Aliases of items of instances and of enclosing components.
+//! Aliases of the exports of instances, and of the items of enclosing components.
 ghost use Rattle.std.specs.Prelude.{◌≡◌};
 ghost use Rattle.wenc_base.specs.laws.Delimited.{itself};
 ghost use Rattle.wenc_base.specs.laws.Serves.{serves_itself};
@@ -8,7 +8,7 @@ use crate::exports::ComponentExportKind;
 use std::alloc::{Allocator, Global};
 use wenc_base::{Delimited, DelimitedEq, Encode, ExportKind, Fault, Tagged};
 
-/// The kind of an item that an alias takes from an enclosing component (component model, binary
+/// The sort of an item of an enclosing component that an alias can name (component model, binary
 /// format, `sort`).
 #[derive(Clone, Copy, Debug, PartialEq, Eq)]
 pub enum ComponentOuterAliasKind {
@@ -60,7 +60,7 @@ impl DelimitedEq for ComponentOuterAliasKind {
     ghost alike = { itself _ };
 }
 
-/// What an alias stands for (component model, binary format, `alias`).
+/// What an alias refers to (component model, binary format, `alias`).
 ///
 /// ```
 /// let alias = Alias::Outer {
@@ -73,29 +73,29 @@ impl DelimitedEq for ComponentOuterAliasKind {
 pub enum Alias<'a> {
     /// An export of a component instance.
     InstanceExport {
-        /// The index of the instance.
+        /// The index of the instance, from 0 to 4294967295.
         instance: u32,
-        /// The kind of the export.
+        /// The sort of the export.
         kind: ComponentExportKind,
         /// The name of the export.
         name: &'a str,
     },
     /// An export of a core instance.
     CoreInstanceExport {
-        /// The index of the core instance.
+        /// The index of the core instance, from 0 to 4294967295.
         instance: u32,
-        /// The kind of the export.
+        /// The core sort of the export.
         kind: ExportKind,
         /// The name of the export.
         name: &'a str,
     },
     /// An item of an enclosing component.
     Outer {
-        /// The kind of the item.
+        /// The sort of the item.
         kind: ComponentOuterAliasKind,
-        /// How many scopes out the item stands: 0 is the component or type that has the alias.
+        /// The number of scopes outwards: 0 is the component or type that contains the alias.
         count: u32,
-        /// The index of the item there.
+        /// The index of the item in that scope.
         index: u32,
     },
 }
@@ -140,34 +140,34 @@ impl<'a> Delimited for Alias<'a> {
     ghost written = { λ _. serves_itself };
 }
 
-/// An alias that owns its text, for commands.
+/// An owned `Alias`, for commands.
 #[derive(Drop)]
 pub enum AliasTree<A: Allocator = Global> {
     /// An export of a component instance.
     InstanceExport {
-        /// The index of the instance.
+        /// The index of the instance, from 0 to 4294967295.
         instance: u32,
-        /// The kind of the export.
+        /// The sort of the export.
         kind: ComponentExportKind,
         /// The name of the export.
         name: String<A>,
     },
     /// An export of a core instance.
     CoreInstanceExport {
-        /// The index of the core instance.
+        /// The index of the core instance, from 0 to 4294967295.
         instance: u32,
-        /// The kind of the export.
+        /// The core sort of the export.
         kind: ExportKind,
         /// The name of the export.
         name: String<A>,
     },
     /// An item of an enclosing component.
     Outer {
-        /// The kind of the item.
+        /// The sort of the item.
         kind: ComponentOuterAliasKind,
-        /// How many scopes out the item stands: 0 is the component or type that has the alias.
+        /// The number of scopes outwards: 0 is the component or type that contains the alias.
         count: u32,
-        /// The index of the item there.
+        /// The index of the item in that scope.
         index: u32,
     },
 }
@@ -175,7 +175,7 @@ pub enum AliasTree<A: Allocator = Global> {
 impl<A: Allocator> AliasTree<A> {
     ghost use Rattle.wenc_parts.specs.Aliases.{alias_view, alias_tree_view};
 
-    /// The alias, borrowed.
+    /// Borrows the alias. Does not allocate.
     pub fn as_alias(&self) -> Alias<'_>
         ensures { alias_view result ≡ alias_tree_view self.now }
     {

@@ -1,5 +1,4 @@
-//! A component, the trait `ComponentSection` of what it is made of, the ids of sections, and the
-//! bytes of sorts.
+//! `Component`, the trait `ComponentSection` of its sections, section ids, and the bytes of sorts.
 ghost use Rattle.std.specs.Prelude.{◌≡◌, ℕ, IfOk, IfErr, OnOk};
 ghost use Rattle.wenc_base.specs.laws.Delimited.{itself};
 ghost use Rattle.wenc_base.specs.Encode.{Appends};
@@ -18,7 +17,7 @@ use wenc_base::{
 };
 
 // The bytes of sorts (component model, binary format, `sort` and `core:sort`).
-/// What begins the sort of a core item. A byte of its own follows.
+/// The first byte of the sort of a core item. The byte of the core sort follows.
 pub const CORE_SORT: u8 = 0x00;
 
 /// Core types, after `CORE_SORT`.
@@ -45,18 +44,21 @@ pub const COMPONENT_SORT: u8 = 0x04;
 /// Instances.
 pub const INSTANCE_SORT: u8 = 0x05;
 
-/// A section of a component (component model, binary format, "Component Definitions"). A type of
-/// your own may implement it too.
+/// A section of a component (component model, binary format, "Component Definitions"). You may
+/// implement this trait for types of your own.
 pub trait ComponentSection: Encode {
-    /// What `id` answers.
+    /// What `id` returns.
     ghost section_id: { Self → ℕ };
 
-    /// The section's id, from 0 to 255.
+    /// Returns the section's id, from 0 to 255.
     fn id(&self) -> u8
         ensures { result ≡ section_id self.now };
 
-    /// Appends the section's id and its text. It is refused as `encode` is, and then the sink stays
-    /// as it was.
+    /// Appends the section's id and its encoding.
+    ///
+    /// # Errors
+    ///
+    /// Fails as `encode` does; `sink` is then unchanged.
     fn append_to_component<A: Allocator>(&self, sink: &mut Vec<u8, A>) -> Result<(), Fault>
     where
         Self: Sized,
@@ -101,8 +103,8 @@ impl<'a> ComponentSection for RawSection<'a> {
     }
 }
 
-/// The id of a section that the component model names (component model, binary format, "Component
-/// Definitions"). They are ordered by their numbers.
+/// The ids of a component's sections (component model, binary format, "Component Definitions").
+/// They are ordered by their numbers.
 #[derive(Clone, Copy, Debug, PartialEq, Eq, PartialOrd, Ord)]
 #[repr(u8)]
 pub enum ComponentSectionId {
@@ -124,7 +126,7 @@ pub enum ComponentSectionId {
     Type = 7,
     /// Canonical functions.
     CanonicalFunction = 8,
-    /// A start.
+    /// A start function.
     Start = 9,
     /// Imports.
     Import = 10,
@@ -172,8 +174,8 @@ impl DelimitedEq for ComponentSectionId {
     ghost alike = { itself _ };
 }
 
-/// The bytes of a component: its header, and the sections that were appended, in any order
-/// (component model, binary format, "Component Definitions").
+/// The bytes of a component: its header, and the sections appended so far, in any order (component
+/// model, binary format, "Component Definitions").
 ///
 /// ```
 /// let mut imports = ComponentImportSection::new(alloc);
@@ -197,12 +199,16 @@ impl<A: Allocator> Model for Component<A> {
 }
 
 impl Component {
-    /// What each component begins with (component model, binary format, `preamble`).
+    /// The header of each component (component model, binary format, `preamble`).
     pub const HEADER: [u8; 8] = [0x00, 0x61, 0x73, 0x6d, 0x0d, 0x00, 0x01, 0x00];
 }
 
 impl<A: Allocator> Component<A> {
-    /// A component without sections. It is refused for want of memory alone.
+    /// Creates a component without sections.
+    ///
+    /// # Errors
+    ///
+    /// Fails only if an allocation fails.
     pub fn new(alloc: A) -> Result<Self, Fault>
         ensures ok { IfOk result (λ c. c ≡ preamble.text) }
         ensures refused { IfErr result IsMemory }
@@ -212,8 +218,11 @@ impl<A: Allocator> Component<A> {
         Ok(Component { bytes })
     }
 
-    /// Appends a section. It is refused as the section's `encode` is, and then the component stays
-    /// as it was.
+    /// Appends a section.
+    ///
+    /// # Errors
+    ///
+    /// Fails as the section's `encode` does; the component is then unchanged.
     pub fn section<S: ComponentSection>(&mut self, section: &S) -> Result<(), Fault>
         ensures appended { Appends (S.section_id section.now ▸ S.piece section.now).text
             (S.piece section.now).Cause (S.unfinished section.now) self.old self.new result }
@@ -222,14 +231,14 @@ impl<A: Allocator> Component<A> {
         section.append_to_component(&mut self.bytes)
     }
 
-    /// The bytes so far.
+    /// Returns the bytes written so far.
     pub fn as_slice(&self) -> &[u8]
         ensures { result.now ≡ self.now }
     {
         self.bytes.as_slice()
     }
 
-    /// The bytes. It takes no memory.
+    /// Returns the bytes of the component. Does not allocate.
     pub fn finish(self) -> Vec<u8, A>
         ensures { result.items ≡ self }
     {
@@ -237,7 +246,11 @@ impl<A: Allocator> Component<A> {
         bytes
     }
 
-    /// A copy of the component. It is refused for want of memory alone.
+    /// Returns a copy of the component.
+    ///
+    /// # Errors
+    ///
+    /// Fails only if an allocation fails.
     pub fn clone(&self) -> Result<Self, Fault>
     where
         A: Clone,

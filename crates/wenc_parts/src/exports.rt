@@ -1,4 +1,4 @@
-//! Kinds of what components export.
+//! Sorts of the exports of components.
 ghost use Rattle.wenc_base.specs.laws.Delimited.{itself};
 ghost use Rattle.wenc_base.specs.laws.Serves.{serves_itself};
 
@@ -9,7 +9,7 @@ use crate::component::{
 use std::alloc::Allocator;
 use wenc_base::{Delimited, DelimitedEq, Encode, Fault};
 
-/// The kind of an item that a component exports (component model, binary format, `sort`).
+/// The sort of an export of a component (component model, binary format, `sort`).
 #[derive(Clone, Copy, Debug, PartialEq, Eq)]
 pub enum ComponentExportKind {
     /// A core module.

@@ -1,4 +1,4 @@
-//! Names of imports and exports, and references to types.
+//! Names of imports and exports, and type references.
 ghost use Rattle.std.specs.Prelude.{◌≡◌, ◌≢◌, ◌++◌, ℕ, List, length, OnOk, IfOk, IfErr};
 ghost use Rattle.wenc_base.specs.Encode.{Appends};
 ghost use Rattle.wenc_base.specs.laws.Delimited.{itself};
@@ -14,11 +14,10 @@ use std::alloc::{Allocator, Global};
 use std::borrow::CowStr;
 use wenc_base::{Delimited, DelimitedEq, Encode, Fault, Tagged};
 
-/// What a type that is imported or exported is bound to (component model, binary format,
-/// `typebound`).
+/// The bounds of an imported or exported type (component model, binary format, `typebound`).
 #[derive(Clone, Copy, Debug, PartialEq, Eq, Hash)]
 pub enum TypeBounds {
-    /// The type with this index.
+    /// Equal to the type with this index, from 0 to 4294967295.
     Eq(u32),
     /// A fresh resource type.
     SubResource,
@@ -61,7 +60,7 @@ impl DelimitedEq for TypeBounds {
     ghost alike = { itself _ };
 }
 
-/// What is imported, or the type that an export is given (component model, binary format,
+/// The type of an import, or the type ascribed to an export (component model, binary format,
 /// `externdesc`).
 #[derive(Clone, Copy, Debug, PartialEq, Eq, Hash)]
 pub enum ComponentTypeRef {
@@ -83,7 +82,7 @@ impl ComponentTypeRef {
     ghost use Rattle.wenc_parts.specs.Exports.{component_export_kind};
     ghost use Rattle.wenc_parts.specs.Imports.{kind_of, type_reference};
 
-    /// The kind of the item that is referred to, whose text begins the reference's text.
+    /// Returns the sort of the item, whose encoding begins that of the reference.
     #[tactic(auto, using(crate::specs::laws::Imports::kind_begins))]
     pub fn kind(&self) -> ComponentExportKind
         ensures is { result ≡ kind_of self.now }
@@ -142,8 +141,8 @@ impl DelimitedEq for ComponentTypeRef {
     ghost alike = { itself _ };
 }
 
-/// The name of an import or an export, with the options that a name may have (component model,
-/// binary format, `importname'` and `exportname'`).
+/// The name of an import or export, with its options (component model, binary format, `importname'`
+/// and `exportname'`).
 ///
 /// ```
 /// let mut name = ComponentExternName::from("wall:clock/now@1");
@@ -153,11 +152,11 @@ impl DelimitedEq for ComponentTypeRef {
 pub struct ComponentExternName<'a, A: Allocator = Global> {
     /// The name.
     pub name: CowStr<'a, A>,
-    /// The name of the interface that is implemented (`implements`).
+    /// The name of the interface that the item implements (`implements`).
     pub implements: Option<CowStr<'a, A>>,
-    /// What follows the version that the name bears (`versionsuffix`).
+    /// The rest of the version, following the part in the name (`versionsuffix`).
     pub version_suffix: Option<CowStr<'a, A>>,
-    /// A name that this one has elsewhere (`external-id`).
+    /// The name of the item elsewhere (`external-id`).
     pub external_id: Option<CowStr<'a, A>>,
 }
 
@@ -172,7 +171,7 @@ impl<'a, A: Allocator> ComponentExternName<'a, A> {
             + u32::from(self.external_id.is_some())
     }
 
-    /// Appends the text of a name that has options.
+    /// Appends the encoding of a name that has options.
     #[tactic(auto, using(crate::proofs::Names::optioned_serves))]
     #[cold]
     #[inline(never)]
@@ -191,7 +190,11 @@ impl<'a, A: Allocator> ComponentExternName<'a, A> {
         Tagged(0x02, &(name, options)).encode(sink)
     }
 
-    /// A copy of the name. It is refused for want of memory alone.
+    /// Returns a copy of the name.
+    ///
+    /// # Errors
+    ///
+    /// Fails only if an allocation fails.
     pub fn clone(&self) -> Result<Self, Fault>
     where
         A: Clone,
@@ -238,7 +241,7 @@ impl<'a, A: Allocator> Delimited for ComponentExternName<'a, A> {
     ghost written = { λ _. serves_itself };
 }
 
-/// An option of a name after the byte that it begins with, or nothing where it isn't there.
+/// An option of a name, preceded by its tag, or nothing if there is none.
 #[derive(Drop)]
 struct OptionEntry<'a, 'b, A: Allocator>(u8, &'b Option<CowStr<'a, A>>);
 
@@ -297,23 +300,23 @@ impl<'a> From<String> for ComponentExternName<'a> {
     }
 }
 
-/// The options of a name, which own their texts.
+/// The options of a name, as owned strings.
 #[derive(Drop)]
 pub struct NameOptions<A: Allocator = Global> {
-    /// The name of the interface that is implemented.
+    /// The name of the interface that the item implements.
     pub implements: Option<String<A>>,
-    /// What follows the version that the name bears.
+    /// The rest of the version, following the part in the name.
     pub version_suffix: Option<String<A>>,
-    /// A name that this one has elsewhere.
+    /// The name of the item elsewhere.
     pub external_id: Option<String<A>>,
 }
 
-/// A `ComponentExternName` that owns its texts, for commands.
+/// An owned `ComponentExternName`, for commands.
 #[derive(Drop)]
 pub struct NameTree<A: Allocator = Global> {
     /// The name.
     pub name: String<A>,
-    /// Its options, in a box, since few names have any.
+    /// Its options. They are boxed, since few names have any.
     pub options: Option<Box<NameOptions<A>, A>>,
 }
 
@@ -334,7 +337,7 @@ impl<A: Allocator> From<String<A>> for NameTree<A> {
 impl<A: Allocator> NameTree<A> {
     ghost use Rattle.wenc_parts.specs.Imports.{extern_name_view, name_tree_view};
 
-    /// The name, borrowed.
+    /// Borrows the name. Does not allocate.
     pub fn as_name(&self) -> ComponentExternName<'_>
         ensures { extern_name_view result ≡ name_tree_view self.now }
     {

@@ -1,4 +1,4 @@
-//! What core modules are given for their imports.
+//! Arguments for the imports of core modules.
 ghost use Rattle.wenc_base.specs.laws.Delimited.{itself};
 ghost use Rattle.wenc_base.specs.laws.Serves.{serves_itself};
 
@@ -6,11 +6,11 @@ use crate::component::CORE_INSTANCE_SORT;
 use std::alloc::Allocator;
 use wenc_base::{Delimited, DelimitedEq, Encode, Fault, Tagged};
 
-/// What a core module is given for a name that it imports (component model, binary format,
+/// An argument for a name that a core module imports (component model, binary format,
 /// `core:instantiatearg`).
 #[derive(Clone, Copy, Debug, PartialEq, Eq)]
 pub enum ModuleArg {
-    /// The core instance with this index.
+    /// The core instance with this index, from 0 to 4294967295.
     Instance(u32),
 }
 

@@ -1,7 +1,7 @@
-//! The parts of which the items of a component are made.
+//! The parts of a component's items: names, aliases, sorts, type references and value types.
 //!
-//! Each index is from 0 to 4294967295, and each text has at most so many bytes: a longer one is
-//! refused with `Fault::TooLarge`.
+//! Each index is from 0 to 4294967295, and each string has at most 4294967295 bytes: encoding a
+//! longer one fails with `Fault::TooLarge`.
 #![tactic(auto)]
 
 pub mod aliases;

@@ -1,4 +1,4 @@
-//! Value types of components, and what functions answer.
+//! Value types of components, and the results of functions.
 ghost use Rattle.std.specs.Prelude.{◌≡◌};
 ghost use Rattle.wenc_base.specs.laws.Delimited.{itself};
 ghost use Rattle.wenc_base.specs.laws.Serves.{serves_itself};
@@ -33,7 +33,7 @@ pub enum PrimitiveValType {
     F64,
     /// A Unicode scalar value.
     Char,
-    /// A text.
+    /// A string.
     String,
     /// An `error-context`.
     ErrorContext,
@@ -100,7 +100,7 @@ impl DelimitedEq for PrimitiveValType {
 pub enum ComponentValType {
     /// A primitive type.
     Primitive(PrimitiveValType),
-    /// The index of a defined type.
+    /// The defined type with this index, from 0 to 4294967295.
     Type(u32),
 }
 
@@ -139,7 +139,7 @@ impl DelimitedEq for ComponentValType {
     ghost alike = { itself _ };
 }
 
-/// What a function answers: a value of this type, or none (component model, binary format,
+/// The result of a function: a value of this type, or none (component model, binary format,
 /// `resultlist`).
 #[derive(Clone, Copy, Debug, PartialEq, Eq)]
 pub struct ResultList(pub Option<ComponentValType>);

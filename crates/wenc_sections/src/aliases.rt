@@ -7,7 +7,7 @@ use std::alloc::{Allocator, Global};
 use wenc_base::Fault;
 use wenc_parts::{Alias, ComponentSectionId};
 
-/// The kind of section that has aliases.
+/// The kind of alias sections.
 pub struct Aliases;
 
 impl CountedKind for Aliases {
@@ -42,8 +42,12 @@ impl CountedKind for Aliases {
 pub type ComponentAliasSection<A = Global> = Counted<Aliases, A>;
 
 impl<A: Allocator> Counted<Aliases, A> {
-    /// Adds an alias. It is refused where there would be too many of them (`TooMany`), or too many
-    /// bytes in the section or in the alias's name (`TooLarge`).
+    /// Adds an alias.
+    ///
+    /// # Errors
+    ///
+    /// Fails with `TooMany` if the number of aliases would exceed 4294967295, and with `TooLarge`
+    /// if the bytes of the section or of the alias's name would.
     pub fn alias(&mut self, alias: Alias<'_>) -> Result<(), Fault>
         ensures { AddsMember (alias_form (alias_view alias.entry)) self.old self.new result }
     {

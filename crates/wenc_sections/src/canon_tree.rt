@@ -11,9 +11,9 @@ use wenc_canon::rows::{self, Row};
 use wenc_canon::{CanonicalOption, Fields, NotCancellable};
 use wenc_parts::{ComponentValType, ResultList};
 
-/// A canonical function, with all that it is made of (component model, binary format, "Canonical
-/// Definitions"). Each index is from 0 to 4294967295. More than 4294967295 options can't be encoded
-/// (`TooMany`).
+/// A canonical function, as a tree (component model, binary format, "Canonical Definitions").
+///
+/// Each index is from 0 to 4294967295. More than 4294967295 options can't be encoded (`TooMany`).
 ///
 /// ```
 /// let mut sink = Vec::new(alloc);
@@ -23,186 +23,187 @@ use wenc_parts::{ComponentValType, ResultList};
 #[derive(Drop)]
 #[derive_where(PartialEq, Eq, Debug)]
 pub enum CanonTree<A: Allocator = Global> {
-    /// Lifts a core function to a function of a component type.
+    /// `canon lift`: lifts a core function to a component function of this type.
     Lift {
         /// The index of the core function.
         core_func: u32,
-        /// The index of the type.
+        /// The index of the component function's type.
         ty: u32,
-        /// The options, in their order.
+        /// The options, in order.
         options: Vec<CanonicalOption, A>,
     },
-    /// Lowers a component function to a core function.
+    /// `canon lower`: lowers a component function to a core function.
     Lower {
-        /// The index of the function.
+        /// The index of the component function.
         func: u32,
-        /// The options, in their order.
+        /// The options, in order.
         options: Vec<CanonicalOption, A>,
     },
-    /// `resource.new`: makes a handle that owns a resource of this type.
+    /// `resource.new`: creates an owned handle to a resource of this type.
     ResourceNew(u32),
     /// `resource.drop`: drops a handle of this type.
     ResourceDrop(u32),
-    /// `resource.rep`: gives the representation of a resource of this type.
+    /// `resource.rep`: returns the representation of a resource of this type.
     ResourceRep(u32),
-    /// `task.cancel`: says that the current task was cancelled.
+    /// `task.cancel`: confirms that the current task was cancelled.
     TaskCancel,
-    /// `subtask.cancel`: cancels a subtask. The flag says whether that may be answered later.
+    /// `subtask.cancel`: cancels a subtask. With `true` it may complete later.
     SubtaskCancel(bool),
-    /// `task.return`: gives the caller of a lifted function its result, or none, while the callee
-    /// goes on.
+    /// `task.return`: returns the result of a lifted function, or none, to its caller, while the
+    /// callee continues.
     TaskReturn {
-        /// The type of the result, or none.
+        /// The type of the result, if there is one.
         ty: Option<ComponentValType>,
-        /// The options, in their order.
+        /// The options, in order.
         options: Vec<CanonicalOption, A>,
     },
-    /// `context.get`: reads a slot of the current task, which has this value type.
+    /// `context.get`: reads a slot of the current task, with this value type.
     ContextGet {
         /// The type of the slot.
         ty: ValType,
         /// The index of the slot.
         slot: u32,
     },
-    /// `context.set`: writes a slot of the current task, which has this value type.
+    /// `context.set`: writes a slot of the current task, with this value type.
     ContextSet {
         /// The type of the slot.
         ty: ValType,
         /// The index of the slot.
         slot: u32,
     },
-    /// `thread.yield`: lets other threads go on.
+    /// `thread.yield`: lets other threads run.
     ThreadYield,
     /// `subtask.drop`: drops a subtask that has ended.
     SubtaskDrop,
-    /// `stream.new`: makes a stream of this type.
+    /// `stream.new`: creates a stream of this type.
     StreamNew(u32),
     /// `stream.read`: reads from a stream of this type.
     StreamRead {
         /// The index of the type.
         ty: u32,
-        /// The options, in their order.
+        /// The options, in order.
         options: Vec<CanonicalOption, A>,
     },
     /// `stream.write`: writes to a stream of this type.
     StreamWrite {
         /// The index of the type.
         ty: u32,
-        /// The options, in their order.
+        /// The options, in order.
         options: Vec<CanonicalOption, A>,
     },
     /// `stream.cancel-read`: cancels a read from a stream of this type.
     StreamCancelRead {
         /// The index of the type.
         ty: u32,
-        /// Whether it may be answered later.
+        /// Whether the cancellation may complete later.
         async_: bool,
     },
     /// `stream.cancel-write`: cancels a write to a stream of this type.
     StreamCancelWrite {
         /// The index of the type.
         ty: u32,
-        /// Whether it may be answered later.
+        /// Whether the cancellation may complete later.
         async_: bool,
     },
-    /// `stream.drop-readable`: drops the end of a stream of this type that is read.
+    /// `stream.drop-readable`: drops the readable end of a stream of this type.
     StreamDropReadable(u32),
-    /// `stream.drop-writable`: drops the end of a stream of this type that is written.
+    /// `stream.drop-writable`: drops the writable end of a stream of this type.
     StreamDropWritable(u32),
-    /// `future.new`: makes a future of this type.
+    /// `future.new`: creates a future of this type.
     FutureNew(u32),
     /// `future.read`: reads from a future of this type.
     FutureRead {
         /// The index of the type.
         ty: u32,
-        /// The options, in their order.
+        /// The options, in order.
         options: Vec<CanonicalOption, A>,
     },
     /// `future.write`: writes to a future of this type.
     FutureWrite {
         /// The index of the type.
         ty: u32,
-        /// The options, in their order.
+        /// The options, in order.
         options: Vec<CanonicalOption, A>,
     },
     /// `future.cancel-read`: cancels a read from a future of this type.
     FutureCancelRead {
         /// The index of the type.
         ty: u32,
-        /// Whether it may be answered later.
+        /// Whether the cancellation may complete later.
         async_: bool,
     },
     /// `future.cancel-write`: cancels a write to a future of this type.
     FutureCancelWrite {
         /// The index of the type.
         ty: u32,
-        /// Whether it may be answered later.
+        /// Whether the cancellation may complete later.
         async_: bool,
     },
-    /// `future.drop-readable`: drops the end of a future of this type that is read.
+    /// `future.drop-readable`: drops the readable end of a future of this type.
     FutureDropReadable(u32),
-    /// `future.drop-writable`: drops the end of a future of this type that is written.
+    /// `future.drop-writable`: drops the writable end of a future of this type.
     FutureDropWritable(u32),
-    /// `error-context.new`: makes an error context of a message.
+    /// `error-context.new`: creates an error context with a message.
     ErrorContextNew(Vec<CanonicalOption, A>),
-    /// `error-context.debug-message`: gives the message of an error context.
+    /// `error-context.debug-message`: returns the message of an error context.
     ErrorContextDebugMessage(Vec<CanonicalOption, A>),
     /// `error-context.drop`: drops an error context.
     ErrorContextDrop,
-    /// `waitable-set.new`: makes a set of what can be waited for.
+    /// `waitable-set.new`: creates a set of waitables.
     WaitableSetNew,
-    /// `waitable-set.wait`: waits until something in a set happens, which is written to this
+    /// `waitable-set.wait`: waits for an event in a waitable set, and stores it in this core
     /// memory.
     WaitableSetWait(u32),
-    /// `waitable-set.poll`: looks whether something in a set happened, which is written to this
+    /// `waitable-set.poll`: checks for an event in a waitable set, and stores it in this core
     /// memory.
     WaitableSetPoll(u32),
-    /// `waitable-set.drop`: drops a set of what can be waited for.
+    /// `waitable-set.drop`: drops a waitable set.
     WaitableSetDrop,
-    /// `waitable.join`: puts something that can be waited for into a set.
+    /// `waitable.join`: adds a waitable to a set.
     WaitableJoin,
-    /// `backpressure.inc`: raises the counter that keeps new calls back.
+    /// `backpressure.inc`: increments the counter that holds new calls back.
     BackpressureInc,
-    /// `backpressure.dec`: lowers the counter that keeps new calls back.
+    /// `backpressure.dec`: decrements the counter that holds new calls back.
     BackpressureDec,
-    /// `thread.index`: gives the index of the current thread.
+    /// `thread.index`: returns the index of the current thread.
     ThreadIndex,
-    /// `thread.new-indirect`: makes a thread of a function of this type, by its index in a table.
+    /// `thread.new-indirect`: creates a thread for a function of this type, given by its index in a
+    /// table.
     ThreadNewIndirect {
         /// The index of the type.
         ty: u32,
         /// The index of the table.
         table: u32,
     },
-    /// `thread.resume-later`: lets a thread that was suspended go on later.
+    /// `thread.resume-later`: lets a suspended thread continue later.
     ThreadResumeLater,
     /// `thread.suspend`: suspends the current thread.
     ThreadSuspend,
-    /// `thread.suspend-then-resume`: suspends the current thread, and lets another go on at once.
+    /// `thread.suspend-then-resume`: suspends the current thread, and resumes another at once.
     ThreadSuspendThenResume,
-    /// `thread.yield-then-resume`: lets another thread go on at once, and this one after it.
+    /// `thread.yield-then-resume`: resumes another thread at once, and the current one after it.
     ThreadYieldThenResume,
     /// `thread.suspend-then-promote`: suspends the current thread, and moves another to the front
     /// of those that wait.
     ThreadSuspendThenPromote,
-    /// `thread.yield-then-promote`: lets other threads go on, first the one that is moved to the
+    /// `thread.yield-then-promote`: lets other threads run, first the one that it moves to the
     /// front of those that wait.
     ThreadYieldThenPromote,
-    /// `stream.forward`: hands on what is left in one stream of this type to another.
+    /// `stream.forward`: forwards the rest of one stream of this type to another.
     StreamForward(u32),
-    /// `future.forward`: hands on the value of one future of this type to another.
+    /// `future.forward`: forwards the value of one future of this type to another.
     FutureForward(u32),
-    /// `thread.spawn-ref`: starts a thread in a shared function of this type, by a reference to it.
+    /// `thread.spawn-ref`: starts a thread in a shared function of this type, given by a reference.
     ThreadSpawnRef(u32),
-    /// `thread.spawn-indirect`: starts a thread in a shared function of this type, by its index in
-    /// a table.
+    /// `thread.spawn-indirect`: starts a thread in a shared function of this type, given by its
+    /// index in a table.
     ThreadSpawnIndirect {
         /// The index of the type.
         ty: u32,
         /// The index of the table.
         table: u32,
     },
-    /// `thread.available-parallelism`: gives how many threads can run at once.
+    /// `thread.available-parallelism`: returns how many threads can run at once.
     ThreadAvailableParallelism,
 }
 
@@ -212,14 +213,14 @@ impl<A: Allocator> CanonTree<A> {
     ghost use Rattle.wenc_sections.specs.inside.Operands.{operand_behind};
     ghost use Rattle.wenc_canon.specs.Canonicals.{builtin_name};
 
-    /// The name of the function, without the number of a slot.
+    /// Returns the name of the function, without the number of a slot.
     pub fn name(&self) -> &'static str
         ensures { result.now ≡ builtin_name (canon_view self.now) }
     {
         self.row().0
     }
 
-    /// The function's row.
+    /// Returns the row of the function.
     #[inline(always)]
     fn row(&self) -> &'static Row
         ensures name { result.now.0.now ≡ builtin_name (canon_view self.now) }
@@ -278,7 +279,7 @@ impl<A: Allocator> CanonTree<A> {
         }
     }
 
-    /// What follows the function's opcode.
+    /// Returns the operands, which follow the function's opcode.
     #[tactic(auto, using(wenc_base::specs::laws::Serves::serves_itself))]
     #[inline(always)]
     fn operands(&self) -> Operands<'_, A>
@@ -343,11 +344,11 @@ impl<A: Allocator> CanonTree<A> {
     }
 }
 
-/// What follows the opcode of a canonical function.
+/// The operands of a canonical function, which follow its opcode.
 #[derive(Drop)]
 enum Operands<'a, A: Allocator> {
-    /// The core function and the type of a lifted function, and its options, which stand between
-    /// these.
+    /// The core function and the type of a lifted function, and its options, which are encoded
+    /// between these.
     Lifted(u32, u32, &'a Vec<CanonicalOption, A>),
     /// The function that is lowered, and its options.
     Lowered(u32, &'a Vec<CanonicalOption, A>),
@@ -355,7 +356,7 @@ enum Operands<'a, A: Allocator> {
     NotCancellable,
     Index(u32),
     Flag(bool),
-    /// That it can't be cancelled, and the index of a memory.
+    /// The byte for not cancellable, and the index of a memory.
     Memory(u32),
     IndexAndFlag(u32, bool),
     Indices(u32, u32),
@@ -369,7 +370,7 @@ enum Operands<'a, A: Allocator> {
 impl<'a, A: Allocator> Operands<'a, A> {
     ghost use Rattle.wenc_sections.specs.inside.Operands.{operand_behind};
 
-    /// Writes this opcode, and these after it.
+    /// Appends this opcode, then the operands.
     fn encode_behind<B: Allocator>(&self, opcode: u8, sink: &mut Vec<u8, B>) -> Result<(), Fault>
         ensures appended { let p = operand_behind opcode self.now in
             Appends p.text p.Cause ⊥ sink.old.items sink.new.items result }
@@ -422,7 +423,7 @@ impl<A: Allocator> Delimited for CanonTree<A> {
     ghost written = { λ _. serves_itself };
 }
 
-/// Writes this opcode, these fields, and options after them.
+/// Appends this opcode, these fields, then these options.
 fn with_options<F: Fields, A: Allocator, B: Allocator>(
     opcode: u8,
     fields: &F,
@@ -437,7 +438,7 @@ fn with_options<F: Fields, A: Allocator, B: Allocator>(
     (Tagged(opcode, fields), options.as_slice()).encode(sink)
 }
 
-/// Writes a function that is lifted: its options stand in front of its type.
+/// Appends a function that is lifted, with its options before its type.
 fn lifted<A: Allocator, B: Allocator>(
     core_func: &u32,
     ty: u32,
@@ -452,7 +453,7 @@ fn lifted<A: Allocator, B: Allocator>(
     (Tagged(rows::LIFT.1, &lead), options.as_slice(), ty).encode(sink)
 }
 
-/// Writes a function that is lowered.
+/// Appends a function that is lowered.
 fn lowered<A: Allocator, B: Allocator>(
     func: &u32,
     options: &Vec<CanonicalOption, A>,

@@ -1,12 +1,13 @@
-//! The section that is a component of its own.
+//! The section of a nested component.
 ghost use Rattle.wenc_base.specs.laws.Serves.{serves_itself};
 
 use std::alloc::{Allocator, Global};
 use wenc_base::{Delimited, Encode, Fault};
 use wenc_parts::{Component, ComponentSection, ComponentSectionId};
 
-/// A section that is a component of its own (component model, binary format, "Component
-/// Definitions"). It is refused where that has too many bytes (`TooLarge`).
+/// A section that is a nested component (component model, binary format, "Component Definitions").
+///
+/// Encoding fails with `TooLarge` if the component has more than 4294967295 bytes.
 ///
 /// ```
 /// let mut inner = Component::new(alloc)?;

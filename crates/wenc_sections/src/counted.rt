@@ -1,4 +1,4 @@
-//! Sections of items of one kind, with their count.
+//! Sections that consist of a count and items of one kind.
 ghost use Rattle.std.specs.Prelude.{◌≡◌, ◌==◌, ℕ, List, false, OnOk, IfOk, IfErr};
 ghost use Rattle.wenc_base.specs.Encode.{Appends};
 ghost use Rattle.wenc_base.specs.Fault.{IsMemory};
@@ -15,20 +15,23 @@ use std::marker::{Model, PhantomData};
 use wenc_base::{Encode, Fault, Holder};
 use wenc_parts::{ComponentSection, ComponentSectionId};
 
-/// Which items a counted section has. What adds them stands beside the kind.
+/// The kind of the items of a counted section. The methods that add items are in the module of the
+/// kind.
 pub trait CountedKind {
-    /// The id of its sections.
+    /// The id of such sections, for contracts.
     ghost ID: { ComponentSectionId };
 
-    /// The id of its sections, for the code.
+    /// The id of such sections.
     const ID: ComponentSectionId;
 
-    /// These bytes are the text of an item of such a section.
+    /// These bytes are the encoding of an item of such a section.
     ghost is_item: { List ℕ → Type 0 };
 }
 
-/// A section of items of one kind: how many there are, and their texts. A call that is refused
-/// leaves it as it was. Each kind has a name of its own for it, as `ComponentAliasSection`.
+/// A section of items of one kind: their number, and their encodings. Each kind has an alias, such
+/// as `ComponentAliasSection`.
+///
+/// A call that fails leaves the section unchanged.
 ///
 /// ```
 /// let mut exports = ComponentExportSection::new(alloc);
@@ -38,7 +41,7 @@ pub trait CountedKind {
 /// ```
 #[derive(Drop)]
 pub struct Counted<K: CountedKind, A: Allocator = Global> {
-    /// The calls that add an item are those of its kind, in other modules.
+    /// The modules of the kinds add items to it.
     pub(crate) items: Holder<A>,
     kind: PhantomData<K>,
 }
@@ -55,7 +58,7 @@ impl<K: CountedKind, A: Allocator> Model for Counted<K, A> {
 }
 
 impl<K: CountedKind, A: Allocator> Counted<K, A> {
-    /// No items. It takes no memory.
+    /// Creates a section without items. Does not allocate.
     pub fn new(alloc: A) -> Self
         ensures { result ≡ no_members }
     {
@@ -65,13 +68,13 @@ impl<K: CountedKind, A: Allocator> Counted<K, A> {
         }
     }
 
-    /// The section whose items are the members of this holder, which are texts of such items. It
-    /// takes no memory.
+    /// Creates a section whose items are the members of this holder, which have to be encodings of
+    /// such items. Does not allocate.
     ///
-    /// So a section may be written after bytes that are kept: `Holder::over` begins it there, the
-    /// calls that add leave these bytes where they are, and `encode` writes the section alone.
-    /// `into_holder` and `Holder::into_parts` give all of them back. Where the holder has a member
-    /// that is being written, the section is unfinished.
+    /// With `Holder::over`, a section can thus be written after bytes that are already there:
+    /// adding items leaves these bytes in place, and `encode` writes the section alone.
+    /// `into_holder` and `Holder::into_parts` return all bytes. If a member of the holder is open,
+    /// the section is unfinished.
     ///
     /// ```
     /// let kept = bytes.len();
@@ -89,7 +92,7 @@ impl<K: CountedKind, A: Allocator> Counted<K, A> {
         }
     }
 
-    /// The holder of the items, with the bytes that it keeps in front of them. It takes no memory.
+    /// Returns the holder of the items, its kept prefix included. Does not allocate.
     pub fn into_holder(self) -> Holder<A>
         ensures same { result ≡ self }
         ensures items { HasMembers K.is_item result }
@@ -98,21 +101,25 @@ impl<K: CountedKind, A: Allocator> Counted<K, A> {
         items
     }
 
-    /// How many items the section has.
+    /// Returns the number of items, one that is being written included.
     pub fn len(&self) -> u32
         ensures { result ≡ self.now.count }
     {
         self.items.len()
     }
 
-    /// Whether the section has no items.
+    /// Returns whether the section has no items.
     pub fn is_empty(&self) -> bool
         ensures { result ≡ (self.now.count == 0) }
     {
         self.len() == 0
     }
 
-    /// A copy of the section. It is refused for want of memory alone.
+    /// Returns a copy of the section. A copy of an unfinished section is unfinished.
+    ///
+    /// # Errors
+    ///
+    /// Fails only if an allocation fails.
     pub fn clone(&self) -> Result<Self, Fault>
     where
         A: Clone,
@@ -127,8 +134,8 @@ impl<K: CountedKind, A: Allocator> Counted<K, A> {
     }
 }
 
-/// A finished section is refused for want of memory alone. What is written has some items, whoever
-/// made which calls.
+/// A finished section fails to encode only if an allocation fails. What is written consists of
+/// complete items, whatever calls were made.
 impl<K: CountedKind, A: Allocator> Encode for Counted<K, A> {
     ghost piece = { held_section };
 

@@ -8,7 +8,7 @@ use std::alloc::{Allocator, Global};
 use wenc_base::Fault;
 use wenc_parts::{ComponentExportKind, ComponentExternName, ComponentSectionId, ComponentTypeRef};
 
-/// The kind of section that has exports.
+/// The kind of export sections.
 pub struct Exports;
 
 impl CountedKind for Exports {
@@ -38,9 +38,13 @@ impl CountedKind for Exports {
 pub type ComponentExportSection<A = Global> = Counted<Exports, A>;
 
 impl<A: Allocator> Counted<Exports, A> {
-    /// Adds an export of the item of this kind with this index under this name, with a type or
-    /// none. It is refused where there would be too many of them (`TooMany`), or too many bytes in
-    /// the section or in a text of the name (`TooLarge`).
+    /// Adds an export, with this name, of the item with this sort and index, optionally ascribing a
+    /// type.
+    ///
+    /// # Errors
+    ///
+    /// Fails with `TooMany` if the number of exports would exceed 4294967295, and with `TooLarge`
+    /// if the bytes of the section or of a string of the name would.
     pub fn export<B: Allocator>(
         &mut self,
         name: ComponentExternName<'_, B>,

@@ -8,7 +8,7 @@ use std::alloc::{Allocator, Global};
 use wenc_base::Fault;
 use wenc_parts::{ComponentExternName, ComponentSectionId, ComponentTypeRef};
 
-/// The kind of section that has imports.
+/// The kind of import sections.
 pub struct Imports;
 
 impl CountedKind for Imports {
@@ -36,8 +36,12 @@ impl CountedKind for Imports {
 pub type ComponentImportSection<A = Global> = Counted<Imports, A>;
 
 impl<A: Allocator> Counted<Imports, A> {
-    /// Adds an import under this name. It is refused where there would be too many of them
-    /// (`TooMany`), or too many bytes in the section or in a text of the name (`TooLarge`).
+    /// Adds an import with this name and type.
+    ///
+    /// # Errors
+    ///
+    /// Fails with `TooMany` if the number of imports would exceed 4294967295, and with `TooLarge`
+    /// if the bytes of the section or of a string of the name would.
     pub fn import<B: Allocator>(
         &mut self,
         name: ComponentExternName<'_, B>,

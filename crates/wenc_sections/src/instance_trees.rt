@@ -1,4 +1,4 @@
-//! Instances that own their texts, for commands.
+//! Instances with owned names, for commands.
 ghost use Rattle.std.specs.Prelude.{◌≡◌, ◌++◌, ℕ, List, OnOk, OnErr, IfErr};
 ghost use Rattle.wenc_base.specs.Encode.{Appends, Written, list_in_order};
 ghost use Rattle.wenc_base.specs.Fault.{IsWarranted, member_cause};
@@ -10,9 +10,11 @@ use std::alloc::{Allocator, Global};
 use wenc_base::{Delimited, Encode, ExportKind, Fault, Tagged};
 use wenc_parts::{ComponentExportKind, ModuleArg, NameTree};
 
-/// An instance of a core module that owns its texts, for commands (component model, binary format,
-/// `core:instanceexpr`). More than 4294967295 arguments or exports can't be encoded, nor can a name
-/// of more than 4294967295 bytes.
+/// An instance of a core module, with owned names, for commands (component model, binary format,
+/// `core:instanceexpr`).
+///
+/// More than 4294967295 arguments or exports can't be encoded, nor can a name of more than
+/// 4294967295 bytes.
 ///
 /// ```
 /// let name = String::from_str(alloc, "env")?;
@@ -21,14 +23,14 @@ use wenc_parts::{ComponentExportKind, ModuleArg, NameTree};
 /// ```
 #[derive(Drop)]
 pub enum CoreInstanceTree<A: Allocator = Global> {
-    /// An instance of a core module, which is given these arguments under their names.
+    /// Instantiates a core module with these arguments, each with its name.
     Instantiate {
         /// The index of the module, from 0 to 4294967295.
         module: u32,
-        /// The arguments, in their order.
+        /// The arguments, in order.
         args: Vec<(String<A>, ModuleArg), A>,
     },
-    /// An instance that exports these core items under their names: the kind of each, and its
+    /// Groups core items, which the instance exports: the name of each, its core sort, and its
     /// index, from 0 to 4294967295.
     Exports(Vec<(String<A>, ExportKind, u32), A>),
 }
@@ -68,9 +70,11 @@ impl<A: Allocator> Delimited for CoreInstanceTree<A> {
     ghost written = { λ _. serves_itself };
 }
 
-/// An instance of a component that owns its texts, for commands (component model, binary format,
-/// `instanceexpr`). More than 4294967295 arguments or exports can't be encoded, nor can a text of
-/// more than 4294967295 bytes.
+/// An instance of a component, with owned names, for commands (component model, binary format,
+/// `instanceexpr`).
+///
+/// More than 4294967295 arguments or exports can't be encoded, nor can a string of more than
+/// 4294967295 bytes.
 ///
 /// ```
 /// let name = NameTree::from(String::from_str(alloc, "now")?);
@@ -79,15 +83,16 @@ impl<A: Allocator> Delimited for CoreInstanceTree<A> {
 /// ```
 #[derive(Drop)]
 pub enum InstanceTree<A: Allocator = Global> {
-    /// An instance of a component, which is given these items under their names.
+    /// Instantiates a component with these arguments.
     Instantiate {
         /// The index of the component, from 0 to 4294967295.
         component: u32,
-        /// The name of each item, its kind, and its index, from 0 to 4294967295, in their order.
+        /// The arguments, in order: the name of each, its sort, and its index, from 0 to
+        /// 4294967295.
         args: Vec<(String<A>, ComponentExportKind, u32), A>,
     },
-    /// An instance that exports these items under their names: the kind of each, and its index,
-    /// from 0 to 4294967295.
+    /// Groups items, which the instance exports: the name of each, its sort, and its index, from 0
+    /// to 4294967295.
     Exports(Vec<(NameTree<A>, ComponentExportKind, u32), A>),
 }
 
@@ -126,7 +131,7 @@ impl<A: Allocator> Delimited for InstanceTree<A> {
     ghost written = { λ _. serves_itself };
 }
 
-/// How many exports, then each. The first refusal that is met is answered.
+/// Encodes the number of exports, then each. Fails with the first error met.
 #[derive(Drop)]
 struct ExportList<'a, A: Allocator>(&'a [(NameTree<A>, ComponentExportKind, u32)]);
 
@@ -146,7 +151,7 @@ impl<'a, A: Allocator> Encode for ExportList<'a, A> {
     }
 }
 
-/// Appends the text of each export, up to the first that is refused.
+/// Appends the encoding of each export, and stops at the first error.
 fn encode_exports<A: Allocator, B: Allocator>(
     exports: &[(NameTree<A>, ComponentExportKind, u32)],
     sink: &mut Vec<u8, B>,
@@ -163,7 +168,7 @@ fn encode_exports<A: Allocator, B: Allocator>(
     Ok(())
 }
 
-/// Appends the text of an export, or leaves the sink as it was.
+/// Appends the encoding of an export. If it fails, `sink` is unchanged.
 fn encode_export<A: Allocator, B: Allocator>(
     export: &(NameTree<A>, ComponentExportKind, u32),
     sink: &mut Vec<u8, B>,

@@ -1,4 +1,4 @@
-//! The sections of instances: of core modules, and of components.
+//! The sections of core instances and of component instances.
 ghost use Rattle.std.specs.Prelude.{map};
 ghost use Rattle.std.specs.Iterator.{IsFinite};
 ghost use Rattle.wenc_base.specs.Holder.{AddsListed};
@@ -11,21 +11,22 @@ use std::alloc::{Allocator, Global};
 use wenc_base::{ExportKind, Fault, Named, Tagged};
 use wenc_parts::{ComponentExportKind, ComponentExternName, ComponentSectionId, ModuleArg};
 
-/// What begins an instance of a core module (component model, binary format, `core:instanceexpr`).
+/// The tag of a core instance that instantiates a module (component model, binary format,
+/// `core:instanceexpr`).
 pub const CORE_INSTANTIATE: u8 = 0x00;
 
-/// What begins a core instance that exports items alone (component model, binary format,
+/// The tag of a core instance that only exports items (component model, binary format,
 /// `core:instanceexpr`).
 pub const CORE_EXPORTS: u8 = 0x01;
 
-/// What begins an instance of a component (component model, binary format, `instanceexpr`).
+/// The tag of an instance that instantiates a component (component model, binary format,
+/// `instanceexpr`).
 pub const INSTANTIATE: u8 = 0x00;
 
-/// What begins an instance that exports items alone (component model, binary format,
-/// `instanceexpr`).
+/// The tag of an instance that only exports items (component model, binary format, `instanceexpr`).
 pub const EXPORTS: u8 = 0x01;
 
-/// The kind of section that has instances of core modules.
+/// The kind of core instance sections.
 pub struct CoreInstances;
 
 impl CountedKind for CoreInstances {
@@ -58,9 +59,12 @@ impl CountedKind for CoreInstances {
 pub type InstanceSection<A = Global> = Counted<CoreInstances, A>;
 
 impl<A: Allocator> Counted<CoreInstances, A> {
-    /// Adds an instance of the core module with this index, which is given these arguments under
-    /// their names. It is refused where there would be too many instances or arguments (`TooMany`),
-    /// or too many bytes in the section or in a name (`TooLarge`).
+    /// Instantiates the core module with this index, with these named arguments.
+    ///
+    /// # Errors
+    ///
+    /// Fails with `TooMany` if the number of instances or arguments would exceed 4294967295, and
+    /// with `TooLarge` if the bytes of the section or of a name would.
     pub fn instantiate<S: Named + Drop, I: Iterator<Item = (S, ModuleArg)> + Drop>(
         &mut self,
         module_index: u32,
@@ -76,8 +80,12 @@ impl<A: Allocator> Counted<CoreInstances, A> {
         self.items.add_listed(&lead, args, &())
     }
 
-    /// Adds an instance that exports these core items under their names. It is refused as
-    /// `instantiate` is.
+    /// Adds a core instance that exports these items: the name of each, its core sort, and its
+    /// index.
+    ///
+    /// # Errors
+    ///
+    /// Fails as `instantiate` does, for exports instead of arguments.
     pub fn export_items<S: Named + Drop, I: Iterator<Item = (S, ExportKind, u32)> + Drop>(
         &mut self,
         exports: I,
@@ -93,7 +101,7 @@ impl<A: Allocator> Counted<CoreInstances, A> {
     }
 }
 
-/// The kind of section that has instances of components.
+/// The kind of component instance sections.
 pub struct Instances;
 
 impl CountedKind for Instances {
@@ -128,9 +136,13 @@ impl CountedKind for Instances {
 pub type ComponentInstanceSection<A = Global> = Counted<Instances, A>;
 
 impl<A: Allocator> Counted<Instances, A> {
-    /// Adds an instance of the component with this index, which is given the items of these kinds
-    /// and indices under their names. It is refused where there would be too many instances or
-    /// arguments (`TooMany`), or too many bytes in the section or in a name (`TooLarge`).
+    /// Instantiates the component with this index, with these arguments: the name of each, its
+    /// sort, and its index.
+    ///
+    /// # Errors
+    ///
+    /// Fails with `TooMany` if the number of instances or arguments would exceed 4294967295, and
+    /// with `TooLarge` if the bytes of the section or of a name would.
     pub fn instantiate<S: Named + Drop, I: Iterator<Item = (S, ComponentExportKind, u32)> + Drop>(
         &mut self,
         component_index: u32,
@@ -146,8 +158,11 @@ impl<A: Allocator> Counted<Instances, A> {
         self.items.add_listed(&lead, args, &())
     }
 
-    /// Adds an instance that exports the items of these kinds and indices under their names. It is
-    /// refused as `instantiate` is.
+    /// Adds an instance that exports these items: the name of each, its sort, and its index.
+    ///
+    /// # Errors
+    ///
+    /// Fails as `instantiate` does, for exports instead of arguments.
     pub fn export_items<
         'a,
         N: Allocator + Drop,

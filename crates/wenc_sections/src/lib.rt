@@ -1,8 +1,12 @@
-//! Components, and the sections that are written into them.
+//! The sections of a component.
 //!
-//! Numbers, indices, counts and sizes are from 0 to 4294967295. What would have more items,
-//! arguments or exports is refused with `TooMany`, what would have more bytes with `TooLarge`, and
-//! what gets no memory with `Memory`. What refused a call is as it was before it.
+//! Numbers, indices, counts and sizes are from 0 to 4294967295.
+//!
+//! # Errors
+//!
+//! A call fails with `TooMany` if there would be more items, arguments or exports than that, with
+//! `TooLarge` if there would be more bytes, and with `Memory` if an allocation fails. The receiver
+//! is then unchanged.
 #![tactic(auto)]
 
 pub mod aliases;

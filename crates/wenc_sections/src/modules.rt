@@ -1,12 +1,13 @@
-//! The section that is a core module.
+//! The section of a core module.
 ghost use Rattle.wenc_base.specs.laws.Serves.{serves_itself};
 
 use std::alloc::{Allocator, Global};
 use wenc_base::{Delimited, Encode, Fault, Module};
 use wenc_parts::{ComponentSection, ComponentSectionId};
 
-/// A section that is a core module (component model, binary format, "Component Definitions"). It is
-/// refused where that has too many bytes (`TooLarge`).
+/// A section that is a core module (component model, binary format, "Component Definitions").
+///
+/// Encoding fails with `TooLarge` if the module has more than 4294967295 bytes.
 ///
 /// ```
 /// let mut module = Module::new(alloc)?;

@@ -1,4 +1,4 @@
-//! The section of names, and its subsections.
+//! The name section and its subsections.
 ghost use Rattle.std.specs.Prelude.{◌≡◌, ◌==◌, ◌+◌, ◌<◌, ◌^◌, [], length, IfOk, IfErr};
 ghost use Rattle.wenc_base.specs.Encode.{Appends};
 ghost use Rattle.wenc_base.specs.Fault.{IsMemory};
@@ -23,31 +23,31 @@ const COMPONENT_NAME: u8 = 0x00;
 /// The id of a subsection that names items.
 const ITEM_NAMES: u8 = 0x01;
 
-/// The name of a custom section that has names.
+/// The name of the custom section that contains names.
 pub const NAMES_LABEL: &str = "component-name";
 
-/// How many bytes the subsections have at most: 15 more are those of the section's name, with its
-/// length.
+/// The largest number of bytes in all subsections: the section's name and its length have 15 more.
 const LIMIT: usize = 4294967280;
 
-/// What names are of (component model, binary format, `sort` and `core:sort`).
+/// The sort of the items that names are for (component model, binary format, `sort` and
+/// `core:sort`).
 #[derive(Clone, Copy, Debug, PartialEq, Eq)]
 pub enum Sort {
-    /// Functions of core modules.
+    /// Core functions.
     CoreFunc,
-    /// Tables of core modules.
+    /// Core tables.
     CoreTable,
-    /// Memories of core modules.
+    /// Core memories.
     CoreMemory,
-    /// Globals of core modules.
+    /// Core globals.
     CoreGlobal,
-    /// Tags of core modules.
+    /// Core tags.
     CoreTag,
     /// Core types.
     CoreType,
     /// Core modules.
     CoreModule,
-    /// Instances of core modules.
+    /// Core instances.
     CoreInstance,
     /// Functions.
     Func,
@@ -61,7 +61,7 @@ pub enum Sort {
     Instance,
 }
 
-/// The sort's bytes.
+/// Returns the encoding of a sort.
 fn sort_bytes(sort: Sort) -> &'static [u8]
     ensures { result.now ≡ (item_sort sort).text }
 {
@@ -82,8 +82,10 @@ fn sort_bytes(sort: Sort) -> &'static [u8]
     }
 }
 
-/// The subsection of the names of items of one sort (component model, binary format, "Name
-/// Section"). It is refused where it has too many bytes after its size (`TooLarge`).
+/// A subsection with the names of items of one sort (component model, binary format, "Name
+/// Section").
+///
+/// Encoding fails with `TooLarge` if more than 4294967295 bytes follow its size.
 #[derive(Clone, Copy)]
 pub struct NamesOf<'a, A: Allocator = Global>(pub Sort, pub &'a NameMap<A>);
 
@@ -101,9 +103,10 @@ impl<'a, A: Allocator> Encode for NamesOf<'a, A> {
     }
 }
 
-/// Names of a component and of the items in it: a custom section (component model, binary format,
-/// "Name Section"). A call that is refused leaves it as it was. Nothing is asked of the order of
-/// the calls.
+/// Names of a component and of its items: a custom section (component model, binary format, "Name
+/// Section").
+///
+/// Each call appends a subsection, in any order. A call that fails leaves the section unchanged.
 ///
 /// ```
 /// let mut funcs = NameMap::new(alloc);
@@ -116,9 +119,14 @@ impl<'a, A: Allocator> Encode for NamesOf<'a, A> {
 /// component.section(&names)?;
 /// let bytes = component.finish();
 /// ```
+///
+/// # Errors
+///
+/// Each call that appends a subsection fails with `TooLarge` if the bytes of the section would
+/// exceed 4294967295.
 #[derive(Drop)]
 pub struct ComponentNameSection<A: Allocator = Global> {
-    /// The subsections, one after the other.
+    /// The subsections, concatenated.
     bytes: Vec<u8, A>,
 }
 
@@ -133,7 +141,7 @@ impl<A: Allocator> Model for ComponentNameSection<A> {
 }
 
 impl<A: Allocator> ComponentNameSection<A> {
-    /// No names. It takes no memory.
+    /// Creates a section without names. Does not allocate.
     pub fn new(alloc: A) -> Self
         ensures { result ≡ [] }
     {
@@ -142,43 +150,42 @@ impl<A: Allocator> ComponentNameSection<A> {
         }
     }
 
-    /// Names the component itself. It is refused, as each call here that names something, where
-    /// there would be too many bytes after the section's size (`TooLarge`).
+    /// Names the component itself.
     pub fn component(&mut self, name: &str) -> Result<(), Fault>
         ensures { AppendsSubsection (subsection (ComponentName name.now)) self.old self.new result }
     {
         self.append(&Tagged(COMPONENT_NAME, &WithSize(&name)))
     }
 
-    /// Names functions of core modules.
+    /// Names core functions.
     pub fn core_funcs<B: Allocator>(&mut self, names: &NameMap<B>) -> Result<(), Fault>
         ensures { AppendsNames Sort.CoreFunc names.now self.old self.new result }
     {
         self.append_names(Sort::CoreFunc, names)
     }
 
-    /// Names tables of core modules.
+    /// Names core tables.
     pub fn core_tables<B: Allocator>(&mut self, names: &NameMap<B>) -> Result<(), Fault>
         ensures { AppendsNames Sort.CoreTable names.now self.old self.new result }
     {
         self.append_names(Sort::CoreTable, names)
     }
 
-    /// Names memories of core modules.
+    /// Names core memories.
     pub fn core_memories<B: Allocator>(&mut self, names: &NameMap<B>) -> Result<(), Fault>
         ensures { AppendsNames Sort.CoreMemory names.now self.old self.new result }
     {
         self.append_names(Sort::CoreMemory, names)
     }
 
-    /// Names globals of core modules.
+    /// Names core globals.
     pub fn core_globals<B: Allocator>(&mut self, names: &NameMap<B>) -> Result<(), Fault>
         ensures { AppendsNames Sort.CoreGlobal names.now self.old self.new result }
     {
         self.append_names(Sort::CoreGlobal, names)
     }
 
-    /// Names tags of core modules.
+    /// Names core tags.
     pub fn core_tags<B: Allocator>(&mut self, names: &NameMap<B>) -> Result<(), Fault>
         ensures { AppendsNames Sort.CoreTag names.now self.old self.new result }
     {
@@ -199,7 +206,7 @@ impl<A: Allocator> ComponentNameSection<A> {
         self.append_names(Sort::CoreModule, names)
     }
 
-    /// Names instances of core modules.
+    /// Names core instances.
     pub fn core_instances<B: Allocator>(&mut self, names: &NameMap<B>) -> Result<(), Fault>
         ensures { AppendsNames Sort.CoreInstance names.now self.old self.new result }
     {
@@ -241,7 +248,7 @@ impl<A: Allocator> ComponentNameSection<A> {
         self.append_names(Sort::Instance, names)
     }
 
-    /// Appends a subsection with this id and these bytes, as they are.
+    /// Appends a subsection with this id and these contents, unchanged.
     #[tactic(auto, using(crate::proofs::Appended::no_room))]
     pub fn raw(&mut self, id: u8, data: &[u8]) -> Result<(), Fault>
         ensures { AppendsSubsection (subsection (RawNames id «data».now)) self.old self.new result }
@@ -249,7 +256,7 @@ impl<A: Allocator> ComponentNameSection<A> {
         self.append(&Tagged(id, &data))
     }
 
-    /// Appends the subsection of names of this sort.
+    /// Appends a subsection with the names of items of this sort.
     #[tactic(auto, using(crate::proofs::Appended::no_room, crate::proofs::Appended::names_appended))]
     fn append_names<B: Allocator>(&mut self, sort: Sort, names: &NameMap<B>) -> Result<(), Fault>
         ensures { AppendsNames sort names.now self.old self.new result }
@@ -257,7 +264,7 @@ impl<A: Allocator> ComponentNameSection<A> {
         self.append(&NamesOf(sort, names))
     }
 
-    /// Appends a subsection, or cuts it off where the section would be too large.
+    /// Appends a subsection. If the section would be too large, removes it and fails.
     #[tactic(auto, using(wenc_base::specs::laws::Serves::still_warranted))]
     fn append<E: Encode>(&mut self, subsection: &E) -> Result<(), Fault>
         requires { (fault : FaultSpec) → (E.piece subsection.now).Cause fault
@@ -273,14 +280,15 @@ impl<A: Allocator> ComponentNameSection<A> {
         Ok(())
     }
 
-    /// Whether there is no subsection.
+    /// Returns whether there are no subsections.
     pub fn is_empty(&self) -> bool
         ensures { result ≡ (length self.now == 0) }
     {
         self.bytes.is_empty()
     }
 
-    /// The section as it stands in a component. It takes no memory.
+    /// Returns the section as a custom section, as which a component contains it. Does not
+    /// allocate.
     pub fn as_custom(&self) -> CustomSection<'_>
         ensures name { result.name.now ≡ names_label }
         ensures bytes { result.«data».now ≡ self.now }
@@ -292,7 +300,11 @@ impl<A: Allocator> ComponentNameSection<A> {
         }
     }
 
-    /// A copy of the names. It is refused for want of memory alone.
+    /// Returns a copy of the section.
+    ///
+    /// # Errors
+    ///
+    /// Fails only if an allocation fails.
     pub fn clone(&self) -> Result<Self, Fault>
     where
         A: Clone,
@@ -305,7 +317,7 @@ impl<A: Allocator> ComponentNameSection<A> {
     }
 }
 
-/// It is refused for want of memory alone.
+/// Encoding fails only if an allocation fails.
 impl<A: Allocator> Encode for ComponentNameSection<A> {
     ghost use Rattle.wenc_sections.specs.Names.{names_section};
 

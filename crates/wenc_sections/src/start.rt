@@ -1,4 +1,4 @@
-//! The start section: which function is called when the component is instantiated.
+//! The start section: the function that is called when the component is instantiated.
 ghost use Rattle.wenc_base.specs.laws.Serves.{serves_itself};
 
 use std::alloc::Allocator;
@@ -6,9 +6,11 @@ use std::convert::AsSlice;
 use wenc_base::{Delimited, Encode, Fault, WithSize};
 use wenc_parts::{ComponentSection, ComponentSectionId};
 
-/// The section that has a function called when the component is instantiated (component model,
-/// binary format, "Start Definitions"). It is refused where there are too many arguments
-/// (`TooMany`), or too many bytes after its size (`TooLarge`).
+/// The start section, whose function is called when the component is instantiated (component model,
+/// binary format, "Start Definitions").
+///
+/// Encoding fails with `TooMany` if there are more than 4294967295 arguments, and with `TooLarge`
+/// if more than 4294967295 bytes follow the section's size.
 ///
 /// ```
 /// // the component has function 0 and value 0, with which it is called; it answers nothing
@@ -23,9 +25,9 @@ use wenc_parts::{ComponentSection, ComponentSectionId};
 pub struct ComponentStartSection<A> {
     /// The index of the function.
     pub function_index: u32,
-    /// The indices of the values that it is called with.
+    /// The indices of the values that are its arguments.
     pub args: A,
-    /// How many values it answers.
+    /// The number of values that it returns.
     pub results: u32,
 }
 

@@ -19,7 +19,7 @@ use wenc_types::{
     ComponentTypeEncoder, InstanceType,
 };
 
-/// The kind of section that has core types.
+/// The kind of core type sections.
 pub struct CoreTypes;
 
 impl CountedKind for CoreTypes {
@@ -53,9 +53,12 @@ impl<A: Allocator> Counted<CoreTypes, A> {
     ghost use Rattle.wenc_sections.specs.contracts.counted.Counted.{the_row};
     ghost use Rattle.wenc_sections.specs.contracts.types.CoreTypes.{the_row as kind};
 
-    /// Begins a core type, which is written by the encoder that is answered. It takes no memory,
-    /// and is refused where there would be too many types (`TooMany`), or too many bytes with those
-    /// of their number (`TooLarge`), or where one is being written (`Unfinished`).
+    /// Begins a core type, and returns its encoder. Does not allocate.
+    ///
+    /// # Errors
+    ///
+    /// Fails with `Unfinished` while a type is being written, with `TooMany` if the number of types
+    /// would exceed 4294967295, and with `TooLarge` if the size of the section would.
     pub fn ty(&mut self) -> Result<ComponentCoreTypeEncoder<'_, CoreTypeSection<A>>, Fault>
         ensures* refused { sem 𝓛 (RestsIfErr (the_row kind A.row
             ⟦<CoreTypes as CountedKind>⟧ A.Allocator) self.entry
@@ -70,7 +73,7 @@ impl<A: Allocator> Counted<CoreTypes, A> {
     }
 }
 
-/// The kind of section that has types.
+/// The kind of type sections.
 pub struct ComponentTypes;
 
 impl CountedKind for ComponentTypes {
@@ -106,9 +109,12 @@ impl<A: Allocator> Counted<ComponentTypes, A> {
     ghost use Rattle.wenc_sections.specs.contracts.counted.Counted.{the_row};
     ghost use Rattle.wenc_sections.specs.contracts.types.ComponentTypes.{the_row as kind};
 
-    /// Begins a type, which is written by the encoder that is answered. It takes no memory, and is
-    /// refused where there would be too many types (`TooMany`), or too many bytes with those of
-    /// their number (`TooLarge`), or where one is being written (`Unfinished`).
+    /// Begins a type, and returns its encoder. Does not allocate.
+    ///
+    /// # Errors
+    ///
+    /// Fails with `Unfinished` while a type is being written, with `TooMany` if the number of types
+    /// would exceed 4294967295, and with `TooLarge` if the size of the section would.
     pub fn ty(&mut self) -> Result<ComponentTypeEncoder<'_, ComponentTypeSection<A>>, Fault>
         ensures* refused { sem 𝓛 (RestsIfErr (the_row kind A.row
             ⟦<ComponentTypes as CountedKind>⟧ A.Allocator) self.entry
@@ -122,7 +128,11 @@ impl<A: Allocator> Counted<ComponentTypes, A> {
         Ok(ComponentTypeEncoder::new(self))
     }
 
-    /// Begins a type of functions. It is refused as `ty` is.
+    /// Begins a function type, and returns its encoder. Does not allocate.
+    ///
+    /// # Errors
+    ///
+    /// Fails as `ty` does.
     pub fn function(
         &mut self,
     ) -> Result<ComponentFuncTypeEncoder<'_, ComponentTypeSection<A>>, Fault>
@@ -139,7 +149,11 @@ impl<A: Allocator> Counted<ComponentTypes, A> {
         Ok(ComponentFuncTypeEncoder::new(self))
     }
 
-    /// Begins a type of values. It is refused as `ty` is.
+    /// Begins a defined type, a type of values, and returns its encoder. Does not allocate.
+    ///
+    /// # Errors
+    ///
+    /// Fails as `ty` does.
     pub fn defined_type(
         &mut self,
     ) -> Result<ComponentDefinedTypeEncoder<'_, ComponentTypeSection<A>>, Fault>
@@ -155,8 +169,12 @@ impl<A: Allocator> Counted<ComponentTypes, A> {
         Ok(ComponentDefinedTypeEncoder::new(self))
     }
 
-    /// Adds this component type. It is refused with `Unfinished` where either is unfinished, where
-    /// there would be too many types (`TooMany`), or too many bytes in the section (`TooLarge`).
+    /// Adds this component type.
+    ///
+    /// # Errors
+    ///
+    /// Fails with `Unfinished` if `ty` or the section is unfinished, with `TooMany` if the number
+    /// of types would exceed 4294967295, and with `TooLarge` if the bytes of the section would.
     pub fn component<B: Allocator>(&mut self, ty: &ComponentType<B>) -> Result<(), Fault>
         ensures added { AddsMember (0x41 ▸ held_members ty.now.held) self.old self.new result }
         ensures declared { (ds : List ComponentDeclaration) → ComponentDeclares ty.now ds
@@ -170,7 +188,11 @@ impl<A: Allocator> Counted<ComponentTypes, A> {
         self.items.add_encoded(ty)
     }
 
-    /// Adds this instance type. It is refused as `component` is.
+    /// Adds this instance type.
+    ///
+    /// # Errors
+    ///
+    /// Fails as `component` does.
     pub fn instance<B: Allocator>(&mut self, ty: &InstanceType<B>) -> Result<(), Fault>
         ensures added { AddsMember (0x42 ▸ held_members ty.now.held) self.old self.new result }
         ensures declared { (ds : List InstanceDeclaration) → InstanceDeclares ty.now ds
@@ -184,9 +206,13 @@ impl<A: Allocator> Counted<ComponentTypes, A> {
         self.items.add_encoded(ty)
     }
 
-    /// Adds a resource type, by how a resource is represented, and the index of the core function
-    /// that is called when one is dropped, where there is such a function. It is refused where
-    /// there would be too many types (`TooMany`), or too many bytes in the section (`TooLarge`).
+    /// Adds a resource type: its representation, and the index of its destructor, a core function,
+    /// if it has one.
+    ///
+    /// # Errors
+    ///
+    /// Fails with `Unfinished` while a type is being written, with `TooMany` if the number of types
+    /// would exceed 4294967295, and with `TooLarge` if the bytes of the section would.
     pub fn resource(&mut self, rep: ValType, dtor: Option<u32>) -> Result<(), Fault>
         ensures { AddsMember (def_type (ResourceType rep dtor)) self.old self.new result }
     {

@@ -17,7 +17,7 @@ use wenc_parts::{
     TypeBounds,
 };
 
-/// The kind of types that components have.
+/// The kind of component types.
 pub struct ComponentTypes;
 
 impl DeclaredKind for ComponentTypes {
@@ -46,7 +46,7 @@ impl DeclaringKind for ComponentTypes {
         serves_itself refl };
 }
 
-/// The type of a component: what it imports and exports, and the types that these have (component
+/// The type of a component: its imports and exports, and the types that these refer to (component
 /// model, binary format, "Type Definitions").
 ///
 /// ```
@@ -61,8 +61,13 @@ impl DeclaringKind for ComponentTypes {
 pub type ComponentType<A = Global> = Declarations<ComponentTypes, A>;
 
 impl<A: Allocator> Declarations<ComponentTypes, A> {
-    /// Declares an alias. It is refused where there would be too many declarations (`TooMany`), or
-    /// too many bytes in them or in the alias's name (`TooLarge`).
+    /// Declares an alias.
+    ///
+    /// # Errors
+    ///
+    /// Fails with `Unfinished` while a type is being written, with `TooMany` if the number of
+    /// declarations would exceed 4294967295, and with `TooLarge` if their bytes or those of the
+    /// alias's name would.
     pub fn alias(&mut self, alias: Alias<'_>) -> Result<(), Fault>
         ensures { AddsToComponent self.old self.new result
             (Declared (Aliased (alias_view alias.entry))) }
@@ -71,7 +76,11 @@ impl<A: Allocator> Declarations<ComponentTypes, A> {
         self.add(&Tagged(0x02, &alias), sort)
     }
 
-    /// Declares an import under this name. It is refused as `alias` is.
+    /// Declares an import with this name.
+    ///
+    /// # Errors
+    ///
+    /// Fails as `alias` does.
     pub fn import<B: Allocator>(
         &mut self,
         name: ComponentExternName<'_, B>,
@@ -83,7 +92,11 @@ impl<A: Allocator> Declarations<ComponentTypes, A> {
         self.add(&Tagged(0x03, &(name, ty)), sort_of_kind(ty.kind()))
     }
 
-    /// Declares an export under this name. It is refused as `alias` is.
+    /// Declares an export with this name.
+    ///
+    /// # Errors
+    ///
+    /// Fails as `alias` does.
     pub fn export<B: Allocator>(
         &mut self,
         name: ComponentExternName<'_, B>,
@@ -95,8 +108,12 @@ impl<A: Allocator> Declarations<ComponentTypes, A> {
         self.add(&Tagged(0x04, &(name, ty)), sort_of_kind(ty.kind()))
     }
 
-    /// Declares an alias of the type that this instance exports under this name, and answers the
-    /// alias's index. It is refused as `alias` is.
+    /// Declares an alias of a type, which the instance with the index `instance` exports under this
+    /// name. Returns the alias's index in the index space of types.
+    ///
+    /// # Errors
+    ///
+    /// Fails as `alias` does.
     pub fn alias_export_type(&mut self, instance: u32, name: &str) -> Result<u32, Fault>
         ensures added { AddsToComponent self.old self.new (indexed_outcome result)
             (Declared (Aliased (InstanceExport instance kinds.«Type» name.now))) }
@@ -111,8 +128,12 @@ impl<A: Allocator> Declarations<ComponentTypes, A> {
         Ok(index)
     }
 
-    /// Declares an alias of the instance that this instance exports under this name, and answers
-    /// the alias's index. It is refused as `alias` is.
+    /// Declares an alias of an instance, which the instance with the index `instance` exports under
+    /// this name. Returns the alias's index in the index space of instances.
+    ///
+    /// # Errors
+    ///
+    /// Fails as `alias` does.
     pub fn alias_export_instance(&mut self, instance: u32, name: &str) -> Result<u32, Fault>
         ensures added { AddsToComponent self.old self.new (indexed_outcome result)
             (Declared (Aliased (InstanceExport instance kinds.Instance name.now))) }
@@ -127,8 +148,12 @@ impl<A: Allocator> Declarations<ComponentTypes, A> {
         Ok(index)
     }
 
-    /// Declares an alias of the type with the index `outer` of the scope that is `count` scopes out
-    /// (0 is this type), and answers the alias's own index. It is refused as `alias` is.
+    /// Declares an alias of the type with the index `outer` in the scope that is `count` scopes
+    /// outwards, where 0 is this type. Returns the alias's index in the index space of types.
+    ///
+    /// # Errors
+    ///
+    /// Fails as `alias` does.
     pub fn alias_outer_type(&mut self, count: u32, outer: u32) -> Result<u32, Fault>
         ensures added { AddsToComponent self.old self.new (indexed_outcome result)
             (Declared (Aliased (Outer outers.«Type» count outer))) }
@@ -143,8 +168,13 @@ impl<A: Allocator> Declarations<ComponentTypes, A> {
         Ok(index)
     }
 
-    /// Declares an alias of the core type with the index `outer` of the scope that is `count`
-    /// scopes out (0 is this type), and answers the alias's own index. It is refused as `alias` is.
+    /// Declares an alias of the core type with the index `outer` in the scope that is `count`
+    /// scopes outwards, where 0 is this type. Returns the alias's index in the index space of core
+    /// types.
+    ///
+    /// # Errors
+    ///
+    /// Fails as `alias` does.
     pub fn alias_core_type(&mut self, count: u32, outer: u32) -> Result<u32, Fault>
         ensures added { AddsToComponent self.old self.new (indexed_outcome result)
             (Declared (Aliased (Outer outers.CoreType count outer))) }
@@ -159,8 +189,11 @@ impl<A: Allocator> Declarations<ComponentTypes, A> {
         Ok(index)
     }
 
-    /// Declares an import of a type under this name, and answers its index. It is refused as
-    /// `alias` is.
+    /// Declares an import of a type with this name. Returns its index in the index space of types.
+    ///
+    /// # Errors
+    ///
+    /// Fails as `alias` does.
     pub fn import_type<B: Allocator>(
         &mut self,
         name: ComponentExternName<'_, B>,
@@ -175,8 +208,12 @@ impl<A: Allocator> Declarations<ComponentTypes, A> {
         Ok(index)
     }
 
-    /// Declares an import of an instance of the type with this index, and answers its index among
-    /// the instances. It is refused as `alias` is.
+    /// Declares an import, with this name, of an instance whose type has the index `ty`. Returns
+    /// its index in the index space of instances.
+    ///
+    /// # Errors
+    ///
+    /// Fails as `alias` does.
     pub fn import_instance<B: Allocator>(
         &mut self,
         name: ComponentExternName<'_, B>,
@@ -191,8 +228,11 @@ impl<A: Allocator> Declarations<ComponentTypes, A> {
         Ok(index)
     }
 
-    /// Declares an export of a type under this name, and answers its index. It is refused as
-    /// `alias` is.
+    /// Declares an export of a type with this name. Returns its index in the index space of types.
+    ///
+    /// # Errors
+    ///
+    /// Fails as `alias` does.
     pub fn export_type<B: Allocator>(
         &mut self,
         name: ComponentExternName<'_, B>,
@@ -207,8 +247,12 @@ impl<A: Allocator> Declarations<ComponentTypes, A> {
         Ok(index)
     }
 
-    /// Declares an export of an instance of the type with this index, and answers its index among
-    /// the instances. It is refused as `alias` is.
+    /// Declares an export, with this name, of an instance whose type has the index `ty`. Returns
+    /// its index in the index space of instances.
+    ///
+    /// # Errors
+    ///
+    /// Fails as `alias` does.
     pub fn export_instance<B: Allocator>(
         &mut self,
         name: ComponentExternName<'_, B>,

@@ -1,4 +1,4 @@
-//! The encoder that writes one core type of a component.
+//! The encoder of a component's core types.
 ghost use Rattle.std.specs.Prelude.{◌≡◌, List, true, false, Err};
 ghost use Rattle.wenc_base.specs.Holder.{is_finished, held_members, EncodeCause};
 ghost use Rattle.wenc_base.specs.Lender.{Ends, MakesWhole};
@@ -13,9 +13,11 @@ use crate::module_type::ModuleType;
 use std::alloc::Allocator;
 use wenc_base::{CoreTypeEncoder, Fault, Lender};
 
-/// Writes one core type of a component into what it was lent: a holder, or a type, section or
-/// builder that has one (component model, binary format, "Core Definitions"). Where it is dropped,
-/// or its last call is refused, what it was lent is left unfinished, until that gives the type up.
+/// Writes one core type of a component into its parent: a holder, or a type, a section or a builder
+/// that contains one (component model, binary format, "Core Definitions").
+///
+/// If its last call fails, or the encoder is dropped, the parent stays unfinished until its
+/// `discard_unfinished` discards the type.
 ///
 /// ```
 /// let mut module_type = ModuleType::new(alloc);
@@ -37,8 +39,8 @@ pub struct ComponentCoreTypeEncoder<'a, L: Lender> {
 }
 
 impl<'a, L: Lender> ComponentCoreTypeEncoder<'a, L> {
-    /// An encoder of the member that the lender has just opened, of which each core type of a
-    /// component is a whole one.
+    /// Creates an encoder for the member that `lender` has just opened. Each core type of a
+    /// component has to be a complete member.
     pub fn new(lender: &'a mut L) -> Self
         requires opened { L.opened lender.old ≡ true }
         requires whole { (t : CoreType)
@@ -49,8 +51,12 @@ impl<'a, L: Lender> ComponentCoreTypeEncoder<'a, L> {
         ComponentCoreTypeEncoder { lender }
     }
 
-    /// This module type, which ends the type. It is refused with `Unfinished` where the module type
-    /// is unfinished, and where there would be too many bytes in what was lent (`TooLarge`).
+    /// Writes this module type, which ends the type.
+    ///
+    /// # Errors
+    ///
+    /// Fails with `Unfinished` if the module type is unfinished, and with `TooLarge` if the size of
+    /// the parent would exceed 4294967295.
     pub fn module<A: Allocator>(self, ty: &ModuleType<A>) -> Result<(), Fault>
         ensures ended { Ends L.appended L.ended L.refuses
             self.entry.lender.now self.exit.0.now result
@@ -66,8 +72,12 @@ impl<'a, L: Lender> ComponentCoreTypeEncoder<'a, L> {
         self.lender.end_with(ty)
     }
 
-    /// The type of this tree, which ends the type. It is refused where a list in it is too long
-    /// (`TooMany`), or where there would be too many bytes (`TooLarge`).
+    /// Writes the type of this tree, which ends the type.
+    ///
+    /// # Errors
+    ///
+    /// Fails with `TooMany` if a list in the tree has more than 4294967295 values, and with
+    /// `TooLarge` if the bytes of a string in it or the size of the parent would exceed 4294967295.
     pub fn tree<A: Allocator>(self, ty: &CoreTypeTree<A>) -> Result<(), Fault>
         ensures { Ends L.appended L.ended L.refuses self.entry.lender.now self.exit.0.now result
             (core_type (core_type_view ty.now)) }
@@ -75,8 +85,8 @@ impl<'a, L: Lender> ComponentCoreTypeEncoder<'a, L> {
         self.lender.end_with(ty)
     }
 
-    /// The encoder of another core type, with guards: in a component a type that isn't final has a
-    /// byte `00` before it.
+    /// Returns the encoder of a core type that isn't a module type. It writes guards: in a
+    /// component, a type that isn't final is preceded by a byte `00`.
     pub fn core(self) -> CoreTypeEncoder<'a, L>
         ensures same_reference { result.lender.ghost_name ≡ self.entry.lender.ghost_name }
         ensures now { result.lender.now ≡ self.entry.lender.now }

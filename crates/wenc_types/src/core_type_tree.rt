@@ -1,4 +1,4 @@
-//! Core types that components define, as trees.
+//! Core types of components, as trees.
 ghost use Rattle.std.specs.Prelude.{refl};
 ghost use Rattle.wenc_base.specs.laws.Serves.{serves_itself};
 
@@ -7,8 +7,8 @@ use wenc_base::{
     Delimited, DelimitedEq, Encode, EntityType, Fault, GroupTree, Guarded, Tagged, Verbatim,
 };
 
-/// A core type that a component defines, with all that is in it: types of the core, or the type of
-/// a module (component model, binary format, "Core Definitions").
+/// A core type that a component defines, as a tree: core types, or the type of a module (component
+/// model, binary format, "Core Definitions").
 ///
 /// ```
 /// let answer = ModuleDecl::Export {
@@ -26,11 +26,10 @@ use wenc_base::{
 #[derive(Drop)]
 #[derive_where(PartialEq, Eq, Debug)]
 pub enum CoreTypeTree<A: Allocator = Global> {
-    /// Types of the core. One by itself that others may extend is written after a byte `00`, since
-    /// it would begin as a module type does.
+    /// Core types. A single one that others may extend is preceded by a byte `00`, since it would
+    /// otherwise begin like a module type.
     Group(GroupTree<A>),
-    /// The type of a module, by its declarations in their order. More than 4294967295 can't be
-    /// encoded.
+    /// The type of a module, as its declarations in order. More than 4294967295 can't be encoded.
     Module(Vec<ModuleDecl<A>, A>),
 }
 
@@ -78,34 +77,36 @@ impl<A: Allocator> DelimitedEq for CoreTypeTree<A> {
         (λ g h. refl) (λ ds es. refl)) };
 }
 
-/// What a module type declares (component model, binary format, "Core Definitions"). A text of more
-/// than 4294967295 bytes can't be encoded.
+/// A declaration of a module type (component model, binary format, "Core Definitions"). A string of
+/// more than 4294967295 bytes can't be encoded.
 #[derive(Drop)]
 #[derive_where(PartialEq, Eq, Debug)]
 pub enum ModuleDecl<A: Allocator = Global> {
-    /// The module imports this.
+    /// An import of the module.
     Import {
-        /// The name of the module that it is imported from.
+        /// The name of the module to import from.
         module: String<A>,
-        /// Its name there.
+        /// The name of the import in that module.
         name: String<A>,
-        /// Its type. An index of a type counts the types of this module type, from 0 to 4294967295.
+        /// The type of the import. Type indices are of this module type's index space, from 0 to
+        /// 4294967295.
         ty: EntityType,
     },
-    /// A type, which gets the next index.
+    /// A type, or a group of types, which takes the next type index.
     Type(GroupTree<A>),
-    /// A core type of another scope, which gets the next index.
+    /// An alias of a core type of an enclosing scope, which takes the next type index.
     Alias {
-        /// How many scopes out it stands, from 0 to 4294967295: 0 is this module type itself.
+        /// The number of scopes outwards, from 0 to 4294967295: 0 is this module type.
         count: u32,
-        /// Its index there, from 0 to 4294967295.
+        /// The index of the core type in that scope, from 0 to 4294967295.
         index: u32,
     },
-    /// The module exports this.
+    /// An export of the module.
     Export {
-        /// Its name.
+        /// The name of the export.
         name: String<A>,
-        /// Its type. An index of a type counts the types of this module type, from 0 to 4294967295.
+        /// The type of the export. Type indices are of this module type's index space, from 0 to
+        /// 4294967295.
         ty: EntityType,
     },
 }

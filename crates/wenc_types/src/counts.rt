@@ -1,4 +1,4 @@
-//! What is counted of declarations: core types, types and instances.
+//! The number of declarations by sort: core types, types and instances.
 ghost use Rattle.std.specs.Prelude.{◌≡◌, ◌<◌};
 ghost use Rattle.wenc_parts.specs.Aliases.{alias_view};
 ghost use Rattle.wenc_types.specs.Declarations.{sort_of_kind, sort_of_alias, one_more, one_less, no_counts};
@@ -6,8 +6,8 @@ ghost use Rattle.wenc_types.specs.inside.TypeState.{total};
 
 use wenc_parts::{Alias, ComponentExportKind, ComponentOuterAliasKind};
 
-/// What a declaration counts as, by the space in which it takes an index (component model,
-/// explainer, "Index Spaces").
+/// The sort of a declaration that takes an index, by its index space (component model, explainer,
+/// "Index Spaces").
 #[derive(Clone, Copy)]
 pub enum Sort {
     /// A core type.
@@ -18,7 +18,7 @@ pub enum Sort {
     Instance,
 }
 
-/// What an item of this kind counts as.
+/// Returns the sort of an item of this kind, if it takes an index.
 pub fn sort_of_kind(kind: ComponentExportKind) -> Option<Sort>
     ensures { result ≡ sort_of_kind kind }
 {
@@ -29,7 +29,7 @@ pub fn sort_of_kind(kind: ComponentExportKind) -> Option<Sort>
     }
 }
 
-/// What an alias counts as.
+/// Returns the sort of an alias, if it takes an index.
 pub fn sort_of_alias(alias: &Alias<'_>) -> Option<Sort>
     ensures { result ≡ sort_of_alias (alias_view alias.now) }
 {
@@ -47,20 +47,20 @@ pub fn sort_of_alias(alias: &Alias<'_>) -> Option<Sort>
     }
 }
 
-/// How many declarations there are of each sort: how many indices they have in each space
-/// (component model, explainer, "Index Spaces").
+/// The number of declarations of each sort, which is the size of each index space (component model,
+/// explainer, "Index Spaces").
 #[derive(Clone, Copy)]
 pub struct Counts {
-    /// Core types.
+    /// The number of core types.
     pub core_types: u32,
-    /// Types.
+    /// The number of types.
     pub types: u32,
-    /// Instances.
+    /// The number of instances.
     pub instances: u32,
 }
 
 impl Counts {
-    /// None.
+    /// Returns zero of each sort.
     pub fn none() -> Counts
         ensures { result ≡ no_counts }
     {
@@ -71,8 +71,8 @@ impl Counts {
         }
     }
 
-    /// One more of this sort, where there are so many declarations. They must be more than were
-    /// counted before, of all sorts together.
+    /// Returns the counts with one more of this sort, when there are `declarations` in all. They
+    /// have to exceed the sum of the counts before.
     pub fn counted(self, sort: Option<Sort>, declarations: u32) -> Counts
         requires { total self < declarations }
         ensures { result ≡ one_more sort self }
@@ -87,7 +87,7 @@ impl Counts {
         counts
     }
 
-    /// One less of this sort.
+    /// Returns the counts with one less of this sort.
     pub fn uncounted(self, sort: Option<Sort>) -> Counts
         ensures { result ≡ one_less sort self }
     {

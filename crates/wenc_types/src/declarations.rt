@@ -1,4 +1,4 @@
-//! What types of modules, of components and of instances are made of: declarations.
+//! Declarations, of which the types of modules, components and instances consist.
 ghost use Rattle.std.specs.Borrow.{sem, RestsIfErr};
 ghost use Rattle.std.specs.Prelude.{◌≡◌, ◌==◌, ◌∷◌, ℕ, [], Option as Optional, Some, OnOk, OnErr, IfOk, IfErr, true, false};
 ghost use Rattle.wenc_base.specs.Encode.{Appends, Serves};
@@ -22,43 +22,45 @@ use std::alloc::{Allocator, Global};
 use std::marker::{Model, PhantomData};
 use wenc_base::{Encode, Fault, Holder, Lender, Tagged};
 
-/// Which types have declarations: those of modules, components or instances (component model,
-/// binary format, "Core Definitions" and "Type Definitions"). The calls that declare what not all
-/// of them do stand beside the kind.
+/// The kinds of types that consist of declarations: those of modules, components and instances
+/// (component model, binary format, "Core Definitions" and "Type Definitions").
+///
+/// Declarations that only some kinds allow are methods in the module of that kind.
 pub trait DeclaredKind {
-    /// The byte with which such a type begins.
+    /// The first byte of the encoding of such a type, for contracts.
     ghost LEAD: { ℕ };
 
-    /// The byte with which such a type begins, as the code writes it.
+    /// The first byte of the encoding of such a type.
     const LEAD: u8;
 
-    /// What such a type declares.
+    /// A declaration of such a type.
     ghost Declaration: { Type 0 };
 
     /// How a declaration is written.
     ghost form: { Form Declaration };
 
-    /// What it counts as.
+    /// The sort of a declaration, if it takes an index.
     ghost sort: { Declaration → Optional SortSpec };
 }
 
-/// The types that declare all that instances do: those of components and of instances (component
-/// model, binary format, "Type Definitions").
+/// The kinds of types that allow all declarations of instance types: those of components and
+/// instances (component model, binary format, "Type Definitions").
 pub trait DeclaringKind: DeclaredKind {
-    /// The text of what an instance declares is that of a declaration of such a type, which counts
-    /// as the same.
+    /// The encoding of a declaration of an instance type is that of a declaration of such a type,
+    /// of the same sort.
     ghost declares: { (d : InstanceDeclaration) → (instance_declaration d).Fits
         → IsDeclaration Self.form Self.sort (instance_declaration d).text (instance_sort d) };
 }
 
-/// The type of a module, of a component or of an instance, by its declarations (component model,
-/// binary format, "Core Definitions" and "Type Definitions"). Each kind has a name of its own for
-/// it: `ModuleType`, `ComponentType` and `InstanceType`. A call that is refused leaves it as it
-/// was.
+/// The type of a module, a component or an instance, as its declarations (component model, binary
+/// format, "Core Definitions" and "Type Definitions"). Each kind has an alias: `ModuleType`,
+/// `ComponentType` and `InstanceType`.
 ///
-/// Types are written by the encoders that `ty` answers, and `core_type` of component types and
-/// instance types. Until such an encoder has ended its type, this one is unfinished, and what grows
-/// or encodes it is refused with `Unfinished`; `discard_unfinished` gives the type up.
+/// A call that fails leaves the type unchanged.
+///
+/// The encoders that `ty`, `core_type`, `type_defined` and `type_function` return write nested
+/// types. Until such an encoder has ended its type, this type, its parent, is unfinished: adding to
+/// it or encoding it fails with `Unfinished`, and `discard_unfinished` discards the nested type.
 ///
 /// ```
 /// let mut ty = InstanceType::new(alloc);
@@ -71,7 +73,7 @@ pub trait DeclaringKind: DeclaredKind {
 pub struct Declarations<K: DeclaredKind, A: Allocator = Global> {
     held: Holder<A>,
     counts: Counts,
-    /// What is being written counts as this.
+    /// The sort of the type that is being written.
     begun: Option<Sort>,
     kind: PhantomData<K>,
 }
@@ -89,7 +91,7 @@ impl<K: DeclaredKind, A: Allocator> Model for Declarations<K, A> {
 }
 
 impl<K: DeclaredKind, A: Allocator> Declarations<K, A> {
-    /// No declarations. It takes no memory.
+    /// Creates a type without declarations. Does not allocate.
     pub fn new(alloc: A) -> Self
         ensures { result ≡ no_declarations }
     {
@@ -101,7 +103,7 @@ impl<K: DeclaredKind, A: Allocator> Declarations<K, A> {
         }
     }
 
-    /// Adds a declaration with the text of this value, which counts as this.
+    /// Adds a declaration with the encoding of this value, of this sort.
     pub(crate) fn add<E: Encode>(
         &mut self,
         declaration: &E,
@@ -118,7 +120,7 @@ impl<K: DeclaredKind, A: Allocator> Declarations<K, A> {
         Ok(())
     }
 
-    /// Begins a type, by the byte that says that it is one.
+    /// Begins a nested type: opens a member with its first byte.
     pub(crate) fn begin(&mut self, lead: u8, sort: Sort) -> Result<(), Fault>
         requires { lead_of sort ≡ lead ∷ [] }
         ensures ok { OnOk result (self.new ≡ type_begun sort self.old) }
@@ -136,15 +138,16 @@ impl<K: DeclaredKind, A: Allocator> Declarations<K, A> {
         Ok(())
     }
 
-    /// How many types there are: those of `ty`, one that is being written among them, and those of
-    /// aliases, imports and exports. Those of a module type are core types.
+    /// Returns the number of types: those of `ty`, one that is being written included, and those of
+    /// aliases, imports and exports. For a module type, these are core types.
     pub fn type_count(&self) -> u32
         ensures { result ≡ self.now.counts.types }
     {
         self.counts.types
     }
 
-    /// Whether no type is being written. Then it has some declarations, whoever made which calls.
+    /// Returns whether no nested type is being written. The type then consists of complete
+    /// declarations, whatever calls were made.
     pub fn is_finished(&self) -> bool
         ensures finished { result ≡ is_finished self.now.held }
         ensures settled { is_finished self.now.held ≡ true → NoneBegun self.now }
@@ -154,8 +157,8 @@ impl<K: DeclaredKind, A: Allocator> Declarations<K, A> {
         self.held.is_finished()
     }
 
-    /// Gives up the type that is being written, and says whether there was one: all is as it was
-    /// before that type. It takes no memory.
+    /// Discards the nested type that is being written, and returns whether there was one. The
+    /// receiver is then as it was before that type. Does not allocate.
     pub fn discard_unfinished(&mut self) -> bool
         ensures given_up { GivesUp self.new (type_given_up self.old)
             (is_finished self.old.held) result }
@@ -167,7 +170,11 @@ impl<K: DeclaredKind, A: Allocator> Declarations<K, A> {
         was
     }
 
-    /// A copy of the type. It is refused for want of memory alone.
+    /// Returns a copy of the type. A copy of an unfinished type is unfinished.
+    ///
+    /// # Errors
+    ///
+    /// Fails only if an allocation fails.
     pub fn clone(&self) -> Result<Self, Fault>
     where
         A: Clone,
@@ -187,8 +194,12 @@ impl<K: DeclaredKind, A: Allocator> Declarations<K, A> {
 impl<K: DeclaringKind, A: Allocator> Declarations<K, A> {
     ghost use Rattle.wenc_types.specs.contracts.declarations.Declarations.{the_row};
 
-    /// Begins a core type, which is written by the encoder that is answered. It is refused where
-    /// there would be too many declarations (`TooMany`), or too many bytes in them (`TooLarge`).
+    /// Begins a core type, and returns its encoder.
+    ///
+    /// # Errors
+    ///
+    /// Fails with `Unfinished` while a type is being written, with `TooMany` if the number of
+    /// declarations would exceed 4294967295, and with `TooLarge` if their bytes would.
     pub fn core_type(&mut self) -> Result<ComponentCoreTypeEncoder<'_, Declarations<K, A>>, Fault>
         ensures* refused { sem 𝓛 (RestsIfErr (the_row K.row A.row K.DeclaredKind A.Allocator)
             self.entry
@@ -203,8 +214,11 @@ impl<K: DeclaringKind, A: Allocator> Declarations<K, A> {
         Ok(ComponentCoreTypeEncoder::new(self))
     }
 
-    /// Begins a type, which is written by the encoder that is answered. It is refused as
-    /// `core_type` is.
+    /// Begins a type, and returns its encoder.
+    ///
+    /// # Errors
+    ///
+    /// Fails as `core_type` does.
     pub fn ty(&mut self) -> Result<ComponentTypeEncoder<'_, Declarations<K, A>>, Fault>
         ensures* refused { sem 𝓛 (RestsIfErr (the_row K.row A.row K.DeclaredKind A.Allocator)
             self.entry
@@ -219,8 +233,11 @@ impl<K: DeclaringKind, A: Allocator> Declarations<K, A> {
         Ok(ComponentTypeEncoder::new(self))
     }
 
-    /// Begins a type of values, which is written by the encoder that is answered with the type's
-    /// index. It is refused as `core_type` is.
+    /// Begins a defined type, and returns its index in the index space of types and its encoder.
+    ///
+    /// # Errors
+    ///
+    /// Fails as `core_type` does.
     pub fn type_defined(
         &mut self,
     ) -> Result<(u32, ComponentDefinedTypeEncoder<'_, Declarations<K, A>>), Fault>
@@ -239,8 +256,11 @@ impl<K: DeclaringKind, A: Allocator> Declarations<K, A> {
         Ok((index, ComponentDefinedTypeEncoder::new(self)))
     }
 
-    /// Begins a type of functions, which is written by the encoder that is answered with the type's
-    /// index. It is refused as `core_type` is.
+    /// Begins a function type, and returns its index in the index space of types and its encoder.
+    ///
+    /// # Errors
+    ///
+    /// Fails as `core_type` does.
     pub fn type_function(
         &mut self,
     ) -> Result<(u32, ComponentFuncTypeEncoder<'_, Declarations<K, A>>), Fault>
@@ -260,21 +280,21 @@ impl<K: DeclaringKind, A: Allocator> Declarations<K, A> {
         Ok((index, ComponentFuncTypeEncoder::new(self)))
     }
 
-    /// How many declarations there are, one that is being written among them.
+    /// Returns the number of declarations, one that is being written included.
     pub fn len(&self) -> u32
         ensures { result ≡ self.now.held.count }
     {
         self.held.len()
     }
 
-    /// Whether there are none.
+    /// Returns whether there are no declarations.
     pub fn is_empty(&self) -> bool
         ensures { result ≡ (self.now.held.count == 0) }
     {
         self.len() == 0
     }
 
-    /// How many core types there are: those of `core_type`, one that is being written among them,
+    /// Returns the number of core types: those of `core_type`, one that is being written included,
     /// and those of outer aliases.
     pub fn core_type_count(&self) -> u32
         ensures { result ≡ self.now.counts.core_types }
@@ -282,7 +302,7 @@ impl<K: DeclaringKind, A: Allocator> Declarations<K, A> {
         self.counts.core_types
     }
 
-    /// How many instances there are: those of aliases, imports and exports.
+    /// Returns the number of instances: those of aliases, imports and exports.
     pub fn instance_count(&self) -> u32
         ensures { result ≡ self.now.counts.instances }
     {
@@ -290,8 +310,9 @@ impl<K: DeclaringKind, A: Allocator> Declarations<K, A> {
     }
 }
 
-/// A byte, then the number of declarations, then these. A finished one is refused for want of
-/// memory alone. What is written has some declarations, whoever made which calls.
+/// Encodes the type's first byte, the number of declarations, then the declarations. Fails with
+/// `Unfinished` while a nested type is being written, else only if an allocation fails. What is
+/// written consists of complete declarations, whatever calls were made.
 impl<K: DeclaredKind, A: Allocator> Encode for Declarations<K, A> {
     ghost piece = { λ t. K.LEAD ▸ held_members t.held };
 

@@ -1,4 +1,4 @@
-//! Types of values, as trees.
+//! Defined types, as trees.
 ghost use Rattle.std.specs.Prelude.{refl};
 ghost use Rattle.wenc_base.specs.laws.Serves.{serves_itself};
 
@@ -6,9 +6,11 @@ use std::alloc::{Allocator, Global};
 use wenc_base::{Delimited, DelimitedEq, Encode, Fault, Tagged};
 use wenc_parts::{ComponentValType, PrimitiveValType};
 
-/// A type of values that a component defines, with all that is in it (component model, binary
-/// format, "Type Definitions"). More than 4294967295 fields, cases, elements or names can't be
-/// encoded, nor can a text of more than 4294967295 bytes.
+/// A type of values that a component defines, as a tree (component model, binary format, "Type
+/// Definitions").
+///
+/// More than 4294967295 fields, cases, elements or names can't be encoded, nor can a string of more
+/// than 4294967295 bytes.
 ///
 /// ```
 /// let read = String::from_str(alloc, "read")?;
@@ -20,11 +22,11 @@ use wenc_parts::{ComponentValType, PrimitiveValType};
 pub enum DefinedTree<A: Allocator = Global> {
     /// A primitive type.
     Primitive(PrimitiveValType),
-    /// A record, by its fields in their order: the name of each, and its type.
+    /// A record, by its fields in order: the name and the type of each.
     Record(Vec<(String<A>, ComponentValType), A>),
-    /// A variant, by its cases in their order.
+    /// A variant, by its cases in order.
     Variant(Vec<CaseTree<A>, A>),
-    /// A list, by the type of its elements.
+    /// A list, by its element type.
     List(ComponentValType),
     /// A map.
     Map {
@@ -33,35 +35,35 @@ pub enum DefinedTree<A: Allocator = Global> {
         /// The type of the values.
         value: ComponentValType,
     },
-    /// A list with a set number of elements.
+    /// A list of fixed length.
     FixedLengthList {
-        /// The type of the elements.
+        /// The element type.
         element: ComponentValType,
-        /// How many there are, from 0 to 4294967295.
+        /// The number of elements, from 0 to 4294967295.
         length: u32,
     },
-    /// A tuple, by the types of its elements in their order.
+    /// A tuple, by the types of its elements in order.
     Tuple(Vec<ComponentValType, A>),
-    /// Flags, by their names in their order.
+    /// Flags, by their names in order.
     Flags(Vec<String<A>, A>),
-    /// An enumeration, by the names of its cases in their order.
+    /// An `enum`, by the names of its cases in order.
     Enum(Vec<String<A>, A>),
-    /// A value of this type, or none.
+    /// An option of a value of this type.
     Option(ComponentValType),
-    /// A success or a failure, each with a value or without.
+    /// A `result`: success or failure, each with an optional payload.
     Result {
-        /// The type of the value of a success.
+        /// The payload type of success.
         ok: Option<ComponentValType>,
-        /// The type of the value of a failure.
+        /// The payload type of failure.
         err: Option<ComponentValType>,
     },
-    /// A handle that owns a resource, by the index of the resource's type, from 0 to 4294967295.
+    /// An owned handle to a resource, by the index of the resource type, from 0 to 4294967295.
     Own(u32),
-    /// A handle that borrows a resource, by the index of the resource's type, from 0 to 4294967295.
+    /// A borrowed handle to a resource, by the index of the resource type, from 0 to 4294967295.
     Borrow(u32),
-    /// A value that comes later, by its type, or nothing but that it has come.
+    /// A future, optionally with a payload type.
     Future(Option<ComponentValType>),
-    /// Values that come one after the other, by their type, or nothing but that they have come.
+    /// A stream, optionally with a payload type.
     Stream(Option<ComponentValType>),
 }
 
@@ -126,14 +128,14 @@ impl<A: Allocator> DelimitedEq for DefinedTree<A> {
         (λ v w. each_sees _ string_bytes (λ m n e. rw e refl) v.items w.items)) };
 }
 
-/// A case of a variant (component model, binary format, "Type Definitions"). A text of more than
+/// A case of a variant (component model, binary format, "Type Definitions"). A string of more than
 /// 4294967295 bytes can't be encoded.
 #[derive(Drop)]
 #[derive_where(PartialEq, Eq, Debug)]
 pub struct CaseTree<A: Allocator = Global> {
-    /// Its name.
+    /// The name of the case.
     pub name: String<A>,
-    /// The type of its value, where it has one.
+    /// The type of its payload, if it has one.
     pub ty: Option<ComponentValType>,
 }
 
@@ -144,7 +146,7 @@ impl<A: Allocator> Encode for CaseTree<A> {
     ghost piece = { λ c. case (case_view c) };
 
     fn encode<B: Allocator>(&self, sink: &mut Vec<u8, B>) -> Result<(), Fault> {
-        // the byte would say which case this one refines
+        // The last byte would say which case this one refines.
         (self.name.as_str(), self.ty, Tagged(0x00, &())).encode(sink)
     }
 }

@@ -1,4 +1,4 @@
-//! The encoder that writes types of values.
+//! The encoder of defined types.
 ghost use Rattle.std.specs.Iterator.{IsFinite};
 ghost use Rattle.std.specs.Prelude.{◌≡◌, true, false, map};
 ghost use Rattle.wenc_base.specs.Lender.{Ends, EndsListed, MakesWhole};
@@ -10,12 +10,11 @@ use std::alloc::Allocator;
 use wenc_base::{Encode, Fault, Lender, Tagged};
 use wenc_parts::{ComponentValType, PrimitiveValType};
 
-/// Writes one type of values into what it was lent. Each call is its last. Where a call is refused,
-/// or the encoder is dropped, what it was lent is left unfinished, until that gives the type up
-/// (component model, binary format, "Type Definitions").
+/// Writes one defined type, a type of values, into its parent (component model, binary format,
+/// "Type Definitions").
 ///
-/// A call is refused where a list has more than 4294967295 values (`TooMany`), or where there would
-/// be too many bytes in a name or in what was lent (`TooLarge`).
+/// Each of its calls is the last. If the call fails, or the encoder is dropped, the parent stays
+/// unfinished until its `discard_unfinished` discards the type.
 ///
 /// ```
 /// let string = ComponentValType::Primitive(PrimitiveValType::String);
@@ -24,6 +23,11 @@ use wenc_parts::{ComponentValType, PrimitiveValType};
 /// types.defined_type()?.record(fields.into_iter())?;
 /// types.defined_type()?.option(string)?;
 /// ```
+///
+/// # Errors
+///
+/// Each call fails with `TooMany` if a list has more than 4294967295 values, and with `TooLarge` if
+/// the bytes of a name or the size of the parent would exceed 4294967295.
 #[derive(Drop)]
 pub struct ComponentDefinedTypeEncoder<'a, L: Lender> {
     lender: &'a mut L,
@@ -33,8 +37,8 @@ pub struct ComponentDefinedTypeEncoder<'a, L: Lender> {
 }
 
 impl<'a, L: Lender> ComponentDefinedTypeEncoder<'a, L> {
-    /// An encoder of the member that the lender has just opened, of which each type of values is a
-    /// whole one.
+    /// Creates an encoder for the member that `lender` has just opened. Each defined type has to be
+    /// a complete member.
     pub fn new(lender: &'a mut L) -> Self
         requires opened { L.opened lender.old ≡ true }
         requires whole { (t : DefValType)
@@ -45,7 +49,7 @@ impl<'a, L: Lender> ComponentDefinedTypeEncoder<'a, L> {
         ComponentDefinedTypeEncoder { lender }
     }
 
-    /// The type of this tree.
+    /// Defines the type of this tree.
     pub fn tree<A: Allocator>(self, ty: &DefinedTree<A>) -> Result<(), Fault>
         ensures { Ends L.appended L.ended L.refuses self.entry.lender.now self.exit.0.now result
             (def_val_type (defined_view ty.now)) }
@@ -53,7 +57,7 @@ impl<'a, L: Lender> ComponentDefinedTypeEncoder<'a, L> {
         self.lender.end_with(ty)
     }
 
-    /// A primitive type.
+    /// Defines a primitive type.
     pub fn primitive(self, ty: PrimitiveValType) -> Result<(), Fault>
         ensures { Ends L.appended L.ended L.refuses self.entry.lender.now self.exit.0.now result
             (def_val_type (Primitive ty)) }
@@ -61,7 +65,7 @@ impl<'a, L: Lender> ComponentDefinedTypeEncoder<'a, L> {
         self.lender.end_with(&ty)
     }
 
-    /// A record with these fields.
+    /// Defines a record with these fields, each a name and a type.
     pub fn record<'b, F>(self, fields: F) -> Result<(), Fault>
     where
         F: Iterator<Item = (&'b str, ComponentValType)> + Drop,
@@ -74,7 +78,7 @@ impl<'a, L: Lender> ComponentDefinedTypeEncoder<'a, L> {
         self.lender.end_with_list(&[0x72], fields)
     }
 
-    /// A variant with these cases, each with a value or without.
+    /// Defines a variant with these cases, each a name and optionally a payload type.
     pub fn variant<'b, C>(self, cases: C) -> Result<(), Fault>
     where
         C: Iterator<Item = (&'b str, Option<ComponentValType>)> + Drop,
@@ -88,7 +92,7 @@ impl<'a, L: Lender> ComponentDefinedTypeEncoder<'a, L> {
             .end_with_list(&[0x71], cases.map(|(name, ty)| Case { name, ty }))
     }
 
-    /// A list of any length.
+    /// Defines a list of any length.
     pub fn list(self, ty: ComponentValType) -> Result<(), Fault>
         ensures { Ends L.appended L.ended L.refuses self.entry.lender.now self.exit.0.now result
             (def_val_type (ListOf ty)) }
@@ -96,7 +100,7 @@ impl<'a, L: Lender> ComponentDefinedTypeEncoder<'a, L> {
         self.lender.end_with(&Tagged(0x70, &ty))
     }
 
-    /// A map from keys to values.
+    /// Defines a map from keys to values of these types.
     pub fn map(self, key: ComponentValType, value: ComponentValType) -> Result<(), Fault>
         ensures { Ends L.appended L.ended L.refuses self.entry.lender.now self.exit.0.now result
             (def_val_type (MapOf key value)) }
@@ -104,7 +108,7 @@ impl<'a, L: Lender> ComponentDefinedTypeEncoder<'a, L> {
         self.lender.end_with(&Tagged(0x63, &(key, value)))
     }
 
-    /// A list of this length, from 0 to 4294967295.
+    /// Defines a list of this length, from 0 to 4294967295.
     pub fn fixed_length_list(self, ty: ComponentValType, length: u32) -> Result<(), Fault>
         ensures { Ends L.appended L.ended L.refuses self.entry.lender.now self.exit.0.now result
             (def_val_type (FixedLengthList ty length)) }
@@ -112,7 +116,7 @@ impl<'a, L: Lender> ComponentDefinedTypeEncoder<'a, L> {
         self.lender.end_with(&Tagged(0x67, &(ty, length)))
     }
 
-    /// A tuple of values of these types.
+    /// Defines a tuple with elements of these types.
     pub fn tuple<T>(self, types: T) -> Result<(), Fault>
     where
         T: Iterator<Item = ComponentValType> + Drop,
@@ -125,7 +129,7 @@ impl<'a, L: Lender> ComponentDefinedTypeEncoder<'a, L> {
         self.lender.end_with_list(&[0x6f], types)
     }
 
-    /// Flags with these names.
+    /// Defines flags with these names.
     pub fn flags<'b, F: Iterator<Item = &'b str> + Drop>(self, names: F) -> Result<(), Fault>
         requires can { F.can_next names }
         requires ends { IsFinite (F.remaining names) }
@@ -136,7 +140,7 @@ impl<'a, L: Lender> ComponentDefinedTypeEncoder<'a, L> {
         self.lender.end_with_list(&[0x6e], names)
     }
 
-    /// An enumeration of these names.
+    /// Defines an `enum` with these cases.
     pub fn enum_type<'b, C: Iterator<Item = &'b str> + Drop>(self, cases: C) -> Result<(), Fault>
         requires can { C.can_next cases }
         requires ends { IsFinite (C.remaining cases) }
@@ -147,7 +151,7 @@ impl<'a, L: Lender> ComponentDefinedTypeEncoder<'a, L> {
         self.lender.end_with_list(&[0x6d], cases)
     }
 
-    /// A value of this type, or none.
+    /// Defines an option of a value of this type.
     pub fn option(self, ty: ComponentValType) -> Result<(), Fault>
         ensures { Ends L.appended L.ended L.refuses self.entry.lender.now self.exit.0.now result
             (def_val_type (OptionOf ty)) }
@@ -155,7 +159,7 @@ impl<'a, L: Lender> ComponentDefinedTypeEncoder<'a, L> {
         self.lender.end_with(&Tagged(0x6b, &ty))
     }
 
-    /// What went well or an error, each with a value or without.
+    /// Defines a `result`: success or failure, each optionally with a payload type.
     pub fn result(
         self,
         ok: Option<ComponentValType>,
@@ -167,7 +171,7 @@ impl<'a, L: Lender> ComponentDefinedTypeEncoder<'a, L> {
         self.lender.end_with(&Tagged(0x6a, &(ok, err)))
     }
 
-    /// A handle that owns a resource of the type with this index.
+    /// Defines an owned handle to a resource, whose type has this index.
     pub fn own(self, index: u32) -> Result<(), Fault>
         ensures { Ends L.appended L.ended L.refuses self.entry.lender.now self.exit.0.now result
             (def_val_type (Own index)) }
@@ -175,7 +179,7 @@ impl<'a, L: Lender> ComponentDefinedTypeEncoder<'a, L> {
         self.lender.end_with(&Tagged(0x69, &index))
     }
 
-    /// A handle that borrows a resource of the type with this index.
+    /// Defines a borrowed handle to a resource, whose type has this index.
     pub fn borrow(self, index: u32) -> Result<(), Fault>
         ensures { Ends L.appended L.ended L.refuses self.entry.lender.now self.exit.0.now result
             (def_val_type (Borrow index)) }
@@ -183,7 +187,7 @@ impl<'a, L: Lender> ComponentDefinedTypeEncoder<'a, L> {
         self.lender.end_with(&Tagged(0x68, &index))
     }
 
-    /// What comes later: a value of this type, or none.
+    /// Defines a future, optionally with a payload type.
     pub fn future(self, payload: Option<ComponentValType>) -> Result<(), Fault>
         ensures { Ends L.appended L.ended L.refuses self.entry.lender.now self.exit.0.now result
             (def_val_type (Future payload)) }
@@ -191,7 +195,7 @@ impl<'a, L: Lender> ComponentDefinedTypeEncoder<'a, L> {
         self.lender.end_with(&Tagged(0x65, &payload))
     }
 
-    /// What comes one by one: values of this type, or none.
+    /// Defines a stream, optionally with a payload type.
     pub fn stream(self, payload: Option<ComponentValType>) -> Result<(), Fault>
         ensures { Ends L.appended L.ended L.refuses self.entry.lender.now self.exit.0.now result
             (def_val_type (Stream payload)) }
@@ -212,7 +216,7 @@ impl<'a> Encode for Case<'a> {
 
     ghost piece = { λ c. case (record { name = c.name.now; ty = c.ty }) };
 
-    /// The last byte says that it refines no other case.
+    /// The last byte says that the case refines no other.
     fn encode<A: Allocator>(&self, sink: &mut Vec<u8, A>) -> Result<(), Fault> {
         (self.name, self.ty, Tagged(0x00, &())).encode(sink)
     }

@@ -1,4 +1,4 @@
-//! The encoder that writes types of functions.
+//! The encoder of function types.
 ghost use Rattle.std.specs.Iterator.{IsFinite};
 ghost use Rattle.std.specs.Prelude.{◌≡◌, ◌∷◌, [], true, false, map, OnOk, OnErr};
 ghost use Rattle.wenc_base.specs.Forms.{list};
@@ -12,21 +12,21 @@ ghost use Rattle.wenc_types.specs.declared.func_type.FuncStage.TheVariants as st
 use wenc_base::{Fault, Lender, Verbatim};
 use wenc_parts::{ComponentValType, ResultList};
 
-/// How far the type of a function is written.
+/// The progress of a function type that is being written.
 #[derive(Clone, Copy, Debug, PartialEq, Eq)]
 pub enum FuncStage {
-    /// Nothing of it.
+    /// Nothing is written.
     Start,
-    /// Whether it is asynchronous.
+    /// It is written whether the function is asynchronous.
     Tagged,
-    /// That, and its parameters.
+    /// The parameters are written as well.
     Params,
-    /// All of it.
+    /// The type is complete.
     Done,
 }
 
 impl FuncStage {
-    /// What stands in front of the parameters, from this stage on.
+    /// Returns the bytes that precede the parameters when they are written at this stage.
     fn lead(self) -> &'static [u8]
         ensures { result.now ≡ lead_from self }
     {
@@ -37,14 +37,13 @@ impl FuncStage {
     }
 }
 
-/// Writes the type of a function into what it was lent (component model, binary format, "Type
-/// Definitions"). First may come whether it is asynchronous, then its parameters, then what it
-/// answers, which ends the type. A refused call leaves what was written, and may be tried again.
-/// Where the encoder is dropped before, what it was lent is left unfinished, until that gives the
-/// type up.
+/// Writes the type of a function into its parent (component model, binary format, "Type
+/// Definitions").
 ///
-/// A call is refused where a list has more than 4294967295 values (`TooMany`), or where there would
-/// be too many bytes in a name or in what was lent (`TooLarge`).
+/// The calls come in this order: `async_`, which is optional, then `params`, then `result`, which
+/// ends the type. A call that fails leaves what was written before it, and may be repeated. If the
+/// encoder is dropped before `result` has succeeded, the parent stays unfinished until its
+/// `discard_unfinished` discards the type.
 ///
 /// ```
 /// let string = ComponentValType::Primitive(PrimitiveValType::String);
@@ -53,6 +52,11 @@ impl FuncStage {
 /// function.params([("line", string)].into_iter())?;
 /// function.result(None)?;
 /// ```
+///
+/// # Errors
+///
+/// Each call fails with `TooMany` if a list has more than 4294967295 values, and with `TooLarge` if
+/// the bytes of a name or the size of the parent would exceed 4294967295.
 #[derive(Drop)]
 pub struct ComponentFuncTypeEncoder<'a, L: Lender> {
     lender: &'a mut L,
@@ -62,8 +66,8 @@ pub struct ComponentFuncTypeEncoder<'a, L: Lender> {
 }
 
 impl<'a, L: Lender> ComponentFuncTypeEncoder<'a, L> {
-    /// An encoder of the member that the lender has just opened, of which each type of functions is
-    /// a whole one.
+    /// Creates an encoder for the member that `lender` has just opened. Each function type has to
+    /// be a complete member.
     pub fn new(lender: &'a mut L) -> Self
         requires opened { L.opened lender.old ≡ true }
         requires whole { (f : Function)
@@ -78,14 +82,16 @@ impl<'a, L: Lender> ComponentFuncTypeEncoder<'a, L> {
         }
     }
 
-    /// How far the type is written.
+    /// Returns the progress of the type.
     pub fn stage(&self) -> FuncStage
         ensures { result ≡ self.now.stage }
     {
         self.stage
     }
 
-    /// Whether the function is asynchronous. Without this call it isn't.
+    /// Writes whether the function is asynchronous. Without this call it isn't.
+    ///
+    /// The stage has to be `Start`.
     pub fn async_(&mut self, is_async: bool) -> Result<(), Fault>
         requires { self.old.stage ≡ stages.Start }
         ensures same_reference { self.new.lender.ghost_name ≡ self.old.lender.ghost_name }
@@ -102,7 +108,9 @@ impl<'a, L: Lender> ComponentFuncTypeEncoder<'a, L> {
         Ok(())
     }
 
-    /// The function's parameters, each with its name.
+    /// Writes the parameters, each a name and a type.
+    ///
+    /// The stage has to be `Start` or `Tagged`.
     pub fn params<'b, P>(&mut self, params: P) -> Result<(), Fault>
     where
         P: Iterator<Item = (&'b str, ComponentValType)> + Drop,
@@ -118,7 +126,7 @@ impl<'a, L: Lender> ComponentFuncTypeEncoder<'a, L> {
         ensures back { OnErr result (self.new.stage ≡ self.old.stage) }
     {
         let stage = self.stage;
-        // No call fits here, should the iterator not come back.
+        // No call is allowed at this stage, should the iterator panic.
         self.stage = FuncStage::Done;
         match append_named(self.lender, stage.lead(), params) {
             Ok(()) => {
@@ -132,7 +140,9 @@ impl<'a, L: Lender> ComponentFuncTypeEncoder<'a, L> {
         }
     }
 
-    /// What the function answers: a value of this type, or none. This ends the type.
+    /// Writes the result: a value of this type, or none. This ends the type.
+    ///
+    /// The stage has to be `Params`.
     pub fn result(&mut self, ty: Option<ComponentValType>) -> Result<(), Fault>
         requires { self.old.stage ≡ stages.Params }
         ensures same_reference { self.new.lender.ghost_name ≡ self.old.lender.ghost_name }
@@ -147,7 +157,7 @@ impl<'a, L: Lender> ComponentFuncTypeEncoder<'a, L> {
     }
 }
 
-/// Adds these bytes to the member that is being written, then the fields or parameters as a list.
+/// Appends these bytes to the open member of the parent, then the fields or parameters as a list.
 fn append_named<'a, L: Lender, I>(lender: &mut L, lead: &[u8], values: I) -> Result<(), Fault>
 where
     I: Iterator<Item = (&'a str, ComponentValType)> + Drop,

@@ -17,7 +17,7 @@ use wenc_parts::{
     TypeBounds,
 };
 
-/// The kind of types that instances have.
+/// The kind of instance types.
 pub struct InstanceTypes;
 
 impl DeclaredKind for InstanceTypes {
@@ -46,7 +46,7 @@ impl DeclaringKind for InstanceTypes {
         serves_itself refl };
 }
 
-/// The type of an instance: what it exports, and the types that these have (component model, binary
+/// The type of an instance: its exports, and the types that these refer to (component model, binary
 /// format, "Type Definitions").
 ///
 /// ```
@@ -61,8 +61,13 @@ impl DeclaringKind for InstanceTypes {
 pub type InstanceType<A = Global> = Declarations<InstanceTypes, A>;
 
 impl<A: Allocator> Declarations<InstanceTypes, A> {
-    /// Declares an alias. It is refused where there would be too many declarations (`TooMany`), or
-    /// too many bytes in them or in the alias's name (`TooLarge`).
+    /// Declares an alias.
+    ///
+    /// # Errors
+    ///
+    /// Fails with `Unfinished` while a type is being written, with `TooMany` if the number of
+    /// declarations would exceed 4294967295, and with `TooLarge` if their bytes or those of the
+    /// alias's name would.
     pub fn alias(&mut self, alias: Alias<'_>) -> Result<(), Fault>
         ensures { AddsToInstance self.old self.new result
             (Aliased (alias_view alias.entry)) }
@@ -71,7 +76,11 @@ impl<A: Allocator> Declarations<InstanceTypes, A> {
         self.add(&Tagged(0x02, &alias), sort)
     }
 
-    /// Declares an export under this name. It is refused as `alias` is.
+    /// Declares an export with this name.
+    ///
+    /// # Errors
+    ///
+    /// Fails as `alias` does.
     pub fn export<B: Allocator>(
         &mut self,
         name: ComponentExternName<'_, B>,
@@ -83,8 +92,12 @@ impl<A: Allocator> Declarations<InstanceTypes, A> {
         self.add(&Tagged(0x04, &(name, ty)), sort_of_kind(ty.kind()))
     }
 
-    /// Declares an alias of the type that this instance exports under this name, and answers the
-    /// alias's index. It is refused as `alias` is.
+    /// Declares an alias of a type, which the instance with the index `instance` exports under this
+    /// name. Returns the alias's index in the index space of types.
+    ///
+    /// # Errors
+    ///
+    /// Fails as `alias` does.
     pub fn alias_export_type(&mut self, instance: u32, name: &str) -> Result<u32, Fault>
         ensures added { AddsToInstance self.old self.new (indexed_outcome result)
             (Aliased (InstanceExport instance kinds.«Type» name.now)) }
@@ -99,8 +112,12 @@ impl<A: Allocator> Declarations<InstanceTypes, A> {
         Ok(index)
     }
 
-    /// Declares an alias of the instance that this instance exports under this name, and answers
-    /// the alias's index. It is refused as `alias` is.
+    /// Declares an alias of an instance, which the instance with the index `instance` exports under
+    /// this name. Returns the alias's index in the index space of instances.
+    ///
+    /// # Errors
+    ///
+    /// Fails as `alias` does.
     pub fn alias_export_instance(&mut self, instance: u32, name: &str) -> Result<u32, Fault>
         ensures added { AddsToInstance self.old self.new (indexed_outcome result)
             (Aliased (InstanceExport instance kinds.Instance name.now)) }
@@ -115,8 +132,12 @@ impl<A: Allocator> Declarations<InstanceTypes, A> {
         Ok(index)
     }
 
-    /// Declares an alias of the type with the index `outer` of the scope that is `count` scopes out
-    /// (0 is this type), and answers the alias's own index. It is refused as `alias` is.
+    /// Declares an alias of the type with the index `outer` in the scope that is `count` scopes
+    /// outwards, where 0 is this type. Returns the alias's index in the index space of types.
+    ///
+    /// # Errors
+    ///
+    /// Fails as `alias` does.
     pub fn alias_outer_type(&mut self, count: u32, outer: u32) -> Result<u32, Fault>
         ensures added { AddsToInstance self.old self.new (indexed_outcome result)
             (Aliased (Outer outers.«Type» count outer)) }
@@ -131,8 +152,13 @@ impl<A: Allocator> Declarations<InstanceTypes, A> {
         Ok(index)
     }
 
-    /// Declares an alias of the core type with the index `outer` of the scope that is `count`
-    /// scopes out (0 is this type), and answers the alias's own index. It is refused as `alias` is.
+    /// Declares an alias of the core type with the index `outer` in the scope that is `count`
+    /// scopes outwards, where 0 is this type. Returns the alias's index in the index space of core
+    /// types.
+    ///
+    /// # Errors
+    ///
+    /// Fails as `alias` does.
     pub fn alias_core_type(&mut self, count: u32, outer: u32) -> Result<u32, Fault>
         ensures added { AddsToInstance self.old self.new (indexed_outcome result)
             (Aliased (Outer outers.CoreType count outer)) }
@@ -147,8 +173,11 @@ impl<A: Allocator> Declarations<InstanceTypes, A> {
         Ok(index)
     }
 
-    /// Declares an export of a type under this name, and answers its index. It is refused as
-    /// `alias` is.
+    /// Declares an export of a type with this name. Returns its index in the index space of types.
+    ///
+    /// # Errors
+    ///
+    /// Fails as `alias` does.
     pub fn export_type<B: Allocator>(
         &mut self,
         name: ComponentExternName<'_, B>,
@@ -163,8 +192,12 @@ impl<A: Allocator> Declarations<InstanceTypes, A> {
         Ok(index)
     }
 
-    /// Declares an export of an instance of the type with this index, and answers its index among
-    /// the instances. It is refused as `alias` is.
+    /// Declares an export, with this name, of an instance whose type has the index `ty`. Returns
+    /// its index in the index space of instances.
+    ///
+    /// # Errors
+    ///
+    /// Fails as `alias` does.
     pub fn export_instance<B: Allocator>(
         &mut self,
         name: ComponentExternName<'_, B>,

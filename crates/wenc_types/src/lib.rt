@@ -1,9 +1,12 @@
-//! Types that components define, as trees and by the encoders that write them.
+//! Types that components define: as trees, and by encoders that write them into a parent.
 //!
-//! Numbers, indices, counts and sizes are from 0 to 4294967295. What would have more declarations
-//! or values is refused with `TooMany`, what would have more bytes with `TooLarge`, what gets no
-//! memory with `Memory`, and what has something in it that was begun and not ended with
-//! `Unfinished`.
+//! Numbers, indices, counts and sizes are from 0 to 4294967295.
+//!
+//! # Errors
+//!
+//! A call fails with `TooMany` if there would be more declarations or values than that, with
+//! `TooLarge` if there would be more bytes, with `Memory` if an allocation fails, and with
+//! `Unfinished` if a type was begun and not ended.
 #![tactic(auto)]
 
 pub mod component_type;

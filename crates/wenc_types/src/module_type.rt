@@ -12,7 +12,7 @@ use crate::declarations::{Declarations, DeclaredKind};
 use std::alloc::{Allocator, Global};
 use wenc_base::{CoreTypeEncoder, EntityType, Fault, Tagged, Verbatim};
 
-/// The kind of types that modules have.
+/// The kind of module types.
 pub struct ModuleTypes;
 
 impl DeclaredKind for ModuleTypes {
@@ -30,7 +30,7 @@ impl DeclaredKind for ModuleTypes {
     ghost sort = { module_sort };
 }
 
-/// The type of a core module: what it imports and exports, and the types that these have (component
+/// The type of a core module: its imports and exports, and the types that these refer to (component
 /// model, binary format, "Core Definitions").
 ///
 /// ```
@@ -45,16 +45,25 @@ impl<A: Allocator> Declarations<ModuleTypes, A> {
     ghost use Rattle.wenc_types.specs.contracts.declarations.Declarations.{the_row};
     ghost use Rattle.wenc_types.specs.contracts.module_type.ModuleTypes.{the_row as kind};
 
-    /// Declares an import of the module. It is refused where there would be too many declarations
-    /// (`TooMany`), or too many bytes in them or in one of the names (`TooLarge`).
+    /// Declares an import of the module.
+    ///
+    /// # Errors
+    ///
+    /// Fails with `Unfinished` while a type is being written, with `TooMany` if the number of
+    /// declarations would exceed 4294967295, and with `TooLarge` if their bytes or those of one of
+    /// the names would.
     pub fn import(&mut self, module: &str, name: &str, ty: EntityType) -> Result<(), Fault>
         ensures { AddsToModule self.old self.new result (ModuleImport «module».now name.now ty) }
     {
         self.add(&Tagged(0x00, &(module, name, ty)), None)
     }
 
-    /// Declares an alias of a core type of the scope that is `count` scopes out (0 is this type).
-    /// It is refused as `import` is.
+    /// Declares an alias of the core type with this index in the scope that is `count` scopes
+    /// outwards, where 0 is this type.
+    ///
+    /// # Errors
+    ///
+    /// Fails as `import` does.
     pub fn alias_outer_core_type(&mut self, count: u32, index: u32) -> Result<(), Fault>
         ensures { AddsToModule self.old self.new result (ModuleOuter count index) }
     {
@@ -65,8 +74,13 @@ impl<A: Allocator> Declarations<ModuleTypes, A> {
         )
     }
 
-    /// Declares an alias as `alias_outer_core_type` does, and answers its index. It is refused as
-    /// `import` is.
+    /// Declares an alias of the core type with the index `outer` in the scope that is `count`
+    /// scopes outwards, as `alias_outer_core_type` does. Returns the alias's index in this type's
+    /// index space of core types.
+    ///
+    /// # Errors
+    ///
+    /// Fails as `import` does.
     pub fn alias_core_type(&mut self, count: u32, outer: u32) -> Result<u32, Fault>
         ensures added { AddsToModule self.old self.new (indexed_outcome result)
             (ModuleOuter count outer) }
@@ -77,15 +91,22 @@ impl<A: Allocator> Declarations<ModuleTypes, A> {
         Ok(index)
     }
 
-    /// Declares an export of the module. It is refused as `import` is.
+    /// Declares an export of the module.
+    ///
+    /// # Errors
+    ///
+    /// Fails as `import` does.
     pub fn export(&mut self, name: &str, ty: EntityType) -> Result<(), Fault>
         ensures { AddsToModule self.old self.new result (ModuleExport name.now ty) }
     {
         self.add(&Tagged(0x03, &(name, ty)), None)
     }
 
-    /// Begins a type, which is written by the encoder that is answered. It is refused as `import`
-    /// is.
+    /// Begins a core type, and returns its encoder.
+    ///
+    /// # Errors
+    ///
+    /// Fails as `import` does.
     pub fn ty(&mut self) -> Result<CoreTypeEncoder<'_, ModuleType<A>>, Fault>
         ensures* refused { sem 𝓛 (RestsIfErr (the_row kind A.row
             ⟦<ModuleTypes as DeclaredKind>⟧ A.Allocator) self.entry

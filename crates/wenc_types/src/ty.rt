@@ -1,4 +1,4 @@
-//! The encoder that writes one type of a component.
+//! The encoder of a component's types.
 ghost use Rattle.std.specs.Prelude.{◌≡◌, List, true, false, Err};
 ghost use Rattle.wenc_base.specs.Holder.{is_finished, held_members, EncodeCause};
 ghost use Rattle.wenc_base.specs.Lender.{Ends, MakesWhole};
@@ -17,9 +17,11 @@ use crate::type_tree::TypeTree;
 use std::alloc::Allocator;
 use wenc_base::{Fault, Lender, Tagged, ValType};
 
-/// Writes one type into what it was lent: a holder, or a type, section or builder that has one
-/// (component model, binary format, "Type Definitions"). Where it is dropped, or its last call is
-/// refused, what it was lent is left unfinished, until that gives the type up.
+/// Writes one type into its parent: a holder, or a type, a section or a builder that contains one
+/// (component model, binary format, "Type Definitions").
+///
+/// If its last call fails, or the encoder is dropped, the parent stays unfinished until its
+/// `discard_unfinished` discards the type.
 ///
 /// ```
 /// let mut types = ComponentTypeSection::new(alloc);
@@ -34,7 +36,8 @@ pub struct ComponentTypeEncoder<'a, L: Lender> {
 }
 
 impl<'a, L: Lender> ComponentTypeEncoder<'a, L> {
-    /// An encoder of the member that the lender has just opened, of which each type is a whole one.
+    /// Creates an encoder for the member that `lender` has just opened. Each type has to be a
+    /// complete member.
     pub fn new(lender: &'a mut L) -> Self
         requires opened { L.opened lender.old ≡ true }
         requires whole { (t : DefType)
@@ -45,9 +48,12 @@ impl<'a, L: Lender> ComponentTypeEncoder<'a, L> {
         ComponentTypeEncoder { lender }
     }
 
-    /// This component type, which ends the type. It is refused with `Unfinished` where the
-    /// component type is unfinished, and where there would be too many bytes in what was lent
-    /// (`TooLarge`).
+    /// Writes this component type, which ends the type.
+    ///
+    /// # Errors
+    ///
+    /// Fails with `Unfinished` if the component type is unfinished, and with `TooLarge` if the size
+    /// of the parent would exceed 4294967295.
     pub fn component<A: Allocator>(self, ty: &ComponentType<A>) -> Result<(), Fault>
         ensures ended { Ends L.appended L.ended L.refuses
             self.entry.lender.now self.exit.0.now result
@@ -64,7 +70,11 @@ impl<'a, L: Lender> ComponentTypeEncoder<'a, L> {
         self.lender.end_with(ty)
     }
 
-    /// This instance type, which ends the type. It is refused as `component` is.
+    /// Writes this instance type, which ends the type.
+    ///
+    /// # Errors
+    ///
+    /// Fails as `component` does.
     pub fn instance<A: Allocator>(self, ty: &InstanceType<A>) -> Result<(), Fault>
         ensures ended { Ends L.appended L.ended L.refuses
             self.entry.lender.now self.exit.0.now result
@@ -81,8 +91,12 @@ impl<'a, L: Lender> ComponentTypeEncoder<'a, L> {
         self.lender.end_with(ty)
     }
 
-    /// The type of this tree, which ends the type. It is refused where a list in it is too long
-    /// (`TooMany`), or where there would be too many bytes (`TooLarge`).
+    /// Writes the type of this tree, which ends the type.
+    ///
+    /// # Errors
+    ///
+    /// Fails with `TooMany` if a list in the tree has more than 4294967295 values, and with
+    /// `TooLarge` if the bytes of a string in it or the size of the parent would exceed 4294967295.
     pub fn tree<A: Allocator>(self, ty: &TypeTree<A>) -> Result<(), Fault>
         ensures { Ends L.appended L.ended L.refuses self.entry.lender.now self.exit.0.now result
             (def_type (type_view ty.now)) }
@@ -90,7 +104,7 @@ impl<'a, L: Lender> ComponentTypeEncoder<'a, L> {
         self.lender.end_with(ty)
     }
 
-    /// The encoder of a type of functions.
+    /// Returns the encoder of a function type.
     pub fn function(self) -> ComponentFuncTypeEncoder<'a, L>
         ensures same_reference { result.lender.ghost_name ≡ self.entry.lender.ghost_name }
         ensures now { result.lender.now ≡ self.entry.lender.now }
@@ -100,7 +114,7 @@ impl<'a, L: Lender> ComponentTypeEncoder<'a, L> {
         ComponentFuncTypeEncoder::new(lender)
     }
 
-    /// The encoder of a type of values.
+    /// Returns the encoder of a defined type, a type of values.
     pub fn defined_type(self) -> ComponentDefinedTypeEncoder<'a, L>
         ensures same_reference { result.lender.ghost_name ≡ self.entry.lender.ghost_name }
         ensures now { result.lender.now ≡ self.entry.lender.now }
@@ -109,9 +123,12 @@ impl<'a, L: Lender> ComponentTypeEncoder<'a, L> {
         ComponentDefinedTypeEncoder::new(lender)
     }
 
-    /// A resource type, by how a resource is represented, and the index of the core function that
-    /// is called when one is dropped, where there is such a function. This ends the type. It is
-    /// refused where there would be too many bytes in what was lent (`TooLarge`).
+    /// Writes a resource type: its representation, and the index of its destructor, a core
+    /// function, if it has one. This ends the type.
+    ///
+    /// # Errors
+    ///
+    /// Fails with `TooLarge` if the size of the parent would exceed 4294967295.
     pub fn resource(self, rep: ValType, dtor: Option<u32>) -> Result<(), Fault>
         ensures { Ends L.appended L.ended L.refuses self.entry.lender.now self.exit.0.now result
             (def_type (ResourceType rep dtor)) }

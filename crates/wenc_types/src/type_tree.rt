@@ -1,4 +1,4 @@
-//! Types that components define, as trees.
+//! Types of components, as trees.
 ghost use Rattle.std.specs.Prelude.{OnOk};
 ghost use Rattle.wenc_base.specs.Encode.{Appends, list_in_order};
 ghost use Rattle.wenc_base.specs.Piece.{◌▸◌, ◌⨾◌};
@@ -13,8 +13,8 @@ use std::alloc::{Allocator, Global};
 use wenc_base::{Delimited, Encode, Fault, Tagged, ValType};
 use wenc_parts::{AliasTree, ComponentTypeRef, ComponentValType, NameTree, ResultList};
 
-/// A type that a component defines, with all that is in it, however deep (component model, binary
-/// format, "Type Definitions").
+/// A type that a component defines, as a tree of any depth (component model, binary format, "Type
+/// Definitions").
 ///
 /// ```
 /// let function = TypeTree::Func {
@@ -33,66 +33,67 @@ use wenc_parts::{AliasTree, ComponentTypeRef, ComponentValType, NameTree, Result
 #[cycle(types)]
 #[derive(Drop)]
 pub enum TypeTree<A: Allocator = Global> {
-    /// A type of values.
+    /// A defined type: a type of values.
     Defined(DefinedTree<A>),
-    /// A function.
+    /// The type of a function.
     Func {
-        /// Whether it is asynchronous.
+        /// Whether the function is asynchronous.
         is_async: bool,
-        /// The name of each parameter and its type, in their order. More than 4294967295 can't be
+        /// The name and the type of each parameter, in order. More than 4294967295 can't be
         /// encoded, nor can a name of more than 4294967295 bytes.
         params: Vec<(String<A>, ComponentValType), A>,
-        /// The type of the value that it answers, where it answers one.
+        /// The type of the result, if there is one.
         result: Option<ComponentValType>,
     },
-    /// A component, by its declarations in their order. More than 4294967295 can't be encoded.
+    /// The type of a component, as its declarations in order. More than 4294967295 can't be
+    /// encoded.
     Component(Vec<ComponentDecl<A>, A>),
-    /// An instance, by its declarations in their order. More than 4294967295 can't be encoded.
+    /// The type of an instance, as its declarations in order. More than 4294967295 can't be
+    /// encoded.
     Instance(Vec<InstanceDecl<A>, A>),
-    /// A resource.
+    /// A resource type.
     Resource {
-        /// How it is represented.
+        /// The representation of a resource.
         rep: ValType,
-        /// The index of the core function that is called when one is dropped, from 0 to 4294967295,
-        /// where there is one.
+        /// The index of the destructor, a core function, from 0 to 4294967295, if there is one.
         dtor: Option<u32>,
     },
 }
 
-/// What an instance type declares (component model, binary format, "Type Definitions").
+/// A declaration of an instance type (component model, binary format, "Type Definitions").
 #[cycle(types)]
 #[derive(Drop)]
 pub enum InstanceDecl<A: Allocator = Global> {
-    /// A core type, which gets the next index of core types.
+    /// A core type, which takes the next index in the index space of core types.
     CoreType(CoreTypeTree<A>),
-    /// A type, which gets the next index of types.
+    /// A type, which takes the next index in the index space of types.
     Type(TypeTree<A>),
-    /// An alias, which gets the next index of its kind. A text of more than 4294967295 bytes can't
-    /// be encoded.
+    /// An alias, which takes the next index in the index space of its sort. A string of more than
+    /// 4294967295 bytes can't be encoded.
     Alias(AliasTree<A>),
-    /// The instance exports this.
+    /// An export of the instance.
     Export {
-        /// Its name. A text of more than 4294967295 bytes can't be encoded.
+        /// The name of the export. A string of more than 4294967295 bytes can't be encoded.
         name: NameTree<A>,
-        /// Its type. An index of a type counts the types of this instance type, from 0 to
+        /// The type of the export. Type indices are of this instance type's index space, from 0 to
         /// 4294967295.
         ty: ComponentTypeRef,
     },
 }
 
-/// What a component type declares (component model, binary format, "Type Definitions").
+/// A declaration of a component type (component model, binary format, "Type Definitions").
 #[cycle(types)]
 #[derive(Drop)]
 pub enum ComponentDecl<A: Allocator = Global> {
-    /// The component imports this.
+    /// An import of the component.
     Import {
-        /// Its name. A text of more than 4294967295 bytes can't be encoded.
+        /// The name of the import. A string of more than 4294967295 bytes can't be encoded.
         name: NameTree<A>,
-        /// Its type. An index of a type counts the types of this component type, from 0 to
+        /// The type of the import. Type indices are of this component type's index space, from 0 to
         /// 4294967295.
         ty: ComponentTypeRef,
     },
-    /// What an instance type may declare as well.
+    /// A declaration that an instance type may have as well.
     Decl(InstanceDecl<A>),
 }
 
@@ -207,7 +208,7 @@ impl<A: Allocator> Delimited for ComponentDecl<A> {
     ghost written = { λ _. serves_itself };
 }
 
-/// A byte, then a value.
+/// Appends a tag, then a value.
 fn encode_tagged<T: Encode, A: Allocator>(
     tag: u8,
     value: &T,
@@ -220,7 +221,7 @@ fn encode_tagged<T: Encode, A: Allocator>(
     Tagged(tag, value).encode(sink)
 }
 
-/// A byte, then how many values, then each.
+/// Appends a tag, the number of values, then each.
 fn encode_members<T: Encode, A: Allocator, B: Allocator>(
     tag: u8,
     values: &Vec<T, A>,
@@ -233,7 +234,7 @@ fn encode_members<T: Encode, A: Allocator, B: Allocator>(
     Tagged(tag, &values.as_slice()).encode(sink)
 }
 
-/// A function, after a byte that says whether it is asynchronous.
+/// Appends the type of a function, whose tag says whether it is asynchronous.
 fn encode_function<A: Allocator, B: Allocator>(
     is_async: bool,
     params: &Vec<(String<A>, ComponentValType), A>,
@@ -250,7 +251,8 @@ fn encode_function<A: Allocator, B: Allocator>(
     Tagged(tag, &(params.as_slice(), ResultList(answer))).encode(sink)
 }
 
-/// A byte that says whether it is imported or exported, then a name and its type.
+/// Appends a tag, which says whether the item is imported or exported, then a name and the item's
+/// type.
 fn encode_extern<A: Allocator, B: Allocator>(
     tag: u8,
     name: &NameTree<A>,

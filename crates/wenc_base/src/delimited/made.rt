@@ -1,4 +1,4 @@
-//! Options, lists, pairs and triples of values that can be read again.
+//! `Delimited` for options, lists, pairs and triples of delimited values.
 ghost use Rattle.std.specs.Prelude.{Option as Optional, List, map};
 ghost use Rattle.wenc_base.specs.laws.Serves.{option_serves, list_serves, order_serves};
 

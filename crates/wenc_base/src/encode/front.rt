@@ -1,4 +1,4 @@
-//! Numbers that are put in front of what is written already.
+//! Numbers inserted before bytes that are already written.
 ghost use Rattle.std.specs.Prelude.{◌≡◌, ℕ, ◌+◌, ◌<◌, ◌≤◌, ◌++◌, List, length, take, drop, OnOk, OnErr, IfErr};
 ghost use Rattle.wenc_base.specs.Fault.{IsMemory};
 ghost use Rattle.wenc_base.specs.Number.{unsigned_text};
@@ -7,7 +7,11 @@ use super::Encode;
 use crate::fault::Fault;
 use std::alloc::Allocator;
 
-/// Puts a number in front of the bytes from `start` on, or leaves these out where it is refused.
+/// Inserts a number before the bytes from `start` on.
+///
+/// # Errors
+///
+/// Fails only if an allocation fails; the bytes from `start` on are then removed.
 pub fn put_number<A: Allocator>(
     number: u32,
     start: usize,
@@ -33,8 +37,12 @@ pub fn put_number<A: Allocator>(
     }
 }
 
-/// Puts a number in the place of the byte at `start`, or leaves out that byte and what follows it
-/// where it is refused. Most have one byte.
+/// Replaces the byte at `start` by a number. Most numbers have one byte, and then this doesn't
+/// allocate.
+///
+/// # Errors
+///
+/// Fails only if an allocation fails; the bytes from `start` on are then removed.
 #[tactic(auto, using(crate::proofs::Groups::put_over))]
 pub fn put_number_over<A: Allocator>(
     number: u32,
@@ -54,8 +62,8 @@ pub fn put_number_over<A: Allocator>(
     put_long_number_over(number, start, sink)
 }
 
-/// Puts a number of any length in the place of the byte at `start`, or leaves out that byte and
-/// what follows it where it is refused.
+/// Replaces the byte at `start` by a number of any length. If it fails, the bytes from `start` on
+/// are removed.
 #[cold]
 #[inline(never)]
 fn put_long_number_over<A: Allocator>(
@@ -81,7 +89,7 @@ fn put_long_number_over<A: Allocator>(
     }
 }
 
-/// Moves the last bytes to `start`, before those that stand there.
+/// Moves the last `size` bytes to `start`, before those that are there.
 fn turn_to_front(bytes: &mut [u8], start: usize, size: usize)
     requires { start + size ≤ length bytes.old }
     ensures { (before behind last : List ℕ) → bytes.old ≡ before ++ behind ++ last

@@ -1,4 +1,4 @@
-//! Lists, by slices and by iterators.
+//! Lists, from slices and from iterators.
 ghost use Rattle.std.specs.Prelude.{◌≡◌, ◌<◌, ◌++◌, List, ℕ, length, ◌^◌, OnOk, OnErr, IfOk, IfErr};
 ghost use Rattle.std.specs.Iterator.{IsFinite};
 ghost use Rattle.std.specs.Iterator.Runs.{SomeRun, WholeRun};
@@ -10,7 +10,7 @@ use crate::encode::Encode;
 use crate::fault::Fault;
 use std::alloc::Allocator;
 
-/// How many values, then each. The first refusal that is met is answered.
+/// Encodes the number of values, then each. Fails with the first error met.
 impl<T: Encode> Encode for &[T] {
     ghost piece = { λ vs. list_in_order T.piece vs.now };
 
@@ -27,7 +27,7 @@ impl<T: Encode> Encode for &[T] {
     }
 }
 
-/// Appends the text of each value, up to the first that is refused.
+/// Appends the encoding of each value, and stops at the first error.
 fn encode_each<T: Encode, A: Allocator>(values: &[T], sink: &mut Vec<u8, A>) -> Result<(), Fault>
     ensures ok { OnOk result (Written T.piece sink.old.items values.now sink.new.items) }
     ensures err { OnErr result ((more : List ℕ) × (sink.new.items ≡ sink.old.items ++ more)) }
@@ -40,8 +40,13 @@ fn encode_each<T: Encode, A: Allocator>(values: &[T], sink: &mut Vec<u8, A>) -> 
     Ok(())
 }
 
-/// How many values come, then each. It takes no memory for the values themselves, which are dropped
-/// once they are written. The first refusal that is met is answered.
+/// Appends the number of values that the iterator yields, then each. The values are not collected:
+/// each is dropped once it is written.
+///
+/// # Errors
+///
+/// Fails with the first error met: of a value, `TooMany` if there are more than 4294967295 values,
+/// or an allocation failure. `sink` is then unchanged.
 pub fn encode_list<T: Encode + Drop, I: Iterator<Item = T> + Drop, A: Allocator>(
     values: I,
     sink: &mut Vec<u8, A>,
@@ -65,8 +70,8 @@ pub fn encode_list<T: Encode + Drop, I: Iterator<Item = T> + Drop, A: Allocator>
     }
 }
 
-/// Appends the text of each value that comes, up to the first that is refused, and answers how many
-/// came.
+/// Appends the encoding of each value that the iterator yields, and stops at the first error.
+/// Returns their number.
 fn encode_all<T: Encode + Drop, I: Iterator<Item = T> + Drop, A: Allocator>(
     values: I,
     sink: &mut Vec<u8, A>,

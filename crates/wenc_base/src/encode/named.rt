@@ -1,4 +1,4 @@
-//! The trait `Named`: texts that are written as names.
+//! The trait `Named`: strings that are encoded as names.
 ghost use Rattle.std.specs.Prelude.{ℕ, List};
 ghost use Rattle.wenc_base.specs.Encode.{Serves};
 ghost use Rattle.wenc_base.specs.Forms.{name};
@@ -8,12 +8,13 @@ use crate::encode::Encode;
 use crate::fault::Fault;
 use std::alloc::Allocator;
 
-/// A text, owned or borrowed, which is written as a name. A type of your own may implement it too.
+/// An owned or borrowed string, encoded as a name. You may implement this trait for types of your
+/// own.
 pub trait Named: Encode {
     /// The bytes of the name.
     ghost named: { Self → List ℕ };
 
-    /// It is written as the name with these bytes.
+    /// The value is encoded as the name with these bytes.
     ghost as_name: { (s : Self) → Serves (Self.piece s) (name (named s)) };
 }
 
@@ -31,7 +32,7 @@ impl<A: Allocator> Named for String<A> {
     ghost as_name = { λ _. serves_itself };
 }
 
-/// A text that is lent, written as a name.
+/// A borrowed string, encoded as a name.
 impl<A: Allocator> Encode for &String<A> {
     ghost use Rattle.std.specs.String.{string_bytes};
 

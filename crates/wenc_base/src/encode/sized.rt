@@ -1,4 +1,4 @@
-//! Values after their size.
+//! Values preceded by their size.
 ghost use Rattle.wenc_base.specs.Encode.{sized_in_order};
 
 use super::Encode;
@@ -6,8 +6,10 @@ use super::front::put_number;
 use crate::fault::Fault;
 use std::alloc::Allocator;
 
-/// How many bytes a value has, then the value. It is refused as the value is, or where there are
-/// too many bytes (`TooLarge`).
+/// A value preceded by its size in bytes.
+///
+/// Encoding fails as that of the value does, or with `TooLarge` if the value has more than
+/// 4294967295 bytes.
 #[derive(Clone, Copy)]
 pub struct WithSize<'a, T>(pub &'a T);
 

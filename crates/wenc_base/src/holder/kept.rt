@@ -1,4 +1,4 @@
-//! Bytes that a holder keeps in front of its members.
+//! The kept prefix of a holder: bytes before its members.
 ghost use Rattle.std.specs.Prelude.{◌≡◌, ◌+◌, ◌-◌, ◌<◌, ◌≤◌, ◌^◌, ◌++◌, [], true, false, length, take, drop, vec_len, vec_capacity, OnOk, OnErr, IfOk, IfErr};
 ghost use Rattle.wenc_base.specs.Encode.{Appends};
 ghost use Rattle.wenc_base.specs.Fault.{IsMemory, IsWarranted, either, NoCause};
@@ -11,25 +11,30 @@ use crate::encode::{Encode, extend_in_room};
 use crate::fault::Fault;
 use std::alloc::Allocator;
 
-/// The bytes that a holder keeps in front of its members: for one who has several sections in one
+/// The kept prefix: bytes before the members, for callers that store several sections in one
 /// vector.
 impl<A: Allocator> Holder<A> {
-    /// How many bytes are kept.
+    /// Returns the length of the kept prefix.
     pub fn kept_len(&self) -> usize
         ensures { result ≡ length self.now.kept }
     {
         self.kept
     }
 
-    /// The bytes that are kept.
+    /// Returns the kept prefix.
     pub fn kept(&self) -> &[u8]
         ensures { result.now ≡ self.now.kept }
     {
         &self.bytes[..self.kept]
     }
 
-    /// Keeps the members too, with this value's text after them, and has no members then. Answers
-    /// how many bytes there were. A finished holder is refused for the value's own cause alone.
+    /// Moves the members into the kept prefix, appends the encoding of `more` to it, and leaves the
+    /// holder without members. Returns the total number of bytes before the call.
+    ///
+    /// # Errors
+    ///
+    /// Fails with `Unfinished` while a member is open, else as encoding `more` does. The holder is
+    /// then unchanged.
     pub fn keep_all<E: Encode>(&mut self, more: &E) -> Result<usize, Fault>
         ensures ok { OnOk result (self.new ≡ holding
             (all_bytes self.old ++ (E.piece more.now).text) 0 []) }
@@ -53,13 +58,15 @@ impl<A: Allocator> Holder<A> {
         Ok(len)
     }
 
-    /// Keeps the members too, with `head` in the place of the bytes from `start` to `end`, of which
-    /// there are as many or more, and with `lead` and `bytes` after them, which are written where
-    /// they stay. It has no members then.
+    /// Moves the members into the kept prefix, replaces its bytes from `start` to `end` by `head`,
+    /// which isn't longer, and appends `lead` and `bytes`. The holder is left without members.
+    ///
+    /// The holder has to be finished. `start` and `end` are byte offsets into all its bytes.
+    /// `bytes` is copied once, to its final position.
     ///
     /// # Errors
     ///
-    /// Fails where there is no memory, and changes nothing then.
+    /// Fails only if an allocation fails; the holder is then unchanged.
     pub fn keep_bytes(
         &mut self,
         start: usize,
@@ -85,8 +92,11 @@ impl<A: Allocator> Holder<A> {
         Ok(())
     }
 
-    /// Goes back to the first `len` bytes, of which the first `kept` are kept, and the others are
-    /// the texts of `count` members. It takes no memory.
+    /// Goes back to the first `len` bytes, of which the first `kept` are the kept prefix, and the
+    /// others are the encodings of `count` members. Does not allocate.
+    ///
+    /// The holder has to be finished, and the section of the members has to have at most 4294967295
+    /// bytes after its size.
     pub fn go_back(&mut self, kept: usize, len: usize, count: u32)
         requires finished { is_finished self.old ≡ true }
         requires within { (kept ≤ len) × (len ≤ length (all_bytes self.old)) }
@@ -98,8 +108,8 @@ impl<A: Allocator> Holder<A> {
         self.count = count;
     }
 
-    /// Puts these bytes in the place of the kept ones from `start` to `end`, of which there are as
-    /// many or more. It takes no memory.
+    /// Replaces the bytes from `start` to `end` of the kept prefix by `bytes`, which isn't longer.
+    /// Does not allocate.
     #[inline]
     pub fn fill_kept(&mut self, start: usize, end: usize, bytes: &[u8])
         requires within { (start ≤ end) × (end ≤ length self.old.kept) }
@@ -111,7 +121,8 @@ impl<A: Allocator> Holder<A> {
     }
 }
 
-/// Appends the text of a value, which is bytes as all that a sink holds.
+/// Appends the encoding of a value, of which each element is a byte, as of all that a vector of
+/// bytes contains.
 #[inline]
 fn append<E: Encode, A: Allocator>(value: &E, sink: &mut Vec<u8, A>) -> Result<(), Fault>
     ensures appended { Appends (E.piece value.now).text (E.piece value.now).Cause
@@ -122,7 +133,7 @@ fn append<E: Encode, A: Allocator>(value: &E, sink: &mut Vec<u8, A>) -> Result<(
     value.encode(sink)
 }
 
-/// Puts a head in the place of the bytes from `start` to `end`; what follows them moves up to it.
+/// Replaces the bytes from `start` to `end` by `head`; the bytes after them move up to it.
 #[inline]
 fn fill<A: Allocator>(bytes: &mut Vec<u8, A>, start: usize, end: usize, head: &[u8])
     requires within { (start ≤ end) × (end ≤ length bytes.old.items) }
@@ -137,8 +148,8 @@ fn fill<A: Allocator>(bytes: &mut Vec<u8, A>, start: usize, end: usize, head: &[
     bytes.truncate(len - spare);
 }
 
-/// Puts a head in the place of the bytes from `start` to `end` of a slice; what follows them moves
-/// up to it, and the last bytes are spare then.
+/// Replaces the bytes from `start` to `end` of a slice by `head`; the bytes after them move up to
+/// it, and the last bytes of the slice become unused.
 #[tactic(auto, using(crate::proofs::Kept::filled))]
 #[inline]
 fn move_up(bytes: &mut [u8], start: usize, end: usize, head: &[u8])

@@ -13,20 +13,23 @@ use crate::encode::{Encode, Verbatim};
 use crate::fault::Fault;
 use std::alloc::Allocator;
 
-/// A member that is being written.
+/// An open member: one that is being written.
 #[derive(Clone, Copy)]
 pub struct Opening {
-    /// Where it begins among the members' bytes.
+    /// Where the member begins, as an offset into the members' bytes.
     pub member_start: usize,
-    /// Where the bytes end there with which it was opened.
+    /// Where the lead ends with which the member was opened, as an offset into the members' bytes.
     pub lead_end: usize,
 }
 
 /// A member that is written in several calls. From `open` on the holder is unfinished, until the
-/// member is whole (`close`, `finish_member`) or given up (`discard_unfinished`).
+/// member is ended (`close`, `finish_member`) or discarded (`discard_unfinished`).
 impl<A: Allocator> Holder<A> {
-    /// Begins a member by these bytes. It is refused as `add` is; where there are no bytes it takes
-    /// no memory.
+    /// Opens a member that begins with these bytes. With an empty `lead` this doesn't allocate.
+    ///
+    /// # Errors
+    ///
+    /// Fails as `add` does.
     pub fn open(&mut self, lead: &[u8]) -> Result<(), Fault>
         ensures opened { BeginsMember self.old self.new result lead.now }
         ensures no_memory { lead.now ≡ [] → IfErr result (AddCause self.old [] (λ _. ⊥)) }
@@ -48,7 +51,7 @@ impl<A: Allocator> Holder<A> {
         Ok(())
     }
 
-    /// Whether a member is being written of which there is the lead alone.
+    /// Returns whether a member is open that consists of its lead alone.
     pub fn is_opened(&self) -> bool
         ensures { result ≡ is_opened self.now }
     {
@@ -58,8 +61,12 @@ impl<A: Allocator> Holder<A> {
         }
     }
 
-    /// Adds these bytes to the member that is being written. It is refused where there would be too
-    /// many bytes with those of the number of members (`TooLarge`), and then nothing changes.
+    /// Appends these bytes to the open member. There has to be one.
+    ///
+    /// # Errors
+    ///
+    /// Fails with `TooLarge` if the size of the members' section would exceed 4294967295. The
+    /// holder is then unchanged.
     pub fn append(&mut self, text: &[u8]) -> Result<(), Fault>
         requires { is_finished self.old ≡ false }
         ensures { AppendsToMember self.old self.new (member_appended self.old text.now) result
@@ -68,8 +75,11 @@ impl<A: Allocator> Holder<A> {
         self.append_encoded(&Verbatim(text))
     }
 
-    /// Adds the text of this value to the member that is being written. It is refused as `append`
-    /// is, or as the value is.
+    /// Appends the encoding of this value to the open member. There has to be one.
+    ///
+    /// # Errors
+    ///
+    /// Fails as `append` does, or as the value's `encode` does.
     pub fn append_encoded<E: Encode>(&mut self, value: &E) -> Result<(), Fault>
         requires { is_finished self.old ≡ false }
         ensures appended { AppendsToMember self.old self.new
@@ -81,8 +91,12 @@ impl<A: Allocator> Holder<A> {
         keep_in_room(&mut self.bytes, self.kept, start, self.count)
     }
 
-    /// Adds these bytes to the member that is being written, then the values as a list. It is
-    /// refused as `append` is, or as the values are.
+    /// Appends these bytes to the open member, then the values as a list. There has to be an open
+    /// member.
+    ///
+    /// # Errors
+    ///
+    /// Fails as `append` does, or as encoding the values does.
     pub fn append_listed<T: Encode + Drop, I: Iterator<Item = T> + Drop>(
         &mut self,
         lead: &[u8],
@@ -98,8 +112,11 @@ impl<A: Allocator> Holder<A> {
         self.append_between(&Verbatim(lead), values, &())
     }
 
-    /// Adds the last bytes of the member that is being written. It is refused as `append` is, and
-    /// then the holder stays unfinished.
+    /// Appends the last bytes of the open member and ends it. There has to be an open member.
+    ///
+    /// # Errors
+    ///
+    /// Fails as `append` does; the member then stays open.
     pub fn close(&mut self, text: &[u8]) -> Result<(), Fault>
         requires { is_finished self.old ≡ false }
         ensures { AppendsToMember self.old self.new
@@ -111,15 +128,15 @@ impl<A: Allocator> Holder<A> {
         Ok(())
     }
 
-    /// The member that is being written is whole. It takes no memory.
+    /// Ends the open member, which is complete. Does not allocate.
     pub fn finish_member(&mut self)
         ensures { self.new ≡ member_ended self.old }
     {
         self.opening = None;
     }
 
-    /// Gives up the member that is being written, and says whether there was one: the holder is as
-    /// it was before `open`. It takes no memory.
+    /// Discards the open member, and returns whether there was one. The holder is then as it was
+    /// before `open`. Does not allocate.
     pub fn discard_unfinished(&mut self) -> bool
         ensures { GivesUp self.new (member_given_up self.old) (is_finished self.old) result }
     {
@@ -135,7 +152,7 @@ impl<A: Allocator> Holder<A> {
     }
 }
 
-/// Cuts off what was written from `start` on, where there is no room for it.
+/// Removes what was written from `start` on and fails, if there is no room for it.
 pub(super) fn keep_in_room<A: Allocator>(
     bytes: &mut Vec<u8, A>,
     kept: usize,

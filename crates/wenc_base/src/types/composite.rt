@@ -22,8 +22,13 @@ pub struct FuncType<A: Allocator = Global> {
 }
 
 impl<A: Allocator> FuncType<A> {
-    /// A function type with these parameters and results. It is refused for want of memory alone.
+    /// Creates a function type with these parameters and results.
+    ///
     /// More than 4294967295 of either can't be encoded.
+    ///
+    /// # Errors
+    ///
+    /// Fails only if an allocation fails.
     pub fn new<P: Iterator<Item = ValType> + Drop, R: Iterator<Item = ValType> + Drop>(
         alloc: A,
         params: P,
@@ -46,22 +51,23 @@ impl<A: Allocator> FuncType<A> {
         Ok(FuncType { params, results })
     }
 
-    /// A function type of these parameters and results. It takes no memory. More than 4294967295 of
-    /// either can't be encoded.
+    /// Creates a function type from lists of parameters and results. Does not allocate.
+    ///
+    /// More than 4294967295 of either can't be encoded.
     pub fn from_lists(params: Vec<ValType, A>, results: Vec<ValType, A>) -> Self
         ensures { (params_of result ≡ params.items) × (results_of result ≡ results.items) }
     {
         FuncType { params, results }
     }
 
-    /// The types of the parameters, in their order.
+    /// Returns the types of the parameters, in order.
     pub fn params(&self) -> &[ValType]
         ensures { result.now ≡ params_of self.now }
     {
         self.params.as_slice()
     }
 
-    /// The types of the results, in their order.
+    /// Returns the types of the results, in order.
     pub fn results(&self) -> &[ValType]
         ensures { result.now ≡ results_of self.now }
     {
@@ -69,7 +75,7 @@ impl<A: Allocator> FuncType<A> {
     }
 }
 
-/// As a composite type.
+/// Encodes as a composite type.
 impl<A: Allocator> Encode for FuncType<A> {
     ghost use Rattle.wenc_base.specs.Composites.{composite_type, func_type_view};
 
@@ -102,12 +108,12 @@ impl<A: Allocator> DelimitedEq for FuncType<A> {
     ghost alike = { λ laws a b e. rw (same_params a b e, same_results a b e) (laws.refl b) };
 }
 
-/// The type of an array, by that of its elements (WebAssembly 3.0, binary format, "Composite
+/// The type of an array, given by its element type (WebAssembly 3.0, binary format, "Composite
 /// Types").
 #[derive(Clone, Copy, Debug, PartialEq, Eq)]
 pub struct ArrayType(pub FieldType);
 
-/// As a composite type.
+/// Encodes as a composite type.
 impl Encode for ArrayType {
     ghost use Rattle.wenc_base.specs.Composites.{composite_type, array_view};
 
@@ -144,11 +150,11 @@ impl DelimitedEq for ArrayType {
 #[derive(Drop)]
 #[derive_where(PartialEq, Eq, Debug)]
 pub struct StructType<A: Allocator = Global> {
-    /// The types of the fields, in their order. More than 4294967295 can't be encoded.
+    /// The types of the fields, in order. More than 4294967295 can't be encoded.
     pub fields: Vec<FieldType, A>,
 }
 
-/// As a composite type.
+/// Encodes as a composite type.
 impl<A: Allocator> Encode for StructType<A> {
     ghost use Rattle.wenc_base.specs.Composites.{composite_type, structure_view};
 

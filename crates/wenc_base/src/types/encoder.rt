@@ -1,4 +1,4 @@
-//! The encoder that writes core types.
+//! The encoder of core types.
 ghost use Rattle.std.specs.Iterator.{IsFinite};
 ghost use Rattle.std.specs.Prelude.{◌≡◌, true, false, map};
 ghost use Rattle.wenc_base.specs.Composites.{RecType, Single, Rec, Struct, Array, composite_type, func_type_view, sub_view, rec_type, rec_type_view, standing};
@@ -13,13 +13,12 @@ use crate::fault::Fault;
 use crate::lender::Lender;
 use std::alloc::Allocator;
 
-/// Writes one core type, or types that refer to each other, into what it was lent: a holder, or a
-/// type, section or builder that has one. Each call is its last. Where a call is refused, or the
-/// encoder is dropped, what it was lent is left unfinished, until that gives the type up
-/// (WebAssembly 3.0, binary format, "Recursive Types").
+/// Writes one core type, or a group of mutually recursive ones, into its parent: a holder, or a
+/// type, a section or a builder that contains one (WebAssembly 3.0, binary format, "Recursive
+/// Types").
 ///
-/// A call is refused where a list has more than 4294967295 values (`TooMany`), or where there would
-/// be too many bytes in what it was lent (`TooLarge`).
+/// Each of its calls is the last. If the call fails, or the encoder is dropped, the parent stays
+/// unfinished until its `discard_unfinished` discards the type.
 ///
 /// ```
 /// let mut holder = Holder::new(alloc);
@@ -27,6 +26,11 @@ use std::alloc::Allocator;
 /// let encoder = CoreTypeEncoder::new(&mut holder, true);
 /// encoder.function([ValType::I32].into_iter(), [].into_iter())?;
 /// ```
+///
+/// # Errors
+///
+/// Each call fails with `TooMany` if a list has more than 4294967295 values, and with `TooLarge` if
+/// the size of the parent would exceed 4294967295.
 #[derive(Drop)]
 pub struct CoreTypeEncoder<'a, L: Lender> {
     lender: &'a mut L,
@@ -37,9 +41,10 @@ pub struct CoreTypeEncoder<'a, L: Lender> {
 }
 
 impl<'a, L: Lender> CoreTypeEncoder<'a, L> {
-    /// An encoder of the member that the lender has just opened, of which each core type is a whole
-    /// one. With `guard` a type that isn't final has a byte `00` before it, as it has in a
-    /// component.
+    /// Creates an encoder for the member that `lender` has just opened. Each core type has to be a
+    /// complete member.
+    ///
+    /// With `guard`, a type that isn't final is preceded by a byte `00`, as it is in a component.
     pub fn new(lender: &'a mut L, guard: bool) -> Self
         requires opened { L.opened lender.old ≡ true }
         requires whole { (g : RecType)
@@ -51,7 +56,7 @@ impl<'a, L: Lender> CoreTypeEncoder<'a, L> {
         CoreTypeEncoder { lender, guard }
     }
 
-    /// A final function type with these parameters and results.
+    /// Writes a final function type with these parameters and results.
     pub fn function<P, R>(self, params: P, results: R) -> Result<(), Fault>
     where
         P: Iterator<Item = ValType> + Drop,
@@ -68,7 +73,7 @@ impl<'a, L: Lender> CoreTypeEncoder<'a, L> {
         self.lender.end_with_list(&[], results)
     }
 
-    /// This function type, which is final.
+    /// Writes this function type, as a final one.
     pub fn func_type<A: Allocator>(self, ty: &FuncType<A>) -> Result<(), Fault>
         ensures { Ends L.appended L.ended L.refuses self.entry.lender.now self.exit.0.now result
             (composite_type (func_type_view ty.now)) }
@@ -76,7 +81,7 @@ impl<'a, L: Lender> CoreTypeEncoder<'a, L> {
         self.lender.end_with(ty)
     }
 
-    /// A final array type, whose elements are stored so, and can be changed or not.
+    /// Writes a final array type with elements of this storage type, mutable or not.
     pub fn array(self, ty: &StorageType, mutable: bool) -> Result<(), Fault>
         ensures { Ends L.appended L.ended L.refuses self.entry.lender.now self.exit.0.now result
             (composite_type (Array (record { element_type = ty.now; mutable = mutable }))) }
@@ -88,7 +93,7 @@ impl<'a, L: Lender> CoreTypeEncoder<'a, L> {
         }))
     }
 
-    /// A final structure type with these fields.
+    /// Writes a final structure type with these fields.
     pub fn struct_<I: Iterator<Item = FieldType> + Drop>(self, fields: I) -> Result<(), Fault>
         requires can { I.can_next fields }
         requires ends { IsFinite (I.remaining fields) }
@@ -99,7 +104,7 @@ impl<'a, L: Lender> CoreTypeEncoder<'a, L> {
         self.lender.end_with_list(&[0x5f], fields)
     }
 
-    /// This type.
+    /// Writes this type.
     pub fn subtype<A: Allocator>(self, ty: &SubType<A>) -> Result<(), Fault>
         ensures { Ends L.appended L.ended L.refuses self.entry.lender.now self.exit.0.now result
             (standing self.entry.guard (Single (sub_view ty.now))) }
@@ -108,8 +113,8 @@ impl<'a, L: Lender> CoreTypeEncoder<'a, L> {
         self.lender.end_with(&Guarded(guard, ty))
     }
 
-    /// These types, which may refer to each other. They are one core type of what is written, and
-    /// have no guards.
+    /// Writes a group of types, which may refer to each other. It is one core type of the parent,
+    /// and its types have no guards.
     pub fn rec<'b, A: Allocator + 'b, I>(self, types: I) -> Result<(), Fault>
     where
         I: Iterator<Item = &'b SubType<A>> + Drop,
@@ -122,7 +127,7 @@ impl<'a, L: Lender> CoreTypeEncoder<'a, L> {
         self.lender.end_with_list(&[0x4e], types)
     }
 
-    /// The type or types of this tree.
+    /// Writes the type or group of types of this tree.
     pub fn group<A: Allocator>(self, ty: &GroupTree<A>) -> Result<(), Fault>
         ensures { Ends L.appended L.ended L.refuses self.entry.lender.now self.exit.0.now result
             (standing self.entry.guard (rec_type_view ty.now)) }

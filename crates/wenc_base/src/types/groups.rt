@@ -1,4 +1,4 @@
-//! Types that a module defines together.
+//! Groups of types that a module defines together.
 ghost use Rattle.std.specs.Prelude.{refl};
 ghost use Rattle.wenc_base.specs.laws.Serves.{serves_itself};
 
@@ -8,11 +8,12 @@ use crate::encode::{Encode, Tagged};
 use crate::fault::Fault;
 use std::alloc::{Allocator, Global};
 
-/// Types that a module defines together (WebAssembly 3.0, binary format, "Recursive Types").
+/// One type, or a group of types that a module defines together (WebAssembly 3.0, binary format,
+/// "Recursive Types").
 #[derive(Drop)]
 #[derive_where(PartialEq, Eq, Debug)]
 pub enum GroupTree<A: Allocator = Global> {
-    /// One type by itself.
+    /// A single type.
     Sub(SubType<A>),
     /// Types that may refer to each other. More than 4294967295 can't be encoded.
     Rec(Vec<SubType<A>, A>),

@@ -1,4 +1,4 @@
-//! Core types in a component, some of which have a byte `00` before them.
+//! Core types in a component, some of which are preceded by a byte `00`.
 ghost use Rattle.wenc_base.specs.Composites.{Single, standing, sub_view, rec_type_view};
 
 use super::{GroupTree, SubType};
@@ -6,8 +6,10 @@ use crate::encode::{Encode, Tagged};
 use crate::fault::Fault;
 use std::alloc::Allocator;
 
-/// A type or a group. Where it is said to have guards, as in a component, a type by itself that
-/// isn't final has a byte `00` before it (component model, binary format, "Core Definitions").
+/// A type or a group, and whether guards are written.
+///
+/// With guards, as in a component, a single type that isn't final is preceded by a byte `00`
+/// (component model, binary format, "Core Definitions").
 #[derive(Clone, Copy)]
 pub struct Guarded<'a, T>(pub bool, pub &'a T);
 

@@ -1,4 +1,4 @@
-//! How fields of structures and elements of arrays are stored.
+//! Storage types of structure fields and array elements.
 ghost use Rattle.wenc_base.specs.laws.Delimited.{itself};
 ghost use Rattle.wenc_base.specs.laws.Serves.{serves_itself};
 
@@ -8,8 +8,8 @@ use crate::encode::Encode;
 use crate::fault::Fault;
 use std::alloc::Allocator;
 
-/// How a field of a structure, or an element of an array, is stored (WebAssembly 3.0, binary
-/// format, "Composite Types").
+/// The storage type of a structure field or an array element (WebAssembly 3.0, binary format,
+/// "Composite Types").
 #[derive(Clone, Copy, Debug, PartialEq, Eq)]
 pub enum StorageType {
     /// An 8-bit integer.
@@ -57,13 +57,13 @@ impl DelimitedEq for StorageType {
     ghost alike = { itself _ };
 }
 
-/// The type of a field of a structure, or of the elements of an array (WebAssembly 3.0, binary
-/// format, "Composite Types").
+/// The type of a structure field or of the elements of an array (WebAssembly 3.0, binary format,
+/// "Composite Types").
 #[derive(Clone, Copy, Debug, PartialEq, Eq)]
 pub struct FieldType {
-    /// How it is stored.
+    /// The storage type.
     pub element_type: StorageType,
-    /// Whether it can be changed.
+    /// Whether it is mutable.
     pub mutable: bool,
 }
 

@@ -1,4 +1,4 @@
-//! Composite types with what they extend.
+//! Subtypes: composite types with the type that they extend.
 ghost use Rattle.std.specs.Prelude.{OnOk, Some};
 ghost use Rattle.wenc_base.specs.Encode.{Appends};
 ghost use Rattle.wenc_base.specs.Forms.{option};
@@ -12,16 +12,16 @@ use crate::encode::{ByRef, Encode, Tagged};
 use crate::fault::Fault;
 use std::alloc::{Allocator, Global};
 
-/// A composite type, what it extends, and whether it can be extended (WebAssembly 3.0, binary
-/// format, "Recursive Types").
+/// A composite type, the type that it extends, and whether it can itself be extended (WebAssembly
+/// 3.0, binary format, "Recursive Types").
 #[derive(Drop)]
 #[derive_where(PartialEq, Eq, Debug)]
 pub struct SubType<A: Allocator = Global> {
-    /// Whether no type extends it.
+    /// Whether no type may extend it.
     pub is_final: bool,
-    /// The index of the type that it extends, from 0 to 4294967295, if it extends one.
+    /// The index of the type that it extends, from 0 to 4294967295, if there is one.
     pub supertype_idx: Option<u32>,
-    /// The type itself.
+    /// The composite type.
     pub composite_type: CompositeType<A>,
 }
 
@@ -71,7 +71,7 @@ impl<A: Allocator> DelimitedEq for SubType<A> {
         (last_of_three _ _ _ _ (laws.refl t) same)) };
 }
 
-/// A byte, the type that is extended, and a type.
+/// Appends a tag, the index of the type that is extended, and a type.
 fn encode_extension<T: Encode, A: Allocator>(
     tag: u8,
     index: u32,

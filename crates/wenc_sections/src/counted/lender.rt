@@ -11,10 +11,11 @@ use wenc_base::{Encode, Fault, Lender};
 /// A kind whose items are written by encoders.
 pub trait EncoderKind: CountedKind {}
 
-/// From the call that begins an item on, until its encoder has ended it, the section is unfinished,
-/// and what grows or encodes it is refused with `Unfinished`.
+/// A call that begins an item leaves the section unfinished until the encoder has ended the item.
+/// Until then, adding to the section or encoding it fails with `Unfinished`.
 impl<K: EncoderKind, A: Allocator> Counted<K, A> {
-    /// Whether no item is being written. Then it has some items, whoever made which calls.
+    /// Returns whether no item is being written. The section then consists of complete items,
+    /// whatever calls were made.
     pub fn is_finished(&self) -> bool
         ensures finished { result ≡ is_finished self.now }
         ensures items { is_finished self.now ≡ true → ∥ ContainsSome K.is_item self.now ∥₁ }
@@ -22,8 +23,8 @@ impl<K: EncoderKind, A: Allocator> Counted<K, A> {
         self.items.is_finished()
     }
 
-    /// Gives up the item that is being written, and says whether there was one: the section is as
-    /// it was before that item. It takes no memory.
+    /// Discards the item that is being written, and returns whether there was one. The section is
+    /// then as it was before that item. Does not allocate.
     pub fn discard_unfinished(&mut self) -> bool
         ensures { GivesUp self.new (member_given_up self.old) (is_finished self.old) result }
     {
