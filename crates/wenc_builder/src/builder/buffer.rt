@@ -1,4 +1,4 @@
-//! The bytes of a component, where its last section may be open.
+//! The bytes of a component, whose last section may be open.
 ghost use Rattle.std.specs.Prelude.{◌≡◌, ◌<◌, ◌^◌, length, OnOk, OnErr, IfOk, IfErr, is_none, None, Err, false};
 ghost use Rattle.std.specs.Iterator.{IsFinite};
 ghost use Rattle.wenc_base.specs.Encode.{Appends};
@@ -19,16 +19,16 @@ use std::marker::Model;
 use wenc_base::{Encode, Fault, Holder, Short, Verbatim, extend_in_room};
 use wenc_parts::Component;
 
-/// All sections of a component in one holder: it keeps the closed bytes and a gap, and its members
+/// All sections of a component in one holder, which keeps the closed bytes and a gap. Its members
 /// are the items of the open section.
 #[derive(Drop)]
 pub struct Buffer<A: Allocator = Global> {
     holder: Holder<A>,
-    /// How many bytes are closed.
+    /// The number of closed bytes.
     closed_len: usize,
-    /// The kind of the members, where there is a section.
+    /// The kind of the members, if a section is open.
     kind: Option<Kind>,
-    /// What was there before an item that opens another section, while that is being written.
+    /// The section before, while an item that opens another section is being written.
     earlier: Option<Earlier>,
 }
 
@@ -45,7 +45,8 @@ impl<A: Allocator> Model for Buffer<A> {
 }
 
 impl<A: Allocator> Buffer<A> {
-    /// The header of a component, and no section.
+    /// Creates a buffer with a component's header and no section. Fails only if an allocation fails
+    /// (`Memory`).
     #[tactic(auto, using(wenc_base::proofs::Groups::size_1))]
     pub fn new(alloc: A) -> Result<Self, Fault>
         ensures ok { IfOk result (λ b. b ≡ nothing_buffered) }
@@ -61,14 +62,14 @@ impl<A: Allocator> Buffer<A> {
         })
     }
 
-    /// Whether no item is being written.
+    /// Returns whether no item is being written.
     pub fn is_finished(&self) -> bool
         ensures { result ≡ is_none self.now.writing }
     {
         self.holder.is_finished()
     }
 
-    /// Begins an item of this kind.
+    /// Begins an item of this kind. A failed call changes nothing.
     pub fn begin(&mut self, kind: Kind) -> Result<(), Fault>
         requires { self.old.writing ≡ None }
         ensures ok { OnOk result (self.new ≡ buffer_begun self.old (kind_id kind)) }
@@ -89,7 +90,8 @@ impl<A: Allocator> Buffer<A> {
         }
     }
 
-    /// Begins an item that isn't one of the open section.
+    /// Begins an item that doesn't belong to the open section. Fails only if an allocation fails
+    /// (`Memory`), and changes nothing then.
     fn begin_apart(&mut self, kind: Kind) -> Result<(), Fault>
         requires settled { self.old.writing ≡ None }
         requires apart { OpensAnother self.old.settled.current (kind_id kind) }
@@ -109,7 +111,7 @@ impl<A: Allocator> Buffer<A> {
         self.holder.open(&[])
     }
 
-    /// Appends the text of a value to the item that is being written.
+    /// Appends a value's encoding to the item being written. A failed call changes nothing.
     pub fn append<E: Encode>(&mut self, value: &E) -> Result<(), Fault>
         requires { is_none self.old.writing ≡ false }
         ensures appended { Extends self.old self.new
@@ -120,7 +122,8 @@ impl<A: Allocator> Buffer<A> {
         self.holder.append_encoded(value)
     }
 
-    /// Appends these bytes to the item that is being written, then the values as a list.
+    /// Appends these bytes to the item being written, then the values as a list. A failed call
+    /// changes nothing.
     pub fn append_listed<T: Encode + Drop, I: Iterator<Item = T> + Drop>(
         &mut self,
         lead: &[u8],
@@ -136,7 +139,7 @@ impl<A: Allocator> Buffer<A> {
         self.holder.append_listed(lead, values)
     }
 
-    /// Ends the item that is being written: it is in its section from now on. It takes no memory.
+    /// Ends the item being written, which belongs to its section from now on. Allocates nothing.
     pub fn end(&mut self)
         requires { is_none self.old.writing ≡ false }
         ensures { self.new ≡ buffer_ended self.old }
@@ -148,7 +151,7 @@ impl<A: Allocator> Buffer<A> {
         }
     }
 
-    /// Gives up the item that is being written. It takes no memory.
+    /// Discards the item being written. Allocates nothing.
     pub fn give_up(&mut self)
         requires { is_none self.old.writing ≡ false }
         ensures { self.new ≡ buffer_given_up self.old }
@@ -163,8 +166,8 @@ impl<A: Allocator> Buffer<A> {
         }
     }
 
-    /// Writes what stands alone after all sections, of which none is open then. It is refused for
-    /// that value's own cause alone.
+    /// Writes a section of its own after all others, of which none is open afterwards. Fails only
+    /// as the section's `encode` does.
     pub fn stand_alone<E: Encode>(&mut self, section: &E) -> Result<(), Fault>
         requires { self.old.writing ≡ None }
         ensures ok { OnOk result (self.new ≡ buffer_with self.old (E.piece section.now).text) }
@@ -188,8 +191,9 @@ impl<A: Allocator> Buffer<A> {
         Ok(())
     }
 
-    /// Writes these bytes, with their number, alone after all sections, under this section id. They
-    /// are written where they stay, also after an open section. Fails as `stand_alone` does.
+    /// Writes a section of its own after all others, of which none is open afterwards: this id, the
+    /// number of bytes, and the bytes. They are written to their final position, also after an open
+    /// section. Fails as `stand_alone` does.
     #[tactic(auto, using(wenc_base::proofs::Groups::size_at_most_5))]
     pub fn stand_alone_bytes(&mut self, id: u8, bytes: &[u8]) -> Result<(), Fault>
         requires { self.old.writing ≡ None }
@@ -219,9 +223,9 @@ impl<A: Allocator> Buffer<A> {
         Ok(())
     }
 
-    /// Appends all bytes as a list of bytes, the open section in its place, which stays open here.
-    /// It is refused where there are more than 4294967295 bytes (`TooLarge`), and while an item is
-    /// being written (`Unfinished`).
+    /// Appends all bytes as a list of bytes, with the open section in place, which stays open in
+    /// this buffer. Fails with `TooLarge` if there are more than 4294967295 bytes, with
+    /// `Unfinished` while an item is being written, and with `Memory` if an allocation fails.
     #[tactic(auto, using(wenc_base::proofs::Groups::size_at_most_5))]
     pub fn append_to<B: Allocator>(&self, sink: &mut Vec<u8, B>) -> Result<(), Fault>
         ensures appended { Appends (nested self.now).text (nested self.now).Cause
@@ -249,7 +253,7 @@ impl<A: Allocator> Buffer<A> {
         Ok(())
     }
 
-    /// All bytes, the open section in its place. It takes no memory.
+    /// Returns all bytes, with the open section in place. Allocates nothing.
     pub fn finish(self) -> Vec<u8, A>
         requires { self.writing ≡ None }
         ensures { result.items ≡ sections_text self.settled }

@@ -1,9 +1,9 @@
-//! What a builder holds, as a nested component.
+//! A builder's component, as a nested component.
 use super::buffer::Buffer;
 use std::alloc::Allocator;
 use wenc_base::{Encode, Fault};
 
-/// All bytes of a component that is lent, as those of a nested one.
+/// All bytes of a borrowed component, as those of a nested one.
 #[derive(Clone, Copy)]
 pub struct Nested<'a, A: Allocator>(pub &'a Buffer<A>);
 
