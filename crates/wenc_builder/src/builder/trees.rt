@@ -16,8 +16,8 @@ use wenc_sections::{CanonTree, CoreInstanceTree, InstanceTree};
 /// Items given as trees, for commands: each method adds one with an optional debug name, and
 /// returns its index. Each fails as documented on `ComponentBuilder`.
 impl<A: Allocator> ComponentBuilder<A> {
-    /// Adds a core instance: a core module's, or one that exports items inline (component model,
-    /// binary format, "Instance Definitions").
+    /// Adds a core instance: an instance of a core module, or inline exports of core items
+    /// (component model, binary format, "Instance Definitions").
     pub fn core_instance_tree<B: Allocator>(
         &mut self,
         debug_name: Option<&str>,
@@ -34,8 +34,8 @@ impl<A: Allocator> ComponentBuilder<A> {
         )
     }
 
-    /// Adds an instance: a component's, or one that exports items inline (component model, binary
-    /// format, "Instance Definitions").
+    /// Adds an instance: an instance of a component, or inline exports of items (component model,
+    /// binary format, "Instance Definitions").
     pub fn instance_tree<B: Allocator>(
         &mut self,
         debug_name: Option<&str>,
