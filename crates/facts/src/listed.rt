@@ -1,4 +1,4 @@
-//! What ran, and what was built, is listed.
+//! Components that commands built, listed.
 ghost use Rattle.std.specs.Prelude.{◌≡◌, ◌⊎◌, ℕ, List, Option, Result, IfSome, MatchResult, map};
 ghost use Rattle.wasm_encoder.specs.Command.{CommandTree, command_view};
 ghost use Rattle.wasm_encoder.specs.Ran.{Ran};
@@ -17,9 +17,9 @@ use wasm_encoder::{Built, Command, build};
 use wenc_list::laws::faults_of_what_is_read;
 use wenc_list::{ListFault, Listing, list};
 
-/// Where commands ran, and led to items that can be encoded and are not raw, and no type in them is
-/// deeper than 100, no fault of a lister stands against the bytes of the component, but want of
-/// memory. Where a type is deeper, every other fault that stands is `TooDeep`.
+/// If commands ran and led to encodable items, of which none is raw and no type is deeper than 100,
+/// the component's bytes have no fault of a lister but `Memory`. If a type is deeper, every other
+/// fault is `TooDeep`.
 pub fn faults_of_what_ran()
     ensures no_fault { (commands : List CommandTree) (answers : List (Result (Option ℕ) Fault))
         (es : List Entry) → Ran commands answers es → HasNoRaw (items_of es)
@@ -36,7 +36,7 @@ pub fn faults_of_what_ran()
 }
 
 /// Builds a component, and lists it. Without a raw item its sections are the runs of the accepted
-/// commands' items, or memory is wanting, or a type in them is deeper than 100, and the fault is
+/// commands' items, unless memory runs out, or a type in them is deeper than 100, and the fault is
 /// that.
 pub fn built_and_listed<A: Allocator + Copy>(
     alloc: A,

@@ -16,7 +16,7 @@ pub fn imports<A: Allocator + Copy>(alloc: A, component: &[u8]) -> Result<bool, 
     Ok(imports)
 }
 
-/// `first_unread`: which item of a component isn't read.
+/// `first_unread`: which item of a component can't be read.
 pub fn unread<A: Allocator + Copy>(
     alloc: A,
     component: &[u8],
