@@ -1,5 +1,5 @@
-//! Canonical functions. They are chosen in parts, since what a match costs to prove grows with the
-//! square of its arms.
+//! Canonical functions, chosen by bytes. They are chosen in parts, since the cost of proving a
+//! match grows with the square of its arms.
 
 use crate::choices::{Choices, Choose};
 use wasm_encoder::{CanonTree, ValType};

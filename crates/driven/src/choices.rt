@@ -75,8 +75,8 @@ impl Choose for bool {
     }
 }
 
-/// A byte below 200 is the number, modulo 16; one below 230 is followed by a number of two bytes,
-/// any other by one of four.
+/// A number: a byte below 200, modulo 16; a byte below 230, followed by a number of two bytes; or
+/// any other byte, followed by a number of four.
 impl Choose for u32 {
     fn choose(choices: &mut Choices) -> u32 {
         let byte = choices.byte();
@@ -91,7 +91,7 @@ impl Choose for u32 {
     }
 }
 
-/// A byte below 200 is the number, modulo 16; any other is followed by a number of eight bytes.
+/// A number: a byte below 200, modulo 16; or any other byte, followed by a number of eight bytes.
 impl Choose for u64 {
     fn choose(choices: &mut Choices) -> u64 {
         let byte = choices.byte();
@@ -103,8 +103,8 @@ impl Choose for u64 {
     }
 }
 
-/// As many letters as a byte says, modulo 8: each is a small letter by a byte modulo 27, or the
-/// letter é.
+/// A string of as many letters as a byte says, modulo 8. Each is a lower-case letter by a byte
+/// modulo 27, or the letter é.
 impl Choose for String {
     fn choose(choices: &mut Choices) -> String {
         let mut text = String::new(choices.alloc);

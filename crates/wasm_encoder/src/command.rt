@@ -112,7 +112,7 @@ pub enum Command<A: Allocator = Global> {
     Import {
         /// The name, with its options.
         name: NameTree<A>,
-        /// What is imported.
+        /// The type of the imported item.
         ty: ComponentTypeRef,
     },
     /// An export.
@@ -346,7 +346,7 @@ pub fn build<A: Allocator + Copy, B: Allocator>(
     ensures ran { IfOk result (λ b. (es : List Entry)
         × Ran (map command_view commands.now) b.answers.items es
         × (b.bytes.items ≡ whole (items es))) }
-    // Their items can be encoded.
+    // Their items are encodable.
     ensures encodable { IfOk result (λ b. (es : List Entry)
         → Ran (map command_view commands.now) b.answers.items es → IsEncodable (items es)) }
     // If none of them is raw, the bytes have one reading, strictly and widely: the sections into
@@ -355,7 +355,7 @@ pub fn build<A: Allocator + Copy, B: Allocator>(
         → Ran (map command_view commands.now) b.answers.items es → HasNoRaw (items es)
         → (mode : Spelling) (ss : List Section)
         → Reading mode b.bytes.items ss ↔ (ss ≡ runs (items es))) }
-    // And no other items that can be encoded, none of them raw, have these bytes.
+    // And no other encodable items, none of them raw, have these bytes.
     ensures one_list { IfOk result (λ b. (es : List Entry)
         → Ran (map command_view commands.now) b.answers.items es → HasNoRaw (items es)
         → (xs : List Item) → HasNoRaw xs → IsEncodable xs

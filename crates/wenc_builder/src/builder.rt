@@ -526,9 +526,10 @@ impl<A: Allocator> ComponentBuilder<A> {
         self.add(Kind::Import, Space::from(ty.kind()), Some(name), &import)
     }
 
-    /// Exports the item with this index under this name, optionally ascribing a type, and returns
-    /// the index of the export (component model, binary format, "Import and Export Definitions").
-    /// The name is also the export's debug name. Fails as documented on `ComponentBuilder`.
+    /// Exports the item of this sort with this index under this name, optionally ascribing a type,
+    /// and returns the index of the export (component model, binary format, "Import and Export
+    /// Definitions"). The name is also the export's debug name. Fails as documented on
+    /// `ComponentBuilder`.
     pub fn export<B: Allocator>(
         &mut self,
         name: ComponentExternName<'_, B>,
@@ -673,7 +674,7 @@ impl<A: Allocator> ComponentBuilder<A> {
         true
     }
 
-    /// Returns all bytes of the component: the encoding of the builder's entries, whichever calls
+    /// Returns all bytes of the component, the encoding of the builder's entries, whichever calls
     /// were made. Allocates nothing. Fails only with `Unfinished`, while an item is being written.
     pub fn finish(self) -> Result<Vec<u8, A>, Fault>
         ensures held { (es : List Entry) → Holds self es

@@ -42,7 +42,7 @@ pub enum ItemTree<A: Allocator = Global> {
     Import {
         /// Its name.
         name: NameTree<A>,
-        /// What is imported.
+        /// The type of the imported item.
         ty: ComponentTypeRef,
     },
     /// An export.

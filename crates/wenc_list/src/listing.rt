@@ -14,7 +14,7 @@ use crate::item::ItemTree;
 use std::alloc::{Allocator, Global};
 use wenc_decode::room_for;
 
-/// A section that was read (component model, binary format, "Component Definitions").
+/// A section, as read (component model, binary format, "Component Definitions").
 #[derive(Drop)]
 pub struct ListedSection<A: Allocator = Global> {
     /// Its id, from 0 to 11.
@@ -23,7 +23,8 @@ pub struct ListedSection<A: Allocator = Global> {
     pub place: usize,
     /// The byte offset at which it ends.
     pub ends: usize,
-    /// Its items. Custom sections, modules, nested components and starts have one.
+    /// Its items. Custom sections, modules, nested components and start functions are sections of
+    /// one item.
     pub items: Vec<ItemTree<A>, A>,
 }
 

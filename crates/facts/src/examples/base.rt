@@ -1,4 +1,4 @@
-//! Of `wenc_base`.
+//! Examples of `wenc_base`.
 ghost use Rattle.std.specs.Prelude.{◌≡◌, ◌++◌, ◌∷◌, [], IfOk, codes};
 ghost use Rattle.wenc_base.specs.Custom.{custom as custom_form};
 ghost use Rattle.wenc_base.specs.Modules.{module_preamble};

@@ -1,4 +1,4 @@
-//! Of `wenc_list` and `wenc_decode`.
+//! Examples of `wenc_list` and `wenc_decode`.
 
 use std::alloc::{AllocError, Allocator};
 use wasm_encoder::{AliasTree, ItemTree, ListFault, Unread, first_unread, list};

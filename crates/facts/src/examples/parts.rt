@@ -1,4 +1,4 @@
-//! Of `wenc_parts`.
+//! Examples of `wenc_parts`.
 ghost use Rattle.std.specs.Prelude.{◌≡◌, ◌∷◌, [], Some, None, codes};
 ghost use Rattle.wenc_parts.specs.Aliases.{alias as alias_form, alias_view};
 ghost use Rattle.wenc_parts.specs.Imports.{extern_name_view};

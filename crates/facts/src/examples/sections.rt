@@ -1,4 +1,4 @@
-//! Of `wenc_sections`: components by hand.
+//! Examples of `wenc_sections`: components by hand.
 ghost use Rattle.std.specs.Prelude.{◌≡◌, ◌++◌, ◌∷◌, [], IfOk, OnOk, None, codes};
 ghost use Rattle.wenc_base.specs.Custom.{custom};
 ghost use Rattle.wenc_base.specs.Forms.{byte_list, counted};

@@ -1,4 +1,4 @@
-//! Of `wenc_types`: types by calls and encoders.
+//! Examples of `wenc_types`: types by calls and encoders.
 ghost use Rattle.std.specs.Prelude.{◌∷◌, [], None, IfOk};
 ghost use Rattle.wenc_base.specs.Holder.{Contains};
 ghost use Rattle.wenc_base.specs.declared.types.ValType.{ValType};
