@@ -418,7 +418,8 @@ impl<A: Allocator + Copy> Running<A> {
     }
 
     /// Makes the call that a command describes, after those so far. Returns the index of the item
-    /// that is added, if that has one: custom sections and names have none.
+    /// that is added, if that has one: custom sections and names have none. Fails with the fault
+    /// for which the command is refused.
     #[tactic(auto, using(crate::proofs::Run::one_more))]
     pub fn run<B: Allocator>(&mut self, command: &Command<B>) -> Result<Option<u32>, Fault>
         ensures ran { RunsNext self.old self.new result (command_view command.now) }

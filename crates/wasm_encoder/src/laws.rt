@@ -110,8 +110,8 @@ pub fn reads_once()
 
 /// No bytes are a component with one list of sections and with another, be it strictly, widely, or
 /// one of each. The encoding of any encodable sections without a raw item, empty ones included, is
-/// read as these; so the whole of a list of items is read as the runs of that list, and as nothing
-/// else. What is read strictly is the encoding of encodable sections.
+/// read as these; so the component of a list of such items is read as the runs of that list, and as
+/// nothing else. What is read strictly is the encoding of encodable sections.
 pub fn one_reading()
     ensures once { (mode other : Spelling) (bytes : List ℕ) (ss ts : List Section)
         → Reading mode bytes ss → Reading other bytes ts → ss ≡ ts }
@@ -125,7 +125,7 @@ pub fn one_reading()
         → AreEncodable ss }
 {}
 
-/// Two lists of encodable items, none of them raw, are equal if their wholes are.
+/// Two lists of encodable items, none of them raw, are equal if the bytes of their components are.
 pub fn one_list()
     ensures { (xs ys : List Item) → HasNoRaw xs → HasNoRaw ys → IsEncodable xs → IsEncodable ys
         → whole xs ≡ whole ys → xs ≡ ys }
