@@ -1,5 +1,5 @@
-//! Canonical functions. They are chosen in parts, since what a match costs to prove grows with the
-//! square of its arms.
+//! Canonical functions, chosen by bytes. They are chosen in parts, since the cost of proving a
+//! match grows with the square of its arms.
 
 use crate::choices::{Choices, Choose};
 use wasm_encoder::{CanonTree, ValType};
@@ -18,7 +18,7 @@ impl Choose for CanonTree {
     }
 }
 
-/// Lifting and lowering, and the calls of resources: which of the five, from 0 on.
+/// Lifting, lowering, and the builtins of resources: `which` of the five, from 0 on.
 fn lifted_or_resource(which: u8, choices: &mut Choices) -> CanonTree {
     match which {
         0 => {
@@ -42,7 +42,7 @@ fn lifted_or_resource(which: u8, choices: &mut Choices) -> CanonTree {
     }
 }
 
-/// Calls of tasks, of their slots and subtasks: which of the seven, from 5 on.
+/// The builtins of tasks, context slots and subtasks: `which` of the seven, from 5 on.
 fn of_tasks(which: u8, choices: &mut Choices) -> CanonTree {
     match which {
         5 => CanonTree::TaskCancel,
@@ -67,7 +67,7 @@ fn of_tasks(which: u8, choices: &mut Choices) -> CanonTree {
     }
 }
 
-/// Calls of streams: which of the seven, from 12 on.
+/// The builtins of streams: `which` of the seven, from 12 on.
 fn of_streams(which: u8, choices: &mut Choices) -> CanonTree {
     match which {
         12 => CanonTree::StreamNew(u32::choose(choices)),
@@ -96,7 +96,7 @@ fn of_streams(which: u8, choices: &mut Choices) -> CanonTree {
     }
 }
 
-/// Calls of futures: which of the seven, from 19 on.
+/// The builtins of futures: `which` of the seven, from 19 on.
 fn of_futures(which: u8, choices: &mut Choices) -> CanonTree {
     match which {
         19 => CanonTree::FutureNew(u32::choose(choices)),
@@ -125,8 +125,7 @@ fn of_futures(which: u8, choices: &mut Choices) -> CanonTree {
     }
 }
 
-/// Calls of errors' contexts, of sets of waitables and of backpressure: which of the ten, from 26
-/// on.
+/// The builtins of error contexts, waitable sets and backpressure: `which` of the ten, from 26 on.
 fn of_sets(which: u8, choices: &mut Choices) -> CanonTree {
     match which {
         26 => CanonTree::ErrorContextNew(Vec::choose(choices)),
@@ -142,7 +141,7 @@ fn of_sets(which: u8, choices: &mut Choices) -> CanonTree {
     }
 }
 
-/// Calls of threads: which of the eight, from 36 on.
+/// The builtins of threads: `which` of the eight, from 36 on.
 fn of_threads(which: u8, choices: &mut Choices) -> CanonTree {
     match which {
         36 => CanonTree::ThreadIndex,
@@ -160,7 +159,7 @@ fn of_threads(which: u8, choices: &mut Choices) -> CanonTree {
     }
 }
 
-/// The calls that came last: which of the five, from 44 on.
+/// The newest builtins: `which` of the five, from 44 on.
 fn newer(which: u8, choices: &mut Choices) -> CanonTree {
     match which {
         44 => CanonTree::StreamForward(u32::choose(choices)),

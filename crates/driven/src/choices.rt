@@ -1,13 +1,13 @@
 //! Choices, made by bytes.
 use std::alloc::Global;
 
-/// Choices that are taken from bytes, one by one. Where the bytes end, more are 0.
+/// Choices that are taken from bytes, one by one. After the last byte all further ones are 0.
 #[derive(Drop)]
 pub struct Choices<'a> {
     bytes: &'a [u8],
-    /// Where what is chosen lies.
+    /// The allocator of the chosen values.
     pub alloc: Global,
-    /// Whether memory ran out, so that something is missing in what was chosen.
+    /// Whether memory ran out, so that a chosen value lacks something.
     pub is_out_of_memory: bool,
 }
 
@@ -20,7 +20,7 @@ impl<'a> Choices<'a> {
         }
     }
 
-    /// The next byte.
+    /// Returns the next byte.
     pub fn byte(&mut self) -> u8 {
         match self.bytes {
             [first, rest @ ..] => {
@@ -31,12 +31,12 @@ impl<'a> Choices<'a> {
         }
     }
 
-    /// How many there are of something: from 0 to 3.
+    /// Returns a count, from 0 to 3.
     pub fn count(&mut self) -> u8 {
         self.byte() % 4
     }
 
-    /// The next bytes as a number, the highest first.
+    /// Returns the next bytes as a number, the highest first.
     fn wide(&mut self, bytes: u8) -> u64 {
         let mut number = 0u64;
         for _ in 0..bytes {
@@ -45,7 +45,7 @@ impl<'a> Choices<'a> {
         number
     }
 
-    /// The value in a box, if there is memory.
+    /// Returns the value in a box, if there is memory.
     pub fn boxed<T: Drop>(&mut self, value: T) -> Option<Box<T>> {
         match Box::new(self.alloc, value) {
             Ok(boxed) => Some(boxed),
@@ -56,7 +56,7 @@ impl<'a> Choices<'a> {
         }
     }
 
-    /// One value more, if there is memory.
+    /// Appends a value, if there is memory.
     pub fn push<T: Drop>(&mut self, values: &mut Vec<T>, value: T) {
         if values.push(value).is_err() {
             self.is_out_of_memory = true;
@@ -64,7 +64,7 @@ impl<'a> Choices<'a> {
     }
 }
 
-/// A value that is chosen.
+/// A value that can be chosen.
 pub trait Choose: Drop {
     fn choose(choices: &mut Choices) -> Self;
 }
@@ -75,8 +75,8 @@ impl Choose for bool {
     }
 }
 
-/// A byte below 200 is the number, modulo 16; one below 230 is followed by a number of two bytes,
-/// any other by one of four.
+/// A number: a byte below 200, modulo 16; a byte below 230, followed by a number of two bytes; or
+/// any other byte, followed by a number of four.
 impl Choose for u32 {
     fn choose(choices: &mut Choices) -> u32 {
         let byte = choices.byte();
@@ -91,7 +91,7 @@ impl Choose for u32 {
     }
 }
 
-/// A byte below 200 is the number, modulo 16; any other is followed by a number of eight bytes.
+/// A number: a byte below 200, modulo 16; or any other byte, followed by a number of eight bytes.
 impl Choose for u64 {
     fn choose(choices: &mut Choices) -> u64 {
         let byte = choices.byte();
@@ -103,8 +103,8 @@ impl Choose for u64 {
     }
 }
 
-/// As many letters as a byte says, modulo 8: each is a small letter by a byte modulo 27, or the
-/// letter é.
+/// A string of as many letters as a byte says, modulo 8. Each is a lower-case letter by a byte
+/// modulo 27, or the letter é.
 impl Choose for String {
     fn choose(choices: &mut Choices) -> String {
         let mut text = String::new(choices.alloc);
@@ -161,7 +161,7 @@ impl<T: Choose, U: Choose, V: Choose> Choose for (T, U, V) {
     }
 }
 
-/// As many bytes as a byte says, modulo 8.
+/// Chooses bytes, as many as a byte says, modulo 8.
 pub fn bytes(choices: &mut Choices) -> Vec<u8> {
     let mut bytes = Vec::new(choices.alloc);
     for _ in 0..choices.byte() % 8 {

@@ -1,4 +1,4 @@
-//! Commands, as bytes choose them.
+//! Commands, chosen by bytes.
 use crate::choices::{Choices, Choose, bytes};
 use crate::types::ty;
 use wasm_encoder::{
@@ -6,10 +6,10 @@ use wasm_encoder::{
     CoreTypeTree, InstanceTree, NameTree,
 };
 
-/// How deep components stand in one another, and the types in a type.
+/// How deep components, and the types in a type, nest.
 pub const DEPTH: u8 = 3;
 
-/// Commands, as many as a byte says, modulo 16.
+/// Chooses commands, as many as a byte says, modulo 16.
 #[cycle(commands)]
 pub fn commands(choices: &mut Choices, depth: u8) -> Vec<Command> {
     let mut commands = Vec::new(choices.alloc);
@@ -83,7 +83,7 @@ fn command(choices: &mut Choices, depth: u8) -> Command {
     }
 }
 
-/// A command that has no debug name of its caller's: which of the six, from 9 on.
+/// Chooses a command without a debug name of its caller's: `which` of the six, from 9 on.
 fn nameless(which: u8, choices: &mut Choices) -> Command {
     match which {
         9 => {

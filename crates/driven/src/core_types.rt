@@ -1,4 +1,4 @@
-//! Core types, as bytes choose them.
+//! Core types, chosen by bytes.
 use crate::choices::{Choices, Choose};
 use wasm_encoder::{
     AbstractHeapType, ArrayType, CompositeType, CoreTypeTree, EntityType, ExportKind, FieldType,

@@ -1,4 +1,4 @@
-//! Parts of items, as bytes choose them.
+//! Parts of items, chosen by bytes.
 use crate::choices::{Choices, Choose};
 use wasm_encoder::{
     AliasTree, CanonicalOption, ComponentExportKind, ComponentOuterAliasKind, ComponentTypeRef,

@@ -1,6 +1,6 @@
-//! Commands that the bytes on standard input choose, run. `README.md` says which bytes choose what.
-//! Answers and component are printed as `wenc` prints them, and the status is 0; where `build` is
-//! refused, it is the fault's number.
+//! Runs commands that the bytes on standard input choose. `README.md` says which bytes choose what.
+//! Results and component are printed as `wenc` prints them, and the status is 0; if `build` fails,
+//! it is the fault's number.
 #![tactic(auto)]
 
 mod canonicals;
@@ -19,13 +19,13 @@ use wenc::input::read_all;
 use wenc::output::send_with_hex;
 use wenc::print::answer_lines;
 
-/// How many reads the input's end may take.
+/// The maximum number of reads up to the input's end.
 const MAX_READS: u32 = 16_777_216;
 
-/// The status where a read or a write failed.
+/// The status if a read or a write failed.
 const TRANSFER_FAILED: u8 = 5;
 
-/// The lines of the answers, and the component, of the commands that these bytes choose.
+/// Returns the lines of the results, and the component, of the commands that these bytes choose.
 fn run(alloc: Global, bytes: &[u8]) -> Result<(Vec<u8>, Vec<u8>), Fault> {
     let mut choices = Choices::new(alloc, bytes);
     let commands = commands(&mut choices, DEPTH);

@@ -1,4 +1,4 @@
-//! Types of values, functions, components and instances, as bytes choose them.
+//! Value types, function types, component types and instance types, chosen by bytes.
 use crate::choices::{Choices, Choose};
 use wasm_encoder::{
     AliasTree, CaseTree, ComponentDecl, ComponentTypeRef, ComponentValType, CoreTypeTree,
@@ -47,8 +47,8 @@ impl Choose for DefinedTree {
     }
 }
 
-/// A type, in which component and instance types stand so deep in one another at most; those that
-/// would stand deeper declare nothing.
+/// Chooses a type, in which component types and instance types nest at most `depth` deep; those
+/// that would nest deeper declare nothing.
 #[cycle(types)]
 pub fn ty(choices: &mut Choices, depth: u8) -> TypeTree {
     match choices.byte() % 5 {

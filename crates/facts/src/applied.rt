@@ -36,7 +36,7 @@ use wenc_canon::{AddsBuiltin, CanonicalFunctionSection};
 use wenc_parts::{ComponentExternName, ComponentTypeRef};
 use wenc_sections::ComponentImportSection;
 
-/// Of the bytes that spell a number only its text is so short.
+/// Shows that no other bytes of its length spell a number than its encoding.
 pub fn spelt_so_alone()
     ensures unsigned { (bytes : List ℕ) → IsUnsignedText bytes 624485
         → bytes ≡ 0xe5 ∷ 0x8e ∷ 0x26 ∷ [] }
@@ -46,8 +46,8 @@ pub fn spelt_so_alone()
     signed_text_in_words();
 }
 
-/// What begins with type 115, whose text has the byte of the primitive `string` in it, begins with
-/// no primitive type.
+/// Shows that bytes which begin with type 115, whose encoding has the byte of the primitive
+/// `string` in it, begin with no primitive type.
 pub fn no_primitive()
     ensures { (p : PrimitiveValType) (r s : List ℕ)
         → (value_type (value_types.«Type» 0x73)).text ++ r ≡ (primitive p).text ++ s → ⊥ }
@@ -55,8 +55,8 @@ pub fn no_primitive()
     indices_are_no_primitives();
 }
 
-/// The text of an import is read as it and tells it, and no bytes begin with two imports, however
-/// they are spelt.
+/// Shows that the encoding of an import is read as that import and determines it, and that no bytes
+/// begin with two imports, however they are spelled.
 pub fn imports_are_told()
     ensures told { (a b : Import) (r s : List ℕ) → (import_item a).Fits → (import_item b).Fits
         → (import_item a).text ++ r ≡ (import_item b).text ++ s → (a ≡ b) × (r ≡ s) }
@@ -69,7 +69,7 @@ pub fn imports_are_told()
     reads_once();
 }
 
-/// A section of imports has those that it had, and one more.
+/// Adds an import to a section, which then contains those that it had, and this one.
 pub fn one_import_more<A: Allocator, B: Allocator>(
     imports: &mut ComponentImportSection<A>,
     name: ComponentExternName<'_, B>,
@@ -84,7 +84,7 @@ pub fn one_import_more<A: Allocator, B: Allocator>(
     Ok(())
 }
 
-/// What is written of a section of imports is some imports, counted, whoever made which calls.
+/// Encodes a section of imports: some imports, counted, whichever calls were made on it.
 pub fn imports_written<A: Allocator, B: Allocator>(
     imports: &ComponentImportSection<A>,
     sink: &mut Vec<u8, B>,
@@ -98,7 +98,7 @@ pub fn imports_written<A: Allocator, B: Allocator>(
     Ok(())
 }
 
-/// A section of functions that took one more has one more.
+/// Adds a function to a section, which then has one more.
 pub fn one_function_more<A: Allocator>(
     functions: &mut CanonicalFunctionSection<A>,
 ) -> Result<(), Fault>
@@ -109,7 +109,7 @@ pub fn one_function_more<A: Allocator>(
     Ok(())
 }
 
-/// An imported function has the index that was the count of functions, and counts once. No count
+/// Imports a function, whose index is the previous count of functions. It counts once, and no count
 /// falls.
 pub fn import_counted<A: Allocator, B: Allocator>(
     builder: &mut ComponentBuilder<A>,
@@ -131,7 +131,7 @@ pub fn import_counted<A: Allocator, B: Allocator>(
     }
 }
 
-/// Two builders that are finished: where no item is raw, and the bytes are equal, the items are.
+/// Finishes two builders: if no item is raw, and the bytes are equal, so are the items.
 pub fn finished_alike<A: Allocator, B: Allocator>(
     one: ComponentBuilder<A>,
     other: ComponentBuilder<B>,
@@ -150,9 +150,9 @@ pub fn finished_alike<A: Allocator, B: Allocator>(
     }
 }
 
-/// A run: without a raw item its bytes have no two sections of one collected kind side by side; the
-/// indices of the debug names ascend; and where all commands are accepted, a nested component of
-/// these commands has its bytes.
+/// Runs commands: without a raw item the bytes have no two neighbouring sections of one collected
+/// kind; the indices of the debug names ascend; and if all commands are accepted, a nested
+/// component of these commands has the same bytes.
 pub fn told_of_a_run<A: Allocator + Copy, B: Allocator>(
     alloc: A,
     commands: &[Command<B>],

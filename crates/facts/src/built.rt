@@ -1,4 +1,4 @@
-//! Types that a builder hands encoders out for, from the contracts that everybody sees.
+//! Types that a builder returns encoders for, from the public contracts.
 ghost use Rattle.std.specs.Prelude.{◌≡◌, ◌++◌, ◌∷◌, [], List, OnOk, IfOk, None, Ok, true};
 ghost use Rattle.wenc_builder.specs.Entry.{Entry, items, type_entry};
 ghost use Rattle.wenc_builder.specs.Holds.{Holds};
@@ -13,7 +13,8 @@ use wenc_base::Fault;
 use wenc_builder::ComponentBuilder;
 use wenc_parts::ComponentValType;
 
-/// An option: the builder holds its entry after those that it held, and the answer is its index.
+/// Adds an option type: the builder then holds its entry after those that it held. Returns its
+/// index.
 pub fn option_built<A: Allocator>(
     builder: &mut ComponentBuilder<A>,
     ty: ComponentValType,
@@ -33,7 +34,7 @@ pub fn option_built<A: Allocator>(
     }
 }
 
-/// One that is dropped and given up: the builder holds what it held.
+/// Begins an option type, drops its encoder and discards the type: the builder holds what it held.
 pub fn option_given_up<A: Allocator>(builder: &mut ComponentBuilder<A>) -> Result<bool, Fault>
     ensures unfinished { OnOk result (result ≡ Ok true) }
     ensures back { (es : List Entry) → Holds builder.old es → OnOk result (Holds builder.new es) }

@@ -18,7 +18,7 @@ use wenc_parts::{
 };
 use wenc_sections::{ComponentAliasSection, ComponentExportSection, ComponentImportSection};
 
-/// A type of resources is imported.
+/// Returns a section that imports a resource type.
 fn imported<A: Allocator>(alloc: A) -> Result<ComponentImportSection<A>, Fault>
     ensures { IfOk result (λ imports. imports
         ≡ with_member no_members (import_item (record {
@@ -31,7 +31,7 @@ fn imported<A: Allocator>(alloc: A) -> Result<ComponentImportSection<A>, Fault>
     Ok(imports)
 }
 
-/// It has another index.
+/// Returns a section with an alias of that type.
 fn aliased<A: Allocator>(alloc: A) -> Result<ComponentAliasSection<A>, Fault>
     ensures { IfOk result (λ aliases. aliases
         ≡ with_member no_members
@@ -46,7 +46,7 @@ fn aliased<A: Allocator>(alloc: A) -> Result<ComponentAliasSection<A>, Fault>
     Ok(aliases)
 }
 
-/// By that it is exported.
+/// Returns a section that exports that alias.
 fn exported<A: Allocator>(alloc: A) -> Result<ComponentExportSection<A>, Fault>
     ensures { IfOk result (λ exports. exports
         ≡ with_member no_members (export_item (record {
@@ -61,7 +61,7 @@ fn exported<A: Allocator>(alloc: A) -> Result<ComponentExportSection<A>, Fault>
     Ok(exports)
 }
 
-/// A component of these sections.
+/// Returns the component of these sections.
 fn joined<A: Allocator>(
     alloc: A,
     imports: &ComponentImportSection<A>,
@@ -79,8 +79,8 @@ fn joined<A: Allocator>(
     Ok(component.finish())
 }
 
-/// A component that imports a type of resources and exports it by an alias, section by section.
-/// What it is follows from the contracts of these calls alone.
+/// Returns a component that imports a resource type and exports it by an alias, written section by
+/// section. What it is follows from the contracts of these calls alone.
 pub fn by_hand<A: Allocator + Copy>(alloc: A) -> Result<Vec<u8, A>, Fault>
     ensures { IfOk result (λ bytes. bytes.items ≡ preamble.text
         ++ (10 ∷ section_text (with_member no_members (import_item

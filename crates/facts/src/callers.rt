@@ -17,7 +17,7 @@ use wenc_builder::ComponentBuilder;
 use wenc_canon::{AddsBuiltin, CanonicalFunctionSection};
 use wenc_parts::{ComponentExportKind, ComponentExternName, ComponentTypeRef, TypeBounds};
 
-/// The bytes of a value, in a vector of their own.
+/// Returns the encoding of a value in a new vector.
 pub fn encoded<T: Encode, A: Allocator>(alloc: A, value: &T) -> Result<Vec<u8, A>, Fault>
     ensures { IfOk result (λ bytes. bytes.items ≡ (T.piece value.now).text) }
 {
@@ -50,8 +50,8 @@ pub fn dropping<A: Allocator>(alloc: A, ty: u32) -> Result<CanonicalFunctionSect
     Ok(section)
 }
 
-/// A component that imports a type of resources and exports it again. What it is follows from the
-/// contracts of the builder's calls alone.
+/// Returns a component that imports a resource type and exports it again. What it is follows from
+/// the contracts of the builder's calls alone.
 pub fn passed_on<A: Allocator + Copy>(alloc: A) -> Result<Vec<u8, A>, Fault>
     ensures { IfOk result (λ bytes. bytes.items ≡ whole (items (
         import_entry (plain_name (codes "f")) (ComponentTypeRef.«Type» TypeBounds.SubResource)
@@ -63,7 +63,7 @@ pub fn passed_on<A: Allocator + Copy>(alloc: A) -> Result<Vec<u8, A>, Fault>
     builder.finish()
 }
 
-/// What is printed for a script, if no command is refused.
+/// Returns the output for a script, if no command is refused.
 pub fn accepted_text(alloc: Global, script: &[u8]) -> Option<Vec<u8>>
     ensures { IfSome result (λ text. PrintsAccepted script.now [] text.items) }
 {

@@ -1,5 +1,5 @@
 //! Generic calls at concrete types. Each is proved from its bounds alone, and so are its callers
-//! here, so that these show that the bounds, and what the calls require of iterators, can be met.
+//! here: they show that the bounds, and what the calls require of iterators, can be met.
 
 pub mod encoders;
 pub mod functions;

@@ -1,4 +1,4 @@
-//! Types that are written by encoders, from the contracts that everybody sees.
+//! Types that encoders write, from the public contracts.
 ghost use Rattle.std.specs.Iterator.Runs.{WholeRun};
 ghost use Rattle.std.specs.Iterator.{IsFinite};
 ghost use Rattle.std.specs.Prelude.{◌≡◌, ◌++◌, ◌∷◌, [], List, map, OnOk, Ok, true, false};
@@ -16,8 +16,8 @@ use wenc_parts::ComponentValType;
 use wenc_sections::{ComponentTypeSection, CoreTypeSection};
 use wenc_types::{ComponentType, ModuleType};
 
-/// A type that is begun and dropped, given up, and begun again: the section has one type more, and
-/// no trace of the other.
+/// Begins a type, drops its encoder, discards the type and begins it again: the section has one
+/// type more, and no trace of the first.
 pub fn begun_again<A: Allocator, B: Allocator>(
     section: &mut CoreTypeSection<A>,
     ty: &SubType<B>,
@@ -34,7 +34,8 @@ pub fn begun_again<A: Allocator, B: Allocator>(
     Ok(had_begun)
 }
 
-/// What is refused while a type is being written: another one. Given up, the section is as it was.
+/// Shows that another type is rejected while a type is being written, and that discarding it leaves
+/// the section as it was.
 pub fn refused_meanwhile<A: Allocator>(section: &mut CoreTypeSection<A>) -> Result<bool, Fault>
     ensures unfinished { OnOk result (result ≡ Ok true) }
     ensures same { OnOk result (section.new ≡ section.old) }
@@ -47,7 +48,7 @@ pub fn refused_meanwhile<A: Allocator>(section: &mut CoreTypeSection<A>) -> Resu
     Ok(section.discard_unfinished())
 }
 
-/// A type that a module type declares.
+/// Declares a type in a module type.
 #[tactic(auto, using(wenc_types::specs::laws::Declarations::declares_written))]
 pub fn declared<A: Allocator, B: Allocator>(
     types: &mut ModuleType<A>,
@@ -59,7 +60,7 @@ pub fn declared<A: Allocator, B: Allocator>(
     types.ty()?.subtype(ty)
 }
 
-/// A type of functions, from its opening to its end.
+/// Writes a function type, from its opening to its end.
 pub fn function_written<'b, A: Allocator, P>(
     section: &mut ComponentTypeSection<A>,
     params: P,
@@ -82,7 +83,7 @@ where
     function.result(answer)
 }
 
-/// An option that a component type declares: there is one declaration more.
+/// Declares an option type in a component type, which then has one more declarator.
 pub fn option_declared<A: Allocator>(
     types: &mut ComponentType<A>,
     ty: ComponentValType,

@@ -1,5 +1,5 @@
-//! The examples of the doc comments: each function's body is one of them, word for word. Behind it
-//! stand the law that its proof takes, if it takes one, and what the function answers.
+//! The examples of the doc comments: each function's body is one of them, word for word, followed
+//! by the law that its proof takes, if any, and what the function returns.
 
 pub mod base;
 pub mod builder;

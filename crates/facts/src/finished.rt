@@ -1,4 +1,4 @@
-//! What builders finish, from the contracts that everybody sees.
+//! The bytes of finished builders, from the public contracts.
 ghost use Rattle.std.specs.List.{AllByRecursion};
 ghost use Rattle.std.specs.Prelude.{◌≡◌, ◌↔◌, ◌∷◌, [], List, IfOk, Some, length};
 ghost use Rattle.wenc_base.specs.Piece.{Spelling};
@@ -16,8 +16,8 @@ use wasm_encoder::laws::{held_items_tell_bytes, one_kind_is_one_section};
 use wenc_base::Fault;
 use wenc_builder::ComponentBuilder;
 
-/// Two builders: where none of the items that they hold is raw, the bytes are equal exactly where
-/// the items are.
+/// Finishes two builders: if none of their items is raw, the bytes are equal if and only if the
+/// items are.
 pub fn two_builders<A: Allocator, B: Allocator>(
     one: ComponentBuilder<A>,
     other: ComponentBuilder<B>,
@@ -36,8 +36,8 @@ pub fn two_builders<A: Allocator, B: Allocator>(
     }
 }
 
-/// A builder of imports alone: its bytes are one section of these. Where they are functions, these
-/// are as many.
+/// Finishes a builder of imports alone: its bytes are one section of these. If they are functions,
+/// there are as many functions as imports.
 pub fn imports_alone<A: Allocator>(builder: ComponentBuilder<A>) -> Result<(u32, Vec<u8, A>), Fault>
     ensures one_section { IfOk result (λ r. (x : Entry) (es : List Entry) → Holds builder (x ∷ es)
         → AllByRecursion (λ y. collected y ≡ Some (section_number ids.Import)) (items (x ∷ es))

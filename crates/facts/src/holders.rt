@@ -1,4 +1,4 @@
-//! Holders with bytes that are kept in front of their members, and sections over them.
+//! Holders with bytes that are kept before their members, and sections over them.
 ghost use Rattle.std.specs.Prelude.{◌≡◌, ◌∷◌, [], IfOk};
 ghost use Rattle.wenc_base.specs.Holder.{holding};
 ghost use Rattle.wenc_base.specs.Openings.{HasMembers};
@@ -11,13 +11,13 @@ use wenc_base::{Fault, Holder, Verbatim};
 use wenc_canon::CanonicalFunctionSection;
 use wenc_sections::ComponentAliasSection;
 
-/// Two bytes, and the text of an alias after them.
+/// Two bytes, and the encoding of an alias after them.
 const ALIAS: [u8; 7] = [0xaa, 0xbb, 0x01, 0x00, 0x00, 0x01, 0x66];
 
-/// Two bytes, and the text of a function after them.
+/// Two bytes, and the encoding of a function after them.
 const FUNCTION: [u8; 3] = [0xaa, 0xbb, 0x05];
 
-/// A holder of that alias.
+/// Returns a holder of that alias.
 #[tactic(auto, using(wenc_base::proofs::Groups::size_1))]
 fn alias_kept<A: Allocator>(alloc: A) -> Result<Holder<A>, AllocError>
     ensures { IfOk result (HasMembers (HasForm alias)) }
@@ -25,7 +25,7 @@ fn alias_kept<A: Allocator>(alloc: A) -> Result<Holder<A>, AllocError>
     Ok(Holder::over(Vec::from_array(alloc, ALIAS)?, 2, 1))
 }
 
-/// Two bytes, the text of an alias, and an alias that is being written.
+/// Returns a holder of two bytes, that alias, and an alias that is being written.
 fn alias_begun<A: Allocator>(alloc: A) -> Result<Holder<A>, Fault>
     ensures { IfOk result (HasMembers (HasForm alias)) }
 {
@@ -34,17 +34,17 @@ fn alias_begun<A: Allocator>(alloc: A) -> Result<Holder<A>, Fault>
     Ok(holder)
 }
 
-/// A section of that alias.
+/// Returns a section of that alias.
 pub fn aliases<A: Allocator>(alloc: A) -> Result<ComponentAliasSection<A>, Fault> {
     Ok(ComponentAliasSection::from_holder(alias_kept(alloc)?))
 }
 
-/// A section in which an alias is being written.
+/// Returns a section in which an alias is being written.
 pub fn unfinished_aliases<A: Allocator>(alloc: A) -> Result<ComponentAliasSection<A>, Fault> {
     Ok(ComponentAliasSection::from_holder(alias_begun(alloc)?))
 }
 
-/// A holder of that function.
+/// Returns a holder of that function.
 #[tactic(auto, using(wenc_base::proofs::Groups::size_1))]
 fn function_kept<A: Allocator>(alloc: A) -> Result<Holder<A>, AllocError>
     ensures { IfOk result (HasMembers (HasForm canonical)) }
@@ -52,12 +52,12 @@ fn function_kept<A: Allocator>(alloc: A) -> Result<Holder<A>, AllocError>
     Ok(Holder::over(Vec::from_array(alloc, FUNCTION)?, 2, 1))
 }
 
-/// A section of that function.
+/// Returns a section of that function.
 pub fn functions<A: Allocator>(alloc: A) -> Result<CanonicalFunctionSection<A>, AllocError> {
     Ok(CanonicalFunctionSection::from_holder(function_kept(alloc)?))
 }
 
-/// Two bytes in front, and one member after them.
+/// Returns a holder of two bytes, and one member after them.
 #[tactic(auto, using(wenc_base::proofs::Groups::size_1))]
 pub fn over_four_bytes<A: Allocator>(alloc: A) -> Result<Holder<A>, AllocError>
     ensures { IfOk result (λ h. h ≡ holding (0xaa ∷ 0xbb ∷ []) 1 (0x03 ∷ 0x00 ∷ [])) }
@@ -65,7 +65,7 @@ pub fn over_four_bytes<A: Allocator>(alloc: A) -> Result<Holder<A>, AllocError>
     Ok(Holder::over(Vec::from_array(alloc, [0xaa, 0xbb, 0x03, 0x00])?, 2, 1))
 }
 
-/// All bytes and two more are kept, and then it goes back to what it was.
+/// Keeps all bytes and two more, and then restores the holder.
 #[tactic(auto, using(wenc_base::proofs::Groups::size_1))]
 pub fn gone_back<A: Allocator>(alloc: A) -> Result<Holder<A>, Fault> {
     let mut holder = over_four_bytes(alloc)?;
@@ -74,7 +74,7 @@ pub fn gone_back<A: Allocator>(alloc: A) -> Result<Holder<A>, Fault> {
     Ok(holder)
 }
 
-/// The two bytes in front are replaced by one. The members stay.
+/// Replaces the two kept bytes by one. The members stay.
 #[tactic(auto, using(wenc_base::proofs::Groups::size_1))]
 pub fn filled<A: Allocator>(alloc: A) -> Result<Holder<A>, AllocError> {
     let mut holder = over_four_bytes(alloc)?;

@@ -1,4 +1,4 @@
-//! Components of imports: what is written of them, and how it is read.
+//! Components of imports: their encoding, and how it is read.
 ghost use Rattle.std.specs.Prelude.{◌≡◌, ◌∷◌, ◌++◌, [], ℕ, List, IfOk, OnOk, codes};
 ghost use Rattle.wenc_base.specs.Forms.{counted};
 ghost use Rattle.wenc_base.specs.Piece.{Spelling};
@@ -14,7 +14,7 @@ use wasm_encoder::{
     Component, ComponentImportSection, ComponentTypeRef, Encode, Fault, TypeBounds,
 };
 
-/// A component that imports a type of resources. What it is follows from the contracts of these
+/// Returns a component that imports a resource type. What it is follows from the contracts of these
 /// calls and a law alone.
 pub fn importing<A: Allocator + Copy>(alloc: A) -> Result<Vec<u8, A>, Fault>
     ensures { IfOk result (λ bytes. bytes.items ≡ preamble.text
@@ -32,8 +32,8 @@ pub fn importing<A: Allocator + Copy>(alloc: A) -> Result<Vec<u8, A>, Fault>
     Ok(component.finish())
 }
 
-/// What a section of imports writes, whoever made which calls on it, is read as some imports,
-/// whatever follows.
+/// Encodes a section of imports: whichever calls were made on it, the encoding is read as some
+/// imports, whatever follows.
 pub fn read_back<A: Allocator, B: Allocator>(
     imports: &ComponentImportSection<A>,
     sink: &mut Vec<u8, B>,

@@ -1,5 +1,5 @@
-//! Facts that are proved, of calls and of values: the examples of the doc comments, callers of the
-//! laws, what runs of commands tell, worked texts, and types of a stranger's own.
+//! Proved facts of calls and of values: the examples of the doc comments, callers of the laws,
+//! properties of runs of commands, worked encodings, and types that another crate defines.
 #![tactic(auto)]
 
 pub mod applied;

@@ -1,4 +1,4 @@
-//! What is read from the front of bytes.
+//! Values that are read from the front of bytes.
 ghost use Rattle.std.specs.Prelude.{[], ◌∷◌, IfOk};
 ghost use Rattle.wenc_base.specs.Piece.{Wide};
 ghost use Rattle.wenc_base.specs.Readers.{times};
@@ -11,7 +11,7 @@ use wenc_decode::Decode;
 use wenc_parts::AliasTree;
 use wenc_read::{Refusal, u32_of};
 
-/// Two numbers, one after the other, and what follows them.
+/// Reads two numbers, one after the other. Returns them and the bytes after them.
 pub fn two_numbers(bytes: &[u8]) -> Result<((u32, u32), &[u8]), Refusal>
     ensures { Gives (λ x. (x.0.0 ∷ x.0.1 ∷ [], x.1.now)) result (times read_u32 2 bytes.now) }
 {
@@ -20,7 +20,7 @@ pub fn two_numbers(bytes: &[u8]) -> Result<((u32, u32), &[u8]), Refusal>
     Ok(((first, second), rest))
 }
 
-/// An alias, and what follows it: the bytes spell it there.
+/// Reads an alias, which the bytes spell. Returns it and the bytes after it.
 pub fn alias_of<A: Allocator + Copy>(
     alloc: A,
     bytes: &[u8],

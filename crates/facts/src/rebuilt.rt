@@ -1,4 +1,4 @@
-//! What was listed is built again.
+//! Listed components, built again.
 ghost use Rattle.std.specs.List.{AllByRecursion, flat_map};
 ghost use Rattle.std.specs.Prelude.{◌≡◌, ◌++◌, List, map, IfSome, OnOk, IsOk};
 ghost use Rattle.wasm_encoder.specs.Command.{command_view};
@@ -13,7 +13,7 @@ use std::alloc::{AllocError, Allocator};
 use wasm_encoder::laws::an_item_becomes_its_command;
 use wasm_encoder::{Built, Command, ItemTree, build, list};
 
-/// Adds the commands that these items become.
+/// Adds the commands made of these items.
 fn add_commands<A: Allocator>(
     commands: &mut Vec<Command<A>, A>,
     items: Vec<ItemTree<A>, A>,
@@ -27,8 +27,8 @@ fn add_commands<A: Allocator>(
     Ok(())
 }
 
-/// Lists a component and builds its items again, unless memory is wanting or it can't be listed.
-/// Where no command is refused, the items are those that were read.
+/// Lists a component and builds its items again, unless memory runs out or it can't be listed. If
+/// no command is refused, the items are those that were read.
 pub fn rebuilt<A: Allocator + Copy>(alloc: A, bytes: &[u8]) -> Option<Built<A>>
     ensures { IfSome result (λ built. (ss : List Section) × Reading Wide bytes.now ss
         × ((es : List Entry) × Ran (map command_of (flat_map members ss)) built.answers.items es

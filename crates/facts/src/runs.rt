@@ -1,4 +1,4 @@
-//! What runs of commands tell, from the contract of `build` alone.
+//! Properties of runs of commands, from the contract of `build` alone.
 ghost use Rattle.facts.specs.Indexed.{IsIndexedAt};
 ghost use Rattle.std.specs.Prelude.{◌≡◌, ◌↔◌, ◌++◌, ◌∷◌, ℕ, List, map, length, IfSome, IfOk, IfErr, Ok, Some, Option as Optional, Result as Outcome};
 ghost use Rattle.wasm_encoder.specs.Command.{CommandTree, command_view};
@@ -12,8 +12,8 @@ use std::alloc::Allocator;
 use wasm_encoder::{Built, Command, build};
 use wenc_base::Fault;
 
-/// Two runs: where none of the items that they led to is raw, the bytes are equal exactly where the
-/// items are.
+/// Runs two lists of commands: if none of the items that they led to is raw, the bytes are equal if
+/// and only if the items are.
 pub fn two_runs<A: Allocator + Copy, B: Allocator, C: Allocator>(
     alloc: A,
     one: &[Command<B>],
@@ -34,8 +34,8 @@ pub fn two_runs<A: Allocator + Copy, B: Allocator, C: Allocator>(
     }
 }
 
-/// A run: every answered index is its item's index. Where there is none, it isn't for something
-/// unfinished.
+/// Runs commands: each returned index is its item's index. If the run fails, it isn't with
+/// `Unfinished`.
 pub fn indexed_run<A: Allocator + Copy, B: Allocator>(
     alloc: A,
     commands: &[Command<B>],

@@ -1,4 +1,4 @@
-//! What is taken of a component, section by section and item by item.
+//! Components read section by section, and sections item by item.
 ghost use Rattle.std.specs.Prelude.{◌≡◌, ◌-◌, ℕ, List, [], ◌∷◌, length, drop, IfOk, IfErr};
 ghost use Rattle.wenc_base.specs.Piece.{Wide};
 ghost use Rattle.wenc_builder.specs.Sections.{Section, section_piece};
@@ -9,7 +9,7 @@ use std::alloc::Allocator;
 use wenc_list::laws::{what_was_taken, where_it_stands};
 use wenc_list::{ListFault, SectionItems, Sections};
 
-/// Takes all items of a section, which they are, or else its fault is found.
+/// Takes all items of a section: they are its contents, or the fault is the section's.
 pub fn all_items<A: Allocator + Copy>(alloc: A, items: SectionItems<'_>) -> Result<(), ListFault>
     ensures read { (ends : ℕ) (bytes rest : List ℕ) → Opens ends bytes items.entry rest
         → IfOk result (λ _. (s : Section) × (section_piece s).Reads Wide bytes rest
@@ -25,7 +25,8 @@ pub fn all_items<A: Allocator + Copy>(alloc: A, items: SectionItems<'_>) -> Resu
     Ok(())
 }
 
-/// The sections after the first one, which stand at their byte offset.
+/// Returns the sections after the first one. Their bytes begin at the byte offset of the next
+/// section.
 pub fn behind_first(component: &[u8]) -> Result<Sections<'_>, ListFault>
     ensures { IfOk result (λ s. drop (s.ends - length s.rest.now) component.now ≡ s.rest.now) }
 {

@@ -1,4 +1,4 @@
-//! Facts of values: worked texts and components on literals, and that derived equality goes by
+//! Facts of values: worked encodings and components on literals, and that derived equality goes by
 //! value and hashes by equality.
 
 pub mod canonicals;

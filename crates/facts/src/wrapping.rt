@@ -2,8 +2,8 @@
 use std::alloc::Allocator;
 use wasm_encoder::{ComponentBuilder, ComponentExportKind, ExportKind, Fault};
 
-/// A component around a core module that exports the function "run", which takes and gives nothing:
-/// it exports that function of the component.
+/// Returns a component around a core module that exports the function "run", without parameters or
+/// results: the component exports that function.
 pub fn wrapped<A: Allocator + Copy>(alloc: A, module: &[u8]) -> Result<Vec<u8, A>, Fault> {
     let mut builder = ComponentBuilder::new(alloc)?;
     wrap(&mut builder, module)?;
@@ -19,7 +19,7 @@ fn wrap<A: Allocator>(builder: &mut ComponentBuilder<A>, module: &[u8]) -> Resul
     builder.export("run".into(), ComponentExportKind::Func, run, None)
 }
 
-/// The type of a function that takes and gives nothing.
+/// Adds the type of a function without parameters or results, and returns its index.
 fn run_type<A: Allocator>(builder: &mut ComponentBuilder<A>) -> Result<u32, Fault> {
     match builder.type_function(None) {
         Ok((ty, mut function)) => {

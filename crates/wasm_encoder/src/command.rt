@@ -1,4 +1,4 @@
-//! Commands: the calls of a builder as data, and a run of them.
+//! Commands: the calls of a builder as data, and runs of them.
 ghost use Rattle.std.specs.Prelude.{◌≡◌, ◌↔◌, ◌⊎◌, List, [], Ok, IfOk, IfErr, OnErr, IsOk, map};
 ghost use Rattle.std.specs.Option.{option_copied, option_map};
 ghost use Rattle.std.specs.String.{string_bytes};
@@ -24,8 +24,8 @@ use wenc_parts::{AliasTree, ComponentExportKind, ComponentTypeRef, NameTree};
 use wenc_sections::{CanonTree, CoreInstanceTree, InstanceTree};
 use wenc_types::{CoreTypeTree, TypeTree};
 
-/// One call of a builder, as data (component model, binary format, "Component Definitions"). Each
-/// index is from 0 to 4294967295. Here the import of a resource type as `file`:
+/// A builder call as data (component model, binary format, "Component Definitions"). Each index is
+/// from 0 to 4294967295.
 ///
 /// ```
 /// let import = Command::Import {
@@ -37,113 +37,113 @@ use wenc_types::{CoreTypeTree, TypeTree};
 pub enum Command<A: Allocator = Global> {
     /// A core module.
     CoreModule {
-        /// The debug name of what is added, or none.
+        /// The item's debug name, if any.
         debug_name: Option<String<A>>,
-        /// The module, which nothing checks.
+        /// The module's bytes, which aren't checked.
         bytes: Vec<u8, A>,
     },
-    /// An instance of a core module, or one of core items.
+    /// A core instance: an instance of a core module, or inline exports of core items.
     CoreInstance {
-        /// The debug name of what is added, or none.
+        /// The item's debug name, if any.
         debug_name: Option<String<A>>,
-        /// What it is made of.
+        /// The instance.
         instance: CoreInstanceTree<A>,
     },
     /// A core type.
     CoreType {
-        /// The debug name of what is added, or none.
+        /// The item's debug name, if any.
         debug_name: Option<String<A>>,
-        /// The type, in a box, since it is far larger than what others have.
+        /// The type, boxed since it is far larger than other commands.
         ty: Box<CoreTypeTree<A>, A>,
     },
-    /// A nested component, made by commands. It is accepted only with all of them accepted, and
-    /// else refused with the first fault among them.
+    /// A nested component, made by commands. It is accepted only if all of them are, and otherwise
+    /// refused with the first fault among them.
     Component {
-        /// The debug name of what is added, or none.
+        /// The item's debug name, if any.
         debug_name: Option<String<A>>,
         /// The commands that make it.
         commands: Vec<Command<A>, A>,
     },
-    /// A nested component, by its bytes.
+    /// A nested component, as its bytes.
     ComponentRaw {
-        /// The debug name of what is added, or none.
+        /// The item's debug name, if any.
         debug_name: Option<String<A>>,
-        /// The component, which nothing checks.
+        /// The component's bytes, which aren't checked.
         bytes: Vec<u8, A>,
     },
-    /// An instance of a component, or one of items.
+    /// An instance: an instance of a component, or inline exports of items.
     Instance {
-        /// The debug name of what is added, or none.
+        /// The item's debug name, if any.
         debug_name: Option<String<A>>,
-        /// What it is made of.
+        /// The instance.
         instance: InstanceTree<A>,
     },
     /// An alias.
     Alias {
-        /// The debug name of what is added, or none.
+        /// The item's debug name, if any.
         debug_name: Option<String<A>>,
-        /// What it stands for.
+        /// The aliased item.
         alias: AliasTree<A>,
     },
     /// A type.
     Type {
-        /// The debug name of what is added, or none.
+        /// The item's debug name, if any.
         debug_name: Option<String<A>>,
         /// The type.
         ty: TypeTree<A>,
     },
     /// A canonical function.
     Canon {
-        /// The debug name of a function that is lifted or lowered, or none. Any other has its own.
+        /// The debug name of a lifted or lowered function, if any. A built-in function has its own.
         debug_name: Option<String<A>>,
         /// The function.
         canon: CanonTree<A>,
     },
-    /// A call of a function at instantiation.
+    /// A start function, called at instantiation.
     Start {
         /// The index of the function.
         function: u32,
-        /// The indices of the values that it is called with.
+        /// The indices of the values that are its arguments.
         args: Vec<u32, A>,
-        /// The number of values that it answers.
+        /// The number of its results.
         results: u32,
     },
     /// An import.
     Import {
         /// The name, with its options.
         name: NameTree<A>,
-        /// What is imported.
+        /// The type of the imported item.
         ty: ComponentTypeRef,
     },
     /// An export.
     Export {
         /// The name, with its options.
         name: NameTree<A>,
-        /// The kind of the item.
+        /// The sort of the item.
         kind: ComponentExportKind,
         /// The index of the item.
         index: u32,
-        /// The type that it is exported with, or none.
+        /// The ascribed type, if any.
         ty: Option<ComponentTypeRef>,
     },
-    /// A section of the debug names so far, where there are any.
+    /// A custom section with the debug names so far, if there are any.
     AppendNames,
     /// A custom section.
     Custom {
         /// The name of the section.
         name: String<A>,
-        /// What stands after the name.
+        /// The bytes after the name.
         data: Vec<u8, A>,
     },
-    /// A custom section, by what stands after its id.
+    /// A custom section, as the bytes after its id.
     RawCustom {
-        /// The bytes, which nothing checks.
+        /// The bytes, which aren't checked.
         bytes: Vec<u8, A>,
     },
 }
 
-/// Makes the call that a command is. `Err`: the encoder of a type was refused, and the builder is
-/// unfinished.
+/// Makes the call that a command describes. Returns the call's result, or `Err` if the encoder of a
+/// type failed, which leaves the builder unfinished.
 #[cycle(running)]
 fn run<A: Allocator, B: Allocator + Copy>(
     command: &Command<A>,
@@ -204,7 +204,7 @@ fn run<A: Allocator, B: Allocator + Copy>(
     }
 }
 
-/// Makes the calls that the commands are on a new builder, up to the first that is refused.
+/// Makes the calls that the commands describe on a new builder, up to the first that fails.
 #[cycle(running)]
 fn run_all<A: Allocator, B: Allocator + Copy>(
     commands: &Vec<Command<A>, A>,
@@ -229,7 +229,8 @@ fn run_all<A: Allocator, B: Allocator + Copy>(
     Ok(builder)
 }
 
-/// Has an encoder write a core type. `Err`: it was refused, and the builder is unfinished.
+/// Adds a core type by its encoder. Returns `Err` if that fails, which leaves the builder
+/// unfinished.
 fn core_type_of<A: Allocator, B: Allocator>(
     builder: &mut ComponentBuilder<B>,
     debug_name: Option<&str>,
@@ -247,7 +248,7 @@ fn core_type_of<A: Allocator, B: Allocator>(
     }
 }
 
-/// Has an encoder write a type. `Err`: it was refused, and the builder is unfinished.
+/// Adds a type by its encoder. Returns `Err` if that fails, which leaves the builder unfinished.
 fn type_of<A: Allocator, B: Allocator>(
     builder: &mut ComponentBuilder<B>,
     debug_name: Option<&str>,
@@ -276,7 +277,7 @@ fn custom<B: Allocator>(
     builder.custom_section(&CustomSection { name, data: bytes })
 }
 
-/// What a call answers that answers an index.
+/// Returns the result of a call that returns an index.
 fn indexed(answer: Result<u32, Fault>) -> Result<Result<Option<u32>, Fault>, Fault>
     ensures { result ≡ Ok (indexed_of answer) }
 {
@@ -286,7 +287,7 @@ fn indexed(answer: Result<u32, Fault>) -> Result<Result<Option<u32>, Fault>, Fau
     }
 }
 
-/// What a call answers that answers none.
+/// Returns the result of a call that returns no index.
 fn without_index(answer: Result<(), Fault>) -> Result<Result<Option<u32>, Fault>, Fault>
     ensures { result ≡ Ok (without_index_of answer) }
 {
@@ -305,20 +306,23 @@ fn as_deref<A: Allocator>(name: &Option<String<A>>) -> Option<&str>
     }
 }
 
-/// What the commands of a run answered, and the bytes.
+/// The results of a run's commands, and the bytes.
 #[derive(Drop)]
 pub struct Built<A: Allocator = Global> {
-    /// One answer for each command: the index of its item, if that has one, or why it was refused.
-    /// Custom sections and names have none.
+    /// One result per command: the index of its item, if that has one, or why the command was
+    /// refused. Custom sections and names have no index.
     pub answers: Vec<Result<Option<u32>, Fault>, A>,
     /// The component.
     pub bytes: Vec<u8, A>,
 }
 
-/// Makes the calls that the commands are, in order, on a new builder, keeps each answer, and
-/// finishes. A refused command adds nothing, and the ones after it run all the same. It is refused
-/// where there is no memory for the builder or for the answers, and where a type is refused while
-/// it is written: with that fault, and no further command runs.
+/// Makes the calls that the commands describe, in order, on a new builder, keeps each result, and
+/// finishes. A refused command adds nothing, and the commands after it still run.
+///
+/// # Errors
+///
+/// Fails with `Memory` if the allocation of the builder or of the results fails, and if a type
+/// fails while it is written: with that fault, and no further command runs.
 ///
 /// ```
 /// let import = Command::Import {
@@ -337,26 +341,26 @@ pub fn build<A: Allocator + Copy, B: Allocator>(
     alloc: A,
     commands: &[Command<B>],
 ) -> Result<Built<A>, Fault>
-    // There are entries that the commands and the answers lead to, and the bytes are the component
-    // of their items.
+    // There are entries that the commands and their results lead to, and the bytes are the
+    // component of their items.
     ensures ran { IfOk result (λ b. (es : List Entry)
         × Ran (map command_view commands.now) b.answers.items es
         × (b.bytes.items ≡ whole (items es))) }
-    // Their items can be encoded.
+    // Their items are encodable.
     ensures encodable { IfOk result (λ b. (es : List Entry)
         → Ran (map command_view commands.now) b.answers.items es → IsEncodable (items es)) }
-    // Where none of them is raw, the bytes have one reading, strictly and widely: the sections into
+    // If none of them is raw, the bytes have one reading, strictly and widely: the sections into
     // which they are cut.
     ensures one_reading { IfOk result (λ b. (es : List Entry)
         → Ran (map command_view commands.now) b.answers.items es → HasNoRaw (items es)
         → (mode : Spelling) (ss : List Section)
         → Reading mode b.bytes.items ss ↔ (ss ≡ runs (items es))) }
-    // And no other items that can be encoded, none of them raw, have these bytes.
+    // And no other encodable items, none of them raw, have these bytes.
     ensures one_list { IfOk result (λ b. (es : List Entry)
         → Ran (map command_view commands.now) b.answers.items es → HasNoRaw (items es)
         → (xs : List Item) → HasNoRaw xs → IsEncodable xs
         → (whole xs ≡ b.bytes.items) ↔ (xs ≡ items es)) }
-    // It is refused for want of memory, or by a type after a front of the commands that ran.
+    // It fails with `Memory`, or at a type after a prefix of the commands ran.
     ensures refused { IfErr result (λ fault. IsMemory fault
         ⊎ IsStopped (map command_view commands.now) fault) }
 {
@@ -374,8 +378,8 @@ pub fn build<A: Allocator + Copy, B: Allocator>(
 }
 
 /// Runs commands one by one, where `build` has all of them at once. A refused command changes
-/// nothing, and the next one goes on as if it had not been made: a type that is refused while it is
-/// written is given up.
+/// nothing, and the next one goes on as if it had not been made: a type that fails while it is
+/// written is discarded.
 ///
 /// ```
 /// let mut running = Running::new(alloc)?;
@@ -400,7 +404,8 @@ impl<A: Allocator> Model for Running<A> {
 }
 
 impl<A: Allocator + Copy> Running<A> {
-    /// A component without items, for which no command ran. It is refused for want of memory alone.
+    /// Creates a component without items, for which no command ran. Fails only if an allocation
+    /// fails (`Memory`).
     #[tactic(auto, using(crate::proofs::Run::run_new))]
     pub fn new(alloc: A) -> Result<Self, Fault>
         ensures none { IfOk result (λ running. HasRun running [] []) }
@@ -412,8 +417,9 @@ impl<A: Allocator + Copy> Running<A> {
         })
     }
 
-    /// Makes the call that a command is, after those so far. It returns the index of the item that
-    /// is added, if that has one: custom sections and names have none.
+    /// Makes the call that a command describes, after those so far. Returns the index of the item
+    /// that is added, if that has one: custom sections and names have none. Fails with the fault
+    /// for which the command is refused.
     #[tactic(auto, using(crate::proofs::Run::one_more))]
     pub fn run<B: Allocator>(&mut self, command: &Command<B>) -> Result<Option<u32>, Fault>
         ensures ran { RunsNext self.old self.new result (command_view command.now) }
@@ -426,8 +432,8 @@ impl<A: Allocator + Copy> Running<A> {
         }
     }
 
-    /// Makes the call that a command is. `Err`: the encoder of a type was refused, and that type is
-    /// given up.
+    /// Makes the call that a command describes. Returns the call's result, or `Err` if the encoder
+    /// of a type failed; that type is discarded.
     #[tactic(auto, using(crate::proofs::Run::run_more, crate::proofs::Run::run_back))]
     fn step<B: Allocator>(
         &mut self,
@@ -444,14 +450,14 @@ impl<A: Allocator + Copy> Running<A> {
         }
     }
 
-    /// All bytes of the component. It takes no memory, and is never refused.
+    /// Returns all bytes of the component. Allocates nothing, and never fails.
     #[tactic(auto, using(crate::proofs::Run::run_finished))]
     pub fn finish(self) -> Result<Vec<u8, A>, Fault>
         ensures ok { IsOk result }
         ensures held { (es : List Entry) → Holds self es
             → IfOk result (λ v. v.items ≡ whole (items es)) }
-        // Where no item is raw they have one reading, strictly and widely: the sections into which
-        // the items are cut.
+        // If no item is raw, the bytes have one reading, strictly and widely: the sections into
+        // which the items are cut.
         ensures one_reading { IfOk result (λ v. (es : List Entry) → Holds self es
             → HasNoRaw (items es) → (mode : Spelling) (ss : List Section)
             → Reading mode v.items ss ↔ (ss ≡ runs (items es))) }

@@ -1,6 +1,6 @@
-//! Laws over the definitions: what the numbers' texts are, in words; that every form, and a whole
-//! component, is read as it is written, and in one way only; that a section's text is that of what
-//! it contains. A call of these does nothing.
+//! Laws about the definitions: what the encodings of numbers are, in words; that every form, and a
+//! whole component, is read as it is written, and in one way only; that a section's encoding is
+//! that of its contents. A call of these does nothing.
 ghost use Rattle.std.specs.Prelude.{◌≡◌, ◌↔◌, ◌+◌, ℕ, ℤ, ◌^◌, ◌<◌, ◌++◌, ◌∷◌, [], List, FitsSigned, true, Ok};
 ghost use Rattle.std.specs.Int.{w64};
 ghost use Rattle.wenc_base.specs.Composites.{RecType, rec_type};
@@ -39,32 +39,32 @@ pub use of_holders::{sections_are_read, what_is_finished_has_some};
 pub use of_listings::listed;
 use wenc_base::{Delimited, DelimitedEq};
 
-/// The text of an unsigned number is the shortest list of bytes that spells it, and the only one so
-/// short.
+/// The encoding of an unsigned number is the shortest list of bytes that spells it, and the only
+/// one of its length.
 pub fn unsigned_text_in_words()
     ensures is { (n : ℕ) → n < 2 ^ 64 → IsUnsignedText (unsigned_text n) n }
     ensures only { (n : ℕ) (bytes : List ℕ) → n < 2 ^ 64
         → IsUnsignedText bytes n → bytes ≡ unsigned_text n }
 {}
 
-/// The text of a signed number is the shortest list of bytes that spells it, and the only one so
-/// short.
+/// The encoding of a signed number is the shortest list of bytes that spells it, and the only one
+/// of its length.
 pub fn signed_text_in_words()
     ensures is { (z : ℤ) → FitsSigned w64 z → IsSignedText (signed_text z) z }
     ensures only { (z : ℤ) (bytes : List ℕ) → FitsSigned w64 z
         → IsSignedText bytes z → bytes ≡ signed_text z }
 {}
 
-/// Where the texts of two values that can be encoded, each followed by any bytes, are equal, the
-/// values are the same, of references what they refer to, and the bytes that follow are equal.
+/// If the encodings of two encodable values, each followed by any bytes, are equal, so are the
+/// values (for references, the values that they refer to), and so are the bytes that follow.
 pub fn texts_tell_values<T: Delimited>(a: &T, b: &T)
     ensures { (T.piece a.now).Fits → (T.piece b.now).Fits → (r s : List ℕ)
         → (T.piece a.now).text ++ r ≡ (T.piece b.now).text ++ s
         → (T.seen a.now ≡ T.seen b.now) × (r ≡ s) }
 {}
 
-/// Where the texts of two values that can be compared and encoded, each followed by any bytes, are
-/// equal, the values are equal, and so are the bytes that follow.
+/// If the encodings of two comparable, encodable values, each followed by any bytes, are equal, so
+/// are the values by `==`, and so are the bytes that follow.
 pub fn texts_tell_equals<T: DelimitedEq>(a: &T, b: &T)
     ensures { (T.piece a.now).Fits → (T.piece b.now).Fits → (r s : List ℕ)
         → (T.piece a.now).text ++ r ≡ (T.piece b.now).text ++ s
@@ -73,16 +73,15 @@ pub fn texts_tell_equals<T: DelimitedEq>(a: &T, b: &T)
     texts_tell_values(a, b);
 }
 
-/// A value of each type that is `Delimited` is read as it is written, strictly in no other way, and
-/// in one way only; no value's text begins another's; and nothing stands against a value that can
-/// be encoded.
+/// A value of each `Delimited` type is read as it is written, strictly in no other way, and in one
+/// way only; no value's encoding begins another's; and an encodable value is no cause of an error.
 pub fn values_are_lawful<T: Delimited>()
     ensures { FormLaws T.form }
 {}
 
-/// Where the texts of two values of one form that can be encoded, each followed by any bytes, are
-/// equal, the values are equal, and so are the bytes that follow. So it is for every form but the
-/// raw sections, each by its name.
+/// If the encodings of two encodable values of one form, each followed by any bytes, are equal, so
+/// are the values, and so are the bytes that follow. This holds for every form, each by its name,
+/// but the raw sections.
 pub fn delimited()
     ensures { (f : FormName) (a b : value_of f) (r s : List ℕ)
         → (form_of f a).Fits → (form_of f b).Fits
@@ -90,9 +89,9 @@ pub fn delimited()
 {}
 
 /// From the same bytes no form reads two values or two rests, be it strictly, widely, or one of
-/// each. The text of a value that can be encoded is read as that value, whatever follows. What is
-/// read strictly is the text of a value that can be encoded, and it is read widely too. Nothing
-/// stands against a value that can be encoded, and no value of a form is unfinished.
+/// each. The encoding of an encodable value is read as that value, whatever follows. What is read
+/// strictly is the encoding of an encodable value, and it is read widely too. An encodable value is
+/// no cause of an error, and no value of a form is unfinished.
 pub fn reads_once()
     ensures once { (f : FormName) (v w : value_of f) (mode other : Spelling) (bytes r s : List ℕ)
         → (form_of f v).Reads mode bytes r → (form_of f w).Reads other bytes s
@@ -112,9 +111,9 @@ pub fn reads_once()
 {}
 
 /// No bytes are a component with one list of sections and with another, be it strictly, widely, or
-/// one of each. The text of any sections without a raw item that can be encoded, empty ones
-/// included, is read as these; so the whole of a list of items is read as the runs of that list,
-/// and as nothing else. What is read strictly is the text of sections that can be encoded.
+/// one of each. The encoding of any encodable sections without a raw item, empty ones included, is
+/// read as these; so the component of a list of such items is read as the runs of that list, and as
+/// nothing else. What is read strictly is the encoding of encodable sections.
 pub fn one_reading()
     ensures once { (mode other : Spelling) (bytes : List ℕ) (ss ts : List Section)
         → Reading mode bytes ss → Reading other bytes ts → ss ≡ ts }
@@ -128,15 +127,15 @@ pub fn one_reading()
         → AreEncodable ss }
 {}
 
-/// Two lists of items without a raw one that can be encoded are equal where their wholes are.
+/// Two lists of encodable items, none of them raw, are equal if the bytes of their components are.
 pub fn one_list()
     ensures { (xs ys : List Item) → HasNoRaw xs → HasNoRaw ys → IsEncodable xs → IsEncodable ys
         → whole xs ≡ whole ys → xs ≡ ys }
 {}
 
-/// The text of a section that contains some items, of whatever form, is their size, their number
-/// and the items. That of a module type, a component type or an instance type with some
-/// declarations is a byte, their number and these.
+/// The encoding of a section that contains some items, of whatever form, is their size, their
+/// number and the items. That of a module type, a component type or an instance type with some
+/// declarators is a byte, their number and these.
 pub fn sections_are_their_items()
     ensures sections { (f : FormName) (section : HolderState) (items : List (value_of f))
         → Contains (form_of f) section items
@@ -154,9 +153,9 @@ pub fn sections_are_their_items()
         → (producers_held section).text ≡ (producers_section fields).text }
 {}
 
-/// What contained some values of a form, and accepted one more, contains these and that one. So it
-/// is of fields of a producers section, of types with declarations that a section takes whole, and
-/// of texts that a holder takes as they are.
+/// A section that contained some values of a form, and accepted one more, contains these and that
+/// one. The same holds for the fields of a producers section, for whole types with declarators that
+/// a section accepts, and for encodings that a holder accepts verbatim.
 pub fn what_is_added_is_contained()
     ensures value { (f : FormName) (v : value_of f) (members : List (value_of f))
         (old new : HolderState) → Accepted (form_of f v) old new → Contains (form_of f) old members
@@ -175,8 +174,8 @@ pub fn what_is_added_is_contained()
 {}
 
 /// A member that is written piece by piece, a type of a section, and a type that a module type, a
-/// component type or an instance type declares: given up it leaves no trace, and ended it is one
-/// more, where it can be encoded.
+/// component type or an instance type declares: discarded, it leaves no trace; ended, it is one
+/// more member, if it can be encoded.
 pub fn openings_are_members()
     ensures given_up { (h : HolderState) (lead more : List ℕ) → is_finished h ≡ true
         → member_given_up (member_appended (member_begun h lead) more) ≡ h }
@@ -222,8 +221,8 @@ pub fn openings_are_members()
         (ds ++ CoreTyped ty ∷ []) }
 {}
 
-/// A call that adds a builtin and answers `Ok` has added it: there is one function more, so that a
-/// call which leaves the section as it was can't answer `Ok`.
+/// A call that adds a builtin and returns `Ok` has added it: there is one function more, so a call
+/// that leaves the section as it was can't return `Ok`.
 pub fn an_added_function_is_one_more()
     ensures one_more { (old new : HolderState) (i : Builtin) (values : Values (row i).fields)
         → Adds old new (Ok tt) i values → new.count ≡ old.count + 1 }

@@ -1,11 +1,11 @@
 //! Writes WebAssembly components in the component model's binary format.
 //!
-//! `ComponentBuilder` collects items call by call and hands out their indices; `build` runs
-//! commands, which are such calls as data; `Component` and the sections write a component by hand.
-//! No number that is written is above 4294967295: an index, how many items a space or a section
-//! has, how many bytes a text or a section has.
+//! `ComponentBuilder` collects items call by call and returns their indices; `build` runs commands,
+//! which are builder calls as data; `Component` and the sections write a component by hand. No
+//! number that is written exceeds 4294967295: an index, the number of items of a space or a
+//! section, the number of bytes of a string or a section.
 //!
-//! In the examples `alloc` is an allocator that is `Copy`. Each stands with its imports, proved, in
+//! In the examples `alloc` is an allocator that is `Copy`. Each is proved, with its imports, in
 //! `crates/facts/src/examples`.
 #![tactic(auto)]
 

@@ -1,4 +1,4 @@
-//! Items that were listed, as the commands that add them.
+//! Listed items, as the commands that add them.
 use crate::command::Command;
 use std::alloc::Allocator;
 use wenc_list::ItemTree;
@@ -11,8 +11,8 @@ impl<A: Allocator> From<ItemTree<A>> for Command<A> {
 
     ghost from_gives = { λ item command. command_view command ≡ command_of (item_view item) };
 
-    /// The command that adds this item, without a debug name; a nested component by its bytes. It
-    /// takes no memory.
+    /// Returns the command that adds this item, without a debug name; a nested component is added
+    /// by its bytes. Allocates nothing.
     fn from(item: ItemTree<A>) -> Command<A> {
         match item {
             ItemTree::Module(bytes) => Command::CoreModule {

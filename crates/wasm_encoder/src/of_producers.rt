@@ -12,9 +12,12 @@ use crate::command::Command;
 use std::alloc::Allocator;
 use wenc_base::{Fault, ProducersSection};
 
-/// The command that adds a producers section: the custom section of the name `producers`, with
-/// these fields for data (tool conventions, "Producers Section"). It is refused for want of memory,
-/// or where the section is unfinished.
+/// Returns the command that adds a producers section, the custom section named `producers`, with
+/// these fields as its data (tool conventions, "Producers Section").
+///
+/// # Errors
+///
+/// Fails with `Memory` if an allocation fails, and with `Unfinished` if the section is unfinished.
 pub fn producers_command<A: Allocator + Copy, B: Allocator>(
     alloc: A,
     producers: &ProducersSection<B>,

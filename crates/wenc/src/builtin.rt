@@ -1,4 +1,4 @@
-//! Functions that the component model provides, by their words.
+//! Built-in canonical functions, by their words.
 ghost use Rattle.std.specs.Prelude.{◌≡◌, ◌∷◌, [], drop, option_map};
 ghost use Rattle.wenc_sections.specs.CanonTrees.{canon_view};
 ghost use Rattle.wenc_canon.specs.Canonicals.{Index, Flag, builtins};
@@ -9,8 +9,8 @@ use crate::number::{flag, number};
 use crate::words::Words;
 use wasm_encoder::CanonTree;
 
-/// The builtin that a word names, with the words after it. One with options, a core type or a
-/// result has no words. Those of resources and tasks come first.
+/// Returns the builtin that a word names, with the words after it. Builtins with options, a core
+/// type or a result have no words. Those of resources and tasks come first.
 pub fn builtin(verb: &str, words: Words) -> Option<CanonTree>
     ensures { option_map canon_view result ≡ builtin_said verb.now (words_left words.entry) }
 {
@@ -27,7 +27,7 @@ pub fn builtin(verb: &str, words: Words) -> Option<CanonTree>
     }
 }
 
-/// The builtin that a word names, of those from streams on.
+/// Returns the builtin that a word names, of those from streams on.
 fn of_stream(verb: &str, words: Words) -> Option<CanonTree>
     ensures { option_map canon_view result ≡
         one_of (drop 10 builtins) verb.now (words_left words.entry) }
@@ -49,7 +49,7 @@ fn of_stream(verb: &str, words: Words) -> Option<CanonTree>
     }
 }
 
-/// The builtin that a word names, of those from futures on.
+/// Returns the builtin that a word names, of those from futures on.
 fn of_future(verb: &str, words: Words) -> Option<CanonTree>
     ensures { option_map canon_view result ≡
         one_of (drop 17 builtins) verb.now (words_left words.entry) }
@@ -71,7 +71,7 @@ fn of_future(verb: &str, words: Words) -> Option<CanonTree>
     }
 }
 
-/// The builtin that a word names, of those from error contexts on. Sets of waitables and
+/// Returns the builtin that a word names, of those from error contexts on. Waitable sets and
 /// backpressure come next.
 fn of_error_context(verb: &str, words: Words) -> Option<CanonTree>
     ensures { option_map canon_view result ≡
@@ -91,7 +91,8 @@ fn of_error_context(verb: &str, words: Words) -> Option<CanonTree>
     }
 }
 
-/// The builtin that a word names, of the last ones: those of threads, and those that forward.
+/// Returns the builtin that a word names, of the last ones: those of threads, and those that
+/// forward.
 fn of_thread(verb: &str, words: Words) -> Option<CanonTree>
     ensures { option_map canon_view result ≡
         one_of (drop 34 builtins) verb.now (words_left words.entry) }
@@ -120,7 +121,7 @@ fn of_thread(verb: &str, words: Words) -> Option<CanonTree>
     }
 }
 
-/// This function, where no word is left.
+/// Returns this function if no word is left.
 fn alone(words: Words, function: CanonTree) -> Option<CanonTree>
     ensures { option_map canon_view result ≡
         option_map (λ v. canon_view function) (values_said [] (words_left words.entry)) }
@@ -132,7 +133,7 @@ fn alone(words: Words, function: CanonTree) -> Option<CanonTree>
     }
 }
 
-/// The index that is the one word left.
+/// Returns the index that is the one word left.
 fn index(words: Words) -> Option<u32>
     ensures { result ≡ values_said (Index ∷ []) (words_left words.entry) }
 {
@@ -144,7 +145,7 @@ fn index(words: Words) -> Option<u32>
     }
 }
 
-/// The flag that is the one word left.
+/// Returns the flag that is the one word left.
 fn async_flag(words: Words) -> Option<bool>
     ensures { result ≡ values_said (Flag ∷ []) (words_left words.entry) }
 {
@@ -156,7 +157,7 @@ fn async_flag(words: Words) -> Option<bool>
     }
 }
 
-/// The index and the flag that are the words left.
+/// Returns the index and the flag that are the words left.
 fn index_and_flag(words: Words) -> Option<(u32, bool)>
     ensures { result ≡ values_said (Index ∷ Flag ∷ []) (words_left words.entry) }
 {
@@ -165,7 +166,7 @@ fn index_and_flag(words: Words) -> Option<(u32, bool)>
     Some((index, async_flag(words)?))
 }
 
-/// The two indices that are the words left.
+/// Returns the two indices that are the words left.
 fn indices(words: Words) -> Option<(u32, u32)>
     ensures { result ≡ values_said (Index ∷ Index ∷ []) (words_left words.entry) }
 {

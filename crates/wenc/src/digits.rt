@@ -2,7 +2,7 @@
 ghost use Rattle.std.specs.Prelude.{◌≡◌, ◌*◌, ◌<◌, length, slice_index};
 ghost use Rattle.hex.specs.Hex.{encode_lower, lower_digits};
 
-/// The digit of a number below 16.
+/// Returns the digit of a number below 16.
 fn digit(number: u8) -> u8
     requires { number < 16 }
     ensures { result ≡ slice_index lower_digits number }
@@ -14,8 +14,7 @@ fn digit(number: u8) -> u8
     }
 }
 
-/// Writes bytes in hexadecimal into a text. It looks nothing up, so the compiler takes many bytes
-/// at a time.
+/// Writes bytes in hexadecimal into `text`. Looks nothing up, so the compiler can vectorize it.
 pub fn encode(bytes: &[u8], text: &mut [u8])
     requires { length text.old ≡ 2 * length bytes.now }
     ensures { text.new ≡ encode_lower bytes.now }

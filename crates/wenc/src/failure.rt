@@ -1,4 +1,4 @@
-//! Why nothing is printed.
+//! The errors of a run.
 ghost use Rattle.std.specs.Prelude.{◌≡◌, alloc_error};
 ghost use Rattle.wenc.specs.declared.failure.Failure.TheVariants.{Fault as FaultFailure};
 ghost use Rattle.wenc_base.specs.declared.fault.Fault.TheVariants.{Memory};
@@ -9,11 +9,11 @@ use wasm_encoder::Fault;
 /// Why nothing is printed.
 #[derive(Clone, Copy, Debug)]
 pub enum Failure {
-    /// There are arguments.
+    /// The arguments are unknown.
     Arguments,
-    /// The script's first bad line has this number, from 1.
+    /// The script's first bad line has this number, counted from 1.
     BadLine(usize),
-    /// There was no memory, or a fault in the building.
+    /// An allocation failed, or the build failed with this fault.
     Fault(Fault),
     /// A read or a write failed, or the input doesn't end.
     Transfer,

@@ -5,13 +5,17 @@ use crate::failure::Failure;
 use std::alloc::Allocator;
 use std::io::Read;
 
-/// How many reads an input's end may take.
+/// The maximum number of reads up to an input's end.
 pub const MAX_READS: u32 = 16_777_216;
 
 const CHUNK_SIZE: usize = 8192;
 
-/// Reads an input to its end. It fails at the first read that fails, and where none of `max_reads`
-/// reads finds the end.
+/// Reads an input to its end.
+///
+/// # Errors
+///
+/// Fails with `Transfer` at the first read that fails, and if none of `max_reads` reads finds the
+/// end, and with `Fault` if an allocation fails.
 pub fn read_all<A: Allocator, R: Read>(
     alloc: A,
     input: &mut R,

@@ -1,5 +1,5 @@
 //! The program `wenc`, but for its `main`: `run` reads a script of commands, and prints their
-//! answers and the component that they build; or it lists a component's sections.
+//! results and the component that they build; or it lists a component's sections.
 #![tactic(auto)]
 
 pub mod builtin;

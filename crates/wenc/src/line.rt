@@ -1,4 +1,4 @@
-//! What a line of a script says.
+//! Parses a line of a script.
 ghost use Rattle.std.specs.Prelude.{◌≡◌, IfOk, option_map};
 ghost use Rattle.wasm_encoder.specs.Command.{command_view};
 ghost use Rattle.wenc.specs.Script.{import_command, export_command, alias_command, core_module_command, start_command, append_names_command, command_of, line_command};
@@ -12,7 +12,7 @@ use crate::words::Words;
 use std::alloc::{AllocError, Global};
 use wasm_encoder::{AliasTree, Command, ComponentExportKind, NameTree};
 
-/// What words say of the kind and the index of an item with a name, which isn't empty.
+/// Parses the sort and the index of an item with a name, which isn't empty.
 fn kind_and_index(name: &str, word: &str, index: &str) -> Option<(ComponentExportKind, u32)>
     ensures { result ≡ kind_and_index name.now word.now index.now }
 {
@@ -22,7 +22,7 @@ fn kind_and_index(name: &str, word: &str, index: &str) -> Option<(ComponentExpor
     Some((kind(word)?, number(index)?))
 }
 
-/// `import NAME KIND I`
+/// Parses `import NAME KIND I`.
 fn import(alloc: Global, words: Words) -> Result<Option<Command>, AllocError>
     ensures { IfOk result
         (λ c. option_map command_view c ≡ of_full import_command (words_left words.entry)) }
@@ -38,7 +38,7 @@ fn import(alloc: Global, words: Words) -> Result<Option<Command>, AllocError>
     Ok(Some(Command::Import { name, ty }))
 }
 
-/// `export NAME KIND I`
+/// Parses `export NAME KIND I`.
 fn export(alloc: Global, words: Words) -> Result<Option<Command>, AllocError>
     ensures { IfOk result
         (λ c. option_map command_view c ≡ of_full export_command (words_left words.entry)) }
@@ -58,7 +58,7 @@ fn export(alloc: Global, words: Words) -> Result<Option<Command>, AllocError>
     }))
 }
 
-/// `alias-export I KIND NAME`
+/// Parses `alias-export I KIND NAME`.
 fn alias_export(alloc: Global, words: Words) -> Result<Option<Command>, AllocError>
     ensures { IfOk result
         (λ c. option_map command_view c ≡ of_full alias_command (words_left words.entry)) }
@@ -81,7 +81,7 @@ fn alias_export(alloc: Global, words: Words) -> Result<Option<Command>, AllocErr
     }))
 }
 
-/// `core-module HEX`
+/// Parses `core-module HEX`.
 fn core_module(alloc: Global, words: Words) -> Result<Option<Command>, AllocError>
     ensures { IfOk result
         (λ c. option_map command_view c ≡ of_full core_module_command (words_left words.entry)) }
@@ -102,7 +102,7 @@ fn core_module(alloc: Global, words: Words) -> Result<Option<Command>, AllocErro
     }
 }
 
-/// `start F R A..`
+/// Parses `start F R A..`.
 fn start(alloc: Global, words: Words) -> Result<Option<Command>, AllocError>
     ensures { IfOk result
         (λ c. option_map command_view c ≡ start_command (words_left words.entry)) }
@@ -128,7 +128,7 @@ fn start(alloc: Global, words: Words) -> Result<Option<Command>, AllocError>
     }))
 }
 
-/// `append-names`
+/// Parses `append-names`.
 fn append_names(words: Words) -> Option<Command>
     ensures { option_map command_view result ≡ append_names_command (words_left words.entry) }
 {
@@ -139,7 +139,7 @@ fn append_names(words: Words) -> Option<Command>
     }
 }
 
-/// The command that the words of a line say, if they say one.
+/// Returns the command that the words of a line describe, if they describe one.
 fn command_of(alloc: Global, words: Words) -> Result<Option<Command>, AllocError>
     ensures { IfOk result
         (λ c. option_map command_view c ≡ of_full command_of (words_left words.entry)) }
@@ -165,14 +165,14 @@ fn command_of(alloc: Global, words: Words) -> Result<Option<Command>, AllocError
     }
 }
 
-/// The command that a line of a text says, if it says one.
+/// Returns the command that a line of text describes, if it describes one.
 pub(crate) fn text_command(alloc: Global, line: &str) -> Result<Option<Command>, AllocError>
     ensures { IfOk result (λ c. option_map command_view c ≡ line_command line.now) }
 {
     command_of(alloc, Words::of(line))
 }
 
-/// The command that a line says, if it says one.
+/// Returns the command that a line describes, if it describes one.
 pub fn command(alloc: Global, line: &[u8]) -> Result<Option<Command>, AllocError>
     ensures { IfOk result (λ c. option_map command_view c ≡ line_command line.now) }
 {

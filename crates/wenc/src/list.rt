@@ -1,4 +1,4 @@
-//! The use `list`: the sections and counts of a component, of its bytes in hexadecimal.
+//! The subcommand `list`: the sections and counts of a component, given as bytes in hexadecimal.
 ghost use Rattle.std.specs.Prelude.{◌≡◌, ◌++◌, ◌⊎◌, IfOk, OnOk, MatchResult, string_bytes, Some};
 ghost use Rattle.wenc_list.specs.declared.fault.ListFault.TheVariants.{Memory};
 ghost use Rattle.wenc.specs.Listed.{without_line_end, text_bytes, section_line, section_lines, with_space, counts_line, listing_text, place_line, fault_line};
@@ -16,7 +16,7 @@ use std::alloc::{AllocError, Allocator};
 use std::io::{Read, Write};
 use wenc_list::{ListFault, ListedSection, Listing, list};
 
-/// A text without the LF at its end, if there is one.
+/// Returns a text without the LF at its end, if there is one.
 fn without_line_end(text: &[u8]) -> &[u8]
     ensures { result.now ≡ without_line_end text.now }
 {
@@ -26,7 +26,7 @@ fn without_line_end(text: &[u8]) -> &[u8]
     }
 }
 
-/// The bytes that a text says.
+/// Decodes a text in hexadecimal.
 fn bytes_of<A: Allocator>(alloc: A, text: &[u8]) -> Result<Vec<u8, A>, Unlisted>
     ensures { MatchResult result (λ bytes. text_bytes text.now ≡ Some bytes.items)
         (NotDecoded text.now) }
@@ -38,7 +38,7 @@ fn bytes_of<A: Allocator>(alloc: A, text: &[u8]) -> Result<Vec<u8, A>, Unlisted>
     }
 }
 
-/// Appends the line of a section: its id, and how many items it has.
+/// Appends the line of a section: its id, and the number of its items.
 fn push_section<A: Allocator>(
     text: &mut String<A>,
     section: &ListedSection<A>,
@@ -87,7 +87,7 @@ fn push_counts<A: Allocator>(text: &mut String<A>, counts: &[u128]) -> Result<()
     text.push('\n')
 }
 
-/// What is printed of a listing.
+/// Returns the output for a listing.
 pub fn printed<A: Allocator>(alloc: A, listing: &Listing<A>) -> Result<Vec<u8, A>, AllocError>
     ensures { IfOk result (λ text. text.items ≡ listing_text listing.now) }
 {
@@ -97,7 +97,7 @@ pub fn printed<A: Allocator>(alloc: A, listing: &Listing<A>) -> Result<Vec<u8, A
     Ok(text.into_bytes())
 }
 
-/// What is printed of the component that a text says.
+/// Returns the output for the component that a text encodes in hexadecimal.
 pub fn list_text<A: Allocator + Copy>(alloc: A, text: &[u8]) -> Result<Vec<u8, A>, Unlisted>
     ensures { ListsText result text.now }
 {
@@ -117,7 +117,7 @@ fn read_text<A: Allocator, R: Read>(alloc: A, input: &mut R) -> Result<Vec<u8, A
     }
 }
 
-/// Reads a text to its end: what is printed of the component that it says.
+/// Reads a text to its end, and returns the output for the component that it encodes.
 fn read_and_list<A: Allocator + Copy, R: Read>(
     alloc: A,
     input: &mut R,
@@ -128,14 +128,14 @@ fn read_and_list<A: Allocator + Copy, R: Read>(
     list_text(alloc, text.as_slice())
 }
 
-/// Reports that there was no memory, and answers the status.
+/// Reports that memory ran out, and returns the status.
 fn report_memory<E: Write>(err: &mut E) -> u8
     ensures { Says result 3 (fault_line Memory) (E.contents err.old) (E.contents err.new) }
 {
     write_with_status(err, b"Memory\n", UNLISTED)
 }
 
-/// Reports a fault of this name at this place, and answers the status.
+/// Reports a fault of this name at this byte offset, and returns the status.
 fn report_place<A: Allocator, E: Write>(alloc: A, err: &mut E, name: &str, place: usize) -> u8
     ensures { Says result 3 (place_line name.now place) (E.contents err.old) (E.contents err.new)
         ⊎ Says result 3 (fault_line Memory) (E.contents err.old) (E.contents err.new) }
@@ -146,7 +146,7 @@ fn report_place<A: Allocator, E: Write>(alloc: A, err: &mut E, name: &str, place
     }
 }
 
-/// Reports a fault, and answers the status.
+/// Reports a fault, and returns the status.
 fn report_fault<A: Allocator, E: Write>(alloc: A, err: &mut E, fault: ListFault) -> u8
     ensures { Says result 3 (fault_line fault) (E.contents err.old) (E.contents err.new)
         ⊎ Says result 3 (fault_line Memory) (E.contents err.old) (E.contents err.new) }
@@ -160,7 +160,7 @@ fn report_fault<A: Allocator, E: Write>(alloc: A, err: &mut E, fault: ListFault)
     }
 }
 
-/// Reports why nothing is listed, and answers the status.
+/// Reports why nothing is listed, and returns the status.
 fn report_unlisted<A: Allocator, E: Write>(alloc: A, err: &mut E, unlisted: Unlisted) -> u8
     ensures { ReportsUnlisted result unlisted (E.contents err.old) (E.contents err.new) }
 {
@@ -171,7 +171,7 @@ fn report_unlisted<A: Allocator, E: Write>(alloc: A, err: &mut E, unlisted: Unli
     }
 }
 
-/// Lists the component that the input says in hexadecimal. The answer is the exit status.
+/// Lists the component that the input encodes in hexadecimal. Returns the exit status.
 pub fn run_list<A: Allocator + Copy, R: Read, O: Write, E: Write>(
     alloc: A,
     input: &mut R,

@@ -5,7 +5,7 @@ ghost use Rattle.wenc.specs.Fields.{number_word, flag_word, hex};
 use hex::FromHexError;
 use std::alloc::{AllocError, Global};
 
-/// The value of decimal digits, at least one, if it is at most 4294967295.
+/// Returns the value of decimal digits, at least one, if it is at most 4294967295.
 pub fn number(word: &str) -> Option<u32>
     ensures { result ≡ number_word word.now }
 {
@@ -22,7 +22,7 @@ pub fn number(word: &str) -> Option<u32>
     Some(value)
 }
 
-/// What `0` or `1` says.
+/// Returns the flag of `0` or `1`.
 pub fn flag(word: &str) -> Option<bool>
     ensures { result ≡ flag_word word.now }
 {
@@ -33,7 +33,7 @@ pub fn flag(word: &str) -> Option<bool>
     }
 }
 
-/// The bytes that hexadecimal digits say, or none for `-`.
+/// Returns the bytes of hexadecimal digits; no bytes for `-`.
 pub fn bytes(alloc: Global, word: &str) -> Result<Option<Vec<u8>>, AllocError>
     ensures { IfOk result (λ bytes. option_map (λ v. v.items) bytes ≡ hex word.now) }
 {

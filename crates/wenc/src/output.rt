@@ -1,4 +1,4 @@
-//! What is written to an output.
+//! Writes to an output.
 ghost use Rattle.std.specs.Prelude.{◌*◌, ◌≤◌, ◌++◌, length, OnOk};
 ghost use Rattle.std.specs.Io.KnownBytes.{Appends};
 ghost use Rattle.hex.specs.Hex.{encode_lower};
@@ -10,7 +10,7 @@ use crate::failure::Failure;
 use crate::status::TRANSFER_FAILED;
 use std::io::Write;
 
-/// How many bytes are written in hexadecimal at a time.
+/// The number of bytes that are written in hexadecimal at a time.
 const PIECE_SIZE: usize = 16_384;
 
 /// Writes a text. The first call that fails, or takes nothing, is the last.
@@ -70,8 +70,8 @@ pub fn send<W: Write>(writer: &mut W, text: &[u8]) -> Result<(), Failure>
     writer.flush().map_err(|_| Failure::Transfer)
 }
 
-/// Writes lines, then one with the bytes in hexadecimal, and flushes. It takes no memory, and the
-/// first call that fails, or takes nothing, is the last.
+/// Writes lines, then one with the bytes in hexadecimal, and flushes. Allocates nothing. The first
+/// call that fails, or takes nothing, is the last.
 pub fn send_with_hex<W: Write>(writer: &mut W, lines: &[u8], bytes: &[u8]) -> Result<(), Failure>
     ensures ok { OnOk result (Appends (W.contents writer.old) (W.contents writer.new)
         (lines.now ++ line_of (encode_lower bytes.now))) }
@@ -83,7 +83,7 @@ pub fn send_with_hex<W: Write>(writer: &mut W, lines: &[u8], bytes: &[u8]) -> Re
     send(writer, b"\n")
 }
 
-/// Writes a text, and answers the status, or that a write failed.
+/// Writes a text, and returns the status, or `TRANSFER_FAILED` if a write failed.
 pub fn write_with_status<W: Write>(writer: &mut W, text: &[u8], status: u8) -> u8
     ensures { Says result status text.now (W.contents writer.old) (W.contents writer.new) }
 {

@@ -1,4 +1,4 @@
-//! The lines of the answers.
+//! The lines of the commands' results.
 ghost use Rattle.std.specs.Prelude.{◌≡◌, ◌++◌, IfOk, OnOk};
 ghost use Rattle.std.specs.Fmt.{decimal};
 ghost use Rattle.wenc.specs.Printed.{answer_line, answer_lines, line_of};
@@ -6,7 +6,7 @@ ghost use Rattle.wenc.specs.Printed.{answer_line, answer_lines, line_of};
 use std::alloc::{AllocError, Allocator};
 use wasm_encoder::Fault;
 
-/// The most digits that a number has.
+/// The maximum number of digits of a number.
 const MOST_DIGITS: usize = 10;
 
 /// Appends the line of a number.
@@ -25,7 +25,7 @@ fn push_number<A: Allocator>(text: &mut Vec<u8, A>, number: u32) -> Result<(), A
     text.extend_from_slice(&line[start..])
 }
 
-/// Appends the line of an answer.
+/// Appends the line of a result.
 fn push_answer<A: Allocator>(
     text: &mut Vec<u8, A>,
     given: &Result<Option<u32>, Fault>,
@@ -42,7 +42,7 @@ fn push_answer<A: Allocator>(
     }
 }
 
-/// The lines of the answers.
+/// Returns the lines of the commands' results.
 pub fn answer_lines<A: Allocator>(
     alloc: A,
     answers: &[Result<Option<u32>, Fault>],

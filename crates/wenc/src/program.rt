@@ -18,10 +18,10 @@ use std::alloc::{Allocator, Global};
 use std::io::{Read, Write};
 use wasm_encoder::Fault;
 
-/// What is printed for a script.
+/// The output for a script.
 #[derive(Drop)]
 pub struct Printout<A: Allocator = Global> {
-    /// The lines of the answers.
+    /// The lines of the commands' results.
     pub lines: Vec<u8, A>,
     /// The component, which is printed in hexadecimal.
     pub bytes: Vec<u8, A>,
@@ -29,7 +29,7 @@ pub struct Printout<A: Allocator = Global> {
     pub status: u8,
 }
 
-/// Whether a command was refused.
+/// Returns whether a command was refused.
 fn has_refusal(answers: &[Result<Option<u32>, Fault>]) -> bool
     ensures refused { OnTrue result (Any IsErr answers.now) }
     ensures accepted { OnFalse result (All IsOk answers.now) }
@@ -37,14 +37,14 @@ fn has_refusal(answers: &[Result<Option<u32>, Fault>]) -> bool
     answers.iter().any(|answer| answer.is_err())
 }
 
-/// The exit status of a run with these answers.
+/// Returns the exit status of a run with these results.
 fn status_of(answers: &[Result<Option<u32>, Fault>]) -> u8
     ensures { IsStatusOf result answers.now }
 {
     if has_refusal(answers) { REFUSED } else { DONE }
 }
 
-/// Runs the commands of a script, which allocate by `names` what they own. The text is freed once
+/// Runs the commands of a script, which allocate in `names` what they own. The text is freed once
 /// they ran.
 pub fn translate<A: Allocator + Copy>(
     alloc: A,
@@ -75,7 +75,7 @@ fn read_and_translate<A: Allocator + Copy, R: Read>(
     translate(alloc, names, text)
 }
 
-/// Writes what is printed for a script, and answers the status, or that a write failed.
+/// Writes the output for a script, and returns its status, or `TRANSFER_FAILED` if a write failed.
 fn print<A: Allocator, O: Write>(out: &mut O, printout: &Printout<A>) -> u8
     ensures { Says result printout.now.status (text_of printout.now)
         (O.contents out.old) (O.contents out.new) }
@@ -86,7 +86,7 @@ fn print<A: Allocator, O: Write>(out: &mut O, printout: &Printout<A>) -> u8
     }
 }
 
-/// Reports a fault, and answers the status.
+/// Reports a fault, and returns the status.
 fn report_fault<E: Write>(err: &mut E, fault: Fault) -> u8
     ensures { Says result 2 (fault_report fault) (E.contents err.old) (E.contents err.new) }
 {
@@ -95,7 +95,7 @@ fn report_fault<E: Write>(err: &mut E, fault: Fault) -> u8
     write_with_status(err, &text, REFUSED)
 }
 
-/// Reports why nothing is printed, and answers the status.
+/// Reports why nothing is printed, and returns the status.
 pub fn report<A: Allocator, E: Write>(alloc: A, err: &mut E, failure: Failure) -> u8
     ensures { Reported result failure (E.contents err.old) (E.contents err.new) }
 {
@@ -110,7 +110,7 @@ pub fn report<A: Allocator, E: Write>(alloc: A, err: &mut E, failure: Failure) -
     }
 }
 
-/// Whether the arguments are the one word `list`.
+/// Returns whether the arguments are the one word `list`.
 fn is_list(args: &[String]) -> bool
     ensures { IsTrue result ↔ IsList args.now }
 {
@@ -120,7 +120,7 @@ fn is_list(args: &[String]) -> bool
     }
 }
 
-/// Runs the script that the input is, and answers the status.
+/// Runs the input as a script, and returns the status.
 fn run_script<A: Allocator + Copy, R: Read, O: Write, E: Write>(
     alloc: A,
     names: Global,
@@ -138,8 +138,8 @@ fn run_script<A: Allocator + Copy, R: Read, O: Write, E: Write>(
     }
 }
 
-/// Runs the program: with these arguments, without the program's name, on this input. The answer is
-/// the exit status.
+/// Runs the program with these arguments, without the program's name, on this input. Returns the
+/// exit status.
 ///
 /// ```
 /// let mut input: &[u8] = b"core-module 0061736d01000000\n";
@@ -163,7 +163,7 @@ pub fn run<R: Read, O: Write, E: Write>(
     ensures ends { args.now ≡ [] → EndsRun result (R.remaining input.old) (R.remaining input.new)
         (O.contents out.old) (O.contents out.new) (E.contents err.old) (E.contents err.new) }
 
-    // With `list` a component's sections and counts are printed, or why there are none.
+    // With `list` a component's sections and counts are printed, or why it isn't listed.
     ensures lists { IsList args.now
         → EndsListing Global result (R.remaining input.old) (R.remaining input.new)
         (O.contents out.old) (O.contents out.new) (E.contents err.old) (E.contents err.new) }
@@ -175,8 +175,8 @@ pub fn run<R: Read, O: Write, E: Write>(
     run_with_allocators(alloc, alloc, args, input, out, err)
 }
 
-/// `run` with two allocators: what the commands own (names, a module's bytes, a start's arguments)
-/// is allocated by `names`, and all else by `alloc`.
+/// Runs the program as `run` does, with two allocators: `names` allocates what the commands own
+/// (names, a module's bytes, a start function's arguments), and `alloc` all else.
 #[tactic(auto, using(crate::proofs::ListArgs::list_is_one))]
 pub fn run_with_allocators<A: Allocator + Copy, R: Read, O: Write, E: Write>(
     alloc: A,

@@ -9,7 +9,7 @@ use std::alloc::{Allocator, Global};
 use wasm_encoder::command::Running;
 use wasm_encoder::{Built, Fault};
 
-/// The longest front of bytes that is a text, and whether that is all of them.
+/// Returns the longest prefix of the bytes that is UTF-8, and whether that is all of them.
 fn text_in_front(bytes: &[u8]) -> (&str, bool)
     ensures { IsTextInFront bytes.now result.0.now result.1 }
 {
@@ -22,8 +22,8 @@ fn text_in_front(bytes: &[u8]) -> (&str, bool)
     }
 }
 
-/// Runs the command that the line with this number says, and keeps its answer. An empty line says
-/// nothing.
+/// Runs the command of the line with this number, and keeps its result. An empty line has no
+/// command.
 fn run_line<A: Allocator + Copy>(
     running: &mut Running<A>,
     answers: &mut Vec<Result<Option<u32>, Fault>, A>,
@@ -46,8 +46,12 @@ fn run_line<A: Allocator + Copy>(
     }
 }
 
-/// Runs the commands of a script one by one. What a command owns is allocated by `names`, and freed
-/// before the next line is read. It fails at the first bad line, or where memory runs out.
+/// Runs the commands of a script one by one. What a command owns is allocated in `names`, and freed
+/// before the next line is read.
+///
+/// # Errors
+///
+/// Fails at the first bad line, and if an allocation fails.
 pub fn build<A: Allocator + Copy>(alloc: A, names: Global, text: &[u8]) -> Result<Built<A>, Failure>
     ensures { Builds result (script text.now) }
 {
@@ -61,7 +65,7 @@ pub fn build<A: Allocator + Copy>(alloc: A, names: Global, text: &[u8]) -> Resul
         number += 1;
         last = behind;
     }
-    // The last line goes on with bytes that are no text.
+    // The last line goes on with bytes that aren't UTF-8.
     if !is_whole {
         return Err(Failure::BadLine(number));
     }

@@ -1,4 +1,4 @@
-//! Why a component is not listed.
+//! The errors of the subcommand `list`.
 ghost use Rattle.std.specs.Prelude.{◌≡◌};
 ghost use Rattle.wenc.specs.declared.unlisted.Unlisted.TheVariants.{Fault as FaultUnlisted};
 ghost use Rattle.wenc_list.specs.declared.fault.ListFault.TheVariants.{Memory};
@@ -6,12 +6,12 @@ ghost use Rattle.wenc_list.specs.declared.fault.ListFault.TheVariants.{Memory};
 use std::alloc::AllocError;
 use wenc_list::ListFault;
 
-/// Why a component is not listed.
+/// Why a component isn't listed.
 #[derive(Clone, Copy, Debug)]
 pub enum Unlisted {
-    /// The text isn't hexadecimal digits, an even number of them, and at most one LF after them.
+    /// The text isn't an even number of hexadecimal digits, followed by at most one LF.
     BadText,
-    /// There was no memory, or the bytes have this fault.
+    /// An allocation failed, or the bytes have this fault.
     Fault(ListFault),
     /// A read failed, or the input doesn't end.
     Transfer,

@@ -3,7 +3,7 @@ ghost use Rattle.std.specs.Prelude.{◌≡◌, ◌≢◌, ◌∷◌, [], length,
 ghost use Rattle.wenc.specs.Parts.{parted};
 ghost use Rattle.wenc.specs.Words.{words_left};
 
-/// The words of a line that are left, parted by one space.
+/// The remaining words of a line, separated by one space.
 #[derive(Clone, Copy)]
 pub struct Words<'a> {
     /// The line from the next word on, if there is one.
@@ -11,14 +11,14 @@ pub struct Words<'a> {
 }
 
 impl<'a> Words<'a> {
-    /// All words of a line.
+    /// Returns all words of a line.
     pub fn of(line: &'a str) -> Words<'a>
         ensures { words_left result ≡ parted 32 line.now }
     {
         Words { rest: Some(line) }
     }
 
-    /// The next word, if there is one.
+    /// Returns the next word, if there is one.
     #[tactic(auto, using(crate::proofs::Parted::parted_whole, crate::proofs::Parted::parted_first))]
     pub fn next(&mut self) -> Option<&'a str>
         ensures { MatchOption result
@@ -38,7 +38,7 @@ impl<'a> Words<'a> {
         }
     }
 
-    /// The words that are left, if there are three.
+    /// Returns the remaining words, if there are three.
     pub fn three(self) -> Option<(&'a str, &'a str, &'a str)>
         ensures { MatchOption result
             (length (words_left self.entry) ≢ 3)

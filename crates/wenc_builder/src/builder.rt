@@ -1,4 +1,4 @@
-//! The builder of a component: its calls for modules, components, aliases, imports and exports.
+//! The component builder: its methods for modules, components, aliases, imports and exports.
 ghost use Rattle.std.specs.Prelude.{◌≡◌, ◌↔◌, [], ◌∷◌, ◌++◌, List, IfOk, IfErr, OnErr, IsOk, IsTrue, Some, None, Err, true, false};
 ghost use Rattle.std.specs.Iterator.{IsFinite};
 ghost use Rattle.std.specs.Option.{option_copied};
@@ -56,14 +56,21 @@ use wenc_parts::{
 use wenc_sections::names::NAMES_LABEL;
 use wenc_sections::{CanonTree, ComponentStartSection};
 
-/// Builds a component call by call: collects neighbours of one kind in one section, and hands out
-/// the index of each item. A refused call changes nothing, and the next one goes on as if it had
-/// not been made.
+/// Builds a component call by call.
 ///
-/// A call is refused where an index space, a section, a list or the names of a space would have
-/// more than 4294967295 members (`TooMany`), where a text, a module, a component, a section or the
-/// names of a space would have more than 4294967295 bytes (`TooLarge`), for want of memory
-/// (`Memory`), and while an item is being written (`Unfinished`).
+/// Neighbours of one kind are collected in one section, and each call returns the index of its
+/// item. A call that fails changes nothing: the builder goes on as if it had not been made.
+///
+/// # Errors
+///
+/// A method fails
+///
+/// - with `TooMany` where an index space, a section, a list or the debug names of a space would
+///   have more than 4294967295 members,
+/// - with `TooLarge` where a string, a module, a component, a section or the debug names of a space
+///   would have more than 4294967295 bytes,
+/// - with `Memory` if an allocation fails,
+/// - with `Unfinished` while an item is being written.
 ///
 /// ```
 /// let mut builder = ComponentBuilder::new(alloc)?;
@@ -89,7 +96,7 @@ impl<A: Allocator> Model for ComponentBuilder<A> {
 }
 
 impl<A: Allocator> ComponentBuilder<A> {
-    /// A component without items. It is refused for want of memory alone.
+    /// Creates a component without items. Fails only if an allocation fails (`Memory`).
     pub fn new(alloc: A) -> Result<Self, Fault>
     where
         A: Copy,
@@ -102,98 +109,98 @@ impl<A: Allocator> ComponentBuilder<A> {
         })
     }
 
-    /// The number of core modules so far.
+    /// Returns the number of core modules so far.
     pub fn core_module_count(&self) -> u32
         ensures { result ≡ count_in self.now Space.CoreModules }
     {
         self.spaces.count(Space::CoreModules)
     }
 
-    /// The number of core functions so far.
+    /// Returns the number of core functions so far.
     pub fn core_func_count(&self) -> u32
         ensures { result ≡ count_in self.now Space.CoreFuncs }
     {
         self.spaces.count(Space::CoreFuncs)
     }
 
-    /// The number of core types so far.
+    /// Returns the number of core types so far.
     pub fn core_type_count(&self) -> u32
         ensures { result ≡ count_in self.now Space.CoreTypes }
     {
         self.spaces.count(Space::CoreTypes)
     }
 
-    /// The number of core memories so far.
+    /// Returns the number of core memories so far.
     pub fn core_memory_count(&self) -> u32
         ensures { result ≡ count_in self.now Space.CoreMemories }
     {
         self.spaces.count(Space::CoreMemories)
     }
 
-    /// The number of core tables so far.
+    /// Returns the number of core tables so far.
     pub fn core_table_count(&self) -> u32
         ensures { result ≡ count_in self.now Space.CoreTables }
     {
         self.spaces.count(Space::CoreTables)
     }
 
-    /// The number of core instances so far.
+    /// Returns the number of core instances so far.
     pub fn core_instance_count(&self) -> u32
         ensures { result ≡ count_in self.now Space.CoreInstances }
     {
         self.spaces.count(Space::CoreInstances)
     }
 
-    /// The number of core tags so far.
+    /// Returns the number of core tags so far.
     pub fn core_tag_count(&self) -> u32
         ensures { result ≡ count_in self.now Space.CoreTags }
     {
         self.spaces.count(Space::CoreTags)
     }
 
-    /// The number of core globals so far.
+    /// Returns the number of core globals so far.
     pub fn core_global_count(&self) -> u32
         ensures { result ≡ count_in self.now Space.CoreGlobals }
     {
         self.spaces.count(Space::CoreGlobals)
     }
 
-    /// The number of functions so far.
+    /// Returns the number of component functions so far.
     pub fn func_count(&self) -> u32
         ensures { result ≡ count_in self.now Space.Funcs }
     {
         self.spaces.count(Space::Funcs)
     }
 
-    /// The number of instances so far.
+    /// Returns the number of component instances so far.
     pub fn instance_count(&self) -> u32
         ensures { result ≡ count_in self.now Space.Instances }
     {
         self.spaces.count(Space::Instances)
     }
 
-    /// The number of values so far.
+    /// Returns the number of values so far.
     pub fn value_count(&self) -> u32
         ensures { result ≡ count_in self.now Space.Values }
     {
         self.spaces.count(Space::Values)
     }
 
-    /// The number of components so far.
+    /// Returns the number of components so far.
     pub fn component_count(&self) -> u32
         ensures { result ≡ count_in self.now Space.Components }
     {
         self.spaces.count(Space::Components)
     }
 
-    /// The number of types so far.
+    /// Returns the number of component types so far.
     pub fn type_count(&self) -> u32
         ensures { result ≡ count_in self.now Space.Types }
     {
         self.spaces.count(Space::Types)
     }
 
-    /// Begins an item, which `give_up` takes back until it is ended. Answers its index.
+    /// Begins an item, which `give_up` rolls back until it is ended. Returns its index.
     fn begin(&mut self, kind: Kind, space: Space, name: Option<&str>) -> Result<u32, Fault>
         ensures { Takes self.old self.new
             (item_begun self.old (draft_of kind space (option_copied name.entry) []))
@@ -212,7 +219,7 @@ impl<A: Allocator> ComponentBuilder<A> {
         }
     }
 
-    /// Ends the item that is being written. It takes no memory.
+    /// Ends the item being written. Allocates nothing.
     fn end(&mut self)
         requires unfinished { builder_is_finished self.old ≡ false }
         requires whole { ∥ is_whole self.old ∥₁ }
@@ -222,7 +229,7 @@ impl<A: Allocator> ComponentBuilder<A> {
         self.spaces.end();
     }
 
-    /// Gives up the item that is being written. It takes no memory.
+    /// Discards the item being written. Allocates nothing.
     fn give_up(&mut self)
         requires { builder_is_finished self.old ≡ false }
         ensures { self.new ≡ item_given_up self.old }
@@ -231,7 +238,7 @@ impl<A: Allocator> ComponentBuilder<A> {
         self.spaces.give_up();
     }
 
-    /// Adds an item in one go, with a debug name or none. Answers its index.
+    /// Adds a whole item with an optional debug name, and returns its index.
     fn add<E: Encode>(
         &mut self,
         kind: Kind,
@@ -259,8 +266,8 @@ impl<A: Allocator> ComponentBuilder<A> {
         }
     }
 
-    /// Appends the text of `lead`, the values as a list, and the text of `tail` to the item that is
-    /// being written. Where it is refused, a part of that may have been appended.
+    /// Appends the encoding of `lead`, the values as a list, and the encoding of `tail` to the item
+    /// being written. On failure a part of these may have been appended.
     fn append_between<E: Encode, T: Encode + Drop, I: Iterator<Item = T> + Drop, F: Encode>(
         &mut self,
         lead: &E,
@@ -282,7 +289,8 @@ impl<A: Allocator> ComponentBuilder<A> {
         self.append_value(tail)
     }
 
-    /// Adds an item that consists of these in one go, with a debug name or none. Answers its index.
+    /// Adds a whole item with an optional debug name, and returns its index. The item is the
+    /// encoding of `lead`, the values as a list, and the encoding of `tail`.
     fn add_listed<E: Encode, T: Encode + Drop, I: Iterator<Item = T> + Drop, F: Encode>(
         &mut self,
         kind: Kind,
@@ -316,8 +324,8 @@ impl<A: Allocator> ComponentBuilder<A> {
         }
     }
 
-    /// Adds what stands alone, the text of `lead` and these bytes, with so many indices in a space,
-    /// of which the first has a debug name or none. Answers the index of that.
+    /// Adds a section of its own, the encoding of `lead` and these bytes, which takes `number`
+    /// indices in a space. The first of them has an optional debug name, and is returned.
     fn stand_alone<E: Encode>(
         &mut self,
         space: Space,
@@ -349,7 +357,7 @@ impl<A: Allocator> ComponentBuilder<A> {
         }
     }
 
-    /// Adds what stands alone and has no index: the text of `lead`, and these bytes.
+    /// Adds a section of its own without an index: the encoding of `lead`, and these bytes.
     fn add_alone<E: Encode>(&mut self, lead: &E, bytes: &Ready<'_>) -> Result<(), Fault>
         requires { IsItemPiece None None (with_bytes (E.piece lead.now) bytes.now) }
         ensures { TakesNoIndex self.old self.new result
@@ -361,8 +369,7 @@ impl<A: Allocator> ComponentBuilder<A> {
         self.buffer.stand_alone(lead, bytes)
     }
 
-    /// Adds a canonical function, which has its index in this space, with a debug name or none.
-    /// Answers its index.
+    /// Adds a canonical function with an optional debug name, and returns its index in this space.
     fn add_canonical<B: Allocator>(
         &mut self,
         space: Space,
@@ -376,10 +383,14 @@ impl<A: Allocator> ComponentBuilder<A> {
         self.add(Kind::CanonicalFunction, space, name, function)
     }
 
-    /// Adds a section of the debug names so far, in the order of their spaces' sorts; the names
-    /// stay, so that a second call writes them again. Where there are no names it adds nothing, and
-    /// the open section stays open. Refused as the type says, but where there are no names only
-    /// while an item is being written (component model, binary format, "Name Section").
+    /// Adds a custom section with the debug names so far, in the order of their sorts (component
+    /// model, binary format, "Name Section").
+    ///
+    /// The names are kept, so a second call writes them again. Without names nothing is added, and
+    /// the open section stays open.
+    ///
+    /// Fails as documented on `ComponentBuilder`; without names only while an item is being
+    /// written.
     pub fn append_names(&mut self) -> Result<(), Fault>
         ensures { AddsNames self.old self.new result }
     {
@@ -396,8 +407,8 @@ impl<A: Allocator> ComponentBuilder<A> {
         self.buffer.stand_alone(&section, &Ready::whole(&[]))
     }
 
-    /// Adds a core module, with a debug name or none, and answers its index (component model,
-    /// binary format, "Component Definitions"). Refused as the type says.
+    /// Adds a core module with an optional debug name, and returns its index (component model,
+    /// binary format, "Component Definitions"). Fails as documented on `ComponentBuilder`.
     pub fn core_module<B: Allocator>(
         &mut self,
         debug_name: Option<&str>,
@@ -409,9 +420,9 @@ impl<A: Allocator> ComponentBuilder<A> {
         self.core_module_raw(debug_name, module.as_slice())
     }
 
-    /// Adds the core module with these bytes, with a debug name or none, and answers its index
-    /// (component model, binary format, "Component Definitions"). Nothing checks that they are a
-    /// module's. Refused as the type says.
+    /// Adds the core module with these bytes and an optional debug name, and returns its index
+    /// (component model, binary format, "Component Definitions"). That they encode a module isn't
+    /// checked. Fails as documented on `ComponentBuilder`.
     pub fn core_module_raw(&mut self, debug_name: Option<&str>, bytes: &[u8]) -> Result<u32, Fault>
         ensures { Enters self.old self.new result
             (module_entry (option_copied debug_name.entry) bytes.now) }
@@ -422,8 +433,9 @@ impl<A: Allocator> ComponentBuilder<A> {
         self.stand_alone(Space::CoreModules, 1, debug_name, &lead, &bytes)
     }
 
-    /// Adds an alias of an export of a core instance, with a debug name or none, and answers its
-    /// index (component model, binary format, "Alias Definitions"). Refused as the type says.
+    /// Adds an alias of a core instance's export with an optional debug name, and returns its index
+    /// (component model, binary format, "Alias Definitions"). Fails as documented on
+    /// `ComponentBuilder`.
     pub fn core_alias_export(
         &mut self,
         debug_name: Option<&str>,
@@ -442,9 +454,9 @@ impl<A: Allocator> ComponentBuilder<A> {
         self.alias(debug_name, alias)
     }
 
-    /// Adds an alias, with a debug name or none, and answers its index. It takes an index in the
-    /// space of what it stands for (component model, binary format, "Alias Definitions"). Refused
-    /// as the type says.
+    /// Adds an alias with an optional debug name, and returns its index, which is in the index
+    /// space of the aliased item's sort (component model, binary format, "Alias Definitions").
+    /// Fails as documented on `ComponentBuilder`.
     pub fn alias(&mut self, debug_name: Option<&str>, alias: Alias<'_>) -> Result<u32, Fault>
         ensures { Enters self.old self.new result
             (alias_entry (option_copied debug_name.entry) (alias_view alias.entry)) }
@@ -452,9 +464,9 @@ impl<A: Allocator> ComponentBuilder<A> {
         self.add(Kind::Alias, Space::of_alias(&alias), debug_name, &alias)
     }
 
-    /// Adds an alias of an export of a component instance, with the export's name as its debug
-    /// name, and answers its index (component model, binary format, "Alias Definitions"). Refused
-    /// as the type says.
+    /// Adds an alias of a component instance's export, and returns its index (component model,
+    /// binary format, "Alias Definitions"). The export's name becomes the alias's debug name. Fails
+    /// as documented on `ComponentBuilder`.
     pub fn alias_export(
         &mut self,
         instance: u32,
@@ -471,8 +483,9 @@ impl<A: Allocator> ComponentBuilder<A> {
         self.alias(Some(name), alias)
     }
 
-    /// Imports an item under this name, and answers its index (component model, binary format,
-    /// "Import and Export Definitions"). Refused as the type says.
+    /// Imports an item under this name, and returns its index (component model, binary format,
+    /// "Import and Export Definitions"). The name is also the item's debug name. Fails as
+    /// documented on `ComponentBuilder`.
     pub fn import<B: Allocator>(
         &mut self,
         name: ComponentExternName<'_, B>,
@@ -485,9 +498,10 @@ impl<A: Allocator> ComponentBuilder<A> {
         self.add(Kind::Import, Space::from(ty.kind()), Some(name), &import)
     }
 
-    /// Exports the item of this kind with this index under this name, with a type or none, and
-    /// answers the index of the export (component model, binary format, "Import and Export
-    /// Definitions"). Refused as the type says.
+    /// Exports the item of this sort with this index under this name, optionally ascribing a type,
+    /// and returns the index of the export (component model, binary format, "Import and Export
+    /// Definitions"). The name is also the export's debug name. Fails as documented on
+    /// `ComponentBuilder`.
     pub fn export<B: Allocator>(
         &mut self,
         name: ComponentExternName<'_, B>,
@@ -503,10 +517,11 @@ impl<A: Allocator> ComponentBuilder<A> {
         self.add(Kind::Export, Space::from(kind), Some(name), &export)
     }
 
-    /// Adds what another builder holds as a nested component, with a debug name or none, and
-    /// answers its index (component model, binary format, "Component Definitions"). That builder is
-    /// given up, also where the call is refused: as the type says, and where either is unfinished
-    /// (`Unfinished`).
+    /// Adds another builder's component as a nested component with an optional debug name, and
+    /// returns its index (component model, binary format, "Component Definitions").
+    ///
+    /// The other builder is dropped, also if the call fails. Fails as documented on
+    /// `ComponentBuilder`, and with `Unfinished` if either builder is unfinished.
     pub fn component<B: Allocator>(
         &mut self,
         debug_name: Option<&str>,
@@ -524,10 +539,11 @@ impl<A: Allocator> ComponentBuilder<A> {
         self.component_raw(debug_name, bytes.as_slice())
     }
 
-    /// Adds what another builder holds as a nested component, with a debug name or none, and
-    /// answers its index (component model, binary format, "Component Definitions"). The other
-    /// builder stays as it is, and may be used again. Refused as the type says, and where either is
-    /// unfinished (`Unfinished`).
+    /// Adds another builder's component as a nested component with an optional debug name, and
+    /// returns its index (component model, binary format, "Component Definitions").
+    ///
+    /// The other builder is unchanged, and may be used further. Fails as documented on
+    /// `ComponentBuilder`, and with `Unfinished` if either builder is unfinished.
     pub fn component_ref<B: Allocator>(
         &mut self,
         debug_name: Option<&str>,
@@ -553,9 +569,9 @@ impl<A: Allocator> ComponentBuilder<A> {
         self.stand_alone(Space::Components, 1, debug_name, &lead, &bytes)
     }
 
-    /// Adds the component with these bytes, with a debug name or none, and answers its index
-    /// (component model, binary format, "Component Definitions"). Nothing checks that they are a
-    /// component's. Refused as the type says.
+    /// Adds the component with these bytes and an optional debug name, and returns its index
+    /// (component model, binary format, "Component Definitions"). That they encode a component
+    /// isn't checked. Fails as documented on `ComponentBuilder`.
     pub fn component_raw(
         &mut self,
         debug_name: Option<&str>,
@@ -570,9 +586,9 @@ impl<A: Allocator> ComponentBuilder<A> {
         self.stand_alone(Space::Components, 1, debug_name, &lead, &bytes)
     }
 
-    /// Has a function called with these values when the component is instantiated. Answers the
-    /// number of values so far, which is the index of the first result (component model, binary
-    /// format, "Start Definitions"). Refused as the type says.
+    /// Adds a start function, which is called with these values when the component is instantiated
+    /// (component model, binary format, "Start Definitions"). Returns the number of values so far,
+    /// which is the index of the first result. Fails as documented on `ComponentBuilder`.
     pub fn start<V: AsSlice<u32> + Drop>(
         &mut self,
         function_index: u32,
@@ -591,8 +607,8 @@ impl<A: Allocator> ComponentBuilder<A> {
         self.stand_alone(Space::Values, results, None, &section, &Ready::whole(&[]))
     }
 
-    /// Adds a custom section (component model, binary format, "Component Definitions"). Refused as
-    /// the type says.
+    /// Adds a custom section (component model, binary format, "Component Definitions"). Fails as
+    /// documented on `ComponentBuilder`.
     pub fn custom_section(&mut self, section: &CustomSection<'_>) -> Result<(), Fault>
         ensures { EntersWithoutIndex self.old self.new result
             (custom_entry section.now.name.now section.now.data.now) }
@@ -603,8 +619,8 @@ impl<A: Allocator> ComponentBuilder<A> {
     }
 
     /// Adds a custom section with these bytes after its id (component model, binary format,
-    /// "Component Definitions"). Nothing checks that they are such a section's. Refused as the type
-    /// says.
+    /// "Component Definitions"). That they encode such a section isn't checked. Fails as documented
+    /// on `ComponentBuilder`.
     pub fn raw_custom_section(&mut self, section: &[u8]) -> Result<(), Fault>
         ensures { EntersWithoutIndex self.old self.new result (raw_entry section.now) }
     {
@@ -612,8 +628,8 @@ impl<A: Allocator> ComponentBuilder<A> {
         self.add_alone(&lead, &Ready::whole(section))
     }
 
-    /// Whether no item is being written. Then the builder holds some entries, whoever made which
-    /// calls.
+    /// Returns whether no item is being written. If so, the builder holds a list of entries,
+    /// whichever calls were made.
     pub fn is_finished(&self) -> bool
         ensures finished { result ≡ builder_is_finished self.now }
         ensures holds { builder_is_finished self.now ≡ true
@@ -622,8 +638,8 @@ impl<A: Allocator> ComponentBuilder<A> {
         self.buffer.is_finished()
     }
 
-    /// Gives up the item that is being written, with its index, its debug name and its index in a
-    /// section, and says whether there was one. It takes no memory.
+    /// Discards the item being written, with its index, its debug name and its entry in a section,
+    /// and returns whether there was one. Allocates nothing.
     pub fn discard_unfinished(&mut self) -> bool
         ensures { GivesUp self.new (item_given_up self.old)
             (builder_is_finished self.old) result }
@@ -635,16 +651,16 @@ impl<A: Allocator> ComponentBuilder<A> {
         true
     }
 
-    /// All bytes of the component. It takes no memory, and is refused only while an item is
-    /// unfinished. They are the whole of the items of some entries, whoever made which calls.
+    /// Returns all bytes of the component, the encoding of the builder's entries, whichever calls
+    /// were made. Allocates nothing. Fails only with `Unfinished`, while an item is being written.
     pub fn finish(self) -> Result<Vec<u8, A>, Fault>
         ensures held { (es : List Entry) → Holds self es
             → IfOk result (λ v. v.items ≡ whole (items es)) }
         ensures some { IfOk result (λ v.
             ∥ ((es : List Entry) × Holds self es × (v.items ≡ whole (items es))) ∥₁) }
         ensures bytes { IfOk result (λ v. v.items ≡ sections_text self.settled.sections) }
-        // Where no item is raw they have one reading, strictly and widely: the sections into which
-        // the items are cut.
+        // If no item is raw, the bytes have one reading, strictly and widely: the sections into
+        // which the items are cut.
         ensures one_reading { IfOk result (λ v. (es : List Entry) → Holds self es
             → HasNoRaw (items es) → (mode : Spelling) (ss : List Section)
             → Reading mode v.items ss ↔ (ss ≡ runs (items es))) }
@@ -659,9 +675,9 @@ impl<A: Allocator> ComponentBuilder<A> {
     }
 }
 
-/// A builder lends itself to the encoders of types. Until an encoder's last call has ended its
-/// item, what grows or finishes the builder is refused with `Unfinished`; `discard_unfinished`
-/// gives the item up.
+/// A builder is the parent of the encoders of its types. Until an encoder's last call has ended its
+/// item, whatever grows or finishes the builder fails with `Unfinished`; `discard_unfinished`
+/// discards the item.
 impl<A: Allocator> Lender for ComponentBuilder<A> {
     ghost use Rattle.wenc_builder.specs.Builder.{builder_is_finished, item_appended, item_ended};
     ghost use Rattle.wenc_builder.specs.LenderState.{builder_is_opened, is_whole, no_room_in_section};

@@ -1,5 +1,5 @@
 //! Builds a component call by call: `ComponentBuilder` collects neighbours of one kind in one
-//! section, and hands out the index of each item.
+//! section, and returns the index of each item.
 #![tactic(auto)]
 
 mod builder;

@@ -1,4 +1,4 @@
-//! Aliases. Each begins with a sort, and is an instance's export or an outer item.
+//! Aliases. Each begins with a sort, and refers to an instance's export or an outer item.
 ghost use Rattle.wenc_parts.specs.Aliases.{alias_tree_view};
 ghost use Rattle.wenc_parts.specs.reading.Aliases.{read_alias, read_export, read_core_export, read_outer, read_either, read_exported_alias, read_core_alias};
 ghost use Rattle.wenc_read.specs.Gives.{Gives};
@@ -9,7 +9,7 @@ use wenc_base::ExportKind;
 use wenc_parts::{AliasTree, ComponentExportKind, ComponentOuterAliasKind};
 use wenc_read::{Refusal, byte};
 
-/// An export of an instance.
+/// Reads an alias of an instance's export, after the byte `00`.
 #[inline(always)]
 fn export<A: Allocator + Copy>(
     alloc: A,
@@ -28,7 +28,7 @@ fn export<A: Allocator + Copy>(
     Ok((alias, rest))
 }
 
-/// An outer item.
+/// Reads an alias of an outer item, after the byte `02`.
 fn outer<A: Allocator + Copy>(
     alloc: A,
     kind: ComponentOuterAliasKind,
@@ -41,7 +41,7 @@ fn outer<A: Allocator + Copy>(
     Ok((AliasTree::Outer { kind, count, index }, rest))
 }
 
-/// An export of a core instance.
+/// Reads an alias of a core instance's export, after the sort.
 #[tactic(auto, unfolding(wenc_base::specs::Readers::choose))]
 fn core_export<A: Allocator + Copy>(
     alloc: A,
@@ -65,7 +65,7 @@ fn core_export<A: Allocator + Copy>(
     }
 }
 
-/// An export of an instance, of a kind that is no outer item's.
+/// Reads an alias of an instance's export, after a sort that no outer alias has.
 #[tactic(auto, unfolding(wenc_base::specs::Readers::choose))]
 #[inline(always)]
 fn export_alone<A: Allocator + Copy>(
@@ -82,7 +82,7 @@ fn export_alone<A: Allocator + Copy>(
     }
 }
 
-/// An export of an instance or an outer item, by the byte after the sort.
+/// Reads an alias of an instance's export or of an outer item, after the sort.
 #[tactic(auto, unfolding(wenc_base::specs::Readers::choose))]
 fn either<A: Allocator + Copy>(
     alloc: A,
@@ -100,7 +100,7 @@ fn either<A: Allocator + Copy>(
     }
 }
 
-/// An alias of a core sort, after the sort's first byte.
+/// Reads an alias of a core sort, after the sort's first byte.
 #[tactic(auto, unfolding(wenc_base::specs::Readers::choose))]
 fn core<A: Allocator + Copy>(alloc: A, bytes: &[u8]) -> Result<(AliasTree<A>, &[u8]), Refusal>
     ensures { Gives (λ x. (alias_tree_view x.0, x.1.now)) result (read_core_alias bytes.now) }

@@ -58,7 +58,7 @@ impl<A: Allocator + Copy> Decode<A> for CanonicalOption {
     }
 }
 
-/// The byte `00`.
+/// Reads the byte `00`.
 #[tactic(auto, unfolding(wenc_base::specs::Readers::choose))]
 fn zero(bytes: &[u8]) -> Result<((), &[u8]), Refusal>
     ensures { Gives (λ x. (tt, x.1.now)) result (read_zero bytes.now) }
@@ -69,7 +69,7 @@ fn zero(bytes: &[u8]) -> Result<((), &[u8]), Refusal>
     }
 }
 
-/// A core function that is lifted, after its opcode.
+/// Reads a lifted core function, after its opcode.
 #[tactic(auto, unfolding(wenc_base::specs::Readers::choose))]
 fn lifted<A: Allocator + Copy>(alloc: A, bytes: &[u8]) -> Result<(CanonTree<A>, &[u8]), Refusal>
     ensures { Gives (λ x. (canon_view x.0, x.1.now)) result (read_lifted bytes.now) }
@@ -90,7 +90,7 @@ fn lifted<A: Allocator + Copy>(alloc: A, bytes: &[u8]) -> Result<(CanonTree<A>, 
     }
 }
 
-/// A function that is lowered, after its opcode.
+/// Reads a lowered component function, after its opcode.
 #[tactic(auto, unfolding(wenc_base::specs::Readers::choose))]
 fn lowered<A: Allocator + Copy>(alloc: A, bytes: &[u8]) -> Result<(CanonTree<A>, &[u8]), Refusal>
     ensures { Gives (λ x. (canon_view x.0, x.1.now)) result (read_lowered bytes.now) }
@@ -105,7 +105,7 @@ fn lowered<A: Allocator + Copy>(alloc: A, bytes: &[u8]) -> Result<(CanonTree<A>,
     }
 }
 
-/// An index of a type and options.
+/// Reads the index of a type, and options.
 #[inline(always)]
 fn ty_and_options<A: Allocator + Copy>(
     alloc: A,
@@ -118,7 +118,7 @@ fn ty_and_options<A: Allocator + Copy>(
     Ok((ty, options, rest))
 }
 
-/// The byte `00` and an index of a memory.
+/// Reads the byte `00` and the index of a memory.
 #[inline(always)]
 fn waited_memory<A: Allocator + Copy>(alloc: A, bytes: &[u8]) -> Result<(u32, &[u8]), Refusal>
     ensures { Gives (λ x. ((tt, x.0), x.1.now)) result (read_waited_memory bytes.now) }
@@ -127,7 +127,7 @@ fn waited_memory<A: Allocator + Copy>(alloc: A, bytes: &[u8]) -> Result<(u32, &[
     u32::decode(alloc, rest)
 }
 
-// What a row has for fields, after its opcode.
+// The fields of a row, after its opcode.
 
 macro_rules! plain {
     ($bytes:ident, $function:ident) => {
@@ -206,8 +206,8 @@ macro_rules! returning {
     }};
 }
 
-/// A canonical function, after its opcode: the fields of its row. The rows up to those of streams
-/// stand here.
+/// Reads a canonical function, after its opcode: the fields of its row. The rows before those of
+/// streams are here.
 fn function<A: Allocator + Copy>(
     alloc: A,
     opcode: u8,
@@ -233,7 +233,7 @@ fn function<A: Allocator + Copy>(
     }
 }
 
-/// What is found from the rows of streams on.
+/// Reads the fields of a row, from those of streams on.
 fn of_stream<A: Allocator + Copy>(
     alloc: A,
     opcode: u8,
@@ -254,7 +254,7 @@ fn of_stream<A: Allocator + Copy>(
     }
 }
 
-/// What is found from the rows of futures on.
+/// Reads the fields of a row, from those of futures on.
 fn of_future<A: Allocator + Copy>(
     alloc: A,
     opcode: u8,
@@ -275,7 +275,8 @@ fn of_future<A: Allocator + Copy>(
     }
 }
 
-/// What is found from the rows of error contexts on: of these, sets of waitables, backpressure.
+/// Reads the fields of a row, from those of error contexts on: of these, waitable sets and
+/// backpressure.
 fn of_error_context<A: Allocator + Copy>(
     alloc: A,
     opcode: u8,
@@ -299,7 +300,7 @@ fn of_error_context<A: Allocator + Copy>(
     }
 }
 
-/// What is found from the rows of threads on.
+/// Reads the fields of a row, from those of threads on.
 fn of_thread<A: Allocator + Copy>(
     alloc: A,
     opcode: u8,
@@ -321,7 +322,7 @@ fn of_thread<A: Allocator + Copy>(
     }
 }
 
-/// What is found in the last rows: of those that forward, and of threads that are spawned.
+/// Reads the fields of one of the last rows: forwarding, and spawned threads.
 fn of_forward<A: Allocator + Copy>(
     alloc: A,
     opcode: u8,

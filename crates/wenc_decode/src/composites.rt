@@ -1,4 +1,4 @@
-//! The types that modules define, alone and in groups.
+//! The types that core modules define, alone and in recursion groups.
 ghost use Rattle.std.specs.Prelude.{Some, false, true};
 ghost use Rattle.wenc_base.specs.Composites.{composite_view, sub_view, rec_type_view};
 ghost use Rattle.wenc_base.specs.reading.Composites.{read_composite, read_sub_type, read_group, read_closed, read_extension, sub_of};
@@ -114,7 +114,7 @@ impl<A: Allocator + Copy> Decode<A> for SubType<A> {
     }
 }
 
-/// A type that can be extended.
+/// Reads a type that isn't final, after its first byte.
 pub(crate) fn open<A: Allocator + Copy>(
     alloc: A,
     bytes: &[u8],
@@ -132,7 +132,7 @@ pub(crate) fn open<A: Allocator + Copy>(
     Ok((ty, rest))
 }
 
-/// A type that extends another and can't be extended.
+/// Reads a final type with a supertype, after its first byte.
 #[tactic(auto, unfolding(wenc_base::specs::Readers::choose))]
 fn closed<A: Allocator + Copy>(alloc: A, bytes: &[u8]) -> Result<(SubType<A>, &[u8]), Refusal>
     ensures { Gives (λ x. (sub_view x.0, x.1.now)) result

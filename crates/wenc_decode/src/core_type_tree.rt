@@ -1,4 +1,4 @@
-//! Core types in a component: groups with guards, and module types.
+//! Core types in a component: recursion groups with guards, and module types.
 ghost use Rattle.wenc_decode.specs.inside.CoreTypes.{read_guarded};
 ghost use Rattle.wenc_types.specs.reading.CoreTypes.{read_outer_type};
 ghost use Rattle.wenc_read.specs.Gives.{Gives};
@@ -11,7 +11,7 @@ use wenc_base::{EntityType, GroupTree, SubType};
 use wenc_read::{Refusal, byte};
 use wenc_types::{CoreTypeTree, ModuleDecl};
 
-/// An alias of a type of a component around, after its first byte.
+/// Reads an alias of an enclosing component's type, after its first byte.
 #[tactic(auto, unfolding(wenc_base::specs::Readers::choose))]
 fn outer_type<A: Allocator + Copy>(
     alloc: A,
@@ -67,7 +67,7 @@ impl<A: Allocator + Copy> Decode<A> for ModuleDecl<A> {
     }
 }
 
-/// A type that can be extended, after its guard.
+/// Reads a type that isn't final, after its guard.
 #[tactic(auto, unfolding(wenc_base::specs::Readers::choose))]
 fn guarded<A: Allocator + Copy>(alloc: A, bytes: &[u8]) -> Result<(CoreTypeTree<A>, &[u8]), Refusal>
     ensures { Gives (λ x. (core_type_view x.0, x.1.now)) result (read_guarded bytes.now) }

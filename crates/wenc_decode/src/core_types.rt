@@ -12,7 +12,7 @@ use std::alloc::Allocator;
 use wenc_base::{AbstractHeapType, HeapType, RefType, ValType};
 use wenc_read::{Refusal, byte, index_of};
 
-/// The abstract heap type that is this byte.
+/// Returns the abstract heap type of this byte, if there is one.
 fn abstract_of(byte: u8) -> Option<AbstractHeapType>
     ensures { result ≡ find abstract_byte abstract_types byte }
 {
@@ -87,7 +87,7 @@ fn to(nullable: bool, heap_type: HeapType) -> RefType
     }
 }
 
-/// A reference to the heap type that follows.
+/// Reads a reference to the heap type that follows.
 fn reference<A: Allocator + Copy>(
     alloc: A,
     nullable: bool,

@@ -1,4 +1,4 @@
-//! The trait `Decode`, and what every form is made of: numbers, flags, texts, lists and options.
+//! The trait `Decode`, and the parts of every form: numbers, flags, strings, lists and options.
 ghost use Rattle.std.specs.Prelude.{◌≡◌, ◌≤◌, ◌<◌, List, length, map};
 ghost use Rattle.wenc_base.specs.Readers.{Reader, times};
 ghost use Rattle.wenc_read.specs.Gives.{Gives};
@@ -6,8 +6,8 @@ ghost use Rattle.wenc_read.specs.Gives.{Gives};
 use std::alloc::Allocator;
 use wenc_read::{Refusal, byte, flag_of, name_of, u32_of};
 
-/// A value that is read from the front of bytes (component model, binary format, from "Component
-/// Definitions" on). What it allocates is in `A`.
+/// A value that can be read from the front of bytes (component model, binary format, from
+/// "Component Definitions" on). It is allocated in `A`.
 ///
 /// ```
 /// let (alias, rest) = AliasTree::decode(alloc, bytes)?;
@@ -18,11 +18,16 @@ pub trait Decode<A: Allocator + Copy>: Sized + Drop {
 
     ghost view: { Self → Value };
 
-    /// What finds the value.
+    /// The reader that finds the value.
     ghost read: { Reader Value };
 
-    /// The value that begins the bytes, in any of its spellings, and what follows it. It is refused
-    /// where there is none, and for want of memory.
+    /// Reads the value that begins the bytes, in any of its spellings. Returns it and the bytes
+    /// after it.
+    ///
+    /// # Errors
+    ///
+    /// Fails with `Malformed` if no value begins the bytes, and with `Memory` if an allocation
+    /// fails.
     fn decode<'a>(alloc: A, bytes: &'a [u8]) -> Result<(Self, &'a [u8]), Refusal>
         ensures { Gives (λ x. (view x.0, x.1.now)) result (read bytes.now) };
 }
@@ -75,8 +80,8 @@ impl<A: Allocator + Copy> Decode<A> for String<A> {
     }
 }
 
-/// The room for so many values of these bytes: that of all, from 0 to 4294967295, where each can
-/// have a byte, else none. It is never more than there are bytes.
+/// Returns the capacity to reserve for `count` values of these bytes: `count`, if each can take a
+/// byte, and otherwise 0. So it never exceeds the number of bytes.
 pub fn room_for(count: u32, bytes: &[u8]) -> usize
     ensures fits { count ≤ length bytes.now → result ≡ count }
     ensures unmet { length bytes.now < count → result ≡ 0 }
@@ -85,7 +90,7 @@ pub fn room_for(count: u32, bytes: &[u8]) -> usize
     if count <= bytes.len() { count } else { 0 }
 }
 
-/// So many values, one after the other.
+/// Reads `count` values, one after the other.
 fn members<'a, A: Allocator + Copy, T: Decode<A>>(
     alloc: A,
     count: u32,
@@ -103,7 +108,7 @@ fn members<'a, A: Allocator + Copy, T: Decode<A>>(
     Ok((values, rest))
 }
 
-/// How many, then so many values.
+/// A list: the number of values, then the values.
 impl<A: Allocator + Copy, T: Decode<A>> Decode<A> for Vec<T, A> {
     ghost use Rattle.wenc_base.specs.reading.Forms.{read_list};
 
@@ -119,7 +124,7 @@ impl<A: Allocator + Copy, T: Decode<A>> Decode<A> for Vec<T, A> {
     }
 }
 
-/// A byte `00`, or a byte `01` and a value.
+/// An option: a byte `00`, or a byte `01` and a value.
 impl<A: Allocator + Copy, T: Decode<A>> Decode<A> for Option<T> {
     ghost use Rattle.std.specs.Prelude.{Option as OptionOf, option_map};
     ghost use Rattle.wenc_base.specs.reading.Forms.{read_option};

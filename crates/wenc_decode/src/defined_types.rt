@@ -1,4 +1,4 @@
-//! Types of values that components define.
+//! Defined value types.
 ghost use Rattle.wenc_base.specs.Readers.{pick, nowhere};
 ghost use Rattle.wenc_decode.specs.inside.Types.{read_defined_row, handle_rows};
 ghost use Rattle.wenc_read.specs.Gives.{Gives};
@@ -56,7 +56,7 @@ impl<A: Allocator + Copy> Decode<A> for CaseTree<A> {
     }
 }
 
-/// A type of values that is no primitive one, after its first byte.
+/// Reads a defined value type that isn't primitive, after its first byte.
 fn defined<A: Allocator + Copy>(
     alloc: A,
     first: u8,
@@ -102,7 +102,7 @@ fn defined<A: Allocator + Copy>(
     }
 }
 
-/// What is found from the row of handles on.
+/// Reads a handle, fixed-length list, stream, future or map type, after its first byte.
 fn of_handle<A: Allocator + Copy>(
     alloc: A,
     first: u8,

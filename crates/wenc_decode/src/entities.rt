@@ -1,4 +1,4 @@
-//! What modules import and export.
+//! Types of the imports and exports of core modules.
 ghost use Rattle.wenc_decode.specs.inside.Entities.{read_maximum, read_bounds, memory_so, table_so};
 ghost use Rattle.wenc_read.specs.Gives.{Gives};
 
@@ -9,7 +9,7 @@ use wenc_base::{
 };
 use wenc_read::{Refusal, byte, u64_of};
 
-/// The maximum, where there is one.
+/// Reads the maximum, if there is one.
 fn maximum(has_maximum: bool, bytes: &[u8]) -> Result<(Option<u64>, &[u8]), Refusal>
     ensures { Gives (λ x. (x.0, x.1.now)) result (read_maximum has_maximum bytes.now) }
 {
@@ -20,7 +20,7 @@ fn maximum(has_maximum: bool, bytes: &[u8]) -> Result<(Option<u64>, &[u8]), Refu
     Ok((Some(maximum), rest))
 }
 
-/// A memory, after the byte of its limits.
+/// Reads a memory type, after the first byte of its limits.
 fn memory(
     shared: bool,
     memory64: bool,
@@ -67,7 +67,7 @@ impl<A: Allocator + Copy> Decode<A> for MemoryType {
     }
 }
 
-/// A table of such elements, after the byte of its limits.
+/// Reads a table type with this element type, after the first byte of its limits.
 fn table(
     element_type: RefType,
     table64: bool,

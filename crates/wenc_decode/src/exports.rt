@@ -1,4 +1,4 @@
-//! Kinds of items.
+//! Sorts of items.
 use crate::decode::Decode;
 use std::alloc::Allocator;
 use wenc_parts::ComponentExportKind;

@@ -1,4 +1,4 @@
-//! References to types.
+//! The `externdesc` of imports and exports.
 use crate::decode::Decode;
 use std::alloc::Allocator;
 use wenc_parts::{ComponentTypeRef, ComponentValType, TypeBounds};

@@ -1,4 +1,4 @@
-//! Instances of core modules and of components, by arguments or by exports.
+//! Instances of core modules and of components, by arguments or by inline exports.
 use crate::decode::Decode;
 use std::alloc::Allocator;
 use wenc_base::ExportKind;
@@ -29,7 +29,7 @@ impl<A: Allocator + Copy> Decode<A> for ModuleArg {
     }
 }
 
-/// What a module is given under a name.
+/// A named argument of a core module.
 impl<A: Allocator + Copy> Decode<A> for (String<A>, ModuleArg) {
     ghost use Rattle.wenc_sections.specs.InstanceTrees.{argument_tree_view};
     ghost use Rattle.wenc_sections.specs.Instances.{Argument};
@@ -52,7 +52,7 @@ impl<A: Allocator + Copy> Decode<A> for (String<A>, ModuleArg) {
     }
 }
 
-/// A core item that is exported under a name.
+/// A named inline export of a core instance.
 impl<A: Allocator + Copy> Decode<A> for (String<A>, ExportKind, u32) {
     ghost use Rattle.wenc_sections.specs.InstanceTrees.{core_export_tree_view};
     ghost use Rattle.wenc_sections.specs.Instances.{CoreExport};
@@ -105,7 +105,7 @@ impl<A: Allocator + Copy> Decode<A> for CoreInstanceTree<A> {
     }
 }
 
-/// What a component is given under a name.
+/// A named argument of a component.
 impl<A: Allocator + Copy> Decode<A> for (String<A>, ComponentExportKind, u32) {
     ghost use Rattle.wenc_sections.specs.InstanceTrees.{instantiate_arg_tree_view};
     ghost use Rattle.wenc_sections.specs.Instances.{InstantiateArg};
@@ -129,7 +129,7 @@ impl<A: Allocator + Copy> Decode<A> for (String<A>, ComponentExportKind, u32) {
     }
 }
 
-/// An item that is exported under a name.
+/// A named inline export of an instance.
 impl<A: Allocator + Copy> Decode<A> for (NameTree<A>, ComponentExportKind, u32) {
     ghost use Rattle.wenc_sections.specs.InstanceTrees.{inline_export_tree_view};
     ghost use Rattle.wenc_sections.specs.Instances.{InlineExport};

@@ -1,8 +1,8 @@
-//! Reads the forms of which items are made, from the front of bytes.
+//! Reads the forms of items from the front of bytes.
 //!
-//! Each type that is read has the trait `Decode`; types of components and instances, which nest,
-//! have `type_of`. What is answered is what the form's reader on lists finds there, or that memory
-//! is wanting.
+//! Each type that is read implements `Decode`; types of components and instances, which nest, are
+//! read by `type_of`. A function returns what the form's reader on lists finds, or fails if an
+//! allocation does.
 #![tactic(auto)]
 
 pub mod aliases;

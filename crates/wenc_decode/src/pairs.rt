@@ -6,7 +6,7 @@ use crate::decode::Decode;
 use std::alloc::Allocator;
 use wenc_read::Refusal;
 
-/// Two values, one after the other, and what follows them.
+/// Reads two values, one after the other. Returns them and the bytes after them.
 #[inline(always)]
 pub(crate) fn both<'a, A: Allocator + Copy, T: Decode<A>, U: Decode<A>>(
     alloc: A,

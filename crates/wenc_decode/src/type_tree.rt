@@ -1,4 +1,4 @@
-//! Types that components define. Those of components and instances nest, down to a depth.
+//! Types that components define. Component types and instance types nest, down to a depth.
 ghost use Rattle.std.specs.Prelude.{map};
 ghost use Rattle.wenc_base.specs.Readers.{times};
 ghost use Rattle.wenc_types.specs.reading.ComponentTypes.{read_imported, read_exported, read_component_declaration, read_instance_declaration};
@@ -16,7 +16,7 @@ use wenc_parts::{AliasTree, ComponentTypeRef, NameTree, ResultList};
 use wenc_read::{NestedRefusal, Refusal, byte, u32_of};
 use wenc_types::{ComponentDecl, CoreTypeTree, DefinedTree, InstanceDecl, TypeTree};
 
-/// The type of a function, after its first byte.
+/// Reads a function type, after its first byte.
 #[inline(always)]
 fn function_type<A: Allocator + Copy>(
     alloc: A,
@@ -36,7 +36,7 @@ fn function_type<A: Allocator + Copy>(
     Ok((ty, rest))
 }
 
-/// The type of a resource, after its first byte.
+/// Reads a resource type, after its first byte.
 fn resource_type<A: Allocator + Copy>(
     alloc: A,
     bytes: &[u8],
@@ -48,9 +48,13 @@ fn resource_type<A: Allocator + Copy>(
     Ok((TypeTree::Resource { rep, dtor }, rest))
 }
 
-/// A type (component model, binary format, "Type Definitions") in which types of components and
-/// instances open at most `depth_left` times inside one another, and what is after it. It is
-/// refused where none is spelled, as too deep where more of them open, and for want of memory.
+/// Reads a type (component model, binary format, "Type Definitions") in which component types and
+/// instance types nest at most `depth_left` deep. Returns it and the bytes after it.
+///
+/// # Errors
+///
+/// Fails with `Malformed` if no type begins the bytes, with `TooDeep` if types nest deeper, and
+/// with `Memory` if an allocation fails.
 #[cycle(types)]
 #[tactic(auto, using(wenc_types::specs::laws::ComponentTypes::one_level), unfolding(wenc_base::specs::Readers::choose))]
 pub fn type_of<A: Allocator + Copy>(
@@ -73,7 +77,7 @@ pub fn type_of<A: Allocator + Copy>(
     }
 }
 
-/// The type of a component, after its first byte.
+/// Reads a component type, after its first byte.
 #[cycle(types)]
 fn component_type<A: Allocator + Copy>(
     alloc: A,
@@ -91,7 +95,7 @@ fn component_type<A: Allocator + Copy>(
     Ok((TypeTree::Component(decls), rest))
 }
 
-/// The type of an instance, after its first byte.
+/// Reads an instance type, after its first byte.
 #[cycle(types)]
 fn instance_type<A: Allocator + Copy>(
     alloc: A,
@@ -109,7 +113,7 @@ fn instance_type<A: Allocator + Copy>(
     Ok((TypeTree::Instance(decls), rest))
 }
 
-/// So many declarations of a component type.
+/// Reads `count` declarators of a component type.
 #[cycle(types)]
 fn component_decls<A: Allocator + Copy>(
     alloc: A,
@@ -130,7 +134,7 @@ fn component_decls<A: Allocator + Copy>(
     Ok((decls, rest))
 }
 
-/// So many declarations of an instance type.
+/// Reads `count` declarators of an instance type.
 #[cycle(types)]
 fn instance_decls<A: Allocator + Copy>(
     alloc: A,
@@ -151,7 +155,7 @@ fn instance_decls<A: Allocator + Copy>(
     Ok((decls, rest))
 }
 
-/// What a component type declares.
+/// Reads a declarator of a component type.
 #[cycle(types)]
 #[tactic(auto, using(wenc_read::specs::laws::Tables::first_there), unfolding(wenc_base::specs::Readers::choose))]
 fn component_decl<A: Allocator + Copy>(
@@ -171,7 +175,7 @@ fn component_decl<A: Allocator + Copy>(
     }
 }
 
-/// What an instance type declares.
+/// Reads a declarator of an instance type.
 #[cycle(types)]
 #[tactic(auto, unfolding(wenc_base::specs::Readers::choose))]
 fn instance_decl<A: Allocator + Copy>(
@@ -200,7 +204,7 @@ fn instance_decl<A: Allocator + Copy>(
     }
 }
 
-/// An import, after its first byte.
+/// Reads an import declarator, after its first byte.
 fn imported<A: Allocator + Copy>(
     alloc: A,
     bytes: &[u8],
@@ -213,7 +217,7 @@ fn imported<A: Allocator + Copy>(
     Ok((ComponentDecl::Import { name, ty }, rest))
 }
 
-/// An export, after its first byte.
+/// Reads an export declarator, after its first byte.
 fn exported<A: Allocator + Copy>(
     alloc: A,
     bytes: &[u8],

@@ -1,4 +1,4 @@
-//! Value types of components, and what functions answer.
+//! Value types of components, and the results of functions.
 ghost use Rattle.std.specs.Prelude.{◌≡◌};
 ghost use Rattle.wenc_decode.specs.inside.Tables.{find};
 ghost use Rattle.wenc_decode.specs.inside.Types.{primitive_types};
@@ -9,7 +9,7 @@ use std::alloc::Allocator;
 use wenc_parts::{ComponentValType, PrimitiveValType, ResultList};
 use wenc_read::{Refusal, byte, index_of};
 
-/// The primitive type that is this byte.
+/// Returns the primitive type of this byte, if there is one.
 pub(crate) fn primitive_of(byte: u8) -> Option<PrimitiveValType>
     ensures { result ≡ find primitive_byte primitive_types byte }
 {

@@ -1,4 +1,4 @@
-//! How many indices items take in each index space.
+//! The number of indices that items take in each index space.
 ghost use Rattle.std.specs.Prelude.{◌≡◌, ℕ, ◌+◌, ◌<◌, ◌^◌, map, slice_index};
 ghost use Rattle.wenc_builder.specs.Space.{space_number, some_in, number_in, defined_in, next_index};
 ghost use Rattle.wenc_list.specs.Items.{item_view};
@@ -7,7 +7,7 @@ use crate::item::ItemTree;
 use std::alloc::Allocator;
 use wenc_builder::Space;
 
-/// Counts so many indices more in a space.
+/// Adds `number` to the count of a space.
 fn add(counts: &mut [u128; 13], space: Space, number: u32)
     requires { slice_index counts.old (space_number space) + number < 2 ^ 128 }
     ensures { (k : ℕ)

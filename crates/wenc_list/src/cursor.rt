@@ -1,4 +1,4 @@
-//! A component read section by section, and a section item by item.
+//! Readers of a component section by section, and of a section item by item.
 ghost use Rattle.std.specs.Prelude.{◌≡◌, ◌≢◌, ◌-◌, ◌<◌, ◌≤◌, [], ◌∷◌, length, IfOk, IfErr, MatchOption};
 ghost use Rattle.wenc_base.specs.Piece.{Wide};
 ghost use Rattle.wenc_builder.specs.Sections.{preamble};
@@ -16,10 +16,9 @@ use crate::sections::{are_bytes, frame};
 use std::alloc::Allocator;
 use wenc_read::{NestedRefusal, Refusal, u32_of};
 
-/// The sections of a component that are left.
+/// The remaining sections of a component.
 ///
-/// They are read as `list` reads them, one by one, with no room for more than an item. The first
-/// item of a component:
+/// They are read as by `list`, one by one, with memory for one item at most.
 ///
 /// ```
 /// let mut sections = Sections::new(component)?;
@@ -32,11 +31,11 @@ use wenc_read::{NestedRefusal, Refusal, u32_of};
 pub struct Sections<'a> {
     /// The length of the component in bytes.
     pub ends: usize,
-    /// The bytes that are left.
+    /// The remaining bytes.
     pub rest: &'a [u8],
 }
 
-/// The items of a section that are left.
+/// The remaining items of a section.
 #[derive(Clone, Copy)]
 pub struct SectionItems<'a> {
     /// The section's id, from 0 to 11.
@@ -45,14 +44,14 @@ pub struct SectionItems<'a> {
     pub place: usize,
     /// The byte offset at which it ends.
     pub ends: usize,
-    /// The number of items that are left. Custom sections, modules, nested components and starts
-    /// have one.
+    /// The number of remaining items. Custom sections, modules, nested components and start
+    /// functions are sections of one item.
     pub left: u32,
-    /// The bytes that are left.
+    /// The remaining bytes.
     pub rest: &'a [u8],
 }
 
-/// Why the content of a section with this id isn't read. Of a custom section only the name can be
+/// Maps an error in the content of a section with this id. In a custom section only the name can be
 /// malformed.
 fn content_fault(refusal: NestedRefusal, id: u8, place: usize) -> ListFault
     ensures { result ≡ fault_of_content refusal id place }
@@ -65,7 +64,8 @@ fn content_fault(refusal: NestedRefusal, id: u8, place: usize) -> ListFault
     }
 }
 
-/// How many items the content of a section with this id has, and their bytes.
+/// Returns the number of items in the content of a section with this id, and their bytes. Fails
+/// with `Malformed` if no number begins the content.
 #[inline(always)]
 pub(crate) fn counted(id: u8, content: &[u8]) -> Result<(u32, &[u8]), Refusal>
     requires { id ≤ 11 }
@@ -85,7 +85,7 @@ impl<'a> Sections<'a> {
     ///
     /// # Errors
     ///
-    /// `NotAComponent` where the bytes don't begin with the header of a component.
+    /// Fails with `NotAComponent` if the bytes don't begin with the header of a component.
     pub fn new(bytes: &'a [u8]) -> Result<Sections<'a>, ListFault>
         ensures begins { IfOk result (λ s. preamble.Reads Wide bytes.now s.rest.now) }
         ensures ends { IfOk result (λ s. s.ends ≡ length bytes.now) }
@@ -111,23 +111,23 @@ impl<'a> Sections<'a> {
     ///
     /// # Errors
     ///
-    /// `BadSection` where no section begins, and `BadItem` where the section has no count of its
-    /// items. Nothing is taken then, and the next call fails too.
+    /// Fails with `BadSection` if no section begins the remaining bytes, and with `BadItem` if the
+    /// section has no count of its items. Nothing is taken then, and the next call fails too.
     #[inline(always)]
     pub fn next(&mut self) -> Result<Option<SectionItems<'a>>, ListFault>
-        // A section that is returned begins what was left, and all after it stays.
+        // A returned section begins the remaining bytes, and all bytes after it remain.
         ensures taken { IfOk result (λ o. MatchOption o (self.old.rest.now ≡ [])
             (λ s. Opens self.old.ends self.old.rest.now s self.new.rest.now)) }
         ensures same_end { self.new.ends ≡ self.old.ends }
-        // Else nothing changes.
+        // Otherwise nothing changes.
         ensures unchanged { IfOk result (λ o. MatchOption o (self.new ≡ self.old)
             (λ _. Unit {0})) }
         ensures refused { IfErr result (λ _. self.new ≡ self.old) }
-        // A fault has its cause in the section that begins what is left.
+        // A fault has its cause in the section that begins the remaining bytes.
         ensures fault { IfErr result (IsFaultHere (self.old.ends - length self.old.rest.now)
             self.old.rest.now) }
         ensures some { IfErr result (λ _. 0 < length self.old.rest.now) }
-        // It is never want of memory.
+        // It is never `Memory`.
         ensures asks_nothing { IfErr result (λ e. e ≢ Memory) }
     {
         if self.rest.is_empty() {
@@ -165,19 +165,21 @@ impl<'a> SectionItems<'a> {
     ///
     /// # Errors
     ///
-    /// `Memory` where an allocation is refused; `BadItem` where no item begins, or bytes follow the
-    /// last one; `TooDeep` at a type with others more than 100 deep inside; and `BadSection` in a
-    /// custom section without a name. Nothing is taken then, and the next call reads the same.
+    /// Fails with `Memory` if an allocation fails, with `BadItem` if no item begins the remaining
+    /// bytes or bytes follow the last item, with `TooDeep` at a type with others nested more than
+    /// 100 deep inside, and with `BadSection` in a custom section without a name. Nothing is taken
+    /// then, and the next call reads the same bytes again.
     #[inline(always)]
     pub fn next<A: Allocator + Copy>(&mut self, alloc: A) -> Result<Option<ItemTree<A>>, ListFault>
-        // An item that is returned begins what was left, within depth 100, and all after it stays.
+        // A returned item begins the remaining bytes, within depth 100, and all bytes after it
+        // remain.
         ensures taken { IfOk result (λ o. MatchOption o (IsSpent self.old)
             (λ x. HasTaken self.old (item_view x ∷ []) self.new)) }
-        // Else nothing changes.
+        // Otherwise nothing changes.
         ensures unchanged { IfOk result (λ o. MatchOption o (self.new ≡ self.old)
             (λ _. Unit {0})) }
         ensures refused { IfErr result (λ _. self.new ≡ self.old) }
-        // A fault has its cause in what is left.
+        // A fault has its cause in the remaining bytes.
         ensures fault { IfErr result (IsFaultIn self.old) }
     {
         are_bytes(self.rest);

@@ -1,39 +1,41 @@
-//! Why a component is not listed.
+//! The error of listing a component.
 ghost use Rattle.std.specs.Prelude.{◌≡◌};
 ghost use Rattle.wenc_list.specs.declared.fault.ListFault.TheVariants.{Memory};
 
 use std::alloc::{AllocError, AllocFailed};
 use thiserror::Error;
 
-/// Why a component is not listed. A place is that of a section's id, counted in bytes from 0 on.
+/// The error of listing a component. Each `place` is a byte offset in the component, of a section's
+/// id.
 #[derive(Clone, Copy, Debug, PartialEq, Eq, Error)]
 pub enum ListFault {
-    /// The allocator refused a growth.
+    /// An allocation failed.
     #[error("Memory")]
     Memory,
     /// The bytes don't begin with the header of a component.
     #[error("NotAComponent at {place}")]
     NotAComponent {
-        /// It is 0.
+        /// Always 0.
         place: usize,
     },
-    /// Here stands an id above 11, no size, a size past the end, or a custom section without a
-    /// name.
+    /// The section has an id above 11, lacks a size, has a size past the end, or is a custom
+    /// section without a name.
     #[error("BadSection at {place}")]
     BadSection {
-        /// The first section that is not read.
+        /// The byte offset of the first section that can't be read.
         place: usize,
     },
-    /// The content of this section is not a count and so many items or, of a start, not one start.
+    /// The section's content isn't a count and that many items or, in a start section, isn't one
+    /// start function.
     #[error("BadItem at {place}")]
     BadItem {
-        /// The first section that is not read.
+        /// The byte offset of the first section that can't be read.
         place: usize,
     },
-    /// In this section types of components and instances stand more than 100 deep in one another.
+    /// The section has component types and instance types that nest more than 100 deep.
     #[error("TooDeep at {place}")]
     TooDeep {
-        /// The first section that is not read.
+        /// The byte offset of the first section that can't be read.
         place: usize,
     },
 }

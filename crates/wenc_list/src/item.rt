@@ -1,4 +1,4 @@
-//! What a section has: the trees that commands are made of.
+//! The items of sections: the trees that commands are made of.
 ghost use Rattle.std.specs.Prelude.{◌≡◌};
 ghost use Rattle.wenc_builder.specs.Space.{canonical_space};
 ghost use Rattle.wenc_sections.specs.CanonTrees.{canon_view};
@@ -9,20 +9,19 @@ use wenc_parts::{AliasTree, ComponentExportKind, ComponentTypeRef, NameTree};
 use wenc_sections::{CanonTree, CoreInstanceTree, InstanceTree};
 use wenc_types::{CoreTypeTree, TypeTree};
 
-/// An item of a component, as it was read (component model, binary format, "Component
-/// Definitions"). Each index is from 0 to 4294967295, and nothing says that there is an item with
-/// it.
+/// An item of a component, as read (component model, binary format, "Component Definitions"). Each
+/// index is from 0 to 4294967295, and needn't be defined.
 #[derive(Drop)]
 pub enum ItemTree<A: Allocator = Global> {
-    /// A core module, by its bytes, which are not read.
+    /// A core module, as its bytes, which aren't read.
     Module(Vec<u8, A>),
-    /// An instance of a core module, or one of core items.
+    /// A core instance: an instance of a core module, or inline exports of core items.
     CoreInstance(CoreInstanceTree<A>),
-    /// A core type, in a box, since it is far larger than the others.
+    /// A core type, boxed since it is far larger than the others.
     CoreType(Box<CoreTypeTree<A>, A>),
-    /// A nested component, by its bytes, which are not read.
+    /// A nested component, as its bytes, which aren't read.
     Component(Vec<u8, A>),
-    /// An instance of a component, or one of items.
+    /// An instance: an instance of a component, or inline exports of items.
     Instance(InstanceTree<A>),
     /// An alias.
     Alias(AliasTree<A>),
@@ -30,31 +29,31 @@ pub enum ItemTree<A: Allocator = Global> {
     Type(TypeTree<A>),
     /// A canonical function.
     Canon(CanonTree<A>),
-    /// A call, at instantiation.
+    /// A start function, called at instantiation.
     Start {
         /// The index of the function.
         function: u32,
-        /// The indices of the values that it gets.
+        /// The indices of the values that are its arguments.
         args: Vec<u32, A>,
-        /// How many values it answers.
+        /// The number of its results.
         results: u32,
     },
     /// An import.
     Import {
         /// Its name.
         name: NameTree<A>,
-        /// What is imported.
+        /// The type of the imported item.
         ty: ComponentTypeRef,
     },
     /// An export.
     Export {
         /// Its name.
         name: NameTree<A>,
-        /// The kind of what is exported.
+        /// The sort of the exported item.
         kind: ComponentExportKind,
-        /// The index of what is exported.
+        /// The index of the exported item.
         index: u32,
-        /// The type that it is ascribed, or none.
+        /// The ascribed type, if any.
         ty: Option<ComponentTypeRef>,
     },
     /// A custom section.
@@ -66,7 +65,8 @@ pub enum ItemTree<A: Allocator = Global> {
     },
 }
 
-/// The space of a canonical function: that of components where it is lifted, else that of the core.
+/// Returns the space of a canonical function: of component functions if it is lifted, otherwise of
+/// core functions.
 fn canon_space<A: Allocator>(canon: &CanonTree<A>) -> Space
     ensures { result ≡ canonical_space (canon_view canon.now) }
 {
@@ -81,7 +81,8 @@ impl<A: Allocator> ItemTree<A> {
     ghost use Rattle.wenc_builder.specs.Space.{indices_in, defines};
     ghost use Rattle.wenc_list.specs.Items.{item_view};
 
-    /// The space in which the item takes indices, and how many; `None` of a custom section.
+    /// Returns the index space in which the item takes indices, and their number; `None` for a
+    /// custom section.
     pub fn indices(&self) -> Option<(Space, u32)>
         ensures { option_map (λ p. indices_in p.0 p.1) result ≡ defines (item_view self.now) }
     {

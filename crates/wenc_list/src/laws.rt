@@ -1,4 +1,4 @@
-//! Laws over the definitions. A call of one does nothing.
+//! Laws about the definitions. A call of one does nothing.
 ghost use Rattle.std.specs.Prelude.{◌≡◌, ◌⊎◌, ℕ, ◌-◌, List, [], ◌∷◌, ◌++◌, length, drop};
 ghost use Rattle.wenc_base.specs.Piece.{Wide, EndsWith};
 ghost use Rattle.wenc_builder.specs.Item.{Item};
@@ -10,9 +10,8 @@ ghost use Rattle.wenc_list.specs.declared.cursor.SectionItems.{SectionItems};
 ghost use Rattle.wenc_list.specs.declared.fault.ListFault.TheVariants.{Memory, TooDeep};
 ghost use Rattle.wenc_list.specs.declared.fault.ListFault.{ListFault};
 
-/// Where bytes are read widely as sections in which no type is deeper than 100, no fault stands
-/// against them, but want of memory. Where they are read as any sections, every other fault that
-/// stands is `TooDeep`.
+/// Bytes that are read widely as sections in which no type is deeper than 100 have no fault but
+/// `Memory`. Bytes that are read widely as any sections have no fault but that and `TooDeep`.
 pub fn faults_of_what_is_read()
     ensures no_fault { (bytes : List ℕ) (ss : List Section) → Reading Wide bytes ss
         → AreWithin 100 ss
@@ -22,8 +21,9 @@ pub fn faults_of_what_is_read()
         → (fault ≡ Memory) ⊎ ((place : ℕ) × (fault ≡ TooDeep place)) }
 {}
 
-/// What a loop over the items of a section finds: taking none and then one more is an invariant,
-/// all items that were taken are the section, and a fault of what is left is one of the section.
+/// The invariant of a loop over the items of a section: it holds when none is taken, and is kept
+/// when one more is taken. At the end the taken items are the section, and a fault in the remaining
+/// bytes is one of the section.
 pub fn what_was_taken()
     ensures none { (s : SectionItems) → HasTaken s [] s }
     ensures more { (first middle left : SectionItems) (xs : List Item) (x : Item)
@@ -38,14 +38,14 @@ pub fn what_was_taken()
         → (fault : ListFault) → IsFaultIn left fault → IsFaultHere first.place bytes fault }
 {}
 
-/// What is left of a component stands at `Sections::place`, and what is left of a section at
+/// The remaining bytes of a component begin at `Sections::place`, and those of a section at
 /// `SectionItems::reached`: these are byte offsets in the component.
 pub fn where_it_stands()
-    // The component ends with what is left, after the header and after each section.
+    // The component ends with the remaining bytes, after the header and after each section.
     ensures header { (bytes rest : List ℕ) → preamble.Reads Wide bytes rest → EndsWith bytes rest }
     ensures section { (ends : ℕ) (bytes before rest : List ℕ) (s : SectionItems)
         → EndsWith bytes before → Opens ends before s rest → EndsWith bytes rest }
-    // So what is left follows the bytes before its place.
+    // So these follow the bytes before their byte offset.
     ensures place { (bytes left : List ℕ) → EndsWith bytes left
         → drop (length bytes - length left) bytes ≡ left }
     ensures reached { (bytes before rest : List ℕ) (first : SectionItems) (xs : List Item)

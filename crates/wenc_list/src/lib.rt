@@ -1,6 +1,7 @@
-//! Lists what a finished component has: its sections, their items, and how many indices these take.
+//! Lists a finished component: its sections, their items, and the number of indices that these
+//! take.
 //!
-//! `list` reads the bytes of a component back into the trees that commands are made of. It gives
+//! `list` reads the bytes of a component back into the trees that commands are made of. It returns
 //! the one reading that the bytes have, or the exact reason why they have none.
 #![tactic(auto)]
 

@@ -14,7 +14,7 @@ use crate::item::ItemTree;
 use std::alloc::{Allocator, Global};
 use wenc_decode::room_for;
 
-/// A section that was read (component model, binary format, "Component Definitions").
+/// A section, as read (component model, binary format, "Component Definitions").
 #[derive(Drop)]
 pub struct ListedSection<A: Allocator = Global> {
     /// Its id, from 0 to 11.
@@ -23,22 +23,23 @@ pub struct ListedSection<A: Allocator = Global> {
     pub place: usize,
     /// The byte offset at which it ends.
     pub ends: usize,
-    /// Its items. Custom sections, modules, nested components and starts have one.
+    /// Its items. Custom sections, modules, nested components and start functions are sections of
+    /// one item.
     pub items: Vec<ItemTree<A>, A>,
 }
 
-/// What a component has.
+/// The contents of a component.
 #[derive(Drop)]
 pub struct Listing<A: Allocator = Global> {
     /// Its sections, in their order.
     pub sections: Vec<ListedSection<A>, A>,
-    /// How many indices its items take in each space, in the order in which a builder tells its
-    /// counts: core modules, core functions, core types, core memories, core tables, core
-    /// instances, core tags, core globals, functions, instances, values, components, types.
+    /// The number of indices that its items take in each space, in the order of the builder's
+    /// methods for counts: core modules, core functions, core types, core memories, core tables,
+    /// core instances, core tags, core globals, functions, instances, values, components, types.
     pub counts: [u128; 13],
 }
 
-/// The section of which these are all items.
+/// Reads all items of a section.
 fn section<A: Allocator + Copy>(
     alloc: A,
     from: SectionItems<'_>,
@@ -62,7 +63,7 @@ fn section<A: Allocator + Copy>(
     })
 }
 
-/// The sections up to the end, and how many indices their items take.
+/// Reads the sections up to the end, and counts the indices that their items take.
 fn sections<A: Allocator + Copy>(
     alloc: A,
     from: Sections<'_>,
@@ -85,19 +86,18 @@ fn sections<A: Allocator + Copy>(
     Ok((sections, counts))
 }
 
-/// The sections of a component with their items, each at its place, and how many indices the items
-/// take. Modules and nested components are bytes, which are not read (component model, binary
-/// format, "Component Definitions").
+/// Lists the sections of a component with their items and byte offsets, and counts the indices that
+/// the items take (component model, binary format, "Component Definitions"). Modules and nested
+/// components are copied as bytes, which aren't read.
 ///
-/// Besides what the encoder writes, these spellings are read: numbers that are padded, to 5 bytes
-/// at most (10 where they have 64 bits), indices among the types of values that are padded, a
-/// nullable abstract reference as its heap type's byte, `func` and `extern` in the long form of
-/// such a reference, and a name of an import or export that begins with `01`.
+/// Besides the encodings that this library writes, these spellings are read: padded numbers, of at
+/// most 5 bytes (10 if they have 64 bits), padded indices among value types, a nullable abstract
+/// reference as its heap type's byte, `func` and `extern` in the long form of such a reference, and
+/// a name of an import or export that begins with `01`.
 ///
-/// It is refused for want of memory, or as `ListFault` says. A count that the bytes can't fill
-/// reserves nothing.
+/// # Errors
 ///
-/// Whether the component with these bytes has imports:
+/// Fails as documented on `ListFault`. A count that the bytes can't fill reserves no memory.
 ///
 /// ```
 /// let listing = list(alloc, component)?;
@@ -107,26 +107,26 @@ fn sections<A: Allocator + Copy>(
 /// }
 /// ```
 pub fn list<A: Allocator + Copy>(alloc: A, bytes: &[u8]) -> Result<Listing<A>, ListFault>
-    // What is listed is read of the bytes, widely, up to their end.
+    // The listed sections are a reading of the bytes, widely, up to their end.
     ensures reading { IfOk result
         (λ l. Reading Wide bytes.now (map section_view l.sections.items)) }
     // No type in it is deeper than 100.
     ensures within { IfOk result (λ l. AreWithin 100 (map section_view l.sections.items)) }
-    // Each section is read where it is placed, up to its end, and its id is the byte there.
+    // Each section is read at its byte offset, up to its end, and its id is the byte there.
     ensures placed { IfOk result (λ l. ArePlaced bytes.now l.sections.items) }
-    // The counts are the sums of what the items define.
+    // The counts are the sums of the indices that the items take.
     ensures counted { IfOk result (λ l. (k : ℕ)
         → slice_index l.counts k ≡ count_of_sections k (map section_view l.sections.items)) }
-    // What is read within that depth is listed, unless memory runs out.
+    // Sections that are read within that depth are listed, unless memory runs out.
     ensures listed { (ss : List Section) → Reading Wide bytes.now ss → AreWithin 100 ss
         → MatchResult result (λ l. map section_view l.sections.items ≡ ss) (λ e. e ≡ Memory) }
-    // What has any reading is listed as that, unless memory runs out, or a type in it is deeper.
+    // Bytes with any reading are listed as that, unless memory runs out, or a type in it is deeper.
     ensures or_deep { (ss : List Section) → Reading Wide bytes.now ss
         → MatchResult result (λ l. map section_view l.sections.items ≡ ss)
         (IsMemoryOrTooDeep ss) }
     // A fault has its cause: it names the first section that isn't read within that depth.
     ensures fault { IfErr result (IsFaultOf bytes.now) }
-    // Without a header it is that fault.
+    // Without a header the fault is `NotAComponent`.
     ensures no_header { HasNoHeader bytes.now → result ≡ Err (NotAComponent 0) }
 {
     let all = Sections::new(bytes)?;

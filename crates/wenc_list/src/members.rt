@@ -1,4 +1,4 @@
-//! An item in its section.
+//! Reads an item of a section.
 ghost use Rattle.std.specs.Prelude.{◌≡◌, ◌⊎◌};
 ghost use Rattle.wenc_list.specs.inside.Contents.{read_core_instance_item, read_core_type_item, read_instance_item, read_alias_item, read_type_item, read_canonical_item, read_import_item, read_export_item, read_item_in};
 ghost use Rattle.wenc_list.specs.Items.{item_view};
@@ -13,10 +13,10 @@ use wenc_read::{NestedRefusal, Refusal, name_of, u32_of};
 use wenc_sections::{CanonTree, CoreInstanceTree, InstanceTree};
 use wenc_types::CoreTypeTree;
 
-/// How many types of components and instances may stand in one another.
+/// How deep component types and instance types may nest.
 const DEPTH: u32 = 100;
 
-/// An instance of the core.
+/// Reads a core instance.
 #[inline(always)]
 fn core_instance<A: Allocator + Copy>(
     alloc: A,
@@ -28,7 +28,7 @@ fn core_instance<A: Allocator + Copy>(
     Ok((ItemTree::CoreInstance(instance), rest))
 }
 
-/// A core type.
+/// Reads a core type.
 #[inline(always)]
 fn core_type<A: Allocator + Copy>(alloc: A, bytes: &[u8]) -> Result<(ItemTree<A>, &[u8]), Refusal>
     ensures { Gives (λ x. (item_view x.0, x.1.now)) result (read_core_type_item bytes.now) }
@@ -37,7 +37,7 @@ fn core_type<A: Allocator + Copy>(alloc: A, bytes: &[u8]) -> Result<(ItemTree<A>
     Ok((ItemTree::CoreType(Box::new(alloc, ty)?), rest))
 }
 
-/// An instance.
+/// Reads an instance.
 #[inline(always)]
 fn instance<A: Allocator + Copy>(alloc: A, bytes: &[u8]) -> Result<(ItemTree<A>, &[u8]), Refusal>
     ensures { Gives (λ x. (item_view x.0, x.1.now)) result (read_instance_item bytes.now) }
@@ -46,7 +46,7 @@ fn instance<A: Allocator + Copy>(alloc: A, bytes: &[u8]) -> Result<(ItemTree<A>,
     Ok((ItemTree::Instance(instance), rest))
 }
 
-/// An alias.
+/// Reads an alias.
 #[inline(always)]
 fn alias<A: Allocator + Copy>(alloc: A, bytes: &[u8]) -> Result<(ItemTree<A>, &[u8]), Refusal>
     ensures { Gives (λ x. (item_view x.0, x.1.now)) result (read_alias_item bytes.now) }
@@ -55,7 +55,7 @@ fn alias<A: Allocator + Copy>(alloc: A, bytes: &[u8]) -> Result<(ItemTree<A>, &[
     Ok((ItemTree::Alias(alias), rest))
 }
 
-/// A type.
+/// Reads a type.
 #[inline(always)]
 fn ty<A: Allocator + Copy>(alloc: A, bytes: &[u8]) -> Result<(ItemTree<A>, &[u8]), NestedRefusal>
     ensures { GivesNested (λ x. (item_view x.0, x.1.now)) result (read_type_item 100 bytes.now) }
@@ -64,7 +64,7 @@ fn ty<A: Allocator + Copy>(alloc: A, bytes: &[u8]) -> Result<(ItemTree<A>, &[u8]
     Ok((ItemTree::Type(ty), rest))
 }
 
-/// A canonical function.
+/// Reads a canonical function.
 #[inline(always)]
 fn canon<A: Allocator + Copy>(alloc: A, bytes: &[u8]) -> Result<(ItemTree<A>, &[u8]), Refusal>
     ensures { Gives (λ x. (item_view x.0, x.1.now)) result (read_canonical_item bytes.now) }
@@ -73,7 +73,7 @@ fn canon<A: Allocator + Copy>(alloc: A, bytes: &[u8]) -> Result<(ItemTree<A>, &[
     Ok((ItemTree::Canon(canon), rest))
 }
 
-/// An import.
+/// Reads an import.
 #[inline(always)]
 fn import<A: Allocator + Copy>(alloc: A, bytes: &[u8]) -> Result<(ItemTree<A>, &[u8]), Refusal>
     ensures { Gives (λ x. (item_view x.0, x.1.now)) result (read_import_item bytes.now) }
@@ -83,7 +83,7 @@ fn import<A: Allocator + Copy>(alloc: A, bytes: &[u8]) -> Result<(ItemTree<A>, &
     Ok((ItemTree::Import { name, ty }, rest))
 }
 
-/// An export.
+/// Reads an export.
 #[inline(always)]
 fn export<A: Allocator + Copy>(alloc: A, bytes: &[u8]) -> Result<(ItemTree<A>, &[u8]), Refusal>
     ensures { Gives (λ x. (item_view x.0, x.1.now)) result (read_export_item bytes.now) }
@@ -101,7 +101,7 @@ fn export<A: Allocator + Copy>(alloc: A, bytes: &[u8]) -> Result<(ItemTree<A>, &
     Ok((item, rest))
 }
 
-/// A custom section, of which no byte is left.
+/// Reads a custom section, which takes all bytes.
 fn custom<A: Allocator + Copy>(alloc: A, content: &[u8]) -> Result<(ItemTree<A>, &[u8]), Refusal>
     ensures { Gives (λ x. (item_view x.0, x.1.now)) result (read_item_in 100 0 content.now) }
 {
@@ -110,7 +110,7 @@ fn custom<A: Allocator + Copy>(alloc: A, content: &[u8]) -> Result<(ItemTree<A>,
     Ok((ItemTree::Custom { name, data }, &[]))
 }
 
-/// A core module, of which no byte is left.
+/// Reads a core module, which takes all bytes.
 fn module<A: Allocator + Copy>(alloc: A, content: &[u8]) -> Result<(ItemTree<A>, &[u8]), Refusal>
     ensures { Gives (λ x. (item_view x.0, x.1.now)) result (read_item_in 100 1 content.now) }
 {
@@ -118,7 +118,7 @@ fn module<A: Allocator + Copy>(alloc: A, content: &[u8]) -> Result<(ItemTree<A>,
     Ok((ItemTree::Module(bytes), &[]))
 }
 
-/// A nested component, of which no byte is left.
+/// Reads a nested component, which takes all bytes.
 fn component<A: Allocator + Copy>(alloc: A, content: &[u8]) -> Result<(ItemTree<A>, &[u8]), Refusal>
     ensures { Gives (λ x. (item_view x.0, x.1.now)) result (read_item_in 100 4 content.now) }
 {
@@ -126,7 +126,7 @@ fn component<A: Allocator + Copy>(alloc: A, content: &[u8]) -> Result<(ItemTree<
     Ok((ItemTree::Component(bytes), &[]))
 }
 
-/// A start.
+/// Reads a start function.
 fn start<A: Allocator + Copy>(alloc: A, bytes: &[u8]) -> Result<(ItemTree<A>, &[u8]), Refusal>
     ensures { Gives (λ x. (item_view x.0, x.1.now)) result (read_item_in 100 9 bytes.now) }
 {
@@ -141,7 +141,7 @@ fn start<A: Allocator + Copy>(alloc: A, bytes: &[u8]) -> Result<(ItemTree<A>, &[
     Ok((item, rest))
 }
 
-/// The item of a section that collects none. It isn't inlined, since room for what it holds would
+/// Reads the item of a section that collects none. Not inlined, since room for what it holds would
 /// be cleared at every item.
 #[inline(never)]
 fn alone<A: Allocator + Copy>(
@@ -160,7 +160,8 @@ fn alone<A: Allocator + Copy>(
     }
 }
 
-/// The item that begins what is left of a section with this id, and what is after it.
+/// Reads the item that begins the remaining bytes of a section with this id. Returns it and the
+/// bytes after it.
 #[inline(always)]
 pub(crate) fn item_in<A: Allocator + Copy>(
     alloc: A,

@@ -1,4 +1,4 @@
-//! What a section of names has, and where sections of a core module stand.
+//! The subsections of a name section, and the sections of a core module.
 ghost use Rattle.std.specs.Prelude.{ℕ, List, MatchOption};
 ghost use Rattle.std.specs.String.{string_bytes};
 ghost use Rattle.wenc_base.specs.Modules.{module_preamble};
@@ -39,19 +39,19 @@ impl<A: Allocator + Copy> Decode<A> for ItemName<A> {
     }
 }
 
-/// What a subsection of names has (component model, binary format, "Name Section").
+/// The content of a subsection of a name section (component model, binary format, "Name Section").
 #[derive(Drop)]
 pub enum Names<A: Allocator = Global> {
     /// The component's own name.
     Component(String<A>),
     /// Names of items of one sort.
     Items(Sort, Vec<ItemName<A>, A>),
-    /// What stands under another id, by its bytes, which are not read.
+    /// A subsection with another id, as its bytes, which aren't read.
     Raw(u8, Vec<u8, A>),
 }
 
-/// The bytes after the header of a core module, where its sections begin (WebAssembly 3.0, binary
-/// format, "Modules"); `None` where there is no such header.
+/// Returns the bytes after the header of a core module, where its sections begin (WebAssembly 3.0,
+/// binary format, "Modules"), or `None` if the bytes don't begin with such a header.
 ///
 /// ```
 /// match behind_module_header(module) {
@@ -69,9 +69,10 @@ pub fn behind_module_header(bytes: &[u8]) -> Option<&[u8]>
     }
 }
 
-/// The id and the content of a section of a core module, or of a subsection of names, that begins
-/// the bytes, and what is after it (WebAssembly 3.0, binary format, "Sections"). It is refused
-/// where there is no size, or one past the end.
+/// Splits off the section of a core module, or the subsection of a name section, that begins the
+/// bytes (WebAssembly 3.0, binary format, "Sections"). Returns its id, its content, and the bytes
+/// after it. Fails with `Malformed` if there is no id or size, or the size exceeds the remaining
+/// bytes.
 pub fn part_of(bytes: &[u8]) -> Result<((u8, &[u8]), &[u8]), Refusal>
     ensures { GivesAlways (λ x. ((x.0.0, x.0.1.now), x.1.now)) result (read_part bytes.now) }
 {
@@ -85,7 +86,7 @@ pub fn part_of(bytes: &[u8]) -> Result<((u8, &[u8]), &[u8]), Refusal>
     Ok(((id, content), rest))
 }
 
-/// A sort of items of core modules.
+/// Reads a core sort, after its first byte.
 #[tactic(auto, unfolding(wenc_base::specs::Readers::choose))]
 fn core_sort_of(bytes: &[u8]) -> Result<(Sort, &[u8]), Refusal>
     ensures { Gives (λ x. (x.0, x.1.now)) result (read_core_sort bytes.now) }
@@ -103,7 +104,7 @@ fn core_sort_of(bytes: &[u8]) -> Result<(Sort, &[u8]), Refusal>
     }
 }
 
-/// A sort of items.
+/// Reads a sort.
 #[tactic(auto, unfolding(wenc_base::specs::Readers::choose))]
 fn sort_of(bytes: &[u8]) -> Result<(Sort, &[u8]), Refusal>
     ensures { Gives (λ x. (x.0, x.1.now)) result (read_sort bytes.now) }
@@ -119,7 +120,7 @@ fn sort_of(bytes: &[u8]) -> Result<(Sort, &[u8]), Refusal>
     }
 }
 
-/// The component's own name, which is all of the content.
+/// Reads the component's own name, which takes all of the content.
 fn component_name<A: Allocator>(alloc: A, content: &[u8]) -> Result<String<A>, Refusal>
     ensures { Gives string_bytes result (done read_name content.now) }
 {
@@ -131,7 +132,7 @@ fn component_name<A: Allocator>(alloc: A, content: &[u8]) -> Result<String<A>, R
     }
 }
 
-/// Names of items of one sort, which are all of the content.
+/// Reads names of items of one sort, which take all of the content.
 fn item_names<A: Allocator + Copy>(alloc: A, content: &[u8]) -> Result<Names<A>, Refusal>
     ensures { Gives names_view result (done read_item_names content.now) }
 {
@@ -144,7 +145,7 @@ fn item_names<A: Allocator + Copy>(alloc: A, content: &[u8]) -> Result<Names<A>,
     }
 }
 
-/// What fills a subsection with this id.
+/// Reads the content of a subsection with this id.
 fn names_in<A: Allocator + Copy>(alloc: A, id: u8, content: &[u8]) -> Result<Names<A>, Refusal>
     ensures { Gives names_view result (read_names_in id content.now) }
 {
@@ -155,10 +156,14 @@ fn names_in<A: Allocator + Copy>(alloc: A, id: u8, content: &[u8]) -> Result<Nam
     }
 }
 
-/// The subsection of names that begins the bytes, and what is after it (component model, binary
-/// format, "Name Section"). The bytes are those after the name of a custom section
-/// `component-name`, or what is after another subsection. It is refused where there is none, and
-/// for want of memory.
+/// Reads the subsection of a name section that begins the bytes (component model, binary format,
+/// "Name Section"). Returns it and the bytes after it. The bytes are those after the name of a
+/// custom section `component-name`, or those after another subsection.
+///
+/// # Errors
+///
+/// Fails with `Malformed` if no subsection begins the bytes, and with `Memory` if an allocation
+/// fails.
 ///
 /// ```
 /// let (names, rest) = names_of(alloc, data)?;

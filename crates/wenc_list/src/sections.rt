@@ -7,12 +7,12 @@ ghost use Rattle.wenc_read.specs.Gives.{Gives, GivesAlways};
 use std::alloc::Allocator;
 use wenc_read::{Refusal, byte, u32_of};
 
-/// A list of bytes has only bytes. The call does nothing.
+/// Shows that a slice of bytes has only bytes. The call does nothing.
 pub(crate) fn are_bytes(bytes: &[u8])
     ensures { AreBytes bytes.now }
 {}
 
-/// The bytes as they are.
+/// Copies the bytes.
 pub(crate) fn copied<A: Allocator>(alloc: A, bytes: &[u8]) -> Result<Vec<u8, A>, Refusal>
     ensures { Gives (λ v. v.items) result (read_raw bytes.now) }
 {
@@ -20,7 +20,8 @@ pub(crate) fn copied<A: Allocator>(alloc: A, bytes: &[u8]) -> Result<Vec<u8, A>,
     Ok(Vec::from_slice(alloc, bytes)?)
 }
 
-/// The id, at most 11, and the content of the section that begins here, and what is after it.
+/// Splits off the section that begins the bytes. Returns its id, at most 11, its content, and the
+/// bytes after it.
 #[inline(always)]
 pub(crate) fn frame(bytes: &[u8]) -> Result<((u8, &[u8]), &[u8]), Refusal>
     ensures { GivesAlways (λ x. ((x.0.0, x.0.1.now), x.1.now)) result (read_frame bytes.now) }

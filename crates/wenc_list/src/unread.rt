@@ -1,4 +1,4 @@
-//! Which item of a section isn't read.
+//! The first item of a section that can't be read.
 ghost use Rattle.std.specs.Prelude.{List, drop, length, IsSome, IfOk, IfErr, MatchOption};
 ghost use Rattle.wenc_builder.specs.Item.{Item};
 ghost use Rattle.wenc_list.specs.Cursor.{HasTaken, IsSpent, IsFaultIn};
@@ -10,30 +10,30 @@ use crate::fault::ListFault;
 use crate::sections::frame;
 use std::alloc::{AllocError, Allocator};
 
-/// The first part of a section's content that isn't read. A place is counted in bytes from the
-/// front of the component.
+/// The first part of a section's content that can't be read. Each `place` is a byte offset in the
+/// component.
 #[derive(Clone, Copy, Debug, PartialEq, Eq)]
 pub enum Unread {
-    /// How many items it has, so that none of them is read.
+    /// The number of its items, so that none of them is read.
     Count {
-        /// Where the content begins.
+        /// The byte offset of the content.
         place: usize,
     },
-    /// An item, or a start, which is the only item of its section.
+    /// An item. A start function is the only item of its section.
     Item {
-        /// How many items stand before it.
+        /// The number of items before it.
         number: u32,
-        /// Where it begins.
+        /// The byte offset of the item.
         place: usize,
     },
     /// Bytes after the last item.
     Behind {
-        /// Where they begin.
+        /// The byte offset of these bytes.
         place: usize,
     },
 }
 
-/// Takes all items up to the first that isn't read.
+/// Takes all items up to the first that can't be read.
 fn take_read<A: Allocator + Copy>(alloc: A, items: &mut SectionItems<'_>) -> Result<(), ListFault>
     ensures taken { (xs : List Item) × HasTaken items.old xs items.new }
     ensures spent { IfOk result (λ _. IsSpent items.new) }
@@ -45,7 +45,7 @@ fn take_read<A: Allocator + Copy>(alloc: A, items: &mut SectionItems<'_>) -> Res
     Ok(())
 }
 
-/// What of a section isn't read, whose count is.
+/// Returns the first part of a section that can't be read, after its count.
 fn unread_item<A: Allocator + Copy>(
     alloc: A,
     items: SectionItems<'_>,
@@ -71,12 +71,14 @@ fn unread_item<A: Allocator + Copy>(
     }
 }
 
-/// The first part of the section at this place that isn't read (component model, binary format,
-/// "Component Definitions"). It is `None` where the section is read, and where none begins there or
-/// it is a custom section without a name. So where `list` answers `BadItem` or `TooDeep` with a
-/// place, this tells more of that place.
+/// Returns the first part that can't be read of the section at this byte offset (component model,
+/// binary format, "Component Definitions"). Returns `None` if the section can be read, if none
+/// begins there, and if it is a custom section without a name. So where `list` fails with `BadItem`
+/// or `TooDeep`, this says more about the section at `place`.
 ///
-/// It is refused for want of memory.
+/// # Errors
+///
+/// Fails only if an allocation fails.
 ///
 /// ```
 /// match list(alloc, component) {
@@ -89,11 +91,11 @@ pub fn first_unread<A: Allocator + Copy>(
     bytes: &[u8],
     place: usize,
 ) -> Result<Option<Unread>, AllocError>
-    // What is answered is the first part that isn't read: all items before it are. `None` says that
-    // a section which begins there is read.
+    // The returned part is the first that can't be read: all items before it can. `None` says that
+    // a section which begins there can be read.
     ensures unread { let here = drop place bytes.now in
         IfOk result (λ u. MatchOption u (IsReadHere here) (IsUnread (length bytes.now) here)) }
-    // Where `list` may answer `BadItem` or `TooDeep` with this place, something is.
+    // Where `list` may fail with `BadItem` or `TooDeep` at this byte offset, there is such a part.
     ensures named { IsNamed bytes.now place → IfOk result IsSome }
 {
     if bytes.len() < place {

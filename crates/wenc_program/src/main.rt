@@ -15,8 +15,8 @@ use wenc::failure::Failure;
 use wenc::program::report;
 use wenc::run;
 
-/// The arguments without the program's name. It fails where there are some that can't be told:
-/// there is no memory for them, or they aren't text.
+/// Returns the arguments without the program's name. Fails if they can't be read: an allocation
+/// fails, or they aren't UTF-8.
 fn arguments<R: Env + AllocGlobal>(rt: &R) -> Result<Vec<String>, Failure>
     ensures { IfErr result (λ e. (e ≡ Arguments) ⊎ (e ≡ FaultFailure (Memory alloc_error))) }
 {

@@ -5,8 +5,8 @@ ghost use Rattle.wenc_read.specs.Gives.{GivesAlways};
 use crate::number::byte;
 use crate::refusal::Refusal;
 
-/// A flag, which is a byte 0 or 1 (component model, binary format, "Canonical Definitions"). It is
-/// refused where there is no such byte.
+/// Reads a flag, a byte 0 or 1 (component model, binary format, "Canonical Definitions"). Fails
+/// with `Malformed` if no such byte begins the bytes.
 #[tactic(auto, unfolding(wenc_base::specs::Readers::choose))]
 pub fn flag_of(bytes: &[u8]) -> Result<(bool, &[u8]), Refusal>
     ensures { GivesAlways (λ x. (x.0, x.1.now)) result (read_flag bytes.now) }

@@ -1,8 +1,8 @@
-//! Reads numbers, flags, texts and names from the front of bytes.
+//! Reads numbers, flags, strings and names from the front of bytes.
 //!
-//! Each function answers what it read and the bytes after it, or why it read nothing. It reads
-//! every spelling that the format has, padded numbers among them: where several spell one value,
-//! the writer writes the shortest.
+//! Each function returns the value that it read and the bytes after it, or an error if it read
+//! none. Every spelling of the format is read, padded numbers among them: where several spell one
+//! value, the writer writes the shortest.
 #![tactic(auto)]
 
 pub mod flag;

@@ -12,7 +12,7 @@ use crate::text::name_of;
 use std::alloc::Allocator;
 use wenc_parts::{NameOptions, NameTree};
 
-/// A name, and its options.
+/// A name and its options.
 #[derive(Drop)]
 struct Named<A: Allocator> {
     name: String<A>,
@@ -28,7 +28,7 @@ enum OptionTree<A: Allocator> {
 }
 
 impl<A: Allocator> OptionTree<A> {
-    /// The byte that it begins with.
+    /// Returns the option's first byte.
     fn number(&self) -> u8
         ensures { result ≡ option_number (option_view self.now) }
     {
@@ -39,7 +39,7 @@ impl<A: Allocator> OptionTree<A> {
         }
     }
 
-    /// The name with this option.
+    /// Returns the name with this option.
     fn put(self, named: Named<A>) -> Named<A>
         ensures { name_options_view result
             ≡ with_option (option_view self) (name_options_view named) }
@@ -63,7 +63,7 @@ impl<A: Allocator> OptionTree<A> {
     }
 }
 
-/// An option of a name.
+/// Reads an option of a name.
 #[tactic(auto, unfolding(wenc_base::specs::Readers::choose))]
 fn option_of<A: Allocator>(alloc: A, bytes: &[u8]) -> Result<(OptionTree<A>, &[u8]), Refusal>
     ensures { Gives (λ x. (option_view x.0, x.1.now)) result (read_name_option bytes.now) }
@@ -85,8 +85,8 @@ fn option_of<A: Allocator>(alloc: A, bytes: &[u8]) -> Result<(OptionTree<A>, &[u
     }
 }
 
-/// A name with so many options, whose first bytes ascend from `least` on: so there are three of
-/// them at most, however many the bytes say.
+/// Reads `count` options of a name, whose first bytes ascend from at least `least`: so there are at
+/// most three of them, whatever `count` is.
 fn options_from<A: Allocator + Copy>(
     alloc: A,
     name: String<A>,
@@ -115,7 +115,7 @@ fn options_from<A: Allocator + Copy>(
     Ok((option.put(named), rest))
 }
 
-/// A name with so many options.
+/// Reads `count` options of a name.
 fn with_options<A: Allocator + Copy>(
     alloc: A,
     name: String<A>,
@@ -130,9 +130,13 @@ fn with_options<A: Allocator + Copy>(
     Ok((NameTree { name, options }, rest))
 }
 
-/// The name of an import or an export, with its options (component model, binary format, "Import
-/// and Export Definitions"). It is refused where there is none, or where its options don't stand in
-/// the order of their numbers, each at most once.
+/// Reads the name of an import or an export, with its options (component model, binary format,
+/// "Import and Export Definitions").
+///
+/// # Errors
+///
+/// Fails with `Malformed` if no name begins the bytes, or its options aren't in the order of their
+/// numbers, each at most once, and with `Memory` if an allocation fails.
 #[tactic(auto, unfolding(wenc_base::specs::Readers::choose))]
 #[inline(always)]
 pub fn extern_name_of<A: Allocator + Copy>(

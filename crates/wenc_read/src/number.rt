@@ -6,7 +6,7 @@ ghost use Rattle.wenc_read.specs.Gives.{GivesAlways};
 
 use crate::refusal::Refusal;
 
-/// The first byte. It is refused where there is none.
+/// Reads the first byte. Fails with `Malformed` if there is none.
 #[inline(always)]
 pub fn byte(bytes: &[u8]) -> Result<(u8, &[u8]), Refusal>
     ensures { GivesAlways (λ x. (x.0, x.1.now)) result (read_byte bytes.now) }
@@ -17,7 +17,7 @@ pub fn byte(bytes: &[u8]) -> Result<(u8, &[u8]), Refusal>
     }
 }
 
-/// A number of 32 bits, whose last byte is below `top`. At most `room` bytes come before that.
+/// Reads a number of 32 bits, whose last byte is below `top`, after at most `room` other bytes.
 #[tactic(auto, unfolding(wenc_base::specs::reading::Numbers::read_groups))]
 fn short_groups(top: u8, room: u8, bytes: &[u8]) -> Result<(u32, &[u8]), Refusal>
     requires { top ≤ 128 }
@@ -37,7 +37,7 @@ fn short_groups(top: u8, room: u8, bytes: &[u8]) -> Result<(u32, &[u8]), Refusal
     }
 }
 
-/// A number of 64 bits. At most `room` bytes come before its last one.
+/// Reads a number of 64 bits, whose last byte comes after at most `room` others.
 #[tactic(auto, unfolding(wenc_base::specs::reading::Numbers::read_groups))]
 fn long_groups(room: u8, bytes: &[u8]) -> Result<(u64, &[u8]), Refusal>
     ensures { GivesAlways (λ x. (x.0, x.1.now)) result (read_groups 128 (2 ^ 64) room bytes.now) }
@@ -56,7 +56,8 @@ fn long_groups(room: u8, bytes: &[u8]) -> Result<(u64, &[u8]), Refusal>
     }
 }
 
-/// The number of a first byte, which isn't the last one, and of those after it.
+/// Returns the number of a first byte, which isn't the last one, and of the bytes after it, which
+/// have the value `high`.
 fn joined(low: u8, high: u32) -> u32
     requires low { 128 ≤ low }
     requires high { high < 2 ^ 25 }
@@ -65,7 +66,8 @@ fn joined(low: u8, high: u32) -> u32
     u32::from(low) - 128 + 128 * high
 }
 
-/// A number of 32 bits in at most 5 bytes, whose last byte is below `top`. Most have three at most.
+/// Reads a number of 32 bits in at most 5 bytes, whose last byte is below `top`. Most numbers take
+/// at most three.
 #[tactic(auto, unfolding(wenc_base::specs::reading::Numbers::read_groups))]
 #[inline(always)]
 fn short_number(top: u8, bytes: &[u8]) -> Result<(u32, &[u8]), Refusal>
@@ -85,8 +87,8 @@ fn short_number(top: u8, bytes: &[u8]) -> Result<(u32, &[u8]), Refusal>
     }
 }
 
-/// A number of 32 bits (WebAssembly 3.0, binary format, "Integers"). It is refused where none is
-/// spelled in at most 5 bytes.
+/// Reads a number of 32 bits (WebAssembly 3.0, binary format, "Integers"). Fails with `Malformed`
+/// if the bytes begin with none of at most 5 bytes.
 #[inline(always)]
 pub fn u32_of(bytes: &[u8]) -> Result<(u32, &[u8]), Refusal>
     ensures { GivesAlways (λ x. (x.0, x.1.now)) result (read_u32 bytes.now) }
@@ -94,16 +96,17 @@ pub fn u32_of(bytes: &[u8]) -> Result<(u32, &[u8]), Refusal>
     short_number(128, bytes)
 }
 
-/// A number of 64 bits (WebAssembly 3.0, binary format, "Integers"). It is refused where none is
-/// spelled in at most 10 bytes.
+/// Reads a number of 64 bits (WebAssembly 3.0, binary format, "Integers"). Fails with `Malformed`
+/// if the bytes begin with none of at most 10 bytes.
 pub fn u64_of(bytes: &[u8]) -> Result<(u64, &[u8]), Refusal>
     ensures { GivesAlways (λ x. (x.0, x.1.now)) result (read_u64 bytes.now) }
 {
     long_groups(9, bytes)
 }
 
-/// An index that is written as a signed number of 33 bits (WebAssembly 3.0, binary format, "Heap
-/// Types"), from 0 to 4294967295. It is refused where none is spelled in at most 5 bytes.
+/// Reads an index, from 0 to 4294967295, that is written as a signed number of 33 bits (WebAssembly
+/// 3.0, binary format, "Heap Types"). Fails with `Malformed` if the bytes begin with none of at
+/// most 5 bytes.
 #[inline(always)]
 pub fn index_of(bytes: &[u8]) -> Result<(u32, &[u8]), Refusal>
     ensures { GivesAlways (λ x. (x.0, x.1.now)) result (read_index bytes.now) }

@@ -1,16 +1,16 @@
-//! Why nothing is read.
+//! The errors of reading.
 ghost use Rattle.std.specs.Prelude.{◌≡◌};
 ghost use Rattle.wenc_read.specs.declared.refusal.NestedRefusal.TheVariants.{Flat};
 ghost use Rattle.wenc_read.specs.declared.refusal.Refusal.TheVariants.{Memory};
 
 use std::alloc::{AllocError, AllocFailed};
 
-/// Why nothing was read.
+/// The error of reading a form that doesn't nest.
 #[derive(Clone, Copy, Debug, PartialEq, Eq)]
 pub enum Refusal {
-    /// The allocator refused memory.
+    /// An allocation failed.
     Memory,
-    /// The bytes begin with no value.
+    /// The bytes don't begin with a value of the form.
     Malformed,
 }
 
@@ -30,10 +30,10 @@ impl<T: Drop> From<AllocFailed<T>> for Refusal {
     }
 }
 
-/// Why nothing was read of what may nest.
+/// The error of reading a form that may nest.
 #[derive(Clone, Copy, Debug, PartialEq, Eq)]
 pub enum NestedRefusal {
-    /// As of what doesn't nest.
+    /// Any non-nesting error.
     Flat(Refusal),
     /// A type in the bytes nests too deep.
     TooDeep,

@@ -1,4 +1,4 @@
-//! Texts.
+//! Strings.
 ghost use Rattle.std.specs.String.{string_bytes};
 ghost use Rattle.wenc_base.specs.reading.Forms.{read_name};
 ghost use Rattle.wenc_read.specs.Gives.{Gives};
@@ -7,8 +7,12 @@ use crate::number::u32_of;
 use crate::refusal::Refusal;
 use std::alloc::Allocator;
 
-/// A text after its length in bytes (WebAssembly 3.0, binary format, "Names"). It is refused where
-/// its length is not there, is more than the bytes that are left, or bounds no UTF-8.
+/// Reads a string after its length in bytes (WebAssembly 3.0, binary format, "Names").
+///
+/// # Errors
+///
+/// Fails with `Malformed` if there is no length, the length exceeds the bytes that are left, or the
+/// string isn't UTF-8, and with `Memory` if the allocation fails.
 #[tactic(auto, unfolding(wenc_base::specs::reading::Forms::text_at))]
 #[inline(always)]
 pub fn name_of<A: Allocator>(alloc: A, bytes: &[u8]) -> Result<(String<A>, &[u8]), Refusal>

@@ -8,35 +8,35 @@ use wenc_types::ComponentDefinedTypeEncoder;
 
 const STRING: ComponentValType = ComponentValType::Primitive(PrimitiveValType::String);
 
-/// A variant with a case that has a payload and one that has none.
+/// Writes a variant with a case that has a payload and one that has none.
 pub fn variant<A: Allocator>(
     encoder: ComponentDefinedTypeEncoder<'_, ComponentTypeSection<A>>,
 ) -> Result<(), Fault> {
     encoder.variant([("a", None), ("b", Some(STRING))].into_iter())
 }
 
-/// A tuple of two texts.
+/// Writes a tuple of two strings.
 pub fn tuple<A: Allocator>(
     encoder: ComponentDefinedTypeEncoder<'_, ComponentTypeSection<A>>,
 ) -> Result<(), Fault> {
     encoder.tuple([STRING, STRING].into_iter())
 }
 
-/// Two flags.
+/// Writes two flags.
 pub fn flags<A: Allocator>(
     encoder: ComponentDefinedTypeEncoder<'_, ComponentTypeSection<A>>,
 ) -> Result<(), Fault> {
     encoder.flags(["a", "bc"].into_iter())
 }
 
-/// An enum of two cases.
+/// Writes an enum of two cases.
 pub fn enum_type<A: Allocator>(
     encoder: ComponentDefinedTypeEncoder<'_, ComponentTypeSection<A>>,
 ) -> Result<(), Fault> {
     encoder.enum_type(["a", "bc"].into_iter())
 }
 
-/// A structure of one byte.
+/// Writes a structure of one byte.
 pub fn structure<A: Allocator>(
     encoder: CoreTypeEncoder<'_, CoreTypeSection<A>>,
 ) -> Result<(), Fault> {
@@ -47,7 +47,7 @@ pub fn structure<A: Allocator>(
     encoder.struct_([field].into_iter())
 }
 
-/// A group of one type.
+/// Writes a recursion group of one type.
 pub fn group<A: Allocator, B: Allocator>(
     encoder: CoreTypeEncoder<'_, CoreTypeSection<A>>,
     ty: &SubType<B>,

@@ -7,13 +7,13 @@ use wenc_canon::{AddsBuiltin, CanonicalFunctionSection, CanonicalOption};
 
 const OPTIONS: [CanonicalOption; 2] = [CanonicalOption::UTF8, CanonicalOption::Memory(0)];
 
-/// Functions of a section: one of the component, and one of a core module.
+/// Adds a lifted and a lowered function to a section.
 pub fn lifted<A: Allocator>(functions: &mut CanonicalFunctionSection<A>) -> Result<(), Fault> {
     functions.lift(1, 2, OPTIONS.into_iter())?;
     functions.lower(3, OPTIONS.into_iter())
 }
 
-/// Builtins of streams and futures, in a section.
+/// Adds builtins of streams and futures to a section.
 pub fn streams<A: Allocator>(functions: &mut CanonicalFunctionSection<A>) -> Result<(), Fault> {
     functions.stream_read(128, OPTIONS.into_iter())?;
     functions.stream_write(128, OPTIONS.into_iter())?;
@@ -21,18 +21,18 @@ pub fn streams<A: Allocator>(functions: &mut CanonicalFunctionSection<A>) -> Res
     functions.future_write(128, OPTIONS.into_iter())
 }
 
-/// Builtins of error contexts, in a section.
+/// Adds builtins of error contexts to a section.
 pub fn errors<A: Allocator>(functions: &mut CanonicalFunctionSection<A>) -> Result<(), Fault> {
     functions.error_context_new(OPTIONS.into_iter())?;
     functions.error_context_debug_message(OPTIONS.into_iter())
 }
 
-/// A function that a core module can call, in a builder.
+/// Lowers a function in a builder.
 pub fn lowered<A: Allocator>(builder: &mut ComponentBuilder<A>) -> Result<u32, Fault> {
     builder.lower_func(None, 3, OPTIONS.into_iter())
 }
 
-/// A builtin with options, in a builder.
+/// Adds a builtin with options to a builder.
 pub fn read<A: Allocator>(builder: &mut ComponentBuilder<A>) -> Result<u32, Fault> {
     builder.stream_read(128, OPTIONS.into_iter())
 }

@@ -4,14 +4,14 @@ use std::alloc::Allocator;
 use wasm_encoder::laws::texts_tell_values;
 use wenc_base::{ByRef, Encode, Fault, Holder, Lender, Tagged, WithSize, encode_list};
 
-/// What is written of some values, one after the other.
+/// Encodes some values, one after the other.
 pub fn values<A: Allocator>(sink: &mut Vec<u8, A>) -> Result<(), Fault> {
     (128u32, "a", false).encode(sink)?;
     Some(5u32).encode(sink)?;
     [true, false].as_slice().encode(sink)
 }
 
-/// What is written of values around others.
+/// Encodes values around others.
 pub fn around<A: Allocator>(sink: &mut Vec<u8, A>) -> Result<(), Fault> {
     Tagged(0x2a, &7u32).encode(sink)?;
     ByRef(&128u32).encode(sink)?;
@@ -19,7 +19,7 @@ pub fn around<A: Allocator>(sink: &mut Vec<u8, A>) -> Result<(), Fault> {
     encode_list([1u32, 128].into_iter(), sink)
 }
 
-/// Where the texts of two numbers are equal, the numbers are.
+/// Shows that two numbers are equal if their encodings are.
 pub fn numbers_are_told(one: &u32, other: &u32) {
     texts_tell_values(one, other);
 }
@@ -29,7 +29,7 @@ pub fn listed<A: Allocator>(holder: &mut Holder<A>) -> Result<(), Fault> {
     holder.add_listed(&true, [1u32, 128].into_iter(), &"g")
 }
 
-/// Writes a member, if one is being written.
+/// Appends to a member, if one is being written.
 pub fn appended<A: Allocator>(holder: &mut Holder<A>) -> Result<(), Fault> {
     if holder.is_finished() {
         return Err(Fault::Unfinished);
@@ -37,7 +37,7 @@ pub fn appended<A: Allocator>(holder: &mut Holder<A>) -> Result<(), Fault> {
     holder.append_listed(&[2, 3], ["g"].into_iter())
 }
 
-/// Writes at what lends itself, if a member is being written.
+/// Appends to the member of a parent, if one is being written.
 pub fn lent<A: Allocator>(holder: &mut Holder<A>) -> Result<(), Fault> {
     if holder.is_finished() {
         return Err(Fault::Unfinished);
@@ -45,7 +45,7 @@ pub fn lent<A: Allocator>(holder: &mut Holder<A>) -> Result<(), Fault> {
     holder.append_list(&[0x60], [1u32, 128].into_iter())
 }
 
-/// Ends the member of what lends itself, if one is being written.
+/// Ends the member of a parent, if one is being written.
 pub fn ended<A: Allocator>(holder: &mut Holder<A>) -> Result<(), Fault> {
     if holder.is_finished() {
         return Err(Fault::Unfinished);

@@ -1,4 +1,4 @@
-//! Of `wenc_base`.
+//! Examples of `wenc_base`.
 ghost use Rattle.std.specs.Prelude.{◌≡◌, ◌++◌, ◌∷◌, [], IfOk, codes};
 ghost use Rattle.wenc_base.specs.Custom.{custom as custom_form};
 ghost use Rattle.wenc_base.specs.Modules.{module_preamble};
@@ -10,7 +10,7 @@ use wasm_encoder::{
     ProducersField, ProducersSection, ValType,
 };
 
-/// `Encode`: a text, and a list of numbers.
+/// `Encode`: a string, and a list of numbers.
 #[tactic(auto, unfolding(wenc_base::specs::Number::groups))]
 pub fn encode<A: Allocator>(alloc: A) -> Result<Vec<u8, A>, Fault>
     ensures { IfOk result (λ sink. sink.items ≡ 0x01 ∷ 0x66 ∷ 0x02 ∷ 0x01 ∷ 0x02 ∷ []) }
@@ -82,7 +82,7 @@ pub fn producers<A: Allocator + Copy>(alloc: A) -> Result<Vec<u8, A>, Fault> {
     Ok(bytes)
 }
 
-/// `CoreTypeEncoder`, lent a holder's member.
+/// `CoreTypeEncoder`, with a holder as its parent.
 pub fn core_type<A: Allocator>(alloc: A) -> Result<Holder<A>, Fault> {
     let mut holder = Holder::new(alloc);
     holder.open(&[])?;

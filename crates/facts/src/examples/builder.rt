@@ -1,4 +1,4 @@
-//! Of `wenc_builder`, and of commands.
+//! Examples of `wenc_builder`, and of commands.
 ghost use Rattle.std.specs.Prelude.{◌≡◌, ◌∷◌, [], List, IfOk, None, Ok, codes};
 ghost use Rattle.wasm_encoder.specs.Command.{command_view};
 ghost use Rattle.wasm_encoder.specs.Ran.{Ran};

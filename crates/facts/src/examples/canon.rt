@@ -1,4 +1,4 @@
-//! Of `wenc_canon`.
+//! Examples of `wenc_canon`.
 ghost use Rattle.std.specs.Prelude.{◌≡◌, ◌++◌, IfOk};
 ghost use Rattle.wenc_canon.specs.Canonicals.{canonical, OfBuiltin, ResourceDrop};
 

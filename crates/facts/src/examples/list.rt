@@ -1,4 +1,4 @@
-//! Of `wenc_list` and `wenc_decode`.
+//! Examples of `wenc_list` and `wenc_decode`.
 
 use std::alloc::{AllocError, Allocator};
 use wasm_encoder::{AliasTree, ItemTree, ListFault, Unread, first_unread, list};
@@ -16,7 +16,7 @@ pub fn imports<A: Allocator + Copy>(alloc: A, component: &[u8]) -> Result<bool, 
     Ok(imports)
 }
 
-/// `first_unread`: which item of a component isn't read.
+/// `first_unread`: which item of a component can't be read.
 pub fn unread<A: Allocator + Copy>(
     alloc: A,
     component: &[u8],

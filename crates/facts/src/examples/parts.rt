@@ -1,4 +1,4 @@
-//! Of `wenc_parts`.
+//! Examples of `wenc_parts`.
 ghost use Rattle.std.specs.Prelude.{◌≡◌, ◌∷◌, [], Some, None, codes};
 ghost use Rattle.wenc_parts.specs.Aliases.{alias as alias_form, alias_view};
 ghost use Rattle.wenc_parts.specs.Imports.{extern_name_view};
@@ -6,7 +6,7 @@ ghost use Rattle.wenc_parts.specs.Imports.{extern_name_view};
 use std::borrow::CowStr;
 use wasm_encoder::{Alias, ComponentExternName, ComponentOuterAliasKind};
 
-/// `Alias`: type 2 of the component in which this one stands.
+/// `Alias`: type 2 of the enclosing component.
 #[tactic(auto, unfolding(wenc_base::specs::Number::groups))]
 pub fn alias() -> Alias<'static>
     ensures { (alias_form (alias_view result)).text ≡ 0x03 ∷ 0x02 ∷ 0x01 ∷ 0x02 ∷ [] }

@@ -1,4 +1,4 @@
-//! Of `wenc`.
+//! Examples of `wenc`.
 
 use std::alloc::Global;
 use wenc::run;

@@ -1,4 +1,4 @@
-//! Of `wenc_sections`: components by hand.
+//! Examples of `wenc_sections`: components by hand.
 ghost use Rattle.std.specs.Prelude.{◌≡◌, ◌++◌, ◌∷◌, [], IfOk, OnOk, None, codes};
 ghost use Rattle.wenc_base.specs.Custom.{custom};
 ghost use Rattle.wenc_base.specs.Forms.{byte_list, counted};
@@ -46,7 +46,7 @@ pub fn component<A: Allocator + Copy>(alloc: A) -> Result<Vec<u8, A>, Fault>
     Ok(bytes)
 }
 
-/// `Counted`: how many items there are, and a copy.
+/// `Counted`: the number of items, and a copy.
 pub fn counted<A: Allocator + Copy>(alloc: A) -> Result<(u32, ComponentExportSection<A>), Fault> {
     let mut exports = ComponentExportSection::new(alloc);
     exports.export("log".into(), ComponentExportKind::Func, 0, None)?;
@@ -226,7 +226,7 @@ pub fn nested<A: Allocator + Copy>(alloc: A) -> Result<Vec<u8, A>, Fault>
     Ok(bytes)
 }
 
-/// `ComponentStartSection`, after what has the function and the value.
+/// `ComponentStartSection`, in a component that has the function and the value.
 pub fn start<A: Allocator>(component: &mut Component<A>) -> Result<(), Fault>
     ensures { OnOk result (component.new
         ≡ component.old ++ 0x09 ∷ (start_form (started 0 (0 ∷ []) 0)).text) }

@@ -1,4 +1,4 @@
-//! Of trees, which own all that they are made of.
+//! Examples of trees, which own all of their parts.
 
 use std::alloc::{Allocator, Global};
 use wasm_encoder::{

@@ -1,4 +1,4 @@
-//! Of `wenc_types`: types by calls and encoders.
+//! Examples of `wenc_types`: types by calls and encoders.
 ghost use Rattle.std.specs.Prelude.{◌∷◌, [], None, IfOk};
 ghost use Rattle.wenc_base.specs.Holder.{Contains};
 ghost use Rattle.wenc_base.specs.declared.types.ValType.{ValType};
@@ -11,7 +11,7 @@ use wasm_encoder::{
     EntityType, Fault, InstanceType, ModuleType, PrimitiveValType, TypeBounds, ValType,
 };
 
-/// `Declarations`: a type of instances, and a copy.
+/// `Declarations`: an instance type, and a copy.
 pub fn declarations<A: Allocator + Copy>(alloc: A) -> Result<InstanceType<A>, Fault> {
     let mut ty = InstanceType::new(alloc);
     ty.core_type()?
@@ -30,7 +30,7 @@ pub fn module_type<A: Allocator>(alloc: A) -> Result<ModuleType<A>, Fault> {
     Ok(ty)
 }
 
-/// `ComponentType`: what imports a list of bytes.
+/// `ComponentType`: an import of a list of bytes.
 pub fn component_type<A: Allocator + Copy>(alloc: A) -> Result<ComponentTypeSection<A>, Fault> {
     let byte = ComponentValType::Primitive(PrimitiveValType::U8);
     let mut ty = ComponentType::new(alloc);
@@ -42,7 +42,7 @@ pub fn component_type<A: Allocator + Copy>(alloc: A) -> Result<ComponentTypeSect
     Ok(types)
 }
 
-/// `InstanceType`: what exports an option.
+/// `InstanceType`: an export of an option.
 pub fn instance_type<A: Allocator + Copy>(alloc: A) -> Result<ComponentTypeSection<A>, Fault> {
     let string = ComponentValType::Primitive(PrimitiveValType::String);
     let mut ty = InstanceType::new(alloc);
@@ -90,7 +90,7 @@ pub fn defined_types<A: Allocator>(alloc: A) -> Result<ComponentTypeSection<A>, 
     Ok(types)
 }
 
-/// `ComponentFuncTypeEncoder`: what takes a string and answers nothing.
+/// `ComponentFuncTypeEncoder`: a function that takes a string and returns nothing.
 pub fn func_type<A: Allocator>(alloc: A) -> Result<ComponentTypeSection<A>, Fault> {
     let string = ComponentValType::Primitive(PrimitiveValType::String);
     let mut types = ComponentTypeSection::new(alloc);

@@ -7,7 +7,7 @@ use wenc_parts::{ComponentValType, PrimitiveValType};
 
 const STRING: ComponentValType = ComponentValType::Primitive(PrimitiveValType::String);
 
-/// A component with a type of values.
+/// Returns a component with a defined value type.
 pub fn with_a_type<A: Allocator + Copy>(alloc: A) -> Result<Vec<u8, A>, Fault> {
     let mut builder = ComponentBuilder::new(alloc)?;
     match builder.type_defined(None) {
@@ -17,7 +17,7 @@ pub fn with_a_type<A: Allocator + Copy>(alloc: A) -> Result<Vec<u8, A>, Fault> {
     builder.finish()
 }
 
-/// A component with a core type.
+/// Returns a component with a core type.
 pub fn with_a_core_type<A: Allocator + Copy>(alloc: A) -> Result<Vec<u8, A>, Fault> {
     let mut core_builder = ComponentBuilder::new(alloc)?;
     match core_builder.core_type(None) {

@@ -1,4 +1,4 @@
-//! The laws of forms at a stranger's type, in a list and in an option too.
+//! The laws of forms at another crate's type, in a list and in an option too.
 ghost use Rattle.std.specs.Prelude.{◌≡◌, ◌++◌, ℕ, List, true};
 ghost use Rattle.std.specs.Cmp.Lexicographic.{pointwise};
 ghost use Rattle.std.specs.Option.{option_eq};
@@ -9,14 +9,15 @@ ghost use Rattle.facts.specs.Own.{light};
 use crate::strangers::own::Light;
 use wasm_encoder::laws::{texts_tell_equals, values_are_lawful};
 
-/// What is true of each form of the format is true of a stranger's.
+/// Shows that another crate's form has the laws of each form of the format.
 pub fn lights_are_lawful()
     ensures { FormLaws light }
 {
     values_are_lawful::<Light>();
 }
 
-/// The text of a list of lights, and of what follows it, tells the lights, and what follows.
+/// Shows that the encoding of a list of lights, followed by any bytes, determines the lights, and
+/// the bytes that follow.
 pub fn lights_are_told(a: &&[Light], b: &&[Light])
     ensures { (list light a.now.now).Fits → (list light b.now.now).Fits → (r s : List ℕ)
         → (list light a.now.now).text ++ r ≡ (list light b.now.now).text ++ s
@@ -25,7 +26,8 @@ pub fn lights_are_told(a: &&[Light], b: &&[Light])
     texts_tell_equals(a, b);
 }
 
-/// Equal texts tell lights that may be there, which nothing keeps from being encoded.
+/// Shows that the encoding of an optional light, followed by any bytes, determines the light, and
+/// the bytes that follow. An optional light is always encodable.
 pub fn optional_lights_are_told(a: &Option<Light>, b: &Option<Light>)
     ensures { (r s : List ℕ)
         → (option light a.now).text ++ r ≡ (option light b.now).text ++ s

@@ -1,4 +1,4 @@
-//! Types and sections of a stranger's own, which the crates below don't know.
+//! Types and sections of another crate, which the crates below don't know.
 ghost use Rattle.std.specs.Prelude.{◌≡◌, ◌++◌, OnOk, true};
 ghost use Rattle.wenc_base.specs.Forms.{list, option};
 ghost use Rattle.wenc_base.specs.Piece.{◌⨾◌, nothing, refused_for, verbatim};
@@ -50,7 +50,7 @@ impl DelimitedEq for Light {
     ghost alike = { itself _ };
 }
 
-/// Appends a list of values, and then one more or none.
+/// Appends a list of values, and then an optional one.
 pub fn write_all<T: Delimited + Drop, A: Allocator>(
     values: &[T],
     last: Option<T>,

@@ -7,7 +7,7 @@ ghost use Rattle.wenc_canon.specs.Canonicals as rows;
 ghost use Rattle.wenc_base.specs.Forms.{counted};
 ghost use Rattle.wenc_canon.specs.Canonicals.{canonical, Lift, Lower, OfBuiltin};
 
-/// Rows and a section: their texts, and a spelling that is read.
+/// Shows the encodings of rows and of a section, and a spelling that is read.
 #[tactic(auto, unfolding(wenc_base::specs::Number::groups))]
 pub fn canonical_functions()
     // core function 1 is lifted to type 2

@@ -6,7 +6,8 @@ ghost use Rattle.wenc_parts.specs.Imports.{plain_name};
 ghost use Rattle.wenc_parts.specs.declared.exports.ComponentExportKind.{ComponentExportKind};
 ghost use Rattle.wenc_parts.specs.declared.imports.ComponentTypeRef.{ComponentTypeRef};
 
-/// A component without items, and one that imports a function and exports it again.
+/// Shows the encodings of a component without items, and of one that imports a function and exports
+/// it again.
 #[tactic(auto, unfolding(wenc_base::specs::Number::groups))]
 pub fn components()
     ensures none { whole []
@@ -19,7 +20,7 @@ pub fn components()
         ∷ 0x0b ∷ 0x07 ∷ 0x01 ∷ 0x00 ∷ 0x01 ∷ 0x67 ∷ 0x01 ∷ 0x00 ∷ 0x00 ∷ [] }
 {}
 
-/// Two aliases, an import, and an alias: three sections.
+/// Shows that two aliases, an import and an alias are three sections.
 pub fn neighbours()
     ensures { runs (items (alias_export_entry 0 [] ComponentExportKind.Func
         ∷ alias_export_entry 1 [] ComponentExportKind.Func

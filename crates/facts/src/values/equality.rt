@@ -1,4 +1,4 @@
-//! Two values are equal exactly where they are the same value, and ids of sections are ordered by
+//! Two values are equal if and only if they are the same value, and section ids are ordered by
 //! their numbers.
 ghost use Rattle.std.specs.Prelude.{◌≡◌, ◌↔◌, IsTrue, nat_lt};
 ghost use Rattle.std.specs.Ordering.{nat_cmp};

@@ -8,12 +8,12 @@ ghost use Rattle.wenc_parts.specs.declared.types.PrimitiveValType.{PrimitiveValT
 use std::hash::Hash;
 use wenc_parts::{ComponentTypeRef, ComponentValType, PrimitiveValType, TypeBounds};
 
-/// Of two values that are equal the same is written to a hasher.
+/// Shows that equal values write the same to a hasher.
 pub fn hashes_agree<T: Hash>()
     ensures { (x y : T) → IsTrue (T.eq x y) → T.hash_input x ≡ T.hash_input y }
 {}
 
-/// So it is with each type of these crates that has a hash.
+/// Shows the same of each type of these crates that has a hash.
 pub fn hashes_of_parts_agree()
     ensures bounds { (x y : BoundsSpec) → IsTrue (⟦<TypeBounds as PartialEq>⟧.eq x y)
         → ⟦<TypeBounds as Hash>⟧.hash_input x ≡ ⟦<TypeBounds as Hash>⟧.hash_input y }

@@ -6,8 +6,8 @@ ghost use Rattle.wenc_base.specs.Types.{reference_to};
 ghost use Rattle.wenc_base.specs.declared.types.AbstractHeapType.TheVariants.{Func, Any};
 ghost use Rattle.wenc_base.specs.declared.types.HeapType.TheVariants.{Abstract, Concrete};
 
-/// The texts of some numbers, what is read as 2, and two lists of bytes that are no number of 32
-/// bits.
+/// Shows the encodings of some numbers, what is read as 2, and two lists of bytes that aren't a
+/// number of 32 bits.
 pub fn numbers()
     ensures last_of_one { (index 63).text ≡ 0x3f ∷ [] }
     ensures first_of_two { (index 64).text ≡ 0xc0 ∷ 0x00 ∷ [] }
@@ -23,8 +23,8 @@ pub fn numbers()
         → (number n).Reads Wide (0xff ∷ 0xff ∷ 0xff ∷ 0xff ∷ 0x1f ∷ []) rest → ⊥ }
 {}
 
-/// The texts of some references, what else is read widely as one that may be null, and that it is
-/// not read strictly.
+/// Shows the encodings of some references, what else is read widely as a nullable one, and that it
+/// isn't read strictly.
 #[tactic(auto, unfolding(wenc_base::specs::Number::groups))]
 pub fn value_types()
     ensures func { (reference_to true (Abstract Func)).text ≡ 0x70 ∷ [] }

@@ -9,7 +9,7 @@ ghost use Rattle.wenc_parts.specs.Types.{value_type};
 ghost use Rattle.wenc_parts.specs.Imports.{plain_name, extern_name, type_reference};
 ghost use Rattle.wenc_parts.specs.Aliases.{alias, CoreInstanceExport, Outer};
 
-/// Parts: their texts, and spellings that are read.
+/// Shows the encodings of parts, and spellings that are read.
 #[tactic(auto, unfolding(wenc_base::specs::Number::groups))]
 pub fn parts()
     // an index of a type is a signed number

@@ -1,4 +1,4 @@
-//! Worked types of components: their texts, and how deep they nest.
+//! Worked types of components: their encodings, and how deep they nest.
 ghost use Rattle.std.specs.Prelude.{◌≡◌, true, false, [], ◌∷◌, Some, None};
 ghost use Rattle.wenc_base.specs.Composites.{Func, Single};
 ghost use Rattle.wenc_base.specs.declared.types.ValType.{ValType};
@@ -13,7 +13,7 @@ ghost use Rattle.wenc_types.specs.ComponentTypes.{DefinedType, FunctionType, Com
 ghost use Rattle.wenc_types.specs.CoreTypes.{Grouped};
 ghost use Rattle.wenc_types.specs.DefinedTypes.{Record, Variant, OptionOf, ResultOf, MapOf, FixedLengthList, Own, def_val_type, function_type};
 
-/// Types of values and of functions.
+/// Shows the encodings of value types and function types.
 #[tactic(auto, unfolding(wenc_base::specs::Number::groups))]
 pub fn defined_types()
     ensures no_fields { (def_val_type (Record [])).text ≡ 0x72 ∷ 0x00 ∷ [] }
@@ -28,7 +28,7 @@ pub fn defined_types()
     ensures fixed_length { (def_val_type (FixedLengthList (primitive U8) 128)).text
         ≡ 0x67 ∷ 0x7d ∷ 0x80 ∷ 0x01 ∷ [] }
     ensures handle { (def_val_type (Own 64)).text ≡ 0x69 ∷ 0x40 ∷ [] }
-    // "a" and "b" are strings, and so is what is answered
+    // "a" and "b" are strings, and so is the result
     ensures function { (function_type (record {
       is_async = false;
       params = record { name = 0x61 ∷ []; ty = primitive String }
@@ -44,7 +44,7 @@ pub fn defined_types()
         ≡ 0x43 ∷ 0x00 ∷ 0x01 ∷ 0x00 ∷ [] }
 {}
 
-/// Types of components, instances and resources.
+/// Shows the encodings of component types, instance types and resource types.
 #[tactic(auto, unfolding(wenc_base::specs::Number::groups))]
 pub fn component_types()
     ensures no_declarations { (def_type (ComponentType no_component)).text ≡ 0x41 ∷ 0x00 ∷ [] }
@@ -59,7 +59,7 @@ pub fn component_types()
         (and_instance (Exported (plain_name (0x74 ∷ [])) (references.«Type» (TypeBounds.Eq 0)))
         no_instance)))).text
         ≡ 0x42 ∷ 0x02 ∷ 0x01 ∷ 0x6b ∷ 0x73 ∷ 0x04 ∷ 0x00 ∷ 0x01 ∷ 0x74 ∷ 0x03 ∷ 0x00 ∷ 0x00 ∷ [] }
-    // a core function type that can be extended, an imported resource "r", and an alias
+    // a core function type that isn't final, an imported resource "r", and an alias
     ensures component { (def_type (ComponentType
         (and_component (Declared (CoreTyped (Grouped (Single
         (record { is_final = false; supertype = None; composite = Func [] [] })))))

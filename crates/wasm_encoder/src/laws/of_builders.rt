@@ -1,4 +1,4 @@
-//! Laws over what the calls of a builder lead to.
+//! Laws about the results of a builder's calls.
 ghost use Rattle.std.specs.List.{AllByRecursion};
 ghost use Rattle.std.specs.List.Sorted.{IsStrictlyIncreasing};
 ghost use Rattle.std.specs.Prelude.{◌≡◌, ◌↔◌, ◌+◌, ◌<◌, ◌≤◌, ◌^◌, ◌++◌, ◌∷◌, [], ℕ, List, length, map, IsOk, Ok, Option, Result, Some};
@@ -31,8 +31,8 @@ pub fn neighbours_differ()
         → runs xs ≡ front ++ Run id ys ∷ Run id zs ∷ behind → ⊥ }
 {}
 
-/// Items of one collected kind are one section, and none of them is raw. Where each takes one index
-/// in a space, they take as many there as they are.
+/// Items of one collected kind are one section, and none of them is raw. If each takes one index in
+/// a space, they take as many indices there as there are items.
 pub fn one_kind_is_one_section()
     ensures one { (id : ℕ) (x : Item) (xs : List Item)
         → AllByRecursion (λ y. collected y ≡ Some id) (x ∷ xs) → runs (x ∷ xs) ≡ Run id (x ∷ xs) ∷ [] }
@@ -43,15 +43,15 @@ pub fn one_kind_is_one_section()
         → next_index xs (space_number space) ≡ length xs }
 {}
 
-/// The bytes of what two builders hold, no item raw, are equal exactly where the items are.
+/// The bytes of two builders without raw items are equal if and only if their items are.
 pub fn held_items_tell_bytes()
     ensures { (one other : State) (es fs : List Entry) → Holds one es → Holds other fs
         → HasNoRaw (items_of es) → HasNoRaw (items_of fs)
         → (whole (items_of es) ≡ whole (items_of fs)) ↔ (items_of es ≡ items_of fs) }
 {}
 
-/// An accepted call that defines one item answers the old count of the item's space, and raises
-/// that count alone, by one.
+/// An accepted call that defines one item returns the previous count of the item's space, and
+/// raises that count alone, by one.
 pub fn one_item_counts_once()
     ensures answered { (old new : State) (i : ℕ) (x : Entry) (space : Space) (es : List Entry)
         → Holds old es → Enters old new (Ok i) x → defines x.item ≡ some_in space 1
@@ -64,12 +64,12 @@ pub fn one_item_counts_once()
         → (other ≡ space → ⊥) → count_in new other ≡ count_in old other }
 {}
 
-/// The command that an item becomes adds that item alone, whatever was added before.
+/// The command made of an item adds that item alone, whatever was added before.
 pub fn an_item_becomes_its_command()
     ensures { (es : List Entry) (x : Item) → items_of (added es (command_of x)) ≡ x ∷ [] }
 {}
 
-/// No call that adds an entry lowers the count of a space, accepted or refused.
+/// No call that adds an entry lowers the count of a space, whether it succeeds or fails.
 pub fn counts_never_fall()
     ensures indexed { (old new : State) (result : Result ℕ Fault) (x : Entry) (space : Space)
         (es : List Entry) → Holds old es → Enters old new result x
@@ -79,9 +79,9 @@ pub fn counts_never_fall()
         → count_in old space ≤ count_in new space }
 {}
 
-/// The indices in a space's list of names ascend, and each is below the space's count, where no
-/// start has a name. So it is with all that commands lead to, where none adds a start with a name,
-/// and no command of the code does.
+/// The indices in a space's list of names ascend, and each is below the space's count, if no start
+/// function has a name. This holds for all entries that commands lead to, if none adds a start
+/// function with a name, and no command of the code does.
 pub fn named_indices_ascend<A: Allocator>()
     ensures ascending { (es : List Entry) (k : ℕ) → AllByRecursion StartIsNameless es
         → IsStrictlyIncreasing (map (λ n. n.index) (names es k)) }
@@ -94,15 +94,16 @@ pub fn named_indices_ascend<A: Allocator>()
         → AllByRecursion AddsNameless (map command_view commands) }
 {}
 
-/// An index as a value type never has a primitive type's text, and doesn't begin with one.
+/// The encoding of an index as a value type is never a primitive type's, and doesn't begin with
+/// one.
 pub fn indices_are_no_primitives()
     ensures { (n : ℕ) (p : PrimitiveValType) (r s : List ℕ) → n < 2 ^ 32
         → (value_type (value_types.«Type» n)).text ++ r ≡ (primitive p).text ++ s → ⊥ }
 {}
 
-/// Nested commands against which nothing stands are a run with all of them accepted, to what they
-/// lead to. And where nested commands are a run with all of them accepted, nothing stands against
-/// them, and it led there.
+/// Nested commands that are no cause of an error have a run in which all of them are accepted, to
+/// the entries that they lead to. Conversely, nested commands with a run in which all of them are
+/// accepted are no cause of an error, and the run led to those entries.
 pub fn nested_runs()
     ensures there { (inner : Commands) → NoCause (first_cause [] inner)
         → (answers : List (Result (Option ℕ) Fault))
@@ -113,7 +114,7 @@ pub fn nested_runs()
 {}
 
 /// A type that an accepted call began on a builder, and that an encoder's accepted last call wrote
-/// and ended, is one entry more in every list that the builder held. Given up, written in part or
+/// and ended, is one entry more in every list that the builder held. Discarded, written in part or
 /// not at all, it leaves every list held that was held.
 pub fn encoded_types_are_entries()
     ensures written { AreEntered }

@@ -1,13 +1,13 @@
-//! Laws over what sections contain.
+//! Laws about the contents of sections.
 ghost use Rattle.std.specs.Prelude.{◌++◌, List, ℕ};
 ghost use Rattle.wasm_encoder.specs.AllForms.{FormName, value_of, form_of};
 ghost use Rattle.wenc_base.specs.Forms.{counted};
 ghost use Rattle.wenc_base.specs.Holder.{HolderState, Contains, ContainsSome, held_section};
 ghost use Rattle.wenc_base.specs.Piece.{HasForm, Spelling};
 
-/// What is finished has some members, as the contract of a section's `encode` says it by their
-/// texts: these are the texts of a list of values that can be encoded, which it contains. So it is
-/// by whatever form they have.
+/// A finished section has some members, which the contract of its `encode` states by their
+/// encodings: these are the encodings of a list of encodable values, which the section contains.
+/// This holds whatever form they have.
 pub fn what_is_finished_has_some()
     ensures { (f : FormName) (section : HolderState) → ContainsSome (HasForm (form_of f)) section
         → (values : List (value_of f)) × Contains (form_of f) section values }

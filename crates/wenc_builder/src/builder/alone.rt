@@ -1,11 +1,11 @@
-//! Bytes that stand alone, and what comes before them, after their section's id.
+//! Sections of their own: bytes that are there already, and what comes before them after the id.
 ghost use Rattle.std.specs.Prelude.{◌≡◌, length};
 
 use std::alloc::Allocator;
 use std::marker::Model;
 use wenc_base::{CustomSection, Encode, Fault, Short, section_size};
 
-/// Bytes that lie ready: some, the last of which are a gap, a head that fills it, and more.
+/// Bytes that are there already: some, which end with a gap, a head that fills it, and more.
 #[derive(Drop)]
 pub struct Ready<'a> {
     pub first: &'a [u8],
@@ -26,7 +26,7 @@ impl<'a> Model for Ready<'a> {
 }
 
 impl<'a> Ready<'a> {
-    /// These bytes, without a gap.
+    /// Returns these bytes, without a gap.
     pub fn whole(bytes: &'a [u8]) -> Ready<'a>
         ensures { result ≡ bytes.now }
     {
@@ -38,7 +38,7 @@ impl<'a> Ready<'a> {
         }
     }
 
-    /// How many bytes they are.
+    /// Returns how many bytes they are.
     pub fn len(&self) -> usize
         ensures { result ≡ length self.now }
     {
@@ -46,7 +46,7 @@ impl<'a> Ready<'a> {
     }
 }
 
-/// How many bytes follow. More than 4294967295 are refused with `TooLarge`.
+/// How many bytes follow. Encoding more than 4294967295 fails with `TooLarge`.
 #[derive(Clone, Copy)]
 pub struct Size(pub usize);
 
@@ -63,8 +63,8 @@ impl Encode for Size {
     }
 }
 
-/// What comes before the data of a custom section: its size, and its name. It is refused where the
-/// section would have more than 4294967295 bytes (`TooLarge`).
+/// What comes before the data of a custom section: its size and its name. Encoding it fails with
+/// `TooLarge` if the section would have more than 4294967295 bytes.
 #[derive(Clone, Copy)]
 pub struct CustomLead<'a>(pub &'a CustomSection<'a>);
 

@@ -1,4 +1,4 @@
-//! The bytes of a component, where its last section may be open.
+//! The bytes of a component, whose last section may be open.
 ghost use Rattle.std.specs.Prelude.{◌≡◌, ◌-◌, ◌≤◌, ◌++◌, length, take, OnOk, OnErr, IfOk, IfErr, is_none, None, Err, false};
 ghost use Rattle.std.specs.Iterator.{IsFinite};
 ghost use Rattle.wenc_base.specs.Forms.{AreBytes, list};
@@ -20,16 +20,16 @@ use std::marker::Model;
 use wenc_base::{Encode, Fault, Holder, Verbatim};
 use wenc_parts::Component;
 
-/// All sections of a component in one holder: it keeps the closed bytes and a gap, and its members
+/// All sections of a component in one holder, which keeps the closed bytes and a gap. Its members
 /// are the items of the open section.
 #[derive(Drop)]
 pub struct Buffer<A: Allocator = Global> {
     holder: Holder<A>,
-    /// How many bytes are closed.
+    /// The number of closed bytes.
     closed_len: usize,
-    /// The kind of the members, where there is a section.
+    /// The kind of the members, if a section is open.
     kind: Option<Kind>,
-    /// What was there before an item that opens another section, while that is being written.
+    /// The section before, while an item that opens another section is being written.
     earlier: Option<Earlier>,
 }
 
@@ -46,7 +46,8 @@ impl<A: Allocator> Model for Buffer<A> {
 }
 
 impl<A: Allocator> Buffer<A> {
-    /// The header of a component, and no section.
+    /// Creates a buffer with a component's header and no section. Fails only if an allocation fails
+    /// (`Memory`).
     #[tactic(auto, using(wenc_base::proofs::Groups::size_1))]
     pub fn new(alloc: A) -> Result<Self, Fault>
         ensures ok { IfOk result (λ b. b ≡ nothing_buffered) }
@@ -62,14 +63,14 @@ impl<A: Allocator> Buffer<A> {
         })
     }
 
-    /// Whether no item is being written.
+    /// Returns whether no item is being written.
     pub fn is_finished(&self) -> bool
         ensures { result ≡ is_none self.now.writing }
     {
         self.holder.is_finished()
     }
 
-    /// Begins an item of this kind.
+    /// Begins an item of this kind. A failed call changes nothing.
     pub fn begin(&mut self, kind: Kind) -> Result<(), Fault>
         requires { self.old.writing ≡ None }
         ensures ok { OnOk result (self.new ≡ buffer_begun self.old (kind_id kind)) }
@@ -90,7 +91,8 @@ impl<A: Allocator> Buffer<A> {
         }
     }
 
-    /// Begins an item that isn't one of the open section.
+    /// Begins an item that doesn't belong to the open section. Fails only if an allocation fails
+    /// (`Memory`), and changes nothing then.
     fn begin_apart(&mut self, kind: Kind) -> Result<(), Fault>
         requires settled { self.old.writing ≡ None }
         requires apart { OpensAnother self.old.settled.current (kind_id kind) }
@@ -110,7 +112,7 @@ impl<A: Allocator> Buffer<A> {
         self.holder.open(&[])
     }
 
-    /// Appends the text of a value to the item that is being written.
+    /// Appends a value's encoding to the item being written. A failed call changes nothing.
     pub fn append<E: Encode>(&mut self, value: &E) -> Result<(), Fault>
         requires { is_none self.old.writing ≡ false }
         ensures appended { Extends self.old self.new
@@ -121,7 +123,8 @@ impl<A: Allocator> Buffer<A> {
         self.holder.append_encoded(value)
     }
 
-    /// Appends these bytes to the item that is being written, then the values as a list.
+    /// Appends these bytes to the item being written, then the values as a list. A failed call
+    /// changes nothing.
     pub fn append_listed<T: Encode + Drop, I: Iterator<Item = T> + Drop>(
         &mut self,
         lead: &[u8],
@@ -137,7 +140,7 @@ impl<A: Allocator> Buffer<A> {
         self.holder.append_listed(lead, values)
     }
 
-    /// Ends the item that is being written: it is in its section from now on. It takes no memory.
+    /// Ends the item being written, which belongs to its section from now on. Allocates nothing.
     pub fn end(&mut self)
         requires { is_none self.old.writing ≡ false }
         ensures { self.new ≡ buffer_ended self.old }
@@ -149,7 +152,7 @@ impl<A: Allocator> Buffer<A> {
         }
     }
 
-    /// Gives up the item that is being written. It takes no memory.
+    /// Discards the item being written. Allocates nothing.
     pub fn give_up(&mut self)
         requires { is_none self.old.writing ≡ false }
         ensures { self.new ≡ buffer_given_up self.old }
@@ -164,12 +167,12 @@ impl<A: Allocator> Buffer<A> {
         }
     }
 
-    /// Writes what stands alone after all sections, of which none is open then: the text of `lead`,
-    /// and these bytes, which are written where they stay.
+    /// Writes a section of its own after all others, of which none is open afterwards: the encoding
+    /// of `lead`, and these bytes, which are written to their final position.
     ///
     /// # Errors
     ///
-    /// Fails for the lead's own cause, or where there is no memory, and changes nothing then.
+    /// Fails as the `encode` of `lead` does, or if an allocation fails. Nothing has changed then.
     pub fn stand_alone<E: Encode>(&mut self, lead: &E, bytes: &Ready<'_>) -> Result<(), Fault>
         requires { self.old.writing ≡ None }
         ensures stood { StandsAlone self.old self.new result
@@ -180,7 +183,7 @@ impl<A: Allocator> Buffer<A> {
         self.write_alone(lead, bytes.first, bytes.gap, head, bytes.more)
     }
 
-    /// Writes the text of `lead` and these bytes after all sections, as `stand_alone` does. The
+    /// Writes the encoding of `lead` and these bytes after all sections, as `stand_alone` does. The
     /// head fills the last `gap` of the first bytes.
     #[tactic(auto, using(wenc_base::proofs::Groups::size_at_most_5))]
     fn write_alone<E: Encode>(
@@ -217,7 +220,7 @@ impl<A: Allocator> Buffer<A> {
         Ok(())
     }
 
-    /// All bytes, the open section in its place, which stays open here.
+    /// Returns all bytes, with the open section in place, which stays open in this buffer.
     #[tactic(auto, using(wenc_base::proofs::Groups::size_at_most_5))]
     pub fn ready(&self) -> Ready<'_>
         requires { self.now.writing ≡ None }
@@ -232,7 +235,7 @@ impl<A: Allocator> Buffer<A> {
         }
     }
 
-    /// All bytes, the open section in its place. It takes no memory.
+    /// Returns all bytes, with the open section in place. Allocates nothing.
     pub fn finish(self) -> Vec<u8, A>
         requires { self.writing ≡ None }
         ensures { result.items ≡ sections_text self.settled }

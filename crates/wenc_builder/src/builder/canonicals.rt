@@ -1,4 +1,4 @@
-//! Calls that add functions which the component model provides.
+//! Methods that add built-in canonical functions.
 use super::kind::Kind;
 use super::{ComponentBuilder, Space};
 use std::alloc::Allocator;
@@ -63,10 +63,10 @@ impl<A: Allocator + Clone> AddsSlotRow for ComponentBuilder<A> {
     }
 }
 
-/// Each call adds the function with its own name as its debug name, and answers its index among
-/// core functions.
+/// Each method adds the function with its own name as its debug name, and returns its index in the
+/// space of core functions.
 impl<A: Allocator> AddsBuiltin for ComponentBuilder<A> {}
 
-/// Each call adds the function with its own name, followed by the slot's number, as its debug name,
-/// and answers its index among core functions.
+/// Each method adds the function, and returns its index in the space of core functions. Its debug
+/// name is its own name, followed by the slot's number.
 impl<A: Allocator + Clone> AddsSlot for ComponentBuilder<A> {}

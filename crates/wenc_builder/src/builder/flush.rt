@@ -1,4 +1,4 @@
-//! What stands in front of a section's items, and how a section is closed.
+//! The head of a section, before its items, and how a section is closed.
 ghost use Rattle.std.specs.Prelude.{◌≡◌, ◌+◌, ◌<◌, ◌≤◌, ◌^◌, length, Some};
 ghost use Rattle.wenc_base.specs.Number.{number_size};
 ghost use Rattle.wenc_base.specs.Holder.{with_kept};
@@ -9,10 +9,11 @@ use super::kind::Kind;
 use std::alloc::Allocator;
 use wenc_base::{Holder, Short, encoding_size};
 
-/// The room in front of a section's items: for its id, its size and its count at their longest.
+/// The number of bytes reserved before a section's items: enough for its id, its size and its count
+/// at their longest.
 pub const GAP: usize = 11;
 
-/// The id, the size and the count of a section whose items have `body` bytes.
+/// Returns the id, the size and the count of a section whose items take `body` bytes.
 #[tactic(auto, using(wenc_base::proofs::Groups::size_at_most_5))]
 pub fn section_head(kind: Kind, count: u32, body: usize) -> Short
     requires { number_size count + body < 2 ^ 32 }
@@ -26,7 +27,7 @@ pub fn section_head(kind: Kind, count: u32, body: usize) -> Short
     head
 }
 
-/// The id, the size and the count of a section, where size and count have one byte each.
+/// Returns the id, the size and the count of a section, where size and count take one byte each.
 #[tactic(auto, using(wenc_base::proofs::Groups::groups_below))]
 fn short_head(kind: Kind, count: u8, body: u8) -> [u8; 3]
     requires count { count < 128 }
@@ -36,7 +37,7 @@ fn short_head(kind: Kind, count: u8, body: u8) -> [u8; 3]
     [kind.id(), 1 + body, count]
 }
 
-/// The id, the size and the count of the open section, or nothing where none is open.
+/// Returns the id, the size and the count of the open section, or nothing if none is open.
 pub fn open_head(kind: Option<Kind>, count: u32, body: usize) -> Short
     requires { number_size count + body < 2 ^ 32 }
     ensures { result ≡ open_head_text kind count body }
@@ -47,8 +48,8 @@ pub fn open_head(kind: Option<Kind>, count: u32, body: usize) -> Short
     }
 }
 
-/// Closes the section before the members, which stay after a gap. Answers how many bytes are
-/// closed. It takes no memory.
+/// Closes the section before the members, which remain after a gap. Returns the number of closed
+/// bytes. Allocates nothing.
 #[tactic(auto, using(wenc_base::proofs::Groups::size_at_most_5))]
 pub fn close_earlier<A: Allocator>(holder: &mut Holder<A>, earlier: &Earlier) -> usize
     requires within { earlier.now.items_end ≤ length holder.old.kept }
@@ -72,7 +73,7 @@ pub fn close_earlier<A: Allocator>(holder: &mut Holder<A>, earlier: &Earlier) ->
     }
 }
 
-/// Closes the earlier section where it has more items or bytes than `short_head` takes.
+/// Closes the earlier section if it has more items or bytes than `short_head` takes.
 #[tactic(auto, using(wenc_base::proofs::Groups::size_at_most_5))]
 #[cold]
 #[inline(never)]

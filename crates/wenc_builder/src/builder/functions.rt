@@ -1,4 +1,4 @@
-//! Calls that add functions which are lifted or lowered.
+//! Methods that lift and lower functions.
 ghost use Rattle.std.specs.Iterator.{IsFinite};
 ghost use Rattle.std.specs.Option.{option_copied};
 ghost use Rattle.wenc_builder.specs.Enters.{EntersListed};
@@ -12,11 +12,11 @@ use std::alloc::Allocator;
 use wenc_base::{Fault, Tagged};
 use wenc_canon::{CanonicalOption, rows};
 
-/// Functions that are lifted and lowered: each call adds one, with a debug name or none, and
-/// answers its index (component model, binary format, "Canonical Definitions"). Options are written
-/// in the order in which they come. Refused as the type says.
+/// Lifted and lowered functions: each method adds one with an optional debug name, and returns its
+/// index (component model, binary format, "Canonical Definitions"). Options are written in the
+/// iterator's order. Each fails as documented on `ComponentBuilder`.
 impl<A: Allocator> ComponentBuilder<A> {
-    /// Lowers the component function with this index to a core function.
+    /// Lowers the component function with this index to a core function (`canon lower`).
     pub fn lower_func<I: Iterator<Item = CanonicalOption> + Drop>(
         &mut self,
         debug_name: Option<&str>,
@@ -39,7 +39,8 @@ impl<A: Allocator> ComponentBuilder<A> {
         )
     }
 
-    /// Lifts the core function with this index to a component function of the type with that one.
+    /// Lifts the core function with this index to a component function of the type with index
+    /// `type_index` (`canon lift`).
     pub fn lift_func<I: Iterator<Item = CanonicalOption> + Drop>(
         &mut self,
         debug_name: Option<&str>,

@@ -1,4 +1,4 @@
-//! Calls that add instances.
+//! Methods that add instances.
 ghost use Rattle.std.specs.Iterator.{IsFinite};
 ghost use Rattle.std.specs.Option.{option_copied};
 ghost use Rattle.std.specs.Prelude.{map};
@@ -15,12 +15,11 @@ use wenc_base::{ExportKind, Fault, Named, Tagged};
 use wenc_parts::{ComponentExportKind, ComponentExternName, ModuleArg};
 use wenc_sections::instances::{CORE_EXPORTS, CORE_INSTANTIATE, EXPORTS, INSTANTIATE};
 
-/// Instances of core modules and of components: each call adds one, with a debug name or none, and
-/// answers its index (component model, binary format, "Instance Definitions"). What is handed in as
-/// an iterator is written in the order in which it comes. Refused as the type says.
+/// Instances of core modules and of components: each method adds one with an optional debug name,
+/// and returns its index (component model, binary format, "Instance Definitions"). The items of an
+/// iterator are written in its order. Each fails as documented on `ComponentBuilder`.
 impl<A: Allocator> ComponentBuilder<A> {
-    /// Adds an instance of the core module with this index, which is given these arguments under
-    /// their names.
+    /// Instantiates the core module with this index, with these named arguments.
     pub fn core_instantiate<'a, I: Iterator<Item = (&'a str, ModuleArg)> + Drop>(
         &mut self,
         debug_name: Option<&str>,
@@ -44,8 +43,7 @@ impl<A: Allocator> ComponentBuilder<A> {
         )
     }
 
-    /// Adds a core instance that exports these core items under their names: the kind of each, and
-    /// its index.
+    /// Adds a core instance that exports core items, each by its name, its core sort and its index.
     pub fn core_instantiate_exports<'a, I: Iterator<Item = (&'a str, ExportKind, u32)> + Drop>(
         &mut self,
         debug_name: Option<&str>,
@@ -68,8 +66,8 @@ impl<A: Allocator> ComponentBuilder<A> {
         )
     }
 
-    /// Adds an instance of the component with this index, which is given the items of these kinds
-    /// and indices under their names.
+    /// Instantiates the component with this index, with these arguments, each by its name, its sort
+    /// and its index.
     pub fn instantiate<S: Named + Drop, I: Iterator<Item = (S, ComponentExportKind, u32)> + Drop>(
         &mut self,
         debug_name: Option<&str>,
@@ -93,7 +91,7 @@ impl<A: Allocator> ComponentBuilder<A> {
         )
     }
 
-    /// Adds an instance that exports the items of these kinds and indices under their names.
+    /// Adds an instance that exports items, each by its name, its sort and its index.
     pub fn instantiate_exports<
         'a,
         N: Allocator + Drop,

@@ -1,7 +1,7 @@
 //! The kinds of sections that collect items.
 use wenc_parts::ComponentSectionId;
 
-/// The kinds of items of which neighbours stand in one section.
+/// The kinds of items whose neighbours share a section.
 #[derive(Clone, Copy, Debug, PartialEq, Eq)]
 pub enum Kind {
     CoreInstance,
@@ -18,7 +18,7 @@ impl Kind {
     ghost use Rattle.std.specs.Prelude.{◌≡◌};
     ghost use Rattle.wenc_builder.specs.inside.Layout.{kind_id};
 
-    /// The id of the kind's sections.
+    /// Returns the id of the kind's sections.
     pub fn id(self) -> u8
         ensures { result ≡ kind_id self }
     {

@@ -10,7 +10,7 @@ use std::alloc::{Allocator, Global};
 use wenc_base::{Encode, Fault, NameMap};
 use wenc_sections::{NamesOf, Sort};
 
-/// The subsection of the names of one sort, or nothing where there are none.
+/// The subsection with the names of one sort; nothing if there are none.
 #[derive(Clone, Copy)]
 pub struct SpaceNames<'a, A: Allocator = Global>(pub Sort, pub &'a NameMap<A>);
 
@@ -25,7 +25,7 @@ impl<'a, A: Allocator> Encode for SpaceNames<'a, A> {
     }
 }
 
-/// The subsections of all sorts, one after the other.
+/// The subsections of all sorts, in order.
 #[derive(Clone, Copy)]
 pub struct Subsections<'a, A: Allocator = Global>(pub [SpaceNames<'a, A>; SPACES]);
 
@@ -44,7 +44,7 @@ impl<'a, A: Allocator> Encode for Subsections<'a, A> {
     }
 }
 
-/// Appends each subsection, up to the first that is refused.
+/// Appends each subsection, up to the first that fails.
 fn encode_each<A: Allocator, B: Allocator>(
     names: &[SpaceNames<'_, A>],
     sink: &mut Vec<u8, B>,
@@ -62,7 +62,7 @@ fn encode_each<A: Allocator, B: Allocator>(
 }
 
 impl<'a, A: Allocator> Subsections<'a, A> {
-    /// Whether there is no name at all.
+    /// Returns whether no space has a name.
     pub fn is_empty(&self) -> bool
         ensures { result ≡ none_named (map (λ n. (n.0, n.1.now)) self.now.0) }
     {
@@ -70,7 +70,7 @@ impl<'a, A: Allocator> Subsections<'a, A> {
     }
 }
 
-/// Whether there is no name among them.
+/// Returns whether none of these has a name.
 fn are_empty<A: Allocator>(names: &[SpaceNames<'_, A>]) -> bool
     ensures { result ≡ none_named (map (λ n. (n.0, n.1.now)) names.now) }
 {

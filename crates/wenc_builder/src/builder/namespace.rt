@@ -1,4 +1,4 @@
-//! One index space: how many items it has, and their debug names.
+//! An index space: the number of its items, and their debug names.
 ghost use Rattle.std.specs.Option.{option_copied};
 ghost use Rattle.std.specs.Prelude.{◌≡◌, ◌≤◌, [], length, take, OnOk, OnErr, IfErr};
 ghost use Rattle.wenc_base.specs.Fault.{IsWarranted};
@@ -11,7 +11,7 @@ use std::alloc::{Allocator, Global};
 use std::marker::Model;
 use wenc_base::{Fault, NameMap};
 
-/// An index space: how many items it has, and the names of some.
+/// An index space: the number of its items, and the names of some.
 #[derive(Drop)]
 pub struct Namespace<A: Allocator = Global> {
     count: u32,
@@ -31,7 +31,7 @@ impl<A: Allocator> Model for Namespace<A> {
 }
 
 impl<A: Allocator> Namespace<A> {
-    /// No items.
+    /// Creates a space without items.
     #[tactic(auto, using(wenc_base::proofs::Groups::size_1))]
     pub fn new(alloc: A) -> Self
         ensures { result ≡ no_names }
@@ -42,28 +42,28 @@ impl<A: Allocator> Namespace<A> {
         }
     }
 
-    /// How many items.
+    /// Returns the number of items.
     pub fn count(&self) -> u32
         ensures { result ≡ self.now.count }
     {
         self.count
     }
 
-    /// The names.
+    /// Returns the names.
     pub fn names(&self) -> &NameMap<A>
         ensures { result.now ≡ holding [] self.now.named self.now.names }
     {
         &self.names
     }
 
-    /// How many bytes the names have.
+    /// Returns the number of bytes that the names take.
     pub fn names_len(&self) -> usize
         ensures { result ≡ length self.now.names }
     {
         self.names.names_len()
     }
 
-    /// So many more items, the first of them with this name or none.
+    /// Adds `number` items, the first of them with an optional name. A failed call changes nothing.
     #[tactic(auto, using(crate::proofs::Mapped::unnamed_free))]
     pub fn add(&mut self, number: u32, name: Option<&str>) -> Result<(), Fault>
         ensures ok { OnOk result
@@ -92,8 +92,8 @@ impl<A: Allocator> Namespace<A> {
         }
     }
 
-    /// The space as it was, when it had so many items, names and bytes of names. It takes no
-    /// memory.
+    /// Restores the space to a state in which it had `count` items, `named` names, and `len` bytes
+    /// of names. Allocates nothing.
     pub fn cut_back(&mut self, count: u32, named: u32, len: usize)
         requires { (named ≤ self.old.named) × (len ≤ length self.old.names) }
         ensures { self.new ≡ space_view count named (take len self.old.names) }

@@ -1,4 +1,4 @@
-//! The call that adds a producers section.
+//! The method that adds a producers section.
 ghost use Rattle.std.specs.Prelude.{◌≡◌, List, OnOk, OnErr, Err, true, false};
 ghost use Rattle.wenc_base.specs.Holder.{Contains, held_text, is_finished};
 ghost use Rattle.wenc_base.specs.Producers.{Producers, producers_field, producers_label};
@@ -14,10 +14,11 @@ use std::alloc::Allocator;
 use wenc_base::{Fault, ProducersSection, Tagged};
 use wenc_parts::ComponentSectionId;
 
-/// What made the component.
+/// The tools that made the component.
 impl<A: Allocator> ComponentBuilder<A> {
-    /// Adds a producers section: the custom section of the name `producers` (tool conventions,
-    /// "Producers Section"). Refused as the type says.
+    /// Adds a producers section, the custom section named `producers` (tool conventions, "Producers
+    /// Section"). Fails as documented on `ComponentBuilder`, and with `Unfinished` if `producers`
+    /// is unfinished.
     pub fn producers_section<B: Allocator>(
         &mut self,
         producers: &ProducersSection<B>,

@@ -2,7 +2,7 @@
 use wenc_base::ExportKind;
 use wenc_parts::{Alias, ComponentExportKind, ComponentOuterAliasKind};
 
-/// An index space: what is defined in it is counted from 0 on (component model, explainer, "Index
+/// An index space, whose definitions are numbered from 0 (component model, explainer, "Index
 /// Spaces").
 #[derive(Clone, Copy, Debug, PartialEq, Eq)]
 pub enum Space {
@@ -16,21 +16,21 @@ pub enum Space {
     CoreMemories,
     /// Core tables.
     CoreTables,
-    /// Instances of core modules.
+    /// Core instances.
     CoreInstances,
     /// Core tags.
     CoreTags,
     /// Core globals.
     CoreGlobals,
-    /// Functions of components.
+    /// Component functions.
     Funcs,
-    /// Instances of components.
+    /// Component instances.
     Instances,
     /// Values.
     Values,
     /// Components.
     Components,
-    /// Types of components.
+    /// Component types.
     Types,
 }
 
@@ -39,7 +39,7 @@ impl Space {
     ghost use Rattle.wenc_parts.specs.Aliases.{alias_view};
     ghost use Rattle.wenc_builder.specs.Space.{space_number, alias_space};
 
-    /// The space that an alias defines an item in.
+    /// Returns the space in which an alias defines an item.
     pub fn of_alias(alias: &Alias<'_>) -> Space
         ensures { result ≡ alias_space (alias_view alias.now) }
     {
@@ -50,7 +50,7 @@ impl Space {
         }
     }
 
-    /// The index of this space among all, from 0 to 12, in the order in which a builder tells their
+    /// Returns the number of this space, from 0 to 12, in the order of the builder's methods for
     /// counts.
     pub fn number(self) -> usize
         ensures is { result ≡ space_number self }

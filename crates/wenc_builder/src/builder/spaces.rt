@@ -17,23 +17,23 @@ use std::marker::Model;
 use wenc_base::{Fault, NameMap};
 use wenc_sections::Sort;
 
-/// How many spaces there are.
+/// The number of spaces.
 pub const SPACES: usize = 13;
 
-/// What a space was before an item took an index in it.
+/// The state of a space before an item took an index in it.
 #[derive(Clone, Copy)]
 pub struct Undo {
     /// The number of the space.
     pub space: usize,
-    /// How many items it had.
+    /// The number of its items.
     pub count: u32,
-    /// How many of them had a name.
+    /// The number of items with a name.
     pub named: u32,
-    /// How many bytes those names had.
+    /// The number of bytes of those names.
     pub len: usize,
 }
 
-/// All index spaces, and what one of them was before the item that is being written.
+/// All index spaces, and the state of one of them before the item being written.
 #[derive(Drop)]
 pub struct Spaces<A: Allocator = Global> {
     spaces: Vec<Namespace<A>, A>,
@@ -53,7 +53,7 @@ impl<A: Allocator> Model for Spaces<A> {
 }
 
 impl<A: Allocator> Spaces<A> {
-    /// Spaces without items. It is refused for want of memory alone.
+    /// Creates spaces without items. Fails only if an allocation fails (`Memory`).
     pub fn new(alloc: A) -> Result<Self, Fault>
     where
         A: Copy,
@@ -67,19 +67,19 @@ impl<A: Allocator> Spaces<A> {
         Ok(Spaces { spaces, undo: None })
     }
 
-    /// What the spaces' names are allocated with.
+    /// Returns the allocator of the spaces' names.
     pub(super) fn allocator(&self) -> &A {
         self.spaces.allocator()
     }
 
-    /// How many items a space has, the one that is being written with them.
+    /// Returns the number of items in a space, including the one being written.
     pub fn count(&self, space: Space) -> u32
         ensures { result ≡ count_at self.now (space_number space) }
     {
         self.spaces[space.number()].count()
     }
 
-    /// The names in a space.
+    /// Returns the names in a space.
     pub fn names(&self, space: Space) -> &NameMap<A>
         requires { self.now.taking ≡ None }
         ensures { result.now ≡ names_held (namespace_at self.now.settled (space_number space)) }
@@ -87,7 +87,7 @@ impl<A: Allocator> Spaces<A> {
         self.spaces[space.number()].names()
     }
 
-    /// The names in all spaces, in the order in which a section has them.
+    /// Returns the names in all spaces, in the order of a name section.
     pub fn sorted_names(&self) -> Subsections<'_, A>
         requires { self.now.taking ≡ None }
         ensures { map (λ n. (n.0, n.1.now)) result.0
@@ -110,8 +110,8 @@ impl<A: Allocator> Spaces<A> {
         ])
     }
 
-    /// So many more items in a space, the first of them with this name or none, which may be given
-    /// up until `end`. Answers the index of the first.
+    /// Reserves `number` indices in a space, the first of them with an optional name, which can be
+    /// discarded until `end`. Returns the first. A failed call changes nothing.
     pub fn begin(&mut self, space: Space, number: u32, name: Option<&str>) -> Result<u32, Fault>
         requires { self.old.taking ≡ None }
         ensures index { IfOk result (λ i.
@@ -143,7 +143,7 @@ impl<A: Allocator> Spaces<A> {
         Ok(index)
     }
 
-    /// The item that took an index is there to stay.
+    /// Commits the indices of the item being written.
     pub fn end(&mut self)
         requires { is_none self.old.taking ≡ false }
         ensures { self.new ≡ spaces_ended self.old }
@@ -151,7 +151,7 @@ impl<A: Allocator> Spaces<A> {
         self.undo = None;
     }
 
-    /// Gives up the item that took an index. It takes no memory.
+    /// Discards the indices of the item being written. Allocates nothing.
     pub fn give_up(&mut self)
         requires { is_none self.old.taking ≡ false }
         ensures { self.new ≡ spaces_given_up self.old }

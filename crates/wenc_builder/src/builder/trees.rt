@@ -1,4 +1,4 @@
-//! Calls that add items which are handed in as trees.
+//! Methods that add items given as trees.
 ghost use Rattle.std.specs.Option.{option_copied};
 ghost use Rattle.wenc_builder.specs.Enters.{Enters};
 ghost use Rattle.wenc_builder.specs.Entry.{core_instance_entry, instance_entry, canonical_tree_entry};
@@ -13,11 +13,11 @@ use wenc_base::Fault;
 use wenc_canon::AddsSlot;
 use wenc_sections::{CanonTree, CoreInstanceTree, InstanceTree};
 
-/// Items that are handed in as trees, for commands: each call adds one, with a debug name or none,
-/// and answers its index. Refused as the type says.
+/// Items given as trees, for commands: each method adds one with an optional debug name, and
+/// returns its index. Each fails as documented on `ComponentBuilder`.
 impl<A: Allocator> ComponentBuilder<A> {
-    /// Adds an instance of a core module, or a core instance that exports items alone (component
-    /// model, binary format, "Instance Definitions").
+    /// Adds a core instance: an instance of a core module, or inline exports of core items
+    /// (component model, binary format, "Instance Definitions").
     pub fn core_instance_tree<B: Allocator>(
         &mut self,
         debug_name: Option<&str>,
@@ -34,8 +34,8 @@ impl<A: Allocator> ComponentBuilder<A> {
         )
     }
 
-    /// Adds an instance of a component, or one that exports items alone (component model, binary
-    /// format, "Instance Definitions").
+    /// Adds an instance: an instance of a component, or inline exports of items (component model,
+    /// binary format, "Instance Definitions").
     pub fn instance_tree<B: Allocator>(
         &mut self,
         debug_name: Option<&str>,
@@ -47,9 +47,9 @@ impl<A: Allocator> ComponentBuilder<A> {
         self.add(Kind::Instance, Space::Instances, debug_name, instance)
     }
 
-    /// Adds a canonical function. One that is lifted or lowered keeps the debug name that is handed
-    /// in, or none; one that the component model provides has its own name, whatever is handed in
-    /// (component model, binary format, "Canonical Definitions").
+    /// Adds a canonical function (component model, binary format, "Canonical Definitions"). A
+    /// lifted or lowered function has the debug name `debug_name`, if any; a built-in one has its
+    /// own name, whatever `debug_name` is.
     pub fn canonical_tree<B: Allocator>(
         &mut self,
         debug_name: Option<&str>,

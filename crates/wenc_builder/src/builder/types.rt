@@ -1,4 +1,4 @@
-//! Calls that add types.
+//! Methods that add types.
 ghost use Rattle.std.specs.Borrow.{sem, RestsIfErr};
 ghost use Rattle.std.specs.Option.{option_copied};
 ghost use Rattle.std.specs.Prelude.{◌≡◌, [], List, false, Err, IfOk, OnErr};
@@ -23,10 +23,10 @@ use wenc_types::{
     ComponentTypeEncoder, InstanceType, TypeTree,
 };
 
-/// Types: each call adds one, with a debug name or none, and answers its index (component model,
-/// binary format, "Core Definitions" and "Type Definitions"). A call that answers an encoder too
+/// Types: each method adds one with an optional debug name, and returns its index (component model,
+/// binary format, "Core Definitions" and "Type Definitions"). A method that also returns an encoder
 /// has begun the type: it has its index and its name, and the builder is unfinished until the
-/// encoder's last call. Refused as the type says.
+/// encoder's last call. Each fails as documented on `ComponentBuilder`.
 ///
 /// ```
 /// let mut builder = ComponentBuilder::new(alloc)?;
@@ -39,7 +39,7 @@ use wenc_types::{
 impl<A: Allocator> ComponentBuilder<A> {
     ghost use Rattle.wenc_builder.specs.contracts.builder.ComponentBuilder.{the_row};
 
-    /// Begins a core type, which is written by the encoder that is answered.
+    /// Begins a core type, which the returned encoder writes.
     pub fn core_type(
         &mut self,
         debug_name: Option<&str>,
@@ -54,7 +54,7 @@ impl<A: Allocator> ComponentBuilder<A> {
         Ok((index, ComponentCoreTypeEncoder::new(self)))
     }
 
-    /// Begins a type, which is written by the encoder that is answered.
+    /// Begins a type, which the returned encoder writes.
     pub fn ty(
         &mut self,
         debug_name: Option<&str>,
@@ -69,7 +69,7 @@ impl<A: Allocator> ComponentBuilder<A> {
         Ok((index, ComponentTypeEncoder::new(self)))
     }
 
-    /// Adds this instance type. It is refused with `Unfinished` where either is unfinished.
+    /// Adds an instance type. Fails with `Unfinished` if it or the builder is unfinished.
     pub fn type_instance<B: Allocator>(
         &mut self,
         debug_name: Option<&str>,
@@ -90,7 +90,7 @@ impl<A: Allocator> ComponentBuilder<A> {
         self.add(Kind::Type, Space::Types, debug_name, ty)
     }
 
-    /// Adds this component type. It is refused with `Unfinished` where either is unfinished.
+    /// Adds a component type. Fails with `Unfinished` if it or the builder is unfinished.
     pub fn type_component<B: Allocator>(
         &mut self,
         debug_name: Option<&str>,
@@ -111,7 +111,7 @@ impl<A: Allocator> ComponentBuilder<A> {
         self.add(Kind::Type, Space::Types, debug_name, ty)
     }
 
-    /// Begins a type of values, which is written by the encoder that is answered.
+    /// Begins a defined value type, which the returned encoder writes.
     pub fn type_defined(
         &mut self,
         debug_name: Option<&str>,
@@ -126,7 +126,7 @@ impl<A: Allocator> ComponentBuilder<A> {
         Ok((index, ComponentDefinedTypeEncoder::new(self)))
     }
 
-    /// Begins a type of functions, which is written by the encoder that is answered.
+    /// Begins a function type, which the returned encoder writes.
     pub fn type_function(
         &mut self,
         debug_name: Option<&str>,
@@ -142,8 +142,8 @@ impl<A: Allocator> ComponentBuilder<A> {
         Ok((index, ComponentFuncTypeEncoder::new(self)))
     }
 
-    /// Adds a resource type, by how a resource is represented, and the index of the core function
-    /// that is called when one is dropped, where there is such a function.
+    /// Adds a resource type with this representation, and optionally the index of its destructor,
+    /// the core function that is called when a resource is dropped.
     pub fn type_resource(
         &mut self,
         debug_name: Option<&str>,
