@@ -137,6 +137,26 @@ fn quoted_definitions_are_in_the_sources() {
     assert!(quoted > 0);
 }
 
+/// The callers that the pages of the crates show are those of `facts`.
+#[test]
+fn callers_on_the_pages_are_proved_ones() {
+    let crates = Path::new(env!("CARGO_MANIFEST_DIR")).join("crates");
+    let sources = folders().remove("facts/src").expect("the sources of facts");
+    let mut shown = 0;
+    for entry in fs::read_dir(&crates).expect("the folder can be read") {
+        let page = entry.expect("an entry").path().join("CALLING.md");
+        // A package has none.
+        let Ok(page) = fs::read_to_string(page) else { continue };
+        for block in page.split("```rust\n").skip(1) {
+            let (code, _) = block.split_once("```").expect("the block ends");
+            let is_in = |text: &Vec<u8>| String::from_utf8_lossy(text).contains(code);
+            assert!(sources.values().any(is_in), "{code}");
+            shown += 1;
+        }
+    }
+    assert!(shown == 0 || shown == 10, "{shown} callers");
+}
+
 #[test]
 fn digests_are_those_of_the_standard() {
     for (text, wanted) in [

@@ -1,21 +1,15 @@
 //! The callers that the pages CALLING.md show.
-ghost use Rattle.std.specs.Prelude.{◌≡◌, ◌++◌, ◌∷◌, [], IfOk, IfSome, None, codes};
+ghost use Rattle.std.specs.Prelude.{◌≡◌, ◌++◌, [], IfOk, IfSome};
 ghost use Rattle.wenc.specs.Run.{PrintsAccepted};
 ghost use Rattle.wenc_base.specs.Holder.{no_members, with_member};
-ghost use Rattle.wenc_builder.specs.Entry.{import_entry, export_entry, items};
-ghost use Rattle.wenc_builder.specs.Sections.{whole};
 ghost use Rattle.wenc_canon.specs.Canonicals.{canonical, OfBuiltin, ResourceDrop};
-ghost use Rattle.wenc_parts.specs.declared.exports.ComponentExportKind.{ComponentExportKind};
-ghost use Rattle.wenc_parts.specs.declared.imports.ComponentTypeRef.{ComponentTypeRef};
-ghost use Rattle.wenc_parts.specs.declared.imports.TypeBounds.{TypeBounds};
-ghost use Rattle.wenc_parts.specs.Imports.{extern_name, extern_name_view, plain_name, type_reference};
+ghost use Rattle.wenc_parts.specs.Imports.{extern_name, extern_name_view, type_reference};
 
 use std::alloc::{Allocator, Global};
 use wenc::run;
 use wenc_base::{Encode, Fault};
-use wenc_builder::ComponentBuilder;
 use wenc_canon::{AddsBuiltin, CanonicalFunctionSection};
-use wenc_parts::{ComponentExportKind, ComponentExternName, ComponentTypeRef, TypeBounds};
+use wenc_parts::{ComponentExternName, ComponentTypeRef};
 
 /// Returns the encoding of a value in a new vector.
 pub fn encoded<T: Encode, A: Allocator>(alloc: A, value: &T) -> Result<Vec<u8, A>, Fault>
@@ -48,19 +42,6 @@ pub fn dropping<A: Allocator>(alloc: A, ty: u32) -> Result<CanonicalFunctionSect
     let mut section = CanonicalFunctionSection::new(alloc);
     section.resource_drop(ty)?;
     Ok(section)
-}
-
-/// Returns a component that imports a resource type and exports it again. What it is follows from
-/// the contracts of the builder's calls alone.
-pub fn passed_on<A: Allocator + Copy>(alloc: A) -> Result<Vec<u8, A>, Fault>
-    ensures { IfOk result (λ bytes. bytes.items ≡ whole (items (
-        import_entry (plain_name (codes "f")) (ComponentTypeRef.«Type» TypeBounds.SubResource)
-        ∷ export_entry (plain_name (codes "g")) ComponentExportKind.«Type» 0 None ∷ []))) }
-{
-    let mut builder = ComponentBuilder::new(alloc)?;
-    let index = builder.import("f".into(), ComponentTypeRef::Type(TypeBounds::SubResource))?;
-    builder.export("g".into(), ComponentExportKind::Type, index, None)?;
-    builder.finish()
 }
 
 /// Returns the output for a script, if no command is refused.

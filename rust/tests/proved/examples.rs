@@ -3,11 +3,9 @@
 //! modules and custom sections from the format's rows.
 
 use crate::proved::facts::by_hand::by_hand;
-use crate::proved::facts::callers::passed_on;
 use crate::proved::facts::examples::{
     base, builder, canon, list, parts, program, sections, trees, types,
 };
-use crate::proved::facts::importing::importing;
 use crate::proved::facts::wrapping::wrapped;
 use crate::proved::rt_std::alloc::Global;
 use crate::proved::rt_std::vec::Vec;
@@ -46,11 +44,6 @@ const BUILDER: &[u8] =
 const BUILDER_TYPES: &[u8] =
     b"\0asm\x0d\0\x01\0\x07\x03\x01\x6b\x73\x0b\x0a\x01\x00\x04name\x03\x00\x00";
 
-const PASSED_ON: &[u8] =
-    b"\0asm\x0d\0\x01\0\x0a\x06\x01\x00\x01f\x03\x01\x0b\x07\x01\x00\x01g\x03\x00\x00";
-
-const IMPORTING: &[u8] = b"\0asm\x0d\0\x01\0\x0a\x06\x01\x00\x01f\x03\x01";
-
 const BY_HAND: &[u8] =
     b"\0asm\x0d\0\x01\0\x0a\x06\x01\x00\x01i\x03\x01\x06\x05\x01\x03\x02\x00\x00\
     \x0b\x07\x01\x00\x01g\x03\x01\x00";
@@ -71,8 +64,6 @@ fn values_and_builders() {
     writes(trees::canon(Global), CANON);
     writes(builder::builder(Global), BUILDER);
     writes(builder::types(Global), BUILDER_TYPES);
-    writes(passed_on(Global), PASSED_ON);
-    writes(importing(Global), IMPORTING);
     writes(by_hand(Global), BY_HAND);
     let module = &WRAPPED[10..43];
     assert_eq!(module[..8], *b"\0asm\x01\0\0\0");
