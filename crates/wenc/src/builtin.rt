@@ -9,8 +9,8 @@ use crate::number::{flag, number};
 use crate::words::Words;
 use wasm_encoder::CanonTree;
 
-/// Returns the builtin that a word names, with the words after it. Builtins with options, a core
-/// type or a result have no words. Those of resources and tasks come first.
+/// Returns the builtin that a word and the words after it name. Builtins with options, a core type
+/// or a result have no words. Those of resources and tasks come first.
 pub fn builtin(verb: &str, words: Words) -> Option<CanonTree>
     ensures { option_map canon_view result ≡ builtin_said verb.now (words_left words.entry) }
 {
@@ -27,7 +27,7 @@ pub fn builtin(verb: &str, words: Words) -> Option<CanonTree>
     }
 }
 
-/// Returns the builtin that a word names, of those from streams on.
+/// Returns the builtin that these words name, of those from streams on.
 fn of_stream(verb: &str, words: Words) -> Option<CanonTree>
     ensures { option_map canon_view result ≡
         one_of (drop 10 builtins) verb.now (words_left words.entry) }
@@ -49,7 +49,7 @@ fn of_stream(verb: &str, words: Words) -> Option<CanonTree>
     }
 }
 
-/// Returns the builtin that a word names, of those from futures on.
+/// Returns the builtin that these words name, of those from futures on.
 fn of_future(verb: &str, words: Words) -> Option<CanonTree>
     ensures { option_map canon_view result ≡
         one_of (drop 17 builtins) verb.now (words_left words.entry) }
@@ -71,7 +71,7 @@ fn of_future(verb: &str, words: Words) -> Option<CanonTree>
     }
 }
 
-/// Returns the builtin that a word names, of those from error contexts on. Waitable sets and
+/// Returns the builtin that these words name, of those from error contexts on. Waitable sets and
 /// backpressure come next.
 fn of_error_context(verb: &str, words: Words) -> Option<CanonTree>
     ensures { option_map canon_view result ≡
@@ -91,7 +91,7 @@ fn of_error_context(verb: &str, words: Words) -> Option<CanonTree>
     }
 }
 
-/// Returns the builtin that a word names, of the last ones: those of threads, and those that
+/// Returns the builtin that these words name, of the last ones: those of threads, and those that
 /// forward.
 fn of_thread(verb: &str, words: Words) -> Option<CanonTree>
     ensures { option_map canon_view result ≡
