@@ -4,8 +4,8 @@ use Rattle.wenc_builder.specs.Entry.{items as items_of}
 use Rattle.wenc_builder.specs.Sections.{runs}
 use Rattle.facts.proofs.listed.built_and_listed.Goals as goal
 
-pub returns-in-Ok : goal.returns-in-Ok
-returns-in-Ok g c es ran no_raw =
+pub returns-in-Ok-clause-read : goal.returns-in-Ok-clause-read
+returns-in-Ok-clause-read g c es ran no_raw =
     let ss = runs (items_of es) in
     let one = c.in-Ok.ensures.one_reading es ran no_raw Wide in
     rw c.as_slice.ensures.value at (c.list-listed.ensures.or_deep) ss ((one ss).1 refl)
