@@ -7,6 +7,7 @@ pub mod built;
 pub mod by_hand;
 pub mod callers;
 pub mod concrete;
+pub mod cut;
 pub mod encoders;
 pub mod examples;
 pub mod finished;

@@ -4,3 +4,4 @@ pub mod SectionLaws
 pub mod Taken
 pub mod Walked
 pub mod Faults
+pub mod OwnBytes

@@ -104,11 +104,15 @@ sections_leave : (ss : List Section) (bytes rest : List ℕ) → (each section_p
 sections_leave [] bytes rest r = ([], r)
 sections_leave (s ∷ ss) bytes rest r = ends_on bytes r.0 rest (one_leaves s bytes r.0 r.1) (sections_leave ss r.0 rest r.2)
 
+-- the bytes of a header
+abbrev pub header : List ℕ
+header = 0x00 ∷ 0x61 ∷ 0x73 ∷ 0x6d ∷ 0x0d ∷ 0x00 ∷ 0x01 ∷ 0x00 ∷ []
+
+pub header_is : (bytes rest : List ℕ) → preamble.Reads Wide bytes rest → bytes ≡ header ++ rest
+header_is bytes rest r = rw (r.1, r.2.1, r.2.2.1, r.2.2.2.1, r.2.2.2.2.1, r.2.2.2.2.2.1, r.2.2.2.2.2.2.1, r.2.2.2.2.2.2.2) refl
+
 pub header_leaves : (bytes rest : List ℕ) → preamble.Reads Wide bytes rest → EndsWith bytes rest
-header_leaves bytes rest r = (
-  0x00 ∷ 0x61 ∷ 0x73 ∷ 0x6d ∷ 0x0d ∷ 0x00 ∷ 0x01 ∷ 0x00 ∷ [],
-  rw (r.1, r.2.1, r.2.2.1, r.2.2.2.1, r.2.2.2.2.1, r.2.2.2.2.2.1, r.2.2.2.2.2.2.1, r.2.2.2.2.2.2.2) refl,
-)
+header_leaves bytes rest r = (header, header_is bytes rest r)
 
 stops_here : (bytes behind : List ℕ) (place : ℕ) (P : List ℕ → Type 0) (f : StopsAt (length bytes) behind place P) → preamble.Reads Wide bytes behind → drop place bytes ≡ f.left
 stops_here bytes behind place P f r = at_place bytes f.left place (ends_on bytes behind f.left (header_leaves bytes behind r) (sections_leave f.before behind f.left f.read)) f.is_place

@@ -1,14 +1,17 @@
 //! Laws about the definitions. A call of one does nothing.
-ghost use Rattle.std.specs.Prelude.{◌≡◌, ◌⊎◌, ℕ, ◌-◌, List, [], ◌∷◌, ◌++◌, length, drop};
+ghost use Rattle.std.specs.Prelude.{◌≡◌, ◌⊎◌, ℕ, ◌-◌, ◌<◌, ◌≤◌, List, [], ◌∷◌, ◌++◌, length, map, take, drop, remove, slice_get, slice_range};
 ghost use Rattle.wenc_base.specs.Piece.{Wide, EndsWith};
 ghost use Rattle.wenc_builder.specs.Item.{Item};
 ghost use Rattle.wenc_builder.specs.Sections.{Section, Reading, section_piece, preamble};
 ghost use Rattle.wenc_list.specs.Cursor.{Opens, HasTaken, IsSpent, IsFaultIn};
-ghost use Rattle.wenc_list.specs.Items.{item_section};
-ghost use Rattle.wenc_list.specs.Listing.{AreWithin, IsFaultOf, IsFaultHere};
+ghost use Rattle.wenc_list.specs.Items.{item_section, section_view};
+ghost use Rattle.wenc_list.specs.Listing.{AreWithin, ArePlaced, IsFaultOf, IsFaultHere};
 ghost use Rattle.wenc_list.specs.declared.cursor.SectionItems.{SectionItems};
 ghost use Rattle.wenc_list.specs.declared.fault.ListFault.TheVariants.{Memory, TooDeep};
 ghost use Rattle.wenc_list.specs.declared.fault.ListFault.{ListFault};
+ghost use Rattle.wenc_list.specs.declared.listing.ListedSection.{ListedSection};
+
+use std::alloc::Allocator;
 
 /// Bytes that are read widely as sections in which no type is deeper than 100 have no fault but
 /// `Memory`. Bytes that are read widely as any sections have no fault but that and `TooDeep`.
@@ -52,4 +55,20 @@ pub fn where_it_stands()
         (left : SectionItems) → EndsWith bytes before → Opens (length bytes) before first rest
         → HasTaken first xs left
         → drop (left.ends - length left.rest.now) bytes ≡ left.rest.now ++ rest }
+{}
+
+/// The bytes of a listed section, from `place` to `ends`, are read as that section, whatever bytes
+/// follow. Without them the component has its other sections.
+pub fn own_bytes<A: Allocator>()
+    ensures inside { (bytes : List ℕ) (ss : List (ListedSection A)) (i : ℕ) (s : ListedSection A)
+        → ArePlaced bytes ss → slice_get ss i ≡ Some s
+        → (s.place < s.ends) × (s.ends ≤ length bytes) }
+    ensures anywhere { (bytes : List ℕ) (ss : List (ListedSection A)) (i : ℕ)
+        (s : ListedSection A) → ArePlaced bytes ss → slice_get ss i ≡ Some s → (rest : List ℕ)
+        → (section_piece (section_view s)).Reads Wide (slice_range bytes s.place s.ends ++ rest)
+        rest }
+    ensures others { (bytes : List ℕ) (ss : List (ListedSection A)) (i : ℕ) (s : ListedSection A)
+        → ArePlaced bytes ss → slice_get ss i ≡ Some s
+        → Reading Wide (take s.place bytes ++ drop s.ends bytes)
+        (remove (map section_view ss) i) }
 {}

@@ -5,6 +5,7 @@ pub mod built;
 mod changed;
 mod checks;
 mod cursor;
+mod cut;
 mod depth;
 mod faults;
 mod names;
