@@ -316,8 +316,8 @@ impl<A: Allocator> ComponentBuilder<A> {
         }
     }
 
-    /// Adds what stands alone, the text of `lead` and these bytes, with so many indices in a space,
-    /// of which the first has a debug name or none. Answers the index of that.
+    /// Adds a section of its own, the text of `lead` and these bytes, with so many indices in a
+    /// space, of which the first has a debug name or none. Returns that index.
     fn stand_alone<E: Encode>(
         &mut self,
         space: Space,
@@ -349,7 +349,7 @@ impl<A: Allocator> ComponentBuilder<A> {
         }
     }
 
-    /// Adds what stands alone and has no index: the text of `lead`, and these bytes.
+    /// Adds a section of its own that has no index: the text of `lead`, and these bytes.
     fn add_alone<E: Encode>(&mut self, lead: &E, bytes: &Ready<'_>) -> Result<(), Fault>
         requires { IsItemPiece None None (with_bytes (E.piece lead.now) bytes.now) }
         ensures { TakesNoIndex self.old self.new result

@@ -1,15 +1,14 @@
-//! Bytes that stand alone, and what comes before them, after their section's id.
+//! What is a section of its own: what comes before its bytes, after the id, and the bytes.
 ghost use Rattle.std.specs.Prelude.{◌≡◌, length};
 
 use std::alloc::Allocator;
 use std::marker::Model;
 use wenc_base::{CustomSection, Encode, Fault, Short, section_size};
 
-/// Bytes that lie ready: some, the last of which are a gap, a head that fills it, and more.
+/// Bytes to be copied: `first`, with `head` in the place of the last `gap` of them, then `more`.
 #[derive(Drop)]
 pub struct Ready<'a> {
     pub first: &'a [u8],
-    /// How many of the first bytes are the gap.
     pub gap: usize,
     pub head: Short,
     pub more: &'a [u8],
@@ -26,7 +25,7 @@ impl<'a> Model for Ready<'a> {
 }
 
 impl<'a> Ready<'a> {
-    /// These bytes, without a gap.
+    /// These bytes, as they are.
     pub fn whole(bytes: &'a [u8]) -> Ready<'a>
         ensures { result ≡ bytes.now }
     {
@@ -46,7 +45,7 @@ impl<'a> Ready<'a> {
     }
 }
 
-/// How many bytes follow. More than 4294967295 are refused with `TooLarge`.
+/// How many bytes follow. Fails with `TooLarge` where there are more than 4294967295.
 #[derive(Clone, Copy)]
 pub struct Size(pub usize);
 
@@ -63,8 +62,8 @@ impl Encode for Size {
     }
 }
 
-/// What comes before the data of a custom section: its size, and its name. It is refused where the
-/// section would have more than 4294967295 bytes (`TooLarge`).
+/// What comes before the data of a custom section: its size, and its name. Fails with `TooLarge`
+/// where the size would be more than 4294967295.
 #[derive(Clone, Copy)]
 pub struct CustomLead<'a>(pub &'a CustomSection<'a>);
 

@@ -164,8 +164,8 @@ impl<A: Allocator> Buffer<A> {
         }
     }
 
-    /// Writes what stands alone after all sections, of which none is open then: the text of `lead`,
-    /// and these bytes, which are written where they stay.
+    /// Writes a section of its own after all sections, of which none is open then: the text of
+    /// `lead`, and these bytes, which are written where they stay.
     ///
     /// # Errors
     ///
@@ -180,8 +180,8 @@ impl<A: Allocator> Buffer<A> {
         self.write_alone(lead, bytes.first, bytes.gap, head, bytes.more)
     }
 
-    /// Writes the text of `lead` and these bytes after all sections, as `stand_alone` does. The
-    /// head fills the last `gap` of the first bytes.
+    /// Writes the text of `lead` and these bytes as `stand_alone` does, with `head` in the place of
+    /// the last `gap` bytes of `first`.
     #[tactic(auto, using(wenc_base::proofs::Groups::size_at_most_5))]
     fn write_alone<E: Encode>(
         &mut self,
