@@ -5,11 +5,10 @@ use std::alloc::Allocator;
 use std::marker::Model;
 use wenc_base::{CustomSection, Encode, Fault, Short, section_size};
 
-/// Bytes that are there already: some, which end with a gap, a head that fills it, and more.
+/// Bytes to be copied: `first`, with `head` in place of the last `gap` of them, then `more`.
 #[derive(Drop)]
 pub struct Ready<'a> {
     pub first: &'a [u8],
-    /// How many of the first bytes are the gap.
     pub gap: usize,
     pub head: Short,
     pub more: &'a [u8],

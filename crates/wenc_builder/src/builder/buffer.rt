@@ -183,8 +183,8 @@ impl<A: Allocator> Buffer<A> {
         self.write_alone(lead, bytes.first, bytes.gap, head, bytes.more)
     }
 
-    /// Writes the encoding of `lead` and these bytes after all sections, as `stand_alone` does. The
-    /// head fills the last `gap` of the first bytes.
+    /// Writes the encoding of `lead` and these bytes as `stand_alone` does, with `head` in place of
+    /// the last `gap` bytes of `first`.
     #[tactic(auto, using(wenc_base::proofs::Groups::size_at_most_5))]
     fn write_alone<E: Encode>(
         &mut self,
