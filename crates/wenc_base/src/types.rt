@@ -82,9 +82,9 @@ impl DelimitedEq for ValType {
 /// The type of a reference (WebAssembly 3.0, binary format, "Reference Types").
 #[derive(Clone, Copy, Debug, PartialEq, Eq)]
 pub struct RefType {
-    /// Whether it may be null.
+    /// Whether it is nullable.
     pub nullable: bool,
-    /// What it refers to.
+    /// The heap type that it refers to.
     pub heap_type: HeapType,
 }
 
@@ -127,7 +127,7 @@ impl DelimitedEq for RefType {
     ghost alike = { itself _ };
 }
 
-/// What a reference refers to (WebAssembly 3.0, binary format, "Heap Types").
+/// The type of what a reference refers to (WebAssembly 3.0, binary format, "Heap Types").
 #[derive(Clone, Copy, Debug, PartialEq, Eq)]
 pub enum HeapType {
     /// An abstract heap type.
@@ -185,7 +185,7 @@ pub enum AbstractHeapType {
     NoExtern,
     /// Bottom of the `func` hierarchy.
     NoFunc,
-    /// What can be compared: structures, arrays and 31-bit integers.
+    /// All references that can be compared: to structures, arrays and 31-bit integers.
     Eq,
     /// All structures.
     Struct,

@@ -20,28 +20,28 @@ use wenc_base::{
 /// The first byte of the sort of a core item. The byte of the core sort follows.
 pub const CORE_SORT: u8 = 0x00;
 
-/// Core types, after `CORE_SORT`.
+/// The core sort of core types, after `CORE_SORT`.
 pub const CORE_TYPE_SORT: u8 = 0x10;
 
-/// Core modules, after `CORE_SORT`.
+/// The core sort of core modules, after `CORE_SORT`.
 pub const CORE_MODULE_SORT: u8 = 0x11;
 
-/// Core instances, after `CORE_SORT`.
+/// The core sort of core instances, after `CORE_SORT`.
 pub const CORE_INSTANCE_SORT: u8 = 0x12;
 
-/// Functions.
+/// The sort of functions.
 pub const FUNCTION_SORT: u8 = 0x01;
 
-/// Values.
+/// The sort of values.
 pub const VALUE_SORT: u8 = 0x02;
 
-/// Types.
+/// The sort of types.
 pub const TYPE_SORT: u8 = 0x03;
 
-/// Components.
+/// The sort of components.
 pub const COMPONENT_SORT: u8 = 0x04;
 
-/// Instances.
+/// The sort of instances.
 pub const INSTANCE_SORT: u8 = 0x05;
 
 /// A section of a component (component model, binary format, "Component Definitions"). You may
