@@ -17,7 +17,7 @@ use wenc_parts::{ComponentValType, ResultList};
 pub enum FuncStage {
     /// Nothing is written.
     Start,
-    /// It is written whether the function is asynchronous.
+    /// The byte that says whether the function is asynchronous is written.
     Tagged,
     /// The parameters are written as well.
     Params,

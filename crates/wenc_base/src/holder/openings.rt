@@ -128,7 +128,7 @@ impl<A: Allocator> Holder<A> {
         Ok(())
     }
 
-    /// Ends the open member, which is complete. Does not allocate.
+    /// Ends the open member, if there is one. Does not allocate.
     pub fn finish_member(&mut self)
         ensures { self.new ≡ member_ended self.old }
     {
