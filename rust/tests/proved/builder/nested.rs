@@ -3,7 +3,7 @@
 use super::calls::{BEGIN_TYPE, FUNCTION, Inner, Item, NAME, TASK_CANCEL};
 use super::checks::{HEADER, Row, finishes, made};
 use crate::proved::tests::refusing::Refusing;
-use crate::proved::wasm_encoder::Fault;
+use crate::proved::wasm_encoder::{ComponentTypeRef, Fault};
 
 pub const ROWS: &[Row<'static>] = &[
     (
@@ -81,4 +81,22 @@ fn lent_twice() {
         assert_eq!(bytes.as_slice().strip_prefix(HEADER), Some(*twice));
         finishes(component, alone);
     }
+}
+
+// A lent component whose open section has a head of four bytes, 26 imports of five bytes each,
+// stands after an open section and after none.
+#[test]
+fn lent_with_a_longer_head() {
+    const IMPORT: &[u8] = b"\x00\x01a\x01\x00";
+    const NESTED: &[u8] = b"\x04\x8e\x01\x00asm\x0d\x00\x01\x00\x0a\x83\x01\x1a";
+    let mut component = Inner::Nothing.builder();
+    for _ in 0..26 {
+        component.import("a".into(), ComponentTypeRef::Func(0)).unwrap();
+    }
+    let heap = Refusing::new();
+    let mut builder = made(&heap, None, &[(TASK_CANCEL, Ok(0))]);
+    assert_eq!(builder.component_ref(None, &component), Ok(0));
+    assert_eq!(builder.component_ref(None, &component), Ok(1));
+    let nested = [NESTED, &IMPORT.repeat(26)].concat();
+    finishes(builder, &[HEADER, b"\x08\x02\x01\x05", &nested, &nested].concat());
 }
