@@ -1,24 +1,18 @@
 //! Makes Rust of the proved sources in `crates/`: one file for each of theirs, and `crates.rs`,
-//! which declares a module for each of their crates.
+//! which declares a module for each of their crates. It is the build script of the library and of
+//! the programs.
 
 mod erase;
 
 use std::fs;
 use std::path::{Path, PathBuf};
 
-/// The crates of the library, lowest first.
-const LIBRARY: [&str; 10] = [
-    "wenc_base",
-    "wenc_parts",
-    "wenc_types",
-    "wenc_canon",
-    "wenc_sections",
-    "wenc_builder",
-    "wenc_read",
-    "wenc_decode",
-    "wenc_list",
-    "wasm_encoder",
-];
+/// The crates that encode, lowest first.
+const WRITER: [&str; 6] =
+    ["wenc_base", "wenc_parts", "wenc_types", "wenc_canon", "wenc_sections", "wenc_builder"];
+
+/// The crates of the feature `reader`.
+const READER: [&str; 4] = ["wenc_read", "wenc_decode", "wenc_list", "wasm_encoder"];
 
 /// The crates behind the programs.
 const PROGRAMS: [&str; 2] = ["wenc", "driven"];
@@ -37,16 +31,29 @@ const ALLOWED: &str = "#[allow(clippy::all, dead_code, missing_docs, unused_brac
      #[allow(unused_imports, unused_variables)]\n";
 
 fn main() {
-    println!("cargo::rerun-if-changed=rust/build");
-    let known: Vec<&str> = [&LIBRARY[..], &PROGRAMS, &TESTS, &BY_HAND].concat();
+    let package = PathBuf::from(variable("CARGO_MANIFEST_DIR"));
+    let top = package.ancestors().find(|folder| folder.join("crates").is_dir());
+    let top = top.expect("the sources are above the package");
+    println!("cargo::rerun-if-changed={}", top.join("rust/build").display());
+    println!("cargo::rustc-cfg=in_repository");
+    if variable("CARGO_PKG_NAME") != "wenc" {
+        println!("cargo::rustc-cfg=script");
+    }
     let out = PathBuf::from(variable("OUT_DIR")).join("proved");
-    let sources = PathBuf::from(variable("CARGO_MANIFEST_DIR")).join("crates");
-    let _ = fs::remove_dir_all(&out);
+    erase_all(&top.join("crates"), &out);
+    name_shared_library();
+}
+
+/// Erases all crates of a folder into another.
+fn erase_all(sources: &Path, out: &Path) {
+    let known: Vec<&str> = [&WRITER[..], &READER, &PROGRAMS, &TESTS, &BY_HAND].concat();
+    let _ = fs::remove_dir_all(out);
     let mut declared = String::new();
     let parts = [
-        (&LIBRARY[..], ""),
-        (&PROGRAMS, "#[cfg(feature = \"std\")]\n"),
-        (&TESTS, "#[cfg(all(test, feature = \"std\"))]\n"),
+        (&WRITER[..], ""),
+        (&READER, "#[cfg(any(feature = \"reader\", script, test))]\n"),
+        (&PROGRAMS, "#[cfg(any(script, test))]\n"),
+        (&TESTS, "#[cfg(all(test, not(script)))]\n"),
     ];
     for (names, condition) in parts {
         for name in names {
@@ -54,12 +61,10 @@ fn main() {
             println!("cargo::rerun-if-changed={}", source.display());
             erase_folder(name, &known, &source, &out.join(name));
             let root = if source.join("lib.rt").exists() { "lib.rs" } else { "main.rs" };
-            let path = out.join(name).join(root);
-            declared += &format!("{condition}{ALLOWED}#[path = {path:?}]\npub mod {name};\n");
+            declared += &format!("{condition}{ALLOWED}#[path = \"{name}/{root}\"]\npub mod {name};\n");
         }
     }
     write(&out.join("crates.rs"), &declared);
-    name_shared_library();
 }
 
 /// Has the shared library for C bear the name that programs find it by.

@@ -77,40 +77,50 @@
 #![deny(missing_docs)]
 
 extern crate alloc;
-#[cfg(feature = "std")]
+#[cfg(any(feature = "std", test))]
 extern crate std;
 
 #[cfg(feature = "capi")]
 mod capi;
 mod component;
 mod core;
+#[cfg(feature = "reader")]
+mod core_items;
+#[cfg(feature = "reader")]
 mod core_sections;
+#[cfg(feature = "reader")]
 mod cursor;
-#[cfg(feature = "std")]
-mod dump;
 mod encode;
 mod error;
+#[cfg(feature = "reader")]
 mod list;
+#[cfg(feature = "reader")]
 mod names;
-#[cfg(feature = "std")]
-#[doc(hidden)]
-pub mod program;
 mod proved;
 mod raw;
+#[cfg(feature = "reader")]
 mod rewrite;
 mod shared;
+#[cfg(feature = "reader")]
 pub mod tree;
 mod twins;
 
 pub use self::core::*;
 pub use component::*;
+#[cfg(feature = "reader")]
+pub use core_items::{CoreItem, CoreItems};
+#[cfg(feature = "reader")]
 pub use core_sections::{CoreSection, CoreSections, ModuleFault};
+#[cfg(feature = "reader")]
 pub use cursor::{Items, NestedSections, SectionReader, Sections};
 pub use encode::{Encode, encoding_size};
 pub use error::Error;
+#[cfg(feature = "reader")]
 pub use list::{ListFault, ListedSection, Listing, Unread, list};
+#[cfg(feature = "reader")]
 pub use names::{DebugNames, NamesFault};
 pub use raw::RawSection;
+#[cfg(feature = "reader")]
 pub use rewrite::ItemSection;
 
 /// What was proved of the sources in `crates/`: by which logic and which kits, how many functions

@@ -2,6 +2,7 @@
 
 use crate::component::sections;
 use crate::shared::{collections, encoders, lenders, on};
+#[cfg(feature = "reader")]
 use crate::tree::CoreTypeTree;
 use crate::twins::twins;
 use crate::{CoreTypeEncoder, ModuleType};
@@ -16,16 +17,21 @@ encoders! {
     ComponentCoreTypeEncoder by CoreBy over CoreTypeSection;
 }
 
+#[cfg(feature = "reader")]
+impl ComponentCoreTypeEncoder<'_> {
+    twins! {
+        /// The type of this tree, which ends the type.
+        fn tree | try_tree(self, ty: &CoreTypeTree) -> () {
+            Ok(on!(self.by, CoreBy, encoder => encoder.tree(ty))?)
+        }
+    }
+}
+
 impl<'a> ComponentCoreTypeEncoder<'a> {
     twins! {
         /// This type of modules, which ends the type.
         fn module | try_module(self, ty: &ModuleType) -> () {
             Ok(on!(self.by, CoreBy, encoder => encoder.module(&ty.0))?)
-        }
-
-        /// The type of this tree, which ends the type.
-        fn tree | try_tree(self, ty: &CoreTypeTree) -> () {
-            Ok(on!(self.by, CoreBy, encoder => encoder.tree(ty))?)
         }
     }
 

@@ -2,6 +2,7 @@
 
 use super::{ComponentValType, PrimitiveValType};
 use crate::shared::{encoders, on};
+#[cfg(feature = "reader")]
 use crate::tree::DefinedTree;
 use crate::twins::twins;
 
@@ -34,13 +35,18 @@ encoders! {
     ComponentDefinedTypeEncoder by DefinedBy over ComponentTypeSection;
 }
 
+#[cfg(feature = "reader")]
 impl ComponentDefinedTypeEncoder<'_> {
     twins! {
         /// The type of this tree.
         fn tree | try_tree(self, ty: &DefinedTree) -> () {
             Ok(on!(self.by, DefinedBy, encoder => encoder.tree(ty))?)
         }
+    }
+}
 
+impl ComponentDefinedTypeEncoder<'_> {
+    twins! {
         /// A primitive type.
         fn primitive | try_primitive(self, ty: PrimitiveValType) -> () {
             Ok(on!(self.by, DefinedBy, encoder => encoder.primitive(ty))?)

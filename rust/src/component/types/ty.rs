@@ -3,6 +3,7 @@
 use super::{ComponentDefinedTypeEncoder, ComponentFuncTypeEncoder, ComponentType, InstanceType};
 use crate::ValType;
 use crate::shared::{encoders, on};
+#[cfg(feature = "reader")]
 use crate::tree::TypeTree;
 use crate::twins::twins;
 
@@ -16,18 +17,9 @@ encoders! {
     ComponentTypeEncoder by TypeBy over ComponentTypeSection;
 }
 
-impl<'a> ComponentTypeEncoder<'a> {
+#[cfg(feature = "reader")]
+impl ComponentTypeEncoder<'_> {
     twins! {
-        /// This type of components, which ends the type.
-        fn component | try_component(self, ty: &ComponentType) -> () {
-            Ok(on!(self.by, TypeBy, encoder => encoder.component(&ty.0))?)
-        }
-
-        /// This type of instances, which ends the type.
-        fn instance | try_instance(self, ty: &InstanceType) -> () {
-            Ok(on!(self.by, TypeBy, encoder => encoder.instance(&ty.0))?)
-        }
-
         /// The type of this tree, which ends the type.
         ///
         /// ```
@@ -41,6 +33,20 @@ impl<'a> ComponentTypeEncoder<'a> {
         /// ```
         fn tree | try_tree(self, ty: &TypeTree) -> () {
             Ok(on!(self.by, TypeBy, encoder => encoder.tree(ty))?)
+        }
+    }
+}
+
+impl<'a> ComponentTypeEncoder<'a> {
+    twins! {
+        /// This type of components, which ends the type.
+        fn component | try_component(self, ty: &ComponentType) -> () {
+            Ok(on!(self.by, TypeBy, encoder => encoder.component(&ty.0))?)
+        }
+
+        /// This type of instances, which ends the type.
+        fn instance | try_instance(self, ty: &InstanceType) -> () {
+            Ok(on!(self.by, TypeBy, encoder => encoder.instance(&ty.0))?)
         }
     }
 
