@@ -2,11 +2,11 @@
 
 use super::node::{Indices, Node, Scope, Tree};
 use super::shapes::{part, record, records, variant, variants, words};
+use wenc::tree::{AbstractHeapType, Space};
 use wenc::tree::{
     ArrayType, CompositeType, EntityType, FieldType, FuncType, GlobalType, GroupTree, HeapType,
     MemoryType, RefType, StorageType, StructType, SubType, TableType, TagType, ValType,
 };
-use wenc::tree::{AbstractHeapType, Space};
 
 words! {
     AbstractHeapType {

@@ -1,7 +1,7 @@
 //! Why a file isn't printed to its end.
 
-use wenc::{ListFault, ModuleFault, Unread};
 use std::io;
+use wenc::{ListFault, ModuleFault, Unread};
 
 /// What is wrong with a file.
 pub struct Fault {

@@ -2,9 +2,9 @@
 
 use super::fault::Fault;
 use super::node::Node;
-use wenc::tree::Space;
 use std::io;
 use std::ops::Range;
+use wenc::tree::Space;
 
 /// What reports are written to, in a format.
 pub trait Report {

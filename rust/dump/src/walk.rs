@@ -3,9 +3,9 @@
 use super::fault::{Failure, Fault};
 use super::node::{Scope, Tree};
 use super::report::{Content, Label, Part, Report};
+use std::ops::Range;
 use wenc::tree::{ItemTree, Space};
 use wenc::{CoreSections, DebugNames, ListFault, NamesFault, SectionReader, Sections};
-use std::ops::Range;
 
 /// How many components may be in one another, as many as types.
 const DEPTH: usize = 100;

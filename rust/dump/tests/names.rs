@@ -10,11 +10,11 @@ mod items;
 #[path = "../../tests/indices/types.rs"]
 mod types;
 
-use wenc_dump::{Streams, run as dump};
 use wenc::tree::{Command, ItemTree, NameTree, Scope, Space, String as Text, build};
 use wenc::{
     Component, ComponentNameSection, ComponentSection, ComponentSectionId, DebugNames, RawSection,
 };
+use wenc_dump::{Streams, run as dump};
 
 /// A space, how a scope is seen from the item, and an index.
 type Seen = (Space, Scope, u32);
