@@ -44,7 +44,8 @@ impl Page {
             "" if old.trim().is_empty() => self.blank(),
             "" => self.is_left_out = true,
             "{" if self.is_head(new) => self.join(" {"),
-            ";" if self.is_head(new) => self.join(";"),
+            // The line of a clause, of which this is left.
+            ";" => self.join(";"),
             "}" if self.is_left_out && self.last().ends_with('{') => self.join("}"),
             _ => self.code(old, new),
         }
@@ -59,8 +60,7 @@ impl Page {
     fn is_head(&self, line: &str) -> bool {
         let last = self.last();
         let is_open = !last.is_empty() && !last.ends_with(['{', '}', ';']);
-        let is_alone = line.trim_start() == ";" || indentation(last) == indentation(line);
-        self.is_left_out && is_open && is_alone
+        self.is_left_out && is_open && indentation(last) == indentation(line)
     }
 
     /// Adds a blank line, unless one is there or a block begins.

@@ -337,7 +337,7 @@ mod inner;
 /// f(3)?;
 /// ```
 #[tactic(auto)]
-#[derive(Clone, Drop)]
+#[derive(Drop)]
 pub struct Pair<T: Drop>
 where
     T: Encode,
@@ -381,7 +381,7 @@ impl Encode for Pair {
 }
 
 impl Model for Pair {
-    ghost type model = List;
+    ghost Value = { List };
 }
 
 trait Longer {
@@ -398,7 +398,6 @@ use crate::proved::rt_std::prelude::*;
 mod inner;
 
 /// It is *whole*.
-#[derive(Clone)]
 pub struct Pair<T>
 where
     T: Encode,
