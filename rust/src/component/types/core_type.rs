@@ -17,16 +17,6 @@ encoders! {
     ComponentCoreTypeEncoder by CoreBy over CoreTypeSection;
 }
 
-#[cfg(feature = "reader")]
-impl ComponentCoreTypeEncoder<'_> {
-    twins! {
-        /// The type of this tree, which ends the type.
-        fn tree | try_tree(self, ty: &CoreTypeTree) -> () {
-            Ok(on!(self.by, CoreBy, encoder => encoder.tree(ty))?)
-        }
-    }
-}
-
 impl<'a> ComponentCoreTypeEncoder<'a> {
     twins! {
         /// This type of modules, which ends the type.
@@ -40,6 +30,16 @@ impl<'a> ComponentCoreTypeEncoder<'a> {
     #[inline]
     pub fn core(self) -> CoreTypeEncoder<'a> {
         on!(self.by, CoreBy, encoder => encoder.core().into())
+    }
+}
+
+#[cfg(feature = "reader")]
+impl ComponentCoreTypeEncoder<'_> {
+    twins! {
+        /// The type of this tree, which ends the type.
+        fn tree | try_tree(self, ty: &CoreTypeTree) -> () {
+            Ok(on!(self.by, CoreBy, encoder => encoder.tree(ty))?)
+        }
     }
 }
 

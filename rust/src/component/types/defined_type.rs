@@ -35,16 +35,6 @@ encoders! {
     ComponentDefinedTypeEncoder by DefinedBy over ComponentTypeSection;
 }
 
-#[cfg(feature = "reader")]
-impl ComponentDefinedTypeEncoder<'_> {
-    twins! {
-        /// The type of this tree.
-        fn tree | try_tree(self, ty: &DefinedTree) -> () {
-            Ok(on!(self.by, DefinedBy, encoder => encoder.tree(ty))?)
-        }
-    }
-}
-
 impl ComponentDefinedTypeEncoder<'_> {
     twins! {
         /// A primitive type.
@@ -168,6 +158,16 @@ impl ComponentDefinedTypeEncoder<'_> {
         /// Values that come one by one, or that something was done so many times.
         fn stream | try_stream(self, payload: Option<ComponentValType>) -> () {
             Ok(on!(self.by, DefinedBy, encoder => encoder.stream(payload))?)
+        }
+    }
+}
+
+#[cfg(feature = "reader")]
+impl ComponentDefinedTypeEncoder<'_> {
+    twins! {
+        /// The type of this tree.
+        fn tree | try_tree(self, ty: &DefinedTree) -> () {
+            Ok(on!(self.by, DefinedBy, encoder => encoder.tree(ty))?)
         }
     }
 }

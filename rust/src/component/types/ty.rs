@@ -17,26 +17,6 @@ encoders! {
     ComponentTypeEncoder by TypeBy over ComponentTypeSection;
 }
 
-#[cfg(feature = "reader")]
-impl ComponentTypeEncoder<'_> {
-    twins! {
-        /// The type of this tree, which ends the type.
-        ///
-        /// ```
-        /// use wenc::tree::{DefinedTree, TypeTree};
-        /// use wenc::{ComponentBuilder, PrimitiveValType};
-        ///
-        /// let mut builder = ComponentBuilder::default();
-        /// let bytes = DefinedTree::List(PrimitiveValType::U8.into());
-        /// builder.ty(Some("bytes")).1.tree(&TypeTree::Defined(bytes));
-        /// assert_eq!(builder.finish()[8..], [0x07, 0x03, 0x01, 0x70, 0x7d]);
-        /// ```
-        fn tree | try_tree(self, ty: &TypeTree) -> () {
-            Ok(on!(self.by, TypeBy, encoder => encoder.tree(ty))?)
-        }
-    }
-}
-
 impl<'a> ComponentTypeEncoder<'a> {
     twins! {
         /// This type of components, which ends the type.
@@ -69,6 +49,26 @@ impl<'a> ComponentTypeEncoder<'a> {
         fn resource | try_resource(self, rep: ValType, dtor: Option<u32>) -> () {
             let rep = rep.to_proved()?;
             Ok(on!(self.by, TypeBy, encoder => encoder.resource(rep, dtor))?)
+        }
+    }
+}
+
+#[cfg(feature = "reader")]
+impl ComponentTypeEncoder<'_> {
+    twins! {
+        /// The type of this tree, which ends the type.
+        ///
+        /// ```
+        /// use wenc::tree::{DefinedTree, TypeTree};
+        /// use wenc::{ComponentBuilder, PrimitiveValType};
+        ///
+        /// let mut builder = ComponentBuilder::default();
+        /// let bytes = DefinedTree::List(PrimitiveValType::U8.into());
+        /// builder.ty(Some("bytes")).1.tree(&TypeTree::Defined(bytes));
+        /// assert_eq!(builder.finish()[8..], [0x07, 0x03, 0x01, 0x70, 0x7d]);
+        /// ```
+        fn tree | try_tree(self, ty: &TypeTree) -> () {
+            Ok(on!(self.by, TypeBy, encoder => encoder.tree(ty))?)
         }
     }
 }
