@@ -1,6 +1,7 @@
 //! The builder: its life, and how many items it has.
 
 mod builtins;
+#[cfg(feature = "reader")]
 mod commands;
 mod definitions;
 mod functions;

@@ -2,6 +2,7 @@
 
 use super::{ComponentValType, PrimitiveValType};
 use crate::shared::{encoders, on};
+#[cfg(feature = "reader")]
 use crate::tree::DefinedTree;
 use crate::twins::twins;
 
@@ -36,11 +37,6 @@ encoders! {
 
 impl ComponentDefinedTypeEncoder<'_> {
     twins! {
-        /// The type of this tree.
-        fn tree | try_tree(self, ty: &DefinedTree) -> () {
-            Ok(on!(self.by, DefinedBy, encoder => encoder.tree(ty))?)
-        }
-
         /// A primitive type.
         fn primitive | try_primitive(self, ty: PrimitiveValType) -> () {
             Ok(on!(self.by, DefinedBy, encoder => encoder.primitive(ty))?)
@@ -162,6 +158,16 @@ impl ComponentDefinedTypeEncoder<'_> {
         /// Values that come one by one, or that something was done so many times.
         fn stream | try_stream(self, payload: Option<ComponentValType>) -> () {
             Ok(on!(self.by, DefinedBy, encoder => encoder.stream(payload))?)
+        }
+    }
+}
+
+#[cfg(feature = "reader")]
+impl ComponentDefinedTypeEncoder<'_> {
+    twins! {
+        /// The type of this tree.
+        fn tree | try_tree(self, ty: &DefinedTree) -> () {
+            Ok(on!(self.by, DefinedBy, encoder => encoder.tree(ty))?)
         }
     }
 }

@@ -1,0 +1,49 @@
+//! The nodes of core types.
+
+use super::node::{Indices, Node, Scope, Tree};
+use super::shapes::{part, record, records, variant, variants, words};
+use wenc::tree::{AbstractHeapType, Space};
+use wenc::tree::{
+    ArrayType, CompositeType, EntityType, FieldType, FuncType, GlobalType, GroupTree, HeapType,
+    MemoryType, RefType, StorageType, StructType, SubType, TableType, TagType, ValType,
+};
+
+words! {
+    AbstractHeapType {
+        Func, Extern, Any, None, NoExtern, NoFunc, Eq, Struct, Array, I31, Exn, NoExn
+    }
+}
+
+records! {
+    FieldType { element_type, mutable }
+    GlobalType { val_type, mutable }
+    MemoryType { minimum, maximum, memory64, shared }
+    RefType { nullable, heap_type }
+    StructType { fields }
+    SubType { is_final, supertype_idx: CoreTypes, composite_type }
+    TableType { element_type, table64, minimum, maximum }
+    TagType { func_type_idx: CoreTypes }
+}
+
+variants! {
+    CompositeType { Func(ty), Array(ty), Struct(ty) }
+    EntityType { Function(index: CoreTypes), Table(ty), Memory(ty), Global(ty), Tag(ty) }
+    GroupTree { Sub(ty), Rec(types) }
+    HeapType { Abstract(ty), Concrete(index: CoreTypes) }
+    StorageType { I8, I16, Val(ty) }
+    ValType { I32, I64, F32, F64, V128, Ref(ty) }
+}
+
+impl Tree for ArrayType {
+    fn node<'a>(&'a self, scope: Scope<'a>) -> Node<'a> {
+        self.0.node(scope)
+    }
+}
+
+impl Tree for FuncType {
+    fn node<'a>(&'a self, scope: Scope<'a>) -> Node<'a> {
+        let list =
+            |types: &'a [ValType]| Node::List(types.iter().map(|ty| ty.node(scope)).collect());
+        record! { params: list(self.params()), results: list(self.results()) }
+    }
+}
