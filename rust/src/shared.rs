@@ -1,5 +1,6 @@
 //! What sections and types by hand have in common.
 
+use crate::ComponentValType;
 use crate::proved::rt_std::alloc::Allocator;
 use crate::proved::rt_std::vec::Vec as ProvedVec;
 use crate::proved::wenc_base::{self as proved, Fault};
@@ -163,6 +164,24 @@ impl<S: AsRef<str>> proved::Encode for Name<S> {
 }
 
 impl<S: AsRef<str>> proved::Named for Name<S> {}
+
+/// Names and types of a user's, as the proved code takes them. By this the compiler unrolls a list
+/// that it knows; by `map` it doesn't.
+pub(crate) struct Labelled<I>(pub I);
+
+impl<'a, T, I> Iterator for Labelled<I>
+where
+    T: Into<ComponentValType>,
+    I: Iterator<Item = (&'a str, T)>,
+{
+    type Item = (&'a str, ComponentValType);
+
+    #[inline]
+    fn next(&mut self) -> Option<Self::Item> {
+        let (name, ty) = self.0.next()?;
+        Some((name, ty.into()))
+    }
+}
 
 /// Pairs of a user's name and something else, as the proved code takes them.
 #[inline]

@@ -1,7 +1,7 @@
 //! The encoder of types of values.
 
 use super::{ComponentValType, PrimitiveValType};
-use crate::shared::{encoders, on};
+use crate::shared::{Labelled, encoders, on};
 use crate::tree::DefinedTree;
 use crate::twins::twins;
 
@@ -54,7 +54,7 @@ impl ComponentDefinedTypeEncoder<'_> {
             T: Into<ComponentValType>,
         }
         {
-            let fields = fields.into_iter().map(|(name, ty)| (name, ty.into()));
+            let fields = Labelled(fields.into_iter());
             Ok(on!(self.by, DefinedBy, encoder => encoder.record(fields))?)
         }
 

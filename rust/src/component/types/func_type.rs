@@ -2,7 +2,7 @@
 
 use crate::ComponentValType;
 use crate::proved::wasm_encoder::FuncStage;
-use crate::shared::{encoders, on};
+use crate::shared::{Labelled, encoders, on};
 use crate::twins::twins;
 
 encoders! {
@@ -71,7 +71,7 @@ impl ComponentFuncTypeEncoder<'_> {
                 matches!(stage, FuncStage::Start | FuncStage::Tagged),
                 "params comes once, before the result"
             );
-            let params = params.into_iter().map(|(name, ty)| (name, ty.into()));
+            let params = Labelled(params.into_iter());
             self.is_amid = true;
             let answer = on!(&mut self.by, FuncBy, encoder => encoder.params(params));
             self.is_amid = false;
