@@ -125,8 +125,24 @@ macro_rules! encoders {
 
 pub(crate) use encoders;
 
-/// One call of an encoder, the same whoever lent itself.
+/// One call of an encoder, the same whoever lent itself. A list goes as it is to what the builder
+/// lent itself to, and by a pointer to the others, so that it is compiled once for them all.
 macro_rules! on {
+    ($encoder:expr, $by:ident, $name:ident, $list:ident => $call:expr) => {{
+        let mut $list = $list;
+        match $encoder {
+            $by::Builder($name) => $call,
+            other => {
+                let $list: &mut dyn Iterator<Item = _> = &mut $list;
+                match other {
+                    $by::Builder($name) => $call,
+                    $by::Section($name) => $call,
+                    $by::Component($name) => $call,
+                    $by::Instance($name) => $call,
+                }
+            }
+        }
+    }};
     ($encoder:expr, $by:ident $(+ $case:ident)*, $name:ident => $call:expr) => {
         match $encoder {
             $by::Builder($name) => $call,

@@ -55,7 +55,7 @@ impl ComponentDefinedTypeEncoder<'_> {
         }
         {
             let fields = Labelled(fields.into_iter());
-            Ok(on!(self.by, DefinedBy, encoder => encoder.record(fields))?)
+            Ok(on!(self.by, DefinedBy, encoder, fields => encoder.record(fields))?)
         }
 
         /// A variant: the names of its cases, each with the type of its value, where it has one.
@@ -66,7 +66,7 @@ impl ComponentDefinedTypeEncoder<'_> {
         }
         {
             let cases = cases.into_iter();
-            Ok(on!(self.by, DefinedBy, encoder => encoder.variant(cases))?)
+            Ok(on!(self.by, DefinedBy, encoder, cases => encoder.variant(cases))?)
         }
 
         /// A list of any length.
@@ -104,7 +104,7 @@ impl ComponentDefinedTypeEncoder<'_> {
         }
         {
             let types = types.into_iter().map(T::into);
-            Ok(on!(self.by, DefinedBy, encoder => encoder.tuple(types))?)
+            Ok(on!(self.by, DefinedBy, encoder, types => encoder.tuple(types))?)
         }
 
         /// A set of flags, by their names.
@@ -115,7 +115,7 @@ impl ComponentDefinedTypeEncoder<'_> {
         }
         {
             let names = names.into_iter();
-            Ok(on!(self.by, DefinedBy, encoder => encoder.flags(names))?)
+            Ok(on!(self.by, DefinedBy, encoder, names => encoder.flags(names))?)
         }
 
         /// One of several names.
@@ -126,7 +126,7 @@ impl ComponentDefinedTypeEncoder<'_> {
         }
         {
             let tags = tags.into_iter();
-            Ok(on!(self.by, DefinedBy, encoder => encoder.enum_type(tags))?)
+            Ok(on!(self.by, DefinedBy, encoder, tags => encoder.enum_type(tags))?)
         }
 
         /// A value or none.

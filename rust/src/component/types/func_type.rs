@@ -73,7 +73,7 @@ impl ComponentFuncTypeEncoder<'_> {
             );
             let params = Labelled(params.into_iter());
             self.is_amid = true;
-            let answer = on!(&mut self.by, FuncBy, encoder => encoder.params(params));
+            let answer = on!(&mut self.by, FuncBy, encoder, params => encoder.params(params));
             self.is_amid = false;
             answer?;
             Ok(self)
