@@ -20,13 +20,13 @@ use core::mem::take;
 /// assert_eq!(sink, [0xc0, 0x00, 0x01, b'f']);
 /// ```
 pub trait Encode {
-    /// Appends the value's text.
+    /// Appends the bytes of the value to the sink. An implementation removes none.
     ///
     /// # Panics
     ///
-    /// Where the value is refused, and then the sink is as it was: a length is past 4294967295, a
-    /// type or a section isn't whole, a core type isn't of WebAssembly 3.0, or an allocation is
-    /// refused.
+    /// Panics, with the sink unchanged, if a length exceeds 4294967295, a type or a section is
+    /// unfinished, a core type isn't in WebAssembly 3.0, or an allocation fails. What encodes other
+    /// values, as a slice, panics too if one of these removes bytes from the sink.
     fn encode(&self, sink: &mut Vec<u8>);
 }
 
@@ -81,7 +81,9 @@ pub(crate) struct Foreign<'a, T: ?Sized>(pub &'a T);
 impl<T: Encode + ?Sized> proved::Encode for Foreign<'_, T> {
     #[inline]
     fn encode<A: Allocator>(&self, sink: &mut ProvedVec<u8, A>) -> Result<(), Fault> {
+        let start = sink.inner.len();
         self.0.encode(&mut sink.inner);
+        assert!(sink.inner.len() >= start, "`Encode::encode` removed bytes from its sink");
         Ok(())
     }
 }

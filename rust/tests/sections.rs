@@ -327,6 +327,27 @@ fn a_section_that_panics_leaves_what_it_was_appended_to() {
     assert_eq!(sink, [4]);
 }
 
+/// A value whose `encode` removes what the sink had before it.
+struct Cutting;
+
+impl Encode for Cutting {
+    fn encode(&self, sink: &mut Vec<u8>) {
+        sink.clear();
+    }
+}
+
+#[test]
+#[should_panic = "`Encode::encode` removed bytes from its sink"]
+fn a_list_whose_values_cut_the_sink() {
+    [Cutting].as_slice().encode(&mut vec![4]);
+}
+
+#[test]
+#[should_panic = "`Encode::encode` removed bytes from its sink"]
+fn an_option_whose_value_cuts_the_sink() {
+    Some(Cutting).encode(&mut vec![4]);
+}
+
 /// An iterator over two, which panics in place of the second.
 fn broken<T>(value: impl Fn() -> T) -> impl ExactSizeIterator<Item = T> {
     [false, true].into_iter().map(move |is_second| {

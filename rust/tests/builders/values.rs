@@ -172,13 +172,22 @@ mod threads {
 
 #[test]
 fn errors_tell_what_they_are() {
-    let errors: [(Error, &str); 6] = [
+    let errors: [(Error, &str); 7] = [
         (Error::NoMemory, "no memory"),
         (Error::TooMany, "too many"),
         (Error::TooLarge, "too large"),
-        (Error::Unfinished, "unfinished"),
+        (
+            Error::Unfinished,
+            "unfinished: a type or an item was begun and never ended; call the last method of its \
+             encoder (of a function's type `result`), or `discard_unfinished`",
+        ),
         (Error::Unsupported, "not supported"),
         (Error::WrongSection, "item of another section"),
+        (
+            Error::OutOfTurn,
+            "out of turn: a function's type is encoded by `async_` or not, `params` once, then \
+             `result` once",
+        ),
     ];
     for (error, text) in errors {
         let error: Box<dyn std::error::Error + Send + Sync> = error.into();

@@ -19,7 +19,9 @@ fn is_refused(value: &impl Encode) {
     let mut sink = vec![1, 2, 3];
     let answer = catch_unwind(AssertUnwindSafe(|| value.encode(&mut sink)));
     let message = answer.unwrap_err();
-    assert_eq!(message.downcast_ref::<String>().map(String::as_str), Some("unfinished"));
+    let message = message.downcast_ref::<String>().unwrap();
+    assert!(message.starts_with("unfinished: a type or an item was begun and never ended;"));
+    assert!(message.ends_with("(of a function's type `result`), or `discard_unfinished`"));
     assert_eq!(sink, [1, 2, 3]);
 }
 

@@ -58,6 +58,7 @@ impl ComponentTypeSection {
         }
 
         /// Adds a type of functions, which the encoder writes; as [`ty`](Self::ty).
+        #[must_use = "the encoder is to write the type"]
         fn function | try_function(&mut self) -> ComponentFuncTypeEncoder<'_> {
             Ok(self.0.function()?.into())
         }

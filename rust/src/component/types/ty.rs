@@ -46,6 +46,7 @@ impl<'a> ComponentTypeEncoder<'a> {
 
     /// A type of functions, which the encoder writes.
     #[inline]
+    #[must_use = "the encoder is to write the type"]
     pub fn function(self) -> ComponentFuncTypeEncoder<'a> {
         on!(self.by, TypeBy, encoder => encoder.function().into())
     }
