@@ -13,7 +13,7 @@
 //!   names; `derive_where` to `derive`; `pub` of the methods that are not for a user ([`NARROWED`])
 //!   to `pub(crate)`;
 //! - *adds*: the names that stand in scope without being named, in front of a file's first item;
-//!   what a user of Rust expects of a tree ([`known::TREES`], [`known::PRINTED`]); `Display` and
+//!   what a user of Rust expects of a type ([`known::TREES`], [`known::DERIVED_TOO`]); `Display` and
 //!   `Error` after an enum that derives `Error`; `pub` to `main`; `#[inline]` to the methods `encode` of types, which are short and call each other;
 //! - *refuses*: everything else that it doesn't know. Better no crate than one that does something
 //!   else than was proved.

@@ -28,6 +28,7 @@ use crate::encode::{Encode, Foreign, append};
 use crate::error::granted;
 use crate::proved::wasm_encoder as proved;
 use alloc::vec::Vec;
+use core::fmt;
 
 pub use proved::ComponentSectionId;
 
@@ -105,7 +106,7 @@ impl<S: ComponentSection + ?Sized> proved::ComponentSection for Foreign<'_, S> {
 ///     b"\0asm\x0d\0\x01\0\x07\x05\x01\x40\0\x01\0\x0a\x06\x01\0\x01f\x01\0",
 /// );
 /// ```
-#[derive(Clone, Debug)]
+#[derive(Clone, Debug, PartialEq, Eq, Hash)]
 pub struct Component {
     bytes: Vec<u8>,
 }
@@ -146,8 +147,8 @@ impl Default for Component {
     }
 }
 
-/// The sections that have a number of items: a section's id, how many items it has, and how it
-/// prints itself.
+/// The sections that have a number of items: a section's id, how many items it has, and what it
+/// contains.
 macro_rules! sections {
     ($($name:ident)*) => {
         $(impl $name {
@@ -168,11 +169,7 @@ macro_rules! sections {
             }
         }
 
-        impl core::fmt::Debug for $name {
-            fn fmt(&self, f: &mut core::fmt::Formatter<'_>) -> core::fmt::Result {
-                f.debug_struct(stringify!($name)).field("len", &self.len()).finish_non_exhaustive()
-            }
-        })*
+        $crate::content::content! { $name })*
     };
 }
 
@@ -181,3 +178,52 @@ pub(crate) use sections;
 crate::encode::encode! {
     ComponentSectionId, value => *value;
 }
+
+impl ComponentSectionId {
+    /// All ids, in their order.
+    pub const ALL: [Self; 12] = [
+        Self::CoreCustom,
+        Self::CoreModule,
+        Self::CoreInstance,
+        Self::CoreType,
+        Self::Component,
+        Self::Instance,
+        Self::Alias,
+        Self::Type,
+        Self::CanonicalFunction,
+        Self::Start,
+        Self::Import,
+        Self::Export,
+    ];
+}
+
+impl TryFrom<u8> for ComponentSectionId {
+    type Error = UnknownSectionId;
+
+    fn try_from(id: u8) -> Result<Self, UnknownSectionId> {
+        Self::ALL.into_iter().find(|known| u8::from(*known) == id).ok_or(UnknownSectionId(id))
+    }
+}
+
+/// No section has this id. The conversions from `u8` to [`ComponentSectionId`] and
+/// [`SectionId`](crate::SectionId) return it.
+///
+/// ```
+/// use wenc::{ComponentSectionId, UnknownSectionId};
+///
+/// assert_eq!(ComponentSectionId::try_from(11), Ok(ComponentSectionId::Export));
+/// assert_eq!(ComponentSectionId::try_from(12), Err(UnknownSectionId(12)));
+/// ```
+#[derive(Clone, Copy, Debug, PartialEq, Eq, Hash)]
+pub struct UnknownSectionId(
+    /// The id, from 0 to 255.
+    pub u8,
+);
+
+impl fmt::Display for UnknownSectionId {
+    fn fmt(&self, f: &mut fmt::Formatter<'_>) -> fmt::Result {
+        write!(f, "no section has the id {}", self.0)
+    }
+}
+
+impl core::error::Error for UnknownSectionId {}

@@ -87,7 +87,7 @@ impl<S: Section + ?Sized> proved::Section for Foreign<'_, S> {
 /// "Sections"): as a number of 8 bits, each is one more than that before it. Only custom sections
 /// are written here, the others are those of a [`RawSection`](crate::RawSection) or of a
 /// [`Section`] of your own.
-#[derive(Clone, Copy, Debug, PartialEq, Eq, PartialOrd, Ord)]
+#[derive(Clone, Copy, Debug, PartialEq, Eq, PartialOrd, Ord, Hash)]
 #[repr(u8)]
 pub enum SectionId {
     /// A custom section.
@@ -145,7 +145,7 @@ impl From<SectionId> for u8 {
 ///     b"\0asm\x0d\0\x01\0\x01\x0e\0asm\x01\0\0\0\x01\x04\x01\x60\0\0",
 /// );
 /// ```
-#[derive(Clone, Debug)]
+#[derive(Clone, Debug, PartialEq, Eq, Hash)]
 pub struct Module {
     bytes: Vec<u8>,
 }

@@ -1,9 +1,9 @@
 //! A core module section by section.
 
-use crate::SectionId;
 use crate::proved::rt_std::alloc::Global;
 use crate::proved::wenc_list::{behind_module_header, part_of};
 use crate::proved::wenc_read::{Refusal, name_of};
+use crate::{SectionId, UnknownSectionId};
 use alloc::string::String;
 use core::fmt;
 use core::ops::Range;
@@ -24,7 +24,7 @@ pub struct CoreSection<'a> {
 impl CoreSection<'_> {
     /// Returns what the section's id stands for; `None` for an id above 13.
     pub fn kind(&self) -> Option<SectionId> {
-        SectionId::ALL.into_iter().find(|kind| u8::from(*kind) == self.id)
+        self.id.try_into().ok()
     }
 }
 
@@ -46,6 +46,14 @@ impl SectionId {
         Self::DataCount,
         Self::Tag,
     ];
+}
+
+impl TryFrom<u8> for SectionId {
+    type Error = UnknownSectionId;
+
+    fn try_from(id: u8) -> Result<Self, UnknownSectionId> {
+        Self::ALL.into_iter().find(|known| u8::from(*known) == id).ok_or(UnknownSectionId(id))
+    }
 }
 
 /// The sections of a core module, in their order (WebAssembly 3.0, binary format, "Modules").
@@ -112,17 +120,18 @@ impl<'a> Iterator for CoreSections<'a> {
         let first = self.first();
         self.rest = first.as_ref().map_or(&[], |(_, rest)| rest);
         Some(first.map(|(section, _)| section).map_err(|refusal| match refusal {
-            Refusal::Memory => ModuleFault::Memory,
+            Refusal::Memory => ModuleFault::NoMemory,
             Refusal::Malformed => ModuleFault::BadSection { place },
         }))
     }
 }
 
 /// Why a core module isn't read.
-#[derive(Clone, Copy, Debug, PartialEq, Eq)]
+#[derive(Clone, Copy, Debug, PartialEq, Eq, Hash)]
+#[non_exhaustive]
 pub enum ModuleFault {
-    /// An allocation was refused.
-    Memory,
+    /// An allocation failed.
+    NoMemory,
     /// The bytes don't begin with the header of a core module.
     NotAModule,
     /// A section without a size, or with one that is past the end of the module, or a custom
@@ -136,7 +145,7 @@ pub enum ModuleFault {
 impl fmt::Display for ModuleFault {
     fn fmt(&self, f: &mut fmt::Formatter<'_>) -> fmt::Result {
         match self {
-            Self::Memory => f.write_str("no memory"),
+            Self::NoMemory => f.write_str("no memory"),
             Self::NotAModule => f.write_str("no core module's header"),
             Self::BadSection { place } => write!(f, "bad core section at {place:#x}"),
         }

@@ -302,7 +302,7 @@ impl<'a> NestedSections<'a> {
         if self.open.len() > self.limit {
             return Err(ListFault::TooDeep { place: section.range().start, unread: None });
         }
-        self.open.try_reserve(1).map_err(|_| ListFault::Memory)?;
+        self.open.try_reserve(1).map_err(|_| ListFault::NoMemory)?;
         self.open.push(component);
         Ok(())
     }
@@ -348,7 +348,7 @@ pub struct Items<'a> {
 ///
 /// [`ListFault::BadItem`] where no item begins or bytes follow the last one, and
 /// [`ListFault::TooDeep`], both at the section's byte offset and with that of the item;
-/// [`ListFault::BadSection`] in a custom section without a name; or [`ListFault::Memory`].
+/// [`ListFault::BadSection`] in a custom section without a name; or [`ListFault::NoMemory`].
 impl Iterator for Items<'_> {
     type Item = Result<(Range<usize>, ItemTree), ListFault>;
 

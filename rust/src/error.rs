@@ -2,12 +2,13 @@
 
 use crate::proved::wenc_base::Fault;
 use core::fmt;
+use core::hash::{Hash, Hasher};
 
 /// Why a call failed. The receiver is unchanged, except that an encoder leaves its type unfinished.
 #[derive(Clone, Copy, Debug, PartialEq, Eq, Hash)]
 #[non_exhaustive]
 pub enum Error {
-    /// An allocation was refused.
+    /// An allocation failed.
     NoMemory,
     /// A count, a list or an index space would exceed 4294967295.
     TooMany,
@@ -51,6 +52,13 @@ impl fmt::Display for Error {
 }
 
 impl core::error::Error for Error {}
+
+/// The trees that contain a fault have a hash.
+impl Hash for Fault {
+    fn hash<H: Hasher>(&self, state: &mut H) {
+        Error::from(*self).hash(state);
+    }
+}
 
 impl From<Fault> for Error {
     #[inline]

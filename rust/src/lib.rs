@@ -83,6 +83,7 @@ extern crate std;
 #[cfg(feature = "capi")]
 mod capi;
 mod component;
+mod content;
 mod core;
 mod core_sections;
 mod cursor;

@@ -22,10 +22,11 @@ mod queries;
 /// assert_eq!(fault, ListFault::BadItem { place: 15, unread });
 /// assert_eq!(fault.to_string(), "bad item 1 at 0x17 in the section at 0xf");
 /// ```
-#[derive(Clone, Copy, Debug, PartialEq, Eq)]
+#[derive(Clone, Copy, Debug, PartialEq, Eq, Hash)]
+#[non_exhaustive]
 pub enum ListFault {
-    /// An allocation was refused.
-    Memory,
+    /// An allocation failed.
+    NoMemory,
     /// The bytes don't begin with the header of a component.
     NotAComponent {
         /// It is 0, or that of a nested component.
@@ -61,7 +62,7 @@ impl ListFault {
     pub(crate) fn told(bytes: &[u8], fault: proved::ListFault) -> Self {
         let unread = |place| proved::first_unread(Global, bytes, place).unwrap_or(None);
         match fault {
-            proved::ListFault::Memory => Self::Memory,
+            proved::ListFault::Memory => Self::NoMemory,
             proved::ListFault::NotAComponent { place } => Self::NotAComponent { place },
             proved::ListFault::BadSection { place } => Self::BadSection { place },
             proved::ListFault::BadItem { place } => Self::BadItem { place, unread: unread(place) },
@@ -89,7 +90,7 @@ fn write_unread(
 impl fmt::Display for ListFault {
     fn fmt(&self, f: &mut fmt::Formatter<'_>) -> fmt::Result {
         match *self {
-            Self::Memory => f.write_str("no memory"),
+            Self::NoMemory => f.write_str("no memory"),
             Self::NotAComponent { place } => write!(f, "no component's header at {place:#x}"),
             Self::BadSection { place } => write!(f, "bad section at {place:#x}"),
             Self::BadItem { place, unread } => write_unread(f, "bad item", unread, place),

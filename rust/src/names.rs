@@ -70,7 +70,7 @@ impl DebugNames {
     ///
     /// # Errors
     ///
-    /// The first subsection that isn't read, or [`NamesFault::Memory`]. The names of the
+    /// The first subsection that isn't read, or [`NamesFault::NoMemory`]. The names of the
     /// subsections before it are added.
     pub fn read(&mut self, item: &ItemTree) -> Result<(), NamesFault> {
         match item {
@@ -84,7 +84,7 @@ impl DebugNames {
         let mut rest = data;
         while !rest.is_empty() {
             let (names, behind) = names_of(Global, rest).map_err(|refusal| match refusal {
-                Refusal::Memory => NamesFault::Memory,
+                Refusal::Memory => NamesFault::NoMemory,
                 Refusal::Malformed => NamesFault::BadSubsection { place: data.len() - rest.len() },
             })?;
             self.add(names);
@@ -200,10 +200,11 @@ fn space_of(sort: Sort) -> Space {
 }
 
 /// Why debug names aren't read.
-#[derive(Clone, Copy, Debug, PartialEq, Eq)]
+#[derive(Clone, Copy, Debug, PartialEq, Eq, Hash)]
+#[non_exhaustive]
 pub enum NamesFault {
-    /// An allocation was refused.
-    Memory,
+    /// An allocation failed.
+    NoMemory,
     /// A subsection isn't framed, or its content isn't names.
     BadSubsection {
         /// The byte offset of the first such subsection, from the end of the section's name on.
@@ -214,7 +215,7 @@ pub enum NamesFault {
 impl fmt::Display for NamesFault {
     fn fmt(&self, f: &mut fmt::Formatter<'_>) -> fmt::Result {
         match self {
-            Self::Memory => f.write_str("no memory"),
+            Self::NoMemory => f.write_str("no memory"),
             Self::BadSubsection { place } => write!(f, "bad subsection of names at {place:#x}"),
         }
     }

@@ -21,7 +21,7 @@ use crate::proved::wasm_encoder as proved;
 /// });
 /// assert_eq!(component.as_slice()[8..], [7, 3, 1, 0x70, 0x7d]);
 /// ```
-#[derive(Clone, Copy, Debug)]
+#[derive(Clone, Copy, Debug, PartialEq, Eq, Hash)]
 pub struct RawSection<'a> {
     /// The id.
     pub id: u8,

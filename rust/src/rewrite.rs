@@ -200,10 +200,20 @@ impl Clone for ItemSection {
     }
 }
 
+impl PartialEq for ItemSection {
+    fn eq(&self, other: &Self) -> bool {
+        let [one, two] = [self, other].map(|of| (of.id, of.len(), of.items.as_slice()));
+        one == two
+    }
+}
+
+impl Eq for ItemSection {}
+
 impl fmt::Debug for ItemSection {
     fn fmt(&self, f: &mut fmt::Formatter<'_>) -> fmt::Result {
-        let mut shown = f.debug_struct("ItemSection");
-        shown.field("id", &self.id).field("len", &self.len()).finish_non_exhaustive()
+        let mut printed = f.debug_struct("ItemSection");
+        printed.field("id", &self.id).field("len", &self.len());
+        printed.field("items", &self.items.as_slice()).finish()
     }
 }
 

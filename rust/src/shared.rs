@@ -139,19 +139,6 @@ macro_rules! on {
 
 pub(crate) use on;
 
-/// Prints the name of a type whose bytes say nothing to who reads them.
-macro_rules! opaque {
-    ($($name:ident)*) => {
-        $(impl core::fmt::Debug for $name {
-            fn fmt(&self, f: &mut core::fmt::Formatter<'_>) -> core::fmt::Result {
-                f.debug_struct(stringify!($name)).finish_non_exhaustive()
-            }
-        })*
-    };
-}
-
-pub(crate) use opaque;
-
 /// A user's name, as the proved code takes it.
 pub(crate) struct Name<S>(S);
 

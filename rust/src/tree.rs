@@ -38,6 +38,7 @@
 //! # Ok::<(), wenc::Error>(())
 //! ```
 
+mod collections;
 mod conversions;
 mod core_types;
 mod encode;
@@ -61,7 +62,7 @@ pub use proved::{
 };
 
 /// What the commands of a run answered, and the bytes.
-#[derive(Clone, Debug, PartialEq, Eq)]
+#[derive(Clone, Debug, PartialEq, Eq, Hash)]
 pub struct Built {
     /// One answer for each command: the index of its item, if that has one, or why it was refused.
     /// Custom sections and names have none.

@@ -110,11 +110,11 @@ fn derives() {
     becomes("#[derive(Drop)]\npub struct Holder;\n", "\npub struct Holder;\n");
     becomes(
         "#[derive(Drop)]\n#[cycle(types)]\npub enum TypeTree {}\n",
-        "#[derive(Clone, Debug, PartialEq, Eq)]\n\npub enum TypeTree {}\n",
+        "#[derive(Clone, Debug, PartialEq, Eq, Hash)]\n\npub enum TypeTree {}\n",
     );
     becomes(
         "#[derive(Drop)]\n#[derive_where(PartialEq, Eq, Debug)]\npub struct FuncType<A> {}\n",
-        "#[derive(Clone)]\n#[derive(PartialEq, Eq, Debug)]\npub struct FuncType<A> {}\n",
+        "#[derive(Clone, Hash)]\n#[derive(PartialEq, Eq, Debug)]\npub struct FuncType<A> {}\n",
     );
 }
 
@@ -122,7 +122,7 @@ fn derives() {
 fn what_a_user_prints_or_does_not_call() {
     becomes(
         "#[derive(Clone, Copy)]\npub enum Alias {}\n",
-        "#[derive(Clone, Copy, Debug)]\npub enum Alias {}\n",
+        "#[derive(Clone, Copy, Debug, Hash, PartialEq, Eq)]\npub enum Alias {}\n",
     );
     becomes(
         "impl<A: Copy> FuncType<A> {\n    pub fn new() {}\n    pub fn other() {}\n}\n",

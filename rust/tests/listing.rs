@@ -369,7 +369,7 @@ fn faults_say_what_they_are() {
     let count = Some(Unread::Count { place: 10 });
     let behind = Some(Unread::Behind { place: 31 });
     let faults = [
-        (ListFault::Memory, "no memory"),
+        (ListFault::NoMemory, "no memory"),
         (ListFault::NotAComponent { place: 0 }, "no component's header at 0x0"),
         (ListFault::BadSection { place }, "bad section at 0x8"),
         (ListFault::BadItem { place, unread }, "bad item 3 at 0x1f in the section at 0x8"),
@@ -588,7 +588,7 @@ fn lists_and_texts_are_those_of_rust() {
     let list: tree::Vec<u8> = vec![1, 2].into();
     assert_eq!(Vec::from(list.clone()), [1, 2]);
     assert_eq!(list, tree::Vec::from([1, 2]));
-    assert_eq!(list, [1, 2].into_iter().collect());
+    assert_eq!(list, [1, 2].into_iter().collect::<wenc::tree::Vec<_>>());
     let given: String = text("x").into();
     assert_eq!(given, "x");
     assert_eq!(tree::Box::from(3).into_inner(), 3);

@@ -131,7 +131,9 @@ fn a_changed_item_has_neighbours_as_they_stand() {
     let wanted = component("061b030100000772656e616d6564030281800087808080000302018000");
     assert_eq!(Component::new().section(&changed).as_slice(), wanted);
     assert_eq!(Component::new().section(&changed.clone()).as_slice(), wanted);
-    assert_eq!(format!("{changed:?}"), "ItemSection { id: 6, len: 3, .. }");
+    let items = &wanted[Component::HEADER.len() + 3..];
+    let printed = format!("ItemSection {{ id: 6, len: 3, items: {items:?} }}");
+    assert_eq!(format!("{changed:?}"), printed);
 }
 
 /// The value has these bytes.

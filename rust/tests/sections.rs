@@ -233,7 +233,7 @@ fn copies_stand_by_themselves() {
     section.export("b", ComponentExportKind::Func, 1, None);
     assert_eq!((section.len(), copy.len()), (2, 1));
     assert_eq!(text(&copy), b"\x0b\x07\x01\x00\x01a\x01\x00\x00");
-    assert_eq!(format!("{copy:?}"), "ComponentExportSection { len: 1, .. }");
+    assert_eq!(format!("{copy:?}"), "ComponentExportSection { bytes: [7, 1, 0, 1, 97, 1, 0, 0] }");
 }
 
 /// A section whose text is one byte after its size.

@@ -16,7 +16,7 @@ use crate::{Component, ComponentSection, ComponentSectionId};
 /// outer.section(&NestedComponentSection(&inner));
 /// assert_eq!(outer.finish(), b"\0asm\x0d\0\x01\0\x04\x08\0asm\x0d\0\x01\0");
 /// ```
-#[derive(Clone, Debug)]
+#[derive(Clone, Debug, PartialEq, Eq, Hash)]
 pub struct NestedComponentSection<'a>(
     /// The component.
     pub &'a Component,

@@ -20,7 +20,7 @@ pub use proved::{ComponentTypeRef, TypeBounds};
 /// let mut name = ComponentExternName::from("wall:clock/now@1");
 /// name.version_suffix = Some(".2.3".into());
 /// ```
-#[derive(Clone, Debug)]
+#[derive(Clone, Debug, PartialEq, Eq, Hash)]
 pub struct ComponentExternName<'a> {
     /// The name.
     pub name: Cow<'a, str>,
@@ -75,6 +75,13 @@ impl<'a> From<&'a String> for ComponentExternName<'a> {
     #[inline]
     fn from(name: &'a String) -> Self {
         Self::plain(Cow::Borrowed(name))
+    }
+}
+
+impl<'a> From<Cow<'a, str>> for ComponentExternName<'a> {
+    #[inline]
+    fn from(name: Cow<'a, str>) -> Self {
+        Self::plain(name)
     }
 }
 

@@ -15,7 +15,7 @@ use crate::{ComponentSection, ComponentSectionId, Module};
 /// component.section(&ModuleSection(&module));
 /// assert_eq!(component.finish(), b"\0asm\x0d\0\x01\0\x01\x08\0asm\x01\0\0\0");
 /// ```
-#[derive(Clone, Debug)]
+#[derive(Clone, Debug, PartialEq, Eq, Hash)]
 pub struct ModuleSection<'a>(
     /// The module.
     pub &'a Module,

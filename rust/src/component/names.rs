@@ -1,7 +1,8 @@
 //! The section of names.
 
+use crate::content::content;
 use crate::proved::wasm_encoder as proved;
-use crate::shared::{collections, opaque};
+use crate::shared::collections;
 use crate::twins::twins;
 use crate::{ComponentSection, CustomSection, NameMap};
 
@@ -29,7 +30,7 @@ collections! {
     ComponentNameSection;
 }
 
-opaque! { ComponentNameSection }
+content! { ComponentNameSection }
 
 /// The calls that name items of one sort.
 macro_rules! naming {

@@ -32,7 +32,7 @@ use alloc::vec::Vec;
 ///       \x09\x04\0\x01\0\0",
 /// );
 /// ```
-#[derive(Clone, Debug)]
+#[derive(Clone, Debug, PartialEq, Eq, Hash)]
 pub struct ComponentStartSection<A> {
     /// The index of the function.
     pub function_index: u32,

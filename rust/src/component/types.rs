@@ -25,13 +25,7 @@ pub use val_type::{ComponentValType, PrimitiveValType};
 macro_rules! declarations {
     ($($name:ident)*) => {
         $crate::shared::lenders! { $($name)* }
-
-        $(impl core::fmt::Debug for $name {
-            fn fmt(&self, f: &mut core::fmt::Formatter<'_>) -> core::fmt::Result {
-                let mut shown = f.debug_struct(stringify!($name));
-                shown.field("type_count", &self.type_count()).finish_non_exhaustive()
-            }
-        })*
+        $crate::content::content! { $($name)* }
     };
 }
 

@@ -17,7 +17,7 @@ use alloc::borrow::Cow;
 /// component.section(&CustomSection { name: "notes".into(), data: [0x2a].as_slice().into() });
 /// assert_eq!(component.finish(), b"\0asm\x0d\0\x01\0\0\x07\x05notes\x2a");
 /// ```
-#[derive(Clone, Debug)]
+#[derive(Clone, Debug, PartialEq, Eq, Hash)]
 pub struct CustomSection<'a> {
     /// The name.
     pub name: Cow<'a, str>,
@@ -43,7 +43,7 @@ impl CustomSection<'_> {
 /// component.section(&RawCustomSection(b"\x02\x01x"));
 /// assert_eq!(component.finish(), b"\0asm\x0d\0\x01\0\0\x02\x01x");
 /// ```
-#[derive(Clone, Debug)]
+#[derive(Clone, Debug, PartialEq, Eq, Hash)]
 pub struct RawCustomSection<'a>(
     /// The bytes.
     pub &'a [u8],

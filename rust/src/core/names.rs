@@ -1,6 +1,7 @@
 //! Names of items by their indices.
 
-use crate::shared::{collections, opaque};
+use crate::content::content;
+use crate::shared::collections;
 use crate::twins::twins;
 
 collections! {
@@ -22,7 +23,7 @@ collections! {
     NameMap;
 }
 
-opaque! { NameMap }
+content! { NameMap }
 
 impl NameMap {
     twins! {

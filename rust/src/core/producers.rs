@@ -1,7 +1,8 @@
 //! The section that says what made a module or a component.
 
+use crate::content::content;
 use crate::core::in_either;
-use crate::shared::{collections, opaque};
+use crate::shared::collections;
 use crate::twins::twins;
 
 collections! {
@@ -29,7 +30,7 @@ collections! {
     ProducersSection;
 }
 
-opaque! { ProducersField ProducersSection }
+content! { ProducersField ProducersSection }
 
 in_either! {
     ProducersSection, section => section.0;

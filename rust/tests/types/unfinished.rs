@@ -168,9 +168,9 @@ fn calls_without_an_answer_panic() {
 fn printed() {
     let mut types = ComponentTypeSection::new();
     assert_eq!(format!("{:?}", types.ty()), "ComponentTypeEncoder { .. }");
-    assert_eq!(format!("{types:?}"), "ComponentTypeSection { len: 1, .. }");
-    assert_eq!(format!("{:?}", CoreTypeSection::new()), "CoreTypeSection { len: 0, .. }");
-    assert_eq!(format!("{:?}", ModuleType::new()), "ModuleType { type_count: 0, .. }");
-    assert_eq!(format!("{:?}", InstanceType::new()), "InstanceType { type_count: 0, .. }");
-    assert_eq!(format!("{:?}", ComponentType::new()), "ComponentType { type_count: 0, .. }");
+    assert_eq!(format!("{types:?}"), "ComponentTypeSection { is_finished: false, .. }");
+    assert_eq!(format!("{:?}", CoreTypeSection::new()), "CoreTypeSection { bytes: [1, 0] }");
+    assert_eq!(format!("{:?}", ModuleType::new()), "ModuleType { bytes: [80, 0] }");
+    assert_eq!(format!("{:?}", InstanceType::new()), "InstanceType { bytes: [66, 0] }");
+    assert_eq!(format!("{:?}", ComponentType::new()), "ComponentType { bytes: [65, 0] }");
 }

@@ -29,7 +29,7 @@ pub(crate) mod sealed {
 }
 
 /// The allocator refused.
-#[derive(Clone, Copy, Debug, PartialEq, Eq)]
+#[derive(Clone, Copy, Debug, PartialEq, Eq, Hash)]
 pub struct AllocError;
 
 impl fmt::Display for AllocError {

@@ -8,7 +8,7 @@ use core::marker::PhantomData;
 use core::ops::{Deref, DerefMut};
 
 /// Rust's `Box`, made by a call that answers where memory is refused.
-#[derive(Clone, PartialEq, Eq)]
+#[derive(Clone, PartialEq, Eq, PartialOrd, Ord, Hash)]
 pub struct Box<T, A = Global> {
     /// An array of one, since that is made by way of a vector, which can answer a refusal.
     inner: Inner<[T; 1]>,
@@ -18,7 +18,7 @@ pub struct Box<T, A = Global> {
 impl<T, A: Allocator> Box<T, A> {
     /// A value in memory of its own. The room that is asked for is exact, so that nothing is left
     /// to be given back, which might be refused.
-    pub fn new(alloc: A, value: T) -> Result<Self, AllocFailed<T>> {
+    pub(crate) fn new(alloc: A, value: T) -> Result<Self, AllocFailed<T>> {
         let mut one = Vec::new();
         if !alloc.allows() || one.try_reserve_exact(1).is_err() {
             return Err(AllocFailed { value });

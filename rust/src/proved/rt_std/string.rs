@@ -4,6 +4,7 @@ use super::alloc::{AllocError, Allocator, Global, TryClone};
 use super::vec::Vec;
 use alloc::string::String as Inner;
 use core::fmt;
+use core::hash::{Hash, Hasher};
 use core::ops::Deref;
 
 /// Rust's `String`, with calls that answer where memory is refused. It is lent as a `str`, and made
@@ -13,20 +14,20 @@ use core::ops::Deref;
 /// there. The proved code calls `try_clone`.
 #[derive(Clone)]
 pub struct String<A = Global> {
-    inner: Inner,
+    pub(crate) inner: Inner,
     alloc: A,
 }
 
 impl<A: Allocator> String<A> {
     /// No text. It takes no memory.
     #[inline]
-    pub fn new(alloc: A) -> Self {
+    pub(crate) fn new(alloc: A) -> Self {
         String { inner: Inner::new(), alloc }
     }
 
     /// This text once more.
     #[inline]
-    pub fn from_str(alloc: A, text: &str) -> Result<Self, AllocError> {
+    pub(crate) fn from_str(alloc: A, text: &str) -> Result<Self, AllocError> {
         let mut made = String::new(alloc);
         if !text.is_empty() {
             made.ask()?;
@@ -110,6 +111,12 @@ impl<A> PartialEq for String<A> {
 }
 
 impl<A> Eq for String<A> {}
+
+impl<A> Hash for String<A> {
+    fn hash<H: Hasher>(&self, state: &mut H) {
+        self.inner.hash(state);
+    }
+}
 
 impl<A> fmt::Debug for String<A> {
     fn fmt(&self, f: &mut fmt::Formatter<'_>) -> fmt::Result {

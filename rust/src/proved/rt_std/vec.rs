@@ -2,6 +2,7 @@
 
 use super::alloc::{AllocError, AllocFailed, Allocator, Global};
 use alloc::vec::{IntoIter, Vec as Inner};
+use core::hash::{Hash, Hasher};
 use core::ops::{Deref, DerefMut};
 use core::{fmt, slice};
 
@@ -19,13 +20,13 @@ pub struct Vec<T, A = Global> {
 impl<T, A: Allocator> Vec<T, A> {
     /// No elements. It takes no memory.
     #[inline]
-    pub fn new(alloc: A) -> Self {
+    pub(crate) fn new(alloc: A) -> Self {
         Vec { inner: Inner::new(), alloc }
     }
 
     /// No elements, and room for so many.
     #[inline]
-    pub fn with_capacity(alloc: A, capacity: usize) -> Result<Self, AllocError> {
+    pub(crate) fn with_capacity(alloc: A, capacity: usize) -> Result<Self, AllocError> {
         let mut made = Vec::new(alloc);
         if capacity > 0 {
             made.ask()?;
@@ -41,7 +42,7 @@ impl<T, A: Allocator> Vec<T, A> {
 
     /// Where its elements lie.
     #[inline]
-    pub fn allocator(&self) -> &A {
+    pub(crate) fn allocator(&self) -> &A {
         &self.alloc
     }
 
@@ -128,7 +129,7 @@ impl<T, A: Allocator> Vec<T, A> {
 impl<T: Copy, A: Allocator> Vec<T, A> {
     /// These elements once more.
     #[inline]
-    pub fn from_slice(alloc: A, values: &[T]) -> Result<Self, AllocError> {
+    pub(crate) fn from_slice(alloc: A, values: &[T]) -> Result<Self, AllocError> {
         let mut made = Vec::with_capacity(alloc, values.len())?;
         made.extend_from_slice(values)?;
         Ok(made)
@@ -168,6 +169,12 @@ impl<T: PartialEq, A> PartialEq for Vec<T, A> {
 }
 
 impl<T: Eq, A> Eq for Vec<T, A> {}
+
+impl<T: Hash, A> Hash for Vec<T, A> {
+    fn hash<H: Hasher>(&self, state: &mut H) {
+        self.inner.hash(state);
+    }
+}
 
 impl<T: fmt::Debug, A> fmt::Debug for Vec<T, A> {
     fn fmt(&self, f: &mut fmt::Formatter<'_>) -> fmt::Result {
