@@ -143,7 +143,7 @@ pub unsafe extern "C" fn wenc_list(
 /// The status of a component that can't be read, and the part that can't.
 fn unread_part(bytes: &[u8], fault: ListFault) -> (Status, UnreadPart) {
     let (status, section) = match fault {
-        ListFault::NoMemory => (Status::NoMemory, 0),
+        ListFault::Memory => (Status::NoMemory, 0),
         ListFault::NotAComponent { place } => (Status::NotAComponent, place),
         ListFault::BadSection { place } => (Status::BadSection, place),
         ListFault::BadItem { place } => (Status::BadItem, place),
