@@ -1,4 +1,4 @@
-//! Components, their sections, and what these are made of.
+//! Components, their sections, and the parts of these.
 
 mod aliases;
 mod builder;
@@ -32,8 +32,10 @@ use core::fmt;
 
 pub use proved::ComponentSectionId;
 
-/// A section of a component (component model, binary format, "Component Definitions"). A type of
-/// your own may implement it too.
+/// A section of a component ([component model, binary format, "Component
+/// Definitions"][definitions]). A type of your own may implement it too.
+///
+/// [definitions]: https://github.com/WebAssembly/component-model/blob/main/design/mvp/Binary.md#component-definitions
 ///
 /// ```
 /// use wenc::{Component, ComponentSection, ComponentSectionId, Encode};
@@ -60,21 +62,21 @@ pub use proved::ComponentSectionId;
 /// assert_eq!(component.as_slice()[8..], [0, 3, 1, b'x', 7]);
 /// ```
 pub trait ComponentSection: Encode {
-    /// The section's id.
+    /// Returns the section's id, from 0 to 255.
     fn id(&self) -> u8;
 
-    /// Appends the section, its id in front.
+    /// Appends the section with its id to `dst`.
     ///
     /// # Panics
     ///
-    /// As [`Encode::encode`], and then `dst` is as it was.
+    /// Panics as [`Encode::encode`] does, with `dst` unchanged.
     fn append_to_component(&self, dst: &mut Vec<u8>) {
         append_section(self, dst);
     }
 }
 
-/// Appends a section, its id in front, or leaves the bytes as they were. Room for the id is asked for by itself: where it is
-/// refused, the section is written first and then moved up.
+/// Appends a section with its id, or leaves the bytes unchanged. Room for the id is reserved by
+/// itself: if that fails, the section is written first and then moved up.
 fn append_section<S: ComponentSection + ?Sized>(section: &S, dst: &mut Vec<u8>) {
     let _ = dst.try_reserve(1);
     granted(append(dst, |sink| {
@@ -88,8 +90,8 @@ impl<S: ComponentSection + ?Sized> proved::ComponentSection for Foreign<'_, S> {
     }
 }
 
-/// A component by its sections, which stand in it in the order in which they are appended
-/// (component model, binary format, "Component Definitions").
+/// A component that is built section by section, in their order. Neither the order nor the sections
+/// are checked.
 ///
 /// ```
 /// use wenc::{Component, ComponentImportSection, ComponentTypeRef, ComponentTypeSection};
@@ -112,15 +114,15 @@ pub struct Component {
 }
 
 impl Component {
-    /// What each component begins with.
+    /// The first bytes of every component.
     pub const HEADER: [u8; 8] = <proved::Component>::HEADER;
 
-    /// A component without sections.
+    /// Creates a component without sections.
     pub fn new() -> Self {
         Self { bytes: Self::HEADER.into() }
     }
 
-    /// The bytes.
+    /// Returns the bytes of the component.
     pub fn finish(self) -> Vec<u8> {
         self.bytes
     }
@@ -129,13 +131,13 @@ impl Component {
     ///
     /// # Panics
     ///
-    /// As [`Encode::encode`], and then the component is as it was.
+    /// Panics as [`Encode::encode`] does, with the component unchanged.
     pub fn section(&mut self, section: &impl ComponentSection) -> &mut Self {
         append_section(section, &mut self.bytes);
         self
     }
 
-    /// The bytes so far.
+    /// Returns the bytes so far.
     pub fn as_slice(&self) -> &[u8] {
         &self.bytes
     }
@@ -152,12 +154,12 @@ impl Default for Component {
 macro_rules! sections {
     ($($name:ident)*) => {
         $(impl $name {
-            /// How many items the section has.
+            /// Returns the number of items, with an unfinished one.
             pub fn len(&self) -> u32 {
                 self.0.len()
             }
 
-            /// Whether it has none.
+            /// Returns `true` if the section has no items.
             pub fn is_empty(&self) -> bool {
                 self.0.is_empty()
             }

@@ -22,7 +22,7 @@ pub struct CoreSection<'a> {
 }
 
 impl CoreSection<'_> {
-    /// Returns what the section's id stands for; `None` for an id above 13.
+    /// Returns the section's id as a [`SectionId`]; `None` for an id above 13.
     pub fn kind(&self) -> Option<SectionId> {
         self.id.try_into().ok()
     }
@@ -57,10 +57,10 @@ impl TryFrom<u8> for SectionId {
 }
 
 /// The sections of a core module, in their order (WebAssembly 3.0, binary format, "Modules").
-/// Their contents aren't read, except for the names of custom sections, and nothing checks their
-/// order.
+/// Their contents aren't read, except for the names of custom sections, and their order isn't
+/// checked.
 ///
-/// After a fault there are no further sections.
+/// The iterator ends after an error.
 ///
 /// ```
 /// use wenc::{CoreSections, ModuleFault, SectionId};
@@ -89,7 +89,7 @@ impl<'a> CoreSections<'a> {
     ///
     /// # Errors
     ///
-    /// [`ModuleFault::NotAModule`] where the bytes don't begin with the header of a core module.
+    /// [`ModuleFault::NotAModule`] if the bytes don't begin with the header of a core module.
     pub fn new(module: &'a [u8]) -> Result<Self, ModuleFault> {
         let rest = behind_module_header(module).ok_or(ModuleFault::NotAModule)?;
         Ok(Self { len: module.len(), rest })
@@ -126,7 +126,7 @@ impl<'a> Iterator for CoreSections<'a> {
     }
 }
 
-/// Why a core module isn't read.
+/// Why a core module can't be read.
 #[derive(Clone, Copy, Debug, PartialEq, Eq, Hash)]
 #[non_exhaustive]
 pub enum ModuleFault {
@@ -134,8 +134,8 @@ pub enum ModuleFault {
     NoMemory,
     /// The bytes don't begin with the header of a core module.
     NotAModule,
-    /// A section without a size, or with one that is past the end of the module, or a custom
-    /// section without a name.
+    /// A section lacks a size, or a name if it is a custom one, or has a size past the end of the
+    /// module.
     BadSection {
         /// The byte offset of its id in the module.
         place: usize,

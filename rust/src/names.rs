@@ -12,9 +12,11 @@ use alloc::string::String;
 use core::borrow::Borrow;
 use core::fmt;
 
-/// The debug names of a component and of its items (component model, binary format, "Name
-/// Section"): what the custom section `component-name` contains. Where that names something twice,
-/// the first name is kept.
+/// The debug names of a component and of its items ([component model, binary format, "Name
+/// Section"][names]), which the custom section `component-name` contains. If that names something
+/// twice, the first name is kept.
+///
+/// [names]: https://github.com/WebAssembly/component-model/blob/main/design/mvp/Binary.md#name-section
 ///
 /// [`Listing::names`](crate::Listing::names) returns those of a component, and
 /// [`ComponentNameSection`] is made from them by `From`.
@@ -50,7 +52,7 @@ impl DebugNames {
     /// The name of the custom section that contains debug names.
     pub const SECTION: &str = NAMES_LABEL;
 
-    /// Returns debug names that name nothing.
+    /// Creates debug names that name nothing.
     pub fn new() -> Self {
         Self::default()
     }
@@ -70,7 +72,7 @@ impl DebugNames {
     ///
     /// # Errors
     ///
-    /// The first subsection that isn't read, or [`NamesFault::NoMemory`]. The names of the
+    /// The first subsection that can't be read, or [`NamesFault::NoMemory`]. The names of the
     /// subsections before it are added.
     pub fn read(&mut self, item: &ItemTree) -> Result<(), NamesFault> {
         match item {
@@ -138,12 +140,12 @@ impl DebugNames {
     }
 }
 
-/// The section with these names: that of the component first, then those of the items in the order
-/// of [`Space::ALL`].
+/// Makes the section with these names: that of the component first, then those of the items in the
+/// order of [`Space::ALL`].
 ///
 /// # Panics
 ///
-/// Where an allocation is refused, or the section is larger than 4294967295 bytes.
+/// Panics if an allocation fails or the section is larger than 4294967295 bytes.
 impl From<&DebugNames> for ComponentNameSection {
     fn from(names: &DebugNames) -> Self {
         let mut section = Self::new();
@@ -199,7 +201,7 @@ fn space_of(sort: Sort) -> Space {
     }
 }
 
-/// Why debug names aren't read.
+/// Why debug names can't be read.
 #[derive(Clone, Copy, Debug, PartialEq, Eq, Hash)]
 #[non_exhaustive]
 pub enum NamesFault {

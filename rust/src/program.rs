@@ -1,4 +1,4 @@
-//! What the programs of this package run. It is not for others.
+//! Internal: what the programs of this package run.
 
 use crate::proved;
 use crate::proved::rt_std::alloc::{AllocError, Global};

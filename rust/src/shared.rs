@@ -12,7 +12,7 @@ macro_rules! collections {
         pub struct $name(pub(crate) $crate::proved::wasm_encoder::$name);
 
         impl $name {
-            /// None. It takes no memory.
+            /// Creates an empty one without allocating.
             #[inline]
             pub fn new() -> Self {
                 Self($crate::proved::wasm_encoder::$name::new($crate::proved::rt_std::alloc::Global))
@@ -20,7 +20,7 @@ macro_rules! collections {
         }
 
         impl Default for $name {
-            /// None. It takes no memory.
+            /// Creates an empty one without allocating.
             #[inline]
             fn default() -> Self {
                 Self::new()
@@ -46,15 +46,15 @@ pub(crate) use collections;
 macro_rules! lenders {
     ($($name:ident)*) => {
         $(impl $name {
-            /// Whether no encoder is to end an item yet. Until then what grows, encodes or takes
-            /// this is refused as [`Unfinished`](crate::Error::Unfinished).
+            /// Returns `false` while an encoder hasn't ended its type. Additions to this, and calls
+            /// that encode or take it, fail with [`Unfinished`](crate::Error::Unfinished) then.
             #[inline]
             pub fn is_finished(&self) -> bool {
                 self.0.is_finished()
             }
 
-            /// Gives up the item that an encoder was to end, and answers whether there was one. All
-            /// is as before that item then. It takes no memory.
+            /// Discards the unfinished type, and returns whether there was one. This is then as it
+            /// was before that type. It doesn't allocate.
             pub fn discard_unfinished(&mut self) -> bool {
                 self.0.discard_unfinished()
             }
@@ -109,14 +109,20 @@ macro_rules! encoders {
     (
         @one $name:ident $by:ident [$($field:ident = $start:expr)?] $case:ident $lender:ident
     ) => {
-        // Not `From`, which would show the proved encoder among what the public one implements.
-        #[allow(clippy::from_over_into)]
-        impl<'a> Into<$name<'a>>
-            for $crate::proved::wasm_encoder::$name<'a, $crate::proved::wasm_encoder::$lender>
+        // The documentation doesn't show the proved encoder.
+        #[doc(hidden)]
+        impl<'a>
+            From<$crate::proved::wasm_encoder::$name<'a, $crate::proved::wasm_encoder::$lender>>
+            for $name<'a>
         {
             #[inline]
-            fn into(self) -> $name<'a> {
-                $name { by: $by::$case(self), $($field: $start,)? }
+            fn from(
+                encoder: $crate::proved::wasm_encoder::$name<
+                    'a,
+                    $crate::proved::wasm_encoder::$lender,
+                >,
+            ) -> Self {
+                Self { by: $by::$case(encoder), $($field: $start,)? }
             }
         }
     };

@@ -1,8 +1,8 @@
-//! Items of a component as values: what [`list`](crate::list) answers, and what [`build`] is given.
+//! Items of a component as values, which [`list`](crate::list) returns and [`build`] takes.
 //!
-//! They own their texts and lists, in the types [`String`], [`Vec`] and [`Box`] of this module:
-//! those of Rust, with calls that answer where memory is refused. `From` makes either of the other
-//! without a copy.
+//! They own their strings and lists in the types [`String`], [`Vec`] and [`Box`] of this module,
+//! which are std's with a `push` that can fail, since the proved code may not abort. `From` converts
+//! either to the other without a copy.
 //!
 //! A builder takes a [`Command`] ([`ComponentBuilder::command`](crate::ComponentBuilder::command)),
 //! a section an [`ItemTree`] ([`ItemSection`](crate::ItemSection)), an encoder the tree of a type.
@@ -61,23 +61,22 @@ pub use proved::{
     TypeTree, ValType,
 };
 
-/// What the commands of a run answered, and the bytes.
+/// The component that commands make, and the index that each returned.
 #[derive(Clone, Debug, PartialEq, Eq, Hash)]
 pub struct Built {
-    /// One answer for each command: the index of its item, if that has one, or why it was refused.
-    /// Custom sections and names have none.
+    /// For each command the index of its item, or its error. Custom sections and names have no index.
     pub answers: alloc::vec::Vec<Result<Option<u32>, Error>>,
-    /// The component.
+    /// The bytes of the component.
     pub bytes: alloc::vec::Vec<u8>,
 }
 
-/// Makes the calls that the commands are, in order, on a new builder, keeps each answer, and
-/// finishes. A refused command adds nothing, and the ones after it run all the same.
+/// Runs commands in order on a new builder, and finishes it. A command that fails adds nothing, and
+/// the ones after it run all the same.
 ///
 /// # Errors
 ///
-/// There is no memory for the builder or for the answers, or a type is refused while it is written:
-/// with that error, and no further command runs.
+/// [`NoMemory`](Error::NoMemory) for the builder or the results, or the error of a type that can't be
+/// encoded; no further command runs then.
 ///
 /// ```
 /// use wenc::tree::{Command, String, build};

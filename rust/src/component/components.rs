@@ -3,10 +3,10 @@
 use crate::encode::encode;
 use crate::{Component, ComponentSection, ComponentSectionId};
 
-/// A section that is a component of its own (component model, binary format, "Component
-/// Definitions").
+/// A section that is a nested component ([component model, binary format, "Component
+/// Definitions"][definitions]). It can't be encoded if that has more than 4294967295 bytes.
 ///
-/// It is refused, when it is encoded, where that has more than 4294967295 bytes.
+/// [definitions]: https://github.com/WebAssembly/component-model/blob/main/design/mvp/Binary.md#component-definitions
 ///
 /// ```
 /// use wenc::{Component, NestedComponentSection};

@@ -11,8 +11,8 @@ use alloc::string::String;
 
 pub use proved::{ComponentTypeRef, TypeBounds};
 
-/// The name of an import or an export, with the options that a name may have (component model,
-/// binary format, `importname'` and `exportname'`).
+/// The name of an import or an export, with its options (component model, binary format,
+/// `importname'` and `exportname'`).
 ///
 /// ```
 /// use wenc::ComponentExternName;
@@ -24,11 +24,11 @@ pub use proved::{ComponentTypeRef, TypeBounds};
 pub struct ComponentExternName<'a> {
     /// The name.
     pub name: Cow<'a, str>,
-    /// The name of the interface that is implemented (`implements`).
+    /// The name of the interface that the item implements (`implements`).
     pub implements: Option<Cow<'a, str>>,
-    /// What follows the version that the name bears (`versionsuffix`).
+    /// The rest of the version, after the part in the name (`versionsuffix`).
     pub version_suffix: Option<Cow<'a, str>>,
-    /// A name that this one has elsewhere (`external-id`).
+    /// The name of the item elsewhere (`external-id`).
     pub external_id: Option<Cow<'a, str>>,
 }
 
@@ -99,7 +99,10 @@ encode! {
 }
 
 collections! {
-    /// The section of imports (component model, binary format, "Import and Export Definitions").
+    /// The section of imports ([component model, binary format, "Import and Export
+    /// Definitions"][imports]).
+    ///
+    /// [imports]: https://github.com/WebAssembly/component-model/blob/main/design/mvp/Binary.md#import-and-export-definitions
     ///
     /// ```
     /// use wenc::{Component, ComponentImportSection, ComponentTypeRef, TypeBounds};
@@ -118,7 +121,7 @@ sections! { ComponentImportSection }
 
 impl ComponentImportSection {
     twins! {
-        /// Adds an import under this name.
+        /// Adds an import by its name and type.
         fn import | try_import<'a>(
             &mut self,
             name: impl Into<ComponentExternName<'a>>,

@@ -3,9 +3,10 @@
 use crate::encode::encode;
 use crate::{ComponentSection, ComponentSectionId, Module};
 
-/// A section that is a core module (component model, binary format, "Component Definitions").
+/// A section that is a core module ([component model, binary format, "Component
+/// Definitions"][definitions]). It can't be encoded if the module has more than 4294967295 bytes.
 ///
-/// It is refused, when it is encoded, where the module has more than 4294967295 bytes.
+/// [definitions]: https://github.com/WebAssembly/component-model/blob/main/design/mvp/Binary.md#component-definitions
 ///
 /// ```
 /// use wenc::{Component, Module, ModuleSection};

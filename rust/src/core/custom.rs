@@ -4,11 +4,10 @@ use crate::encode::encode;
 use crate::proved::wasm_encoder as proved;
 use alloc::borrow::Cow;
 
-/// A section that the standard gives no meaning (WebAssembly 3.0, binary format, "Custom Section").
-/// It stands in a component or in a core module.
+/// A custom section of a component or a core module ([WebAssembly 3.0, binary format, "Custom
+/// Section"][custom]). It can't be encoded if it has more than 4294967295 bytes after its size.
 ///
-/// It is refused, when it is encoded, where it would have more than 4294967295 bytes after its
-/// size.
+/// [custom]: https://webassembly.github.io/spec/core/binary/modules.html#custom-section
 ///
 /// ```
 /// use wenc::{Component, CustomSection};
@@ -33,8 +32,7 @@ impl CustomSection<'_> {
     }
 }
 
-/// The bytes of a custom section after its id, its size among them, as they are (WebAssembly 3.0,
-/// binary format, "Custom Section"). Nothing checks that they are such a section.
+/// A custom section as its bytes after the id, with the size and the name. The bytes aren't checked.
 ///
 /// ```
 /// use wenc::{Component, RawCustomSection};

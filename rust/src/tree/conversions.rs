@@ -1,15 +1,15 @@
-//! Trees of what they are made of, and what sections take of them.
+//! Conversions between trees and what builders and sections take.
 
 use super::{AliasTree, Command, NameOptions, NameTree, String};
 use crate::{Alias, ComponentExternName, ProducersSection};
 use alloc::borrow::Cow;
 use alloc::string::String as StdString;
 
-/// The command that adds the section to a component.
+/// Makes the command that adds the section to a component.
 ///
 /// # Panics
 ///
-/// Where an allocation is refused.
+/// Panics if an allocation fails.
 ///
 /// ```
 /// use wenc::ProducersSection;

@@ -1,4 +1,4 @@
-//! The encoder of types of functions.
+//! The encoder of function types.
 
 use crate::proved::wasm_encoder::FuncStage;
 use crate::shared::{encoders, on};
@@ -6,12 +6,14 @@ use crate::twins::twins;
 use crate::{ComponentValType, Error};
 
 encoders! {
-    /// Encodes the type of a function: whether it is async, then its parameters, then its result,
-    /// which ends the type (component model, binary format, "Type Definitions").
+    /// Encodes a function type: whether it is async, then its parameters, then its result, which
+    /// ends the type ([component model, binary format, "Type Definitions"][types]).
     ///
     /// A call that fails may be made again: it leaves what was encoded. If the encoder is dropped
-    /// before its last call, the type is unfinished, and its parent rejects further additions until
+    /// before its last call, the type is unfinished, and the parent rejects further additions until
     /// `discard_unfinished`.
+    ///
+    /// [types]: https://github.com/WebAssembly/component-model/blob/main/design/mvp/Binary.md#type-definitions
     ///
     /// ```
     /// use wenc::{Component, ComponentTypeSection, PrimitiveValType};
