@@ -99,6 +99,21 @@ fn examples_are_left_out() {
 }
 
 #[test]
+fn what_introduces_an_example_is_left_out() {
+    let example = "/// ```\n/// f();\n/// ```\nfn f() {}\n";
+    for (docs, left) in [
+        ("/// What it does. As here\n/// or here:\n///\n", "/// What it does.\n\n///\n"),
+        ("/// What it does.\n/// Here:\n", "/// What it does.\n\n"),
+        ("/// What it does.\n///\n/// Here:\n///\n", "/// What it does.\n///\n\n///\n"),
+        ("struct S;\n/// Here:\n///\n", "struct S;\n\n///\n"),
+        ("/// One: two.\n///\n", "/// One: two.\n///\n"),
+        ("/// A list:\n/// one.\n", "/// A list:\n/// one.\n"),
+    ] {
+        becomes(&format!("{docs}{example}"), &format!("{left}\n\n\nfn f() {{}}\n"));
+    }
+}
+
+#[test]
 fn attributes_of_the_prover_are_left_out() {
     becomes("#![tactic(auto)]\n#[tactic(auto, using(a::b))]\nfn f() {}\n", "\n\nfn f() {}\n");
     becomes("#[cycle(types)]\nenum A {}\n", "\nenum A {}\n");
