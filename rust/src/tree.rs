@@ -4,6 +4,9 @@
 //! which are std's with a `push` that can fail, since the proved code may not abort. `From` converts
 //! either to the other without a copy.
 //!
+//! Core types are those of WebAssembly 3.0, `CoreValType` and others. They convert to the types of
+//! sections with `From`, and from these with `TryFrom`, which fails for what proposals add.
+//!
 //! A builder takes a [`Command`] ([`ComponentBuilder::command`](crate::ComponentBuilder::command)),
 //! a section an [`ItemTree`] ([`ItemSection`](crate::ItemSection)), an encoder the tree of a type.
 //! The trees of types, aliases, instances and canonical functions, and what these are made of,
@@ -53,12 +56,23 @@ pub use crate::proved::rt_std::boxed::Box;
 pub use crate::proved::rt_std::string::String;
 pub use crate::proved::rt_std::vec::Vec;
 pub use indices::{IndexUse, OuterFault, Scope};
+// The root has other types with the sources' names, with what proposals add.
 pub use proved::{
-    AbstractHeapType, AliasTree, ArrayType, CanonTree, CaseTree, Command, ComponentDecl,
-    CompositeType, CoreInstanceTree, CoreTypeTree, DefinedTree, EntityType, FieldType, FuncType,
-    GlobalType, GroupTree, HeapType, InstanceDecl, InstanceTree, ItemTree, MemoryType, ModuleDecl,
-    NameOptions, NameTree, RefType, Space, StorageType, StructType, SubType, TableType, TagType,
-    TypeTree, ValType,
+    AbstractHeapType as CoreAbstractHeapType, ArrayType as CoreArrayType,
+    CompositeType as CoreCompositeType, EntityType as CoreEntityType, FieldType as CoreFieldType,
+    FuncType as CoreFuncType, GlobalType as CoreGlobalType, HeapType as CoreHeapType,
+    MemoryType as CoreMemoryType, RefType as CoreRefType, StorageType as CoreStorageType,
+    StructType as CoreStructType, SubType as CoreSubType, TableType as CoreTableType,
+    TagType as CoreTagType, ValType as CoreValType,
+};
+use proved::{
+    AbstractHeapType, ArrayType, CompositeType, EntityType, FieldType, FuncType, GlobalType,
+    HeapType, MemoryType, RefType, StorageType, StructType, SubType, TableType, TagType, ValType,
+};
+pub use proved::{
+    AliasTree, CanonTree, CaseTree, Command, ComponentDecl, CoreInstanceTree, CoreTypeTree,
+    DefinedTree, GroupTree, InstanceDecl, InstanceTree, ItemTree, ModuleDecl, NameOptions,
+    NameTree, Space, TypeTree,
 };
 
 /// The component that commands make, and the index that each returned.
