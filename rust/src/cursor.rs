@@ -129,6 +129,13 @@ impl<'a> Sections<'a> {
     }
 }
 
+impl fmt::Debug for Sections<'_> {
+    fn fmt(&self, f: &mut fmt::Formatter<'_>) -> fmt::Result {
+        let offset = self.left.map(|left| left.place());
+        f.debug_struct("Sections").field("offset", &offset).finish_non_exhaustive()
+    }
+}
+
 /// The values up to the first fault, and that.
 fn up_to_fault<T, E>(
     mut values: impl Iterator<Item = Result<T, E>>,
@@ -259,6 +266,13 @@ impl<'a> SectionReader<'a> {
     }
 }
 
+impl fmt::Debug for Items<'_> {
+    fn fmt(&self, f: &mut fmt::Formatter<'_>) -> fmt::Result {
+        let offset = self.left.map(|left| left.reached());
+        f.debug_struct("Items").field("offset", &offset).finish_non_exhaustive()
+    }
+}
+
 impl fmt::Debug for SectionReader<'_> {
     fn fmt(&self, f: &mut fmt::Formatter<'_>) -> fmt::Result {
         let mut shown = f.debug_struct("SectionReader");
@@ -289,7 +303,7 @@ impl fmt::Debug for SectionReader<'_> {
 /// assert_eq!(fault, Some(ListFault::TooDeep { place: 18, unread: None }));
 /// # Ok::<(), ListFault>(())
 /// ```
-#[derive(Clone)]
+#[derive(Clone, Debug)]
 pub struct NestedSections<'a> {
     /// The components that the next section may be in, the innermost last.
     open: Vec<Sections<'a>>,

@@ -39,7 +39,7 @@ impl<'a> ComponentExternName<'a> {
         Self { name, implements: None, version_suffix: None, external_id: None }
     }
 
-    /// The name as the proved code takes it. It takes no memory.
+    /// The name as the proved code takes it. It doesn't allocate.
     #[inline]
     pub(crate) fn into_proved(self) -> proved::ComponentExternName<'a> {
         proved::ComponentExternName {
@@ -50,7 +50,7 @@ impl<'a> ComponentExternName<'a> {
         }
     }
 
-    /// The name as the proved code takes it, lent. It takes no memory.
+    /// The name as the proved code takes it, borrowed. It doesn't allocate.
     fn lent(&self) -> proved::ComponentExternName<'_> {
         fn option<'t>(text: &'t Option<Cow<'_, str>>) -> Option<CowStr<'t>> {
             text.as_deref().map(CowStr::Borrowed)

@@ -25,7 +25,7 @@ pub struct CustomSection<'a> {
 }
 
 impl CustomSection<'_> {
-    /// The section as the proved code takes it. It takes no memory.
+    /// The section as the proved code takes it. It doesn't allocate.
     #[inline]
     pub(crate) fn lent(&self) -> proved::CustomSection<'_> {
         proved::CustomSection { name: &self.name, data: &self.data }
@@ -55,8 +55,7 @@ impl RawCustomSection<'_> {
     }
 }
 
-/// Sections that stand in a core module as well as in a component, with the ids that the proved
-/// code gives them there.
+/// Sections of core modules and of components, with the ids that the proved code has for them there.
 macro_rules! in_either {
     ($($name:ty, $section:ident => $proved:expr;)*) => {
         $(impl $crate::Section for $name {

@@ -44,8 +44,7 @@ impl ComponentBuilder {
         answer
     }
 
-    /// Makes the call that this command describes. A type that is refused while it is encoded is
-    /// left unfinished.
+    /// Makes the call that a command describes. A type that can't be encoded is left unfinished.
     fn run(&mut self, command: &Command) -> Result<Option<u32>, Error> {
         let (builder, name) = (&mut self.0, debug_name(command));
         let index = match command {
