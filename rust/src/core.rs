@@ -23,6 +23,7 @@ pub use tables::TableType;
 pub use tags::{TagKind, TagType};
 pub use types::*;
 
+use crate::UnknownSectionId;
 use crate::encode::{Encode, Foreign, append, encode};
 use crate::error::granted;
 use crate::proved::wasm_encoder as proved;
@@ -118,6 +119,34 @@ pub enum SectionId {
     DataCount,
     /// Tags.
     Tag,
+}
+
+impl SectionId {
+    /// All ids, in their order.
+    pub const ALL: [Self; 14] = [
+        Self::Custom,
+        Self::Type,
+        Self::Import,
+        Self::Function,
+        Self::Table,
+        Self::Memory,
+        Self::Global,
+        Self::Export,
+        Self::Start,
+        Self::Element,
+        Self::Code,
+        Self::Data,
+        Self::DataCount,
+        Self::Tag,
+    ];
+}
+
+impl TryFrom<u8> for SectionId {
+    type Error = UnknownSectionId;
+
+    fn try_from(id: u8) -> Result<Self, UnknownSectionId> {
+        Self::ALL.into_iter().find(|known| u8::from(*known) == id).ok_or(UnknownSectionId(id))
+    }
 }
 
 impl From<SectionId> for u8 {

@@ -1,9 +1,9 @@
 //! A core module section by section.
 
+use crate::SectionId;
 use crate::proved::rt_std::alloc::Global;
 use crate::proved::wenc_list::{behind_module_header, part_of};
 use crate::proved::wenc_read::{Refusal, name_of};
-use crate::{SectionId, UnknownSectionId};
 use alloc::string::String;
 use core::fmt;
 use core::ops::Range;
@@ -25,34 +25,6 @@ impl CoreSection<'_> {
     /// Returns the section's id as a [`SectionId`]; `None` for an id above 13.
     pub fn kind(&self) -> Option<SectionId> {
         self.id.try_into().ok()
-    }
-}
-
-impl SectionId {
-    /// All ids, in their order.
-    pub const ALL: [Self; 14] = [
-        Self::Custom,
-        Self::Type,
-        Self::Import,
-        Self::Function,
-        Self::Table,
-        Self::Memory,
-        Self::Global,
-        Self::Export,
-        Self::Start,
-        Self::Element,
-        Self::Code,
-        Self::Data,
-        Self::DataCount,
-        Self::Tag,
-    ];
-}
-
-impl TryFrom<u8> for SectionId {
-    type Error = UnknownSectionId;
-
-    fn try_from(id: u8) -> Result<Self, UnknownSectionId> {
-        Self::ALL.into_iter().find(|known| u8::from(*known) == id).ok_or(UnknownSectionId(id))
     }
 }
 
