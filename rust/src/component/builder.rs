@@ -19,7 +19,6 @@ mod counts;
 mod builtins;
 
 use crate::proved::wasm_encoder as proved;
-use core::fmt;
 
 /// Builds a component call by call; each call that adds an item returns the item's index
 /// ([component model, binary format, "Component Definitions"][definitions]). Neighbours of one sort
@@ -64,10 +63,3 @@ use core::fmt;
 ///
 /// [definitions]: https://github.com/WebAssembly/component-model/blob/main/design/mvp/Binary.md#component-definitions
 pub struct ComponentBuilder(proved::ComponentBuilder);
-
-impl fmt::Debug for ComponentBuilder {
-    fn fmt(&self, f: &mut fmt::Formatter<'_>) -> fmt::Result {
-        let mut printed = f.debug_struct("ComponentBuilder");
-        printed.field("is_finished", &self.is_finished()).finish_non_exhaustive()
-    }
-}

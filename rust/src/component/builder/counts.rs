@@ -1,6 +1,7 @@
 //! How many items of each sort a builder has.
 
 use crate::component::ComponentBuilder;
+use core::fmt;
 
 /// Defines calls that return a number of items.
 macro_rules! counts {
@@ -17,6 +18,18 @@ macro_rules! counts {
                     self.0.$name()
                 }
             )*
+        }
+
+        /// Prints whether the builder is finished, and the counts that aren't 0.
+        impl fmt::Debug for ComponentBuilder {
+            fn fmt(&self, f: &mut fmt::Formatter<'_>) -> fmt::Result {
+                let mut printed = f.debug_struct("ComponentBuilder");
+                printed.field("is_finished", &self.is_finished());
+                $(if self.$name() > 0 {
+                    printed.field(stringify!($name), &self.$name());
+                })*
+                printed.finish_non_exhaustive()
+            }
         }
     };
 }
