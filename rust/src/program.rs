@@ -1,4 +1,4 @@
-//! What the programs of this package run. It is not for others.
+//! Internal: what the programs of this package run.
 
 use crate::proved;
 use crate::proved::rt_std::alloc::{AllocError, Global};
@@ -12,8 +12,8 @@ use std::process::ExitCode;
 
 pub use crate::dump::{Streams, colours_are_wanted, run as dump};
 
-/// The arguments without the program's name. It fails where there are some that can't be told:
-/// there is no memory for them, or one, or the program's name in front of some, isn't text.
+/// The arguments without the program's name. It fails if there are some and an allocation fails, or
+/// one of them, or the program's name, isn't UTF-8.
 fn arguments(all: impl Iterator<Item = OsString>) -> Result<Vec<String>, Failure> {
     let mut told = Vec::new(Global);
     let mut all = all.peekable();
@@ -30,7 +30,7 @@ fn arguments(all: impl Iterator<Item = OsString>) -> Result<Vec<String>, Failure
     Ok(told)
 }
 
-/// Runs `wenc` with these arguments, the program's name in front of them, and answers the exit
+/// Runs `wenc` with these arguments, of which the first is the program's name, and returns the exit
 /// status.
 pub fn wenc(
     arguments_with_name: impl Iterator<Item = OsString>,
@@ -44,7 +44,7 @@ pub fn wenc(
     }
 }
 
-/// Runs the commands that the bytes on standard input choose, and prints what they answer.
+/// Runs the commands that the bytes on standard input choose, and prints their results.
 pub fn driven() -> ExitCode {
     proved::driven::main(HostRuntime)
 }

@@ -13,7 +13,7 @@ macro_rules! collections {
         pub struct $name(pub(crate) $crate::proved::wasm_encoder::$name);
 
         impl $name {
-            /// None. It takes no memory.
+            /// Creates an empty one without allocating.
             #[inline]
             pub fn new() -> Self {
                 Self($crate::proved::wasm_encoder::$name::new($crate::proved::rt_std::alloc::Global))
@@ -21,7 +21,7 @@ macro_rules! collections {
         }
 
         impl Default for $name {
-            /// None. It takes no memory.
+            /// Creates an empty one without allocating.
             #[inline]
             fn default() -> Self {
                 Self::new()
@@ -47,15 +47,15 @@ pub(crate) use collections;
 macro_rules! lenders {
     ($($name:ident)*) => {
         $(impl $name {
-            /// Whether no encoder is to end an item yet. Until then what grows, encodes or takes
-            /// this is refused as [`Unfinished`](crate::Error::Unfinished).
+            /// Returns `false` while an encoder hasn't ended its type. Additions to this, and calls
+            /// that encode or take it, fail with [`Unfinished`](crate::Error::Unfinished) then.
             #[inline]
             pub fn is_finished(&self) -> bool {
                 self.0.is_finished()
             }
 
-            /// Gives up the item that an encoder was to end, and answers whether there was one. All
-            /// is as before that item then. It takes no memory.
+            /// Discards the unfinished type, and returns whether there was one. This is then as it
+            /// was before that type. It doesn't allocate.
             pub fn discard_unfinished(&mut self) -> bool {
                 self.0.discard_unfinished()
             }
@@ -110,14 +110,20 @@ macro_rules! encoders {
     (
         @one $name:ident $by:ident [$($field:ident = $start:expr)?] $case:ident $lender:ident
     ) => {
-        // Not `From`, which would show the proved encoder among what the public one implements.
-        #[allow(clippy::from_over_into)]
-        impl<'a> Into<$name<'a>>
-            for $crate::proved::wasm_encoder::$name<'a, $crate::proved::wasm_encoder::$lender>
+        // The documentation doesn't show the proved encoder.
+        #[doc(hidden)]
+        impl<'a>
+            From<$crate::proved::wasm_encoder::$name<'a, $crate::proved::wasm_encoder::$lender>>
+            for $name<'a>
         {
             #[inline]
-            fn into(self) -> $name<'a> {
-                $name { by: $by::$case(self), $($field: $start,)? }
+            fn from(
+                encoder: $crate::proved::wasm_encoder::$name<
+                    'a,
+                    $crate::proved::wasm_encoder::$lender,
+                >,
+            ) -> Self {
+                Self { by: $by::$case(encoder), $($field: $start,)? }
             }
         }
     };
@@ -132,16 +138,14 @@ macro_rules! on {
         let mut $list = $list;
         match $encoder {
             $by::Builder($name) => $call,
-            other => {
-                let $list: &mut dyn Iterator<Item = _> = &mut $list;
-                match other {
-                    $by::Builder($name) => $call,
-                    $by::Section($name) => $call,
-                    $by::Component($name) => $call,
-                    $by::Instance($name) => $call,
-                }
-            }
+            $by::Section($name) => $crate::shared::on!(@by_pointer $list => $call),
+            $by::Component($name) => $crate::shared::on!(@by_pointer $list => $call),
+            $by::Instance($name) => $crate::shared::on!(@by_pointer $list => $call),
         }
+    }};
+    (@by_pointer $list:ident => $call:expr) => {{
+        let $list: &mut dyn Iterator<Item = _> = &mut $list;
+        $call
     }};
     ($encoder:expr, $by:ident $(+ $case:ident)*, $name:ident => $call:expr) => {
         match $encoder {
@@ -155,19 +159,6 @@ macro_rules! on {
 }
 
 pub(crate) use on;
-
-/// Prints the name of a type whose bytes say nothing to who reads them.
-macro_rules! opaque {
-    ($($name:ident)*) => {
-        $(impl core::fmt::Debug for $name {
-            fn fmt(&self, f: &mut core::fmt::Formatter<'_>) -> core::fmt::Result {
-                f.debug_struct(stringify!($name)).finish_non_exhaustive()
-            }
-        })*
-    };
-}
-
-pub(crate) use opaque;
 
 /// A user's name, as the proved code takes it.
 pub(crate) struct Name<S>(S);

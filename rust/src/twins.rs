@@ -1,7 +1,7 @@
 //! Calls in two forms.
 
-/// Defines each call twice: under upstream's name, where it panics when it is refused, and with
-/// `try_` in front, where it answers the refusal. The body is that of the second.
+/// Defines each call twice: with upstream's name, where it panics on an error, and with `try_` in
+/// front, where it returns the error. The body is that of the second.
 macro_rules! twins {
     ($(
         $(#[$meta:meta])*
@@ -27,8 +27,10 @@ macro_rules! twins {
     ) => {
         $(#[$meta])*
         ///
+        /// # Panics
+        ///
         #[doc = concat!(
-            "Panics where [`", stringify!($tried), "`](Self::", stringify!($tried), ") is refused."
+            "Panics if [`", stringify!($tried), "`](Self::", stringify!($tried), ") fails."
         )]
         #[inline]
         #[track_caller]
@@ -39,8 +41,13 @@ macro_rules! twins {
         }
 
         #[doc = concat!(
-            "[`", stringify!($name), "`](Self::", stringify!($name), "), but a refusal is answered."
+            "Does what [`", stringify!($name), "`](Self::", stringify!($name), ") does, but returns \
+             an error instead of panicking."
         )]
+        ///
+        /// # Errors
+        ///
+        /// Fails as [`Error`](crate::Error) describes.
         #[inline]
         pub fn $tried $($generics)* ($($receiver)*, $($params)*) -> Result<$answer, $crate::Error>
         where $($bounds)*

@@ -14,7 +14,9 @@ encode! {
 }
 
 collections! {
-    /// The section of aliases (component model, binary format, "Alias Definitions").
+    /// The section of aliases ([component model, binary format, "Alias Definitions"][aliases]).
+    ///
+    /// [aliases]: https://github.com/WebAssembly/component-model/blob/main/design/mvp/Binary.md#alias-definitions
     ///
     /// ```
     /// use wenc::{Alias, Component, ComponentAliasSection, ComponentExportKind};

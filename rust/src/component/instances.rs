@@ -14,7 +14,10 @@ encode! {
 }
 
 collections! {
-    /// The section of core instances (component model, binary format, "Core Instance Definitions").
+    /// The section of core instances ([component model, binary format, "Instance
+    /// Definitions"][instances]).
+    ///
+    /// [instances]: https://github.com/WebAssembly/component-model/blob/main/design/mvp/Binary.md#instance-definitions
     ///
     /// ```
     /// use wenc::{CanonicalFunctionSection, Component, ExportKind, InstanceSection, Module};
@@ -37,7 +40,8 @@ collections! {
     /// );
     /// ```
     InstanceSection;
-    /// The section of component instances (component model, binary format, "Instance Definitions").
+    /// The section of instances of components (component model, binary format, "Instance
+    /// Definitions").
     ///
     /// ```
     /// use wenc::{Component, ComponentExportKind, ComponentInstanceSection};
@@ -66,8 +70,8 @@ sections! { InstanceSection ComponentInstanceSection }
 
 impl InstanceSection {
     twins! {
-        /// Adds an instance of the core module with this index, which is given these arguments
-        /// under their names.
+        /// Instantiates a core module. Each argument is the name of a module from which it imports,
+        /// and the core instance for it.
         fn instantiate | try_instantiate<A, S>(&mut self, module_index: u32, args: A) -> &mut Self
         where {
             A: IntoIterator<Item = (S, ModuleArg)>,
@@ -78,8 +82,7 @@ impl InstanceSection {
             Ok(self)
         }
 
-        /// Adds an instance that exports these core items, of these kinds and with these indices,
-        /// under their names.
+        /// Adds a core instance with these exports: the name, the kind and the index of each.
         fn export_items | try_export_items<E, S>(&mut self, exports: E) -> &mut Self
         where {
             E: IntoIterator<Item = (S, ExportKind, u32)>,
@@ -94,8 +97,8 @@ impl InstanceSection {
 
 impl ComponentInstanceSection {
     twins! {
-        /// Adds an instance of the component with this index, which is given the items of these
-        /// kinds and with these indices under their names.
+        /// Instantiates a component. Each argument is the name of an import, and the kind and the
+        /// index of the item for it.
         fn instantiate | try_instantiate<A, S>(&mut self, component_index: u32, args: A) -> &mut Self
         where {
             A: IntoIterator<Item = (S, ComponentExportKind, u32)>,
@@ -106,8 +109,7 @@ impl ComponentInstanceSection {
             Ok(self)
         }
 
-        /// Adds an instance that exports the items of these kinds and with these indices under
-        /// their names.
+        /// Adds an instance with these exports: the name, the kind and the index of each.
         fn export_items | try_export_items<'a, N, E>(&mut self, exports: E) -> &mut Self
         where {
             E: IntoIterator<Item = (N, ComponentExportKind, u32)>,

@@ -6,8 +6,10 @@ use crate::encode::encode;
 use crate::error::granted;
 use crate::proved::wasm_encoder as proved;
 
-/// The type of what a core module imports or exports (WebAssembly 3.0, binary format, "External
-/// Types").
+/// The type of an import or an export of a core module ([WebAssembly 3.0, binary format, "External
+/// Types"][types]).
+///
+/// [types]: https://webassembly.github.io/spec/core/binary/types.html#external-types
 ///
 /// ```
 /// use wenc::{Encode, EntityType, MemoryType};
@@ -35,7 +37,7 @@ pub enum EntityType {
     Global(GlobalType),
     /// A tag.
     Tag(TagType),
-    /// A function of the core type with this index and of none below it, which is not supported.
+    /// A function of exactly the core type with this index, which isn't supported.
     FunctionExact(u32),
 }
 

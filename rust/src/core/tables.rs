@@ -6,18 +6,20 @@ use crate::encode::encode;
 use crate::error::granted;
 use crate::proved::wasm_encoder as proved;
 
-/// The type of a table (WebAssembly 3.0, binary format, "Table Types").
+/// The type of a table ([WebAssembly 3.0, binary format, "Table Types"][types]).
+///
+/// [types]: https://webassembly.github.io/spec/core/binary/types.html#table-types
 #[derive(Clone, Copy, Debug, PartialEq, Eq, Hash)]
 pub struct TableType {
-    /// What its elements are.
+    /// The type of its elements.
     pub element_type: RefType,
     /// Whether its indices have 64 bits.
     pub table64: bool,
-    /// How many elements it has at first.
+    /// The initial number of elements.
     pub minimum: u64,
-    /// How many elements it may have, if there is a bound.
+    /// The maximum number of elements, if there is one.
     pub maximum: Option<u64>,
-    /// Whether threads share it, which is not supported.
+    /// Whether threads share it, which isn't supported.
     pub shared: bool,
 }
 

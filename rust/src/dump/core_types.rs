@@ -6,7 +6,7 @@ use crate::proved::wenc_base::{
     ArrayType, CompositeType, EntityType, FieldType, FuncType, GlobalType, GroupTree, HeapType,
     MemoryType, RefType, StorageType, StructType, SubType, TableType, TagType, ValType,
 };
-use crate::tree::{AbstractHeapType, Space};
+use crate::tree::{CoreAbstractHeapType as AbstractHeapType, Space};
 
 words! {
     AbstractHeapType {

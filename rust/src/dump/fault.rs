@@ -34,7 +34,7 @@ impl From<ListFault> for Fault {
             }
         };
         let place = match fault {
-            ListFault::Memory => None,
+            ListFault::NoMemory => None,
             ListFault::NotAComponent { place } | ListFault::BadSection { place } => Some(place),
             ListFault::BadItem { place, unread } | ListFault::TooDeep { place, unread } => {
                 Some(unread.map_or(place, inside))
@@ -48,7 +48,7 @@ impl From<ListFault> for Fault {
 impl From<ModuleFault> for Fault {
     fn from(fault: ModuleFault) -> Self {
         let place = match fault {
-            ModuleFault::Memory => None,
+            ModuleFault::NoMemory => None,
             ModuleFault::NotAModule => Some(0),
             ModuleFault::BadSection { place } => Some(place),
         };

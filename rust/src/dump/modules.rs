@@ -28,7 +28,7 @@ impl<R: Report> Walk<'_, '_, R> {
         };
         match fault {
             None => {}
-            Some(fault @ ModuleFault::Memory) => return Err(fault.into()),
+            Some(fault @ ModuleFault::NoMemory) => return Err(fault.into()),
             Some(ModuleFault::NotAModule) => self.report.unread(at, "no core module's header")?,
             Some(ModuleFault::BadSection { place }) => {
                 self.report.unread(at + place, "no core section")?;
@@ -94,7 +94,7 @@ impl<R: Report> Walk<'_, '_, R> {
             let place = end - bytes.len();
             let (entry, rest) = match E::decode(bytes) {
                 Ok(read) => read,
-                Err(Refusal::Memory) => return Err(ModuleFault::Memory.into()),
+                Err(Refusal::Memory) => return Err(ModuleFault::NoMemory.into()),
                 Err(Refusal::Malformed) => {
                     return Ok(self.report.unread(place, "items that aren't read")?);
                 }

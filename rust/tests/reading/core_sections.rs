@@ -47,7 +47,7 @@ fn faults_have_their_places() {
         assert_eq!(told[1], bad, "{bytes:x?}");
     }
     let texts = [
-        (ModuleFault::Memory, "no memory"),
+        (ModuleFault::NoMemory, "no memory"),
         (ModuleFault::NotAModule, "no core module's header"),
         (ModuleFault::BadSection { place: 10 }, "bad core section at 0xa"),
     ];

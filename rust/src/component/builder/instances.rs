@@ -5,13 +5,14 @@ use crate::core::ExportKind;
 use crate::shared::named_items;
 use crate::twins::twins;
 
-/// Instances: each call adds one, with a debug name or none, and answers its index (component
-/// model, binary format, "Instance Definitions"). What comes out of an iterator is written in its
-/// order.
+/// Instances: each call adds one, optionally with a debug name, and returns its index ([component
+/// model, binary format, "Instance Definitions"][instances]).
+///
+/// [instances]: https://github.com/WebAssembly/component-model/blob/main/design/mvp/Binary.md#instance-definitions
 impl ComponentBuilder {
     twins! {
-        /// Instantiates a core module, with core instances under the names of the modules from
-        /// which it imports.
+        /// Instantiates a core module. Each argument is the name of a module from which it imports,
+        /// and the core instance for it.
         fn core_instantiate | try_core_instantiate<'a, A>(
             &mut self,
             debug_name: Option<&str>,
@@ -26,8 +27,7 @@ impl ComponentBuilder {
             Ok(self.0.core_instantiate(debug_name, module_index, args.into_iter())?)
         }
 
-        /// Adds a core instance of these core items, under these names: the kind of each, and its
-        /// index.
+        /// Adds a core instance with these exports: the name, the kind and the index of each.
         fn core_instantiate_exports | try_core_instantiate_exports<'a, E>(
             &mut self,
             debug_name: Option<&str>,
@@ -41,8 +41,8 @@ impl ComponentBuilder {
             Ok(self.0.core_instantiate_exports(debug_name, exports.into_iter())?)
         }
 
-        /// Instantiates a component, with items under the names of what it imports: the kind of
-        /// each, and its index.
+        /// Instantiates a component. Each argument is the name of an import, and the kind and the
+        /// index of the item for it.
         fn instantiate | try_instantiate<A, S>(
             &mut self,
             debug_name: Option<&str>,
@@ -58,7 +58,7 @@ impl ComponentBuilder {
             Ok(self.0.instantiate(debug_name, component_index, named_items(args))?)
         }
 
-        /// Adds an instance of these items, under these names: the kind of each, and its index.
+        /// Adds an instance with these exports: the name, the kind and the index of each.
         ///
         /// ```
         /// use wenc::{ComponentBuilder, ComponentExportKind, PrimitiveValType};

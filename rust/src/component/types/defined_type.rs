@@ -1,4 +1,4 @@
-//! The encoder of types of values.
+//! The encoder of defined value types.
 
 use super::{ComponentValType, PrimitiveValType};
 use crate::shared::{Labelled, encoders, on};
@@ -6,11 +6,13 @@ use crate::tree::DefinedTree;
 use crate::twins::twins;
 
 encoders! {
-    /// Writes one type of values (component model, binary format, "Type Definitions"). Each of its
-    /// calls is the last.
+    /// Encodes a defined value type ([component model, binary format, "Type Definitions"][types]).
+    /// Each of its calls ends the type.
     ///
-    /// Where it is dropped, or its call is refused, the type is unfinished: whoever lent itself
-    /// refuses to grow until it has given the type up by its `discard_unfinished`.
+    /// If it is dropped, or its call fails, the type is unfinished, and the parent rejects further
+    /// additions until `discard_unfinished`.
+    ///
+    /// [types]: https://github.com/WebAssembly/component-model/blob/main/design/mvp/Binary.md#type-definitions
     ///
     /// ```
     /// use wenc::{Component, ComponentTypeSection, ComponentValType, PrimitiveValType};
@@ -36,17 +38,17 @@ encoders! {
 
 impl ComponentDefinedTypeEncoder<'_> {
     twins! {
-        /// The type of this tree.
+        /// Encodes the type of a tree.
         fn tree | try_tree(self, ty: &DefinedTree) -> () {
             Ok(on!(self.by, DefinedBy, encoder => encoder.tree(ty))?)
         }
 
-        /// A primitive type.
+        /// Defines a primitive type.
         fn primitive | try_primitive(self, ty: PrimitiveValType) -> () {
             Ok(on!(self.by, DefinedBy, encoder => encoder.primitive(ty))?)
         }
 
-        /// A record: the names and types of its fields.
+        /// Defines a `record` with the names and types of its fields.
         fn record | try_record<'a, F, T>(self, fields: F) -> ()
         where {
             F: IntoIterator<Item = (&'a str, T)>,
@@ -58,7 +60,7 @@ impl ComponentDefinedTypeEncoder<'_> {
             Ok(on!(self.by, DefinedBy, encoder, fields => encoder.record(fields))?)
         }
 
-        /// A variant: the names of its cases, each with the type of its value, where it has one.
+        /// Defines a `variant` with the names of its cases, each with an optional payload type.
         fn variant | try_variant<'a, C>(self, cases: C) -> ()
         where {
             C: IntoIterator<Item = (&'a str, Option<ComponentValType>)>,
@@ -69,13 +71,13 @@ impl ComponentDefinedTypeEncoder<'_> {
             Ok(on!(self.by, DefinedBy, encoder, cases => encoder.variant(cases))?)
         }
 
-        /// A list of any length.
+        /// Defines a `list` of any length.
         fn list | try_list(self, ty: impl Into<ComponentValType>) -> () {
             let ty = ty.into();
             Ok(on!(self.by, DefinedBy, encoder => encoder.list(ty))?)
         }
 
-        /// A map from keys to values.
+        /// Defines a `map` from keys to values.
         fn map | try_map(
             self,
             key: impl Into<ComponentValType>,
@@ -85,7 +87,7 @@ impl ComponentDefinedTypeEncoder<'_> {
             Ok(on!(self.by, DefinedBy, encoder => encoder.map(key, value))?)
         }
 
-        /// A list of this length.
+        /// Defines a `list` of a fixed length.
         fn fixed_length_list | try_fixed_length_list(
             self,
             ty: impl Into<ComponentValType>,
@@ -95,7 +97,7 @@ impl ComponentDefinedTypeEncoder<'_> {
             Ok(on!(self.by, DefinedBy, encoder => encoder.fixed_length_list(ty, elements))?)
         }
 
-        /// A tuple: the types of its values.
+        /// Defines a `tuple` of values of these types.
         fn tuple | try_tuple<I, T>(self, types: I) -> ()
         where {
             I: IntoIterator<Item = T>,
@@ -107,7 +109,7 @@ impl ComponentDefinedTypeEncoder<'_> {
             Ok(on!(self.by, DefinedBy, encoder, types => encoder.tuple(types))?)
         }
 
-        /// A set of flags, by their names.
+        /// Defines `flags` with these names.
         fn flags | try_flags<'a, I>(self, names: I) -> ()
         where {
             I: IntoIterator<Item = &'a str>,
@@ -118,7 +120,7 @@ impl ComponentDefinedTypeEncoder<'_> {
             Ok(on!(self.by, DefinedBy, encoder, names => encoder.flags(names))?)
         }
 
-        /// One of several names.
+        /// Defines an `enum` with these cases.
         fn enum_type | try_enum_type<'a, I>(self, tags: I) -> ()
         where {
             I: IntoIterator<Item = &'a str>,
@@ -129,13 +131,13 @@ impl ComponentDefinedTypeEncoder<'_> {
             Ok(on!(self.by, DefinedBy, encoder, tags => encoder.enum_type(tags))?)
         }
 
-        /// A value or none.
+        /// Defines an `option`.
         fn option | try_option(self, ty: impl Into<ComponentValType>) -> () {
             let ty = ty.into();
             Ok(on!(self.by, DefinedBy, encoder => encoder.option(ty))?)
         }
 
-        /// What went well or what went wrong, each with a value or none.
+        /// Defines a `result`, each case with an optional payload type.
         fn result | try_result(
             self,
             ok: Option<ComponentValType>,
@@ -144,22 +146,22 @@ impl ComponentDefinedTypeEncoder<'_> {
             Ok(on!(self.by, DefinedBy, encoder => encoder.result(ok, err))?)
         }
 
-        /// A handle that owns a resource, by the index of the resource's type.
+        /// Defines an `own` handle of the resource type with this index.
         fn own | try_own(self, idx: u32) -> () {
             Ok(on!(self.by, DefinedBy, encoder => encoder.own(idx))?)
         }
 
-        /// A handle that borrows a resource, by the index of the resource's type.
+        /// Defines a `borrow` handle of the resource type with this index.
         fn borrow | try_borrow(self, idx: u32) -> () {
             Ok(on!(self.by, DefinedBy, encoder => encoder.borrow(idx))?)
         }
 
-        /// A value that comes later, or that something is done.
+        /// Defines a `future`, optionally with a payload type.
         fn future | try_future(self, payload: Option<ComponentValType>) -> () {
             Ok(on!(self.by, DefinedBy, encoder => encoder.future(payload))?)
         }
 
-        /// Values that come one by one, or that something was done so many times.
+        /// Defines a `stream`, optionally with a payload type.
         fn stream | try_stream(self, payload: Option<ComponentValType>) -> () {
             Ok(on!(self.by, DefinedBy, encoder => encoder.stream(payload))?)
         }

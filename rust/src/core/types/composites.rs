@@ -8,8 +8,10 @@ use crate::proved::wasm_encoder as proved;
 use alloc::boxed::Box;
 use alloc::vec::Vec;
 
-/// What a field of a struct or an element of an array holds (WebAssembly 3.0, binary format,
-/// "Composite Types").
+/// The type of a field of a struct or an element of an array ([WebAssembly 3.0, binary format,
+/// "Composite Types"][types]).
+///
+/// [types]: https://webassembly.github.io/spec/core/binary/types.html#composite-types
 #[derive(Clone, Copy, Debug, PartialEq, Eq, PartialOrd, Ord, Hash)]
 pub enum StorageType {
     /// 8 bits.
@@ -21,8 +23,7 @@ pub enum StorageType {
 }
 
 impl StorageType {
-    /// Whether such a field or element begins with a value: numbers with 0, references with null,
-    /// if they may be null.
+    /// Returns `true` if the type has a default value: a number, a vector or a nullable reference.
     pub fn is_defaultable(&self) -> bool {
         match self {
             Self::I8 | Self::I16 => true,
@@ -41,13 +42,12 @@ impl StorageType {
     }
 }
 
-/// A field of a struct, or the elements of an array (WebAssembly 3.0, binary format, "Composite
-/// Types").
+/// A field of a struct, or the elements of an array.
 #[derive(Clone, Copy, Debug, PartialEq, Eq, PartialOrd, Ord, Hash)]
 pub struct FieldType {
-    /// What it holds.
+    /// The type of its value.
     pub element_type: StorageType,
-    /// Whether it can be changed.
+    /// Whether it is mutable.
     pub mutable: bool,
 }
 
@@ -60,7 +60,7 @@ impl FieldType {
     }
 }
 
-/// The type of a core function (WebAssembly 3.0, binary format, "Composite Types").
+/// The type of a core function.
 #[derive(Clone, Debug, PartialEq, Eq, PartialOrd, Ord, Hash)]
 pub struct FuncType {
     values: Box<[ValType]>,
@@ -68,7 +68,7 @@ pub struct FuncType {
 }
 
 impl FuncType {
-    /// A function that takes and answers values of these types.
+    /// Creates a function type from the types of its parameters and results.
     ///
     /// ```
     /// use wenc::{FuncType, ValType};
@@ -88,13 +88,13 @@ impl FuncType {
         Self { values: values.into(), params }
     }
 
-    /// The types of what it takes.
+    /// Returns the types of the parameters.
     #[inline]
     pub fn params(&self) -> &[ValType] {
         &self.values[..self.params]
     }
 
-    /// The types of what it answers.
+    /// Returns the types of the results.
     #[inline]
     pub fn results(&self) -> &[ValType] {
         &self.values[self.params..]
@@ -108,10 +108,10 @@ impl FuncType {
     }
 }
 
-/// A type of arrays (WebAssembly 3.0, binary format, "Composite Types").
+/// An array type.
 #[derive(Clone, Copy, Debug, PartialEq, Eq, PartialOrd, Ord, Hash)]
 pub struct ArrayType(
-    /// What each element is.
+    /// The elements.
     pub FieldType,
 );
 
@@ -122,7 +122,7 @@ impl ArrayType {
     }
 }
 
-/// A type of structs (WebAssembly 3.0, binary format, "Composite Types").
+/// A struct type.
 #[derive(Clone, Debug, PartialEq, Eq, PartialOrd, Ord, Hash)]
 pub struct StructType {
     /// The fields, in their order.
@@ -137,25 +137,23 @@ impl StructType {
     }
 }
 
-/// A type of continuations, by the index of their function type. It isn't of WebAssembly 3.0, and
-/// is not supported.
+/// A continuation type. It isn't in WebAssembly 3.0, and isn't supported.
 #[derive(Clone, Copy, Debug, PartialEq, Eq, PartialOrd, Ord, Hash)]
 pub struct ContType(
     /// The index of the function type.
     pub u32,
 );
 
-/// A type of functions, arrays or structs, with what proposals add to one (WebAssembly 3.0, binary
-/// format, "Composite Types").
+/// A function, array or struct type, with what proposals add to it.
 #[derive(Clone, Debug, PartialEq, Eq, PartialOrd, Ord, Hash)]
 pub struct CompositeType {
     /// The type itself.
     pub inner: CompositeInnerType,
-    /// Whether threads share it, which is not supported.
+    /// Whether threads share it, which isn't supported.
     pub shared: bool,
-    /// The index of the type that describes it, which is not supported.
+    /// The index of its descriptor type, which isn't supported.
     pub descriptor: Option<u32>,
-    /// The index of the type that it describes, which is not supported.
+    /// The index of the type that it describes, which isn't supported.
     pub describes: Option<u32>,
 }
 
@@ -169,16 +167,16 @@ impl CompositeType {
     }
 }
 
-/// A type of functions, arrays or structs (WebAssembly 3.0, binary format, "Composite Types").
+/// A function, array or struct type.
 #[derive(Clone, Debug, PartialEq, Eq, PartialOrd, Ord, Hash)]
 pub enum CompositeInnerType {
-    /// Of functions.
+    /// A function type.
     Func(FuncType),
-    /// Of arrays.
+    /// An array type.
     Array(ArrayType),
-    /// Of structs.
+    /// A struct type.
     Struct(StructType),
-    /// Of continuations, which are not supported.
+    /// A continuation type, which isn't supported.
     Cont(ContType),
 }
 
@@ -194,13 +192,12 @@ impl CompositeInnerType {
     }
 }
 
-/// A composite type with its place among the others (WebAssembly 3.0, binary format, "Recursive
-/// Types").
+/// A composite type as a subtype (WebAssembly 3.0, binary format, "Recursive Types").
 #[derive(Clone, Debug, PartialEq, Eq, PartialOrd, Ord, Hash)]
 pub struct SubType {
-    /// Whether no type may be declared below it.
+    /// Whether it has no subtypes.
     pub is_final: bool,
-    /// The index of the core type above it, if there is one.
+    /// The index of its supertype, if it has one.
     pub supertype_idx: Option<u32>,
     /// The type itself.
     pub composite_type: CompositeType,

@@ -6,12 +6,14 @@ use crate::shared::{encoders, on};
 use crate::twins::twins;
 
 encoders! {
-    /// Writes one core type, or types that refer to each other (WebAssembly 3.0, binary format,
-    /// "Recursive Types"). Each of its calls is the last.
+    /// Encodes a core type or a recursion group ([WebAssembly 3.0, binary format, "Recursive
+    /// Types"][types]). Each of its calls ends the type.
     ///
-    /// Where it is dropped, or its call is refused, the type is unfinished: whoever lent itself
-    /// refuses to grow until it has given the type up by its `discard_unfinished`. What isn't of
-    /// WebAssembly 3.0, as a shared type, is refused as [`Unsupported`](Error::Unsupported).
+    /// If it is dropped, or its call fails, the type is unfinished, and the parent rejects further
+    /// additions until `discard_unfinished`. Types that aren't in WebAssembly 3.0, such as shared
+    /// ones, fail with [`Unsupported`](Error::Unsupported).
+    ///
+    /// [types]: https://webassembly.github.io/spec/core/binary/types.html#recursive-types
     ///
     /// ```
     /// use wenc::{Component, CoreTypeSection, FieldType, HeapType, RefType, StorageType, ValType};
@@ -37,7 +39,7 @@ encoders! {
 
 impl CoreTypeEncoder<'_> {
     twins! {
-        /// A type of functions, by the types of what they take and answer.
+        /// Encodes a function type by the types of its parameters and results.
         fn function | try_function<P, R>(self, params: P, results: R) -> ()
         where {
             P: IntoIterator<Item = ValType>,
@@ -51,19 +53,19 @@ impl CoreTypeEncoder<'_> {
             Ok(on!(self.by, CoreTypeBy + Module, encoder => encoder.function(params, results))?)
         }
 
-        /// This type of functions.
+        /// Encodes a function type.
         fn func_type | try_func_type(self, ty: &FuncType) -> () {
             let ty = ty.to_proved()?;
             Ok(on!(self.by, CoreTypeBy + Module, encoder => encoder.func_type(&ty))?)
         }
 
-        /// A type of arrays: what each element holds, and whether it can be changed.
+        /// Encodes an array type by the type of its elements and whether they are mutable.
         fn array | try_array(self, ty: &StorageType, mutable: bool) -> () {
             let ty = ty.to_proved()?;
             Ok(on!(self.by, CoreTypeBy + Module, encoder => encoder.array(&ty, mutable))?)
         }
 
-        /// A type of structs, by their fields.
+        /// Encodes a struct type by its fields.
         fn struct_ | try_struct<F>(self, fields: F) -> ()
         where {
             F: IntoIterator<Item = FieldType>,
@@ -74,18 +76,19 @@ impl CoreTypeEncoder<'_> {
             Ok(on!(self.by, CoreTypeBy + Module, encoder => encoder.struct_(fields))?)
         }
 
-        /// A type of continuations, which is always refused as [`Unsupported`](Error::Unsupported).
+        /// Fails with [`Unsupported`](Error::Unsupported), since no continuation type is encoded.
         fn cont | try_cont(self, _ty: &ContType) -> () {
             Err(Error::Unsupported)
         }
 
-        /// A type with its place among the others.
+        /// Encodes a subtype.
         fn subtype | try_subtype(self, ty: &SubType) -> () {
             let ty = ty.to_proved()?;
             Ok(on!(self.by, CoreTypeBy + Module, encoder => encoder.subtype(&ty))?)
         }
 
-        /// Types that may refer to each other. They count as one core type of what is written.
+        /// Encodes a recursion group, whose types may refer to each other. It counts as one core
+        /// type of its parent.
         fn rec | try_rec<T>(self, types: T) -> ()
         where {
             T: IntoIterator<Item = SubType>,
