@@ -123,7 +123,7 @@ macro_rules! calls {
 
                 $($(#[$slot_doc])*
                 fn $slot | $slot_tried(&mut self, ty: ValType, i: u32) -> &mut Self {
-                    self.0.$slot(ty.to_proved()?, i)?;
+                    self.0.$slot(ty.try_into()?, i)?;
                     Ok(self)
                 })*
             }

@@ -60,7 +60,7 @@ macro_rules! calls {
 
                 $($(#[$slot_doc])*
                 fn $slot | $slot_tried(&mut self, ty: ValType, i: u32) -> u32 {
-                    Ok(self.0.$slot(ty.to_proved()?, i)?)
+                    Ok(self.0.$slot(ty.try_into()?, i)?)
                 })*
             }
         }

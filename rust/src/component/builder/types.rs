@@ -100,7 +100,7 @@ impl ComponentBuilder {
             rep: ValType,
             dtor: Option<u32>,
         ) -> u32 {
-            Ok(self.0.type_resource(debug_name, rep.to_proved()?, dtor)?)
+            Ok(self.0.type_resource(debug_name, rep.try_into()?, dtor)?)
         }
     }
 }

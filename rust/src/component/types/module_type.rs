@@ -39,7 +39,7 @@ impl ModuleType {
         /// Fails with [`Unsupported`](crate::Error::Unsupported) if the type isn't in WebAssembly
         /// 3.0, such as that of a shared table.
         fn import | try_import(&mut self, module: &str, name: &str, ty: EntityType) -> &mut Self {
-            self.0.import(module, name, ty.to_proved()?)?;
+            self.0.import(module, name, ty.try_into()?)?;
             Ok(self)
         }
 
@@ -75,7 +75,7 @@ impl ModuleType {
         /// Fails with [`Unsupported`](crate::Error::Unsupported) if the type isn't in WebAssembly
         /// 3.0, such as that of a shared table.
         fn export | try_export(&mut self, name: &str, ty: EntityType) -> &mut Self {
-            self.0.export(name, ty.to_proved()?)?;
+            self.0.export(name, ty.try_into()?)?;
             Ok(self)
         }
     }

@@ -75,7 +75,7 @@ impl ComponentTypeSection {
         /// Adds a resource type: its representation, and optionally the index of the core function
         /// that is its destructor.
         fn resource | try_resource(&mut self, rep: ValType, dtor: Option<u32>) -> &mut Self {
-            self.0.resource(rep.to_proved()?, dtor)?;
+            self.0.resource(rep.try_into()?, dtor)?;
             Ok(self)
         }
     }
