@@ -122,10 +122,8 @@ macro_rules! calls {
                 })*
 
                 $($(#[$slot_doc])*
-                fn $slot | $slot_tried(&mut self, ty: ValType, i: u32) -> &mut Self {
-                    self.0.$slot(ty.try_into()?, i)?;
-                    Ok(self)
-                })*
+                fn $slot | $slot_tried(&mut self, ty: ValType, i: u32) -> &mut Self
+                    as (ty.try_into()?, i);)*
             }
         }
     };

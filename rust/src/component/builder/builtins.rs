@@ -59,9 +59,8 @@ macro_rules! calls {
                 })*
 
                 $($(#[$slot_doc])*
-                fn $slot | $slot_tried(&mut self, ty: ValType, i: u32) -> u32 {
-                    Ok(self.0.$slot(ty.try_into()?, i)?)
-                })*
+                fn $slot | $slot_tried(&mut self, ty: ValType, i: u32) -> u32
+                    as (ty.try_into()?, i);)*
             }
         }
     };
