@@ -131,22 +131,8 @@ macro_rules! encoders {
 
 pub(crate) use encoders;
 
-/// One call of an encoder, the same whoever lent itself. A list goes as it is to what the builder
-/// lent itself to, and by a pointer to the others, so that it is compiled once for them all.
+/// One call of an encoder, the same whoever lent itself.
 macro_rules! on {
-    ($encoder:expr, $by:ident, $name:ident, $list:ident => $call:expr) => {{
-        let mut $list = $list;
-        match $encoder {
-            $by::Builder($name) => $call,
-            $by::Section($name) => $crate::shared::on!(@by_pointer $list => $call),
-            $by::Component($name) => $crate::shared::on!(@by_pointer $list => $call),
-            $by::Instance($name) => $crate::shared::on!(@by_pointer $list => $call),
-        }
-    }};
-    (@by_pointer $list:ident => $call:expr) => {{
-        let $list: &mut dyn Iterator<Item = _> = &mut $list;
-        $call
-    }};
     ($encoder:expr, $by:ident $(+ $case:ident)*, $name:ident => $call:expr) => {
         match $encoder {
             $by::Builder($name) => $call,
@@ -171,6 +157,9 @@ impl<S: AsRef<str>> proved::Encode for Name<S> {
 }
 
 impl<S: AsRef<str>> proved::Named for Name<S> {}
+
+/// A list that is handed on by a pointer: what takes it is compiled once, not for each iterator.
+pub(crate) type List<'a, T> = &'a mut (dyn Iterator<Item = T> + 'a);
 
 /// Names and types of a user's, as the proved code takes them. By this the compiler unrolls a list
 /// that it knows; by `map` it doesn't.

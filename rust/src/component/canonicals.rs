@@ -7,7 +7,7 @@ pub(crate) use builtins::builtins;
 use crate::component::{ComponentValType, sections};
 use crate::core::ValType;
 use crate::proved::wasm_encoder::{AddsBuiltin, AddsSlot};
-use crate::shared::collections;
+use crate::shared::{List, collections};
 use crate::twins::twins;
 
 pub use crate::proved::wasm_encoder::CanonicalOption;
@@ -62,7 +62,7 @@ impl CanonicalFunctionSection {
             O::IntoIter: ExactSizeIterator,
         }
         {
-            self.0.lift(core_func_index, type_index, options.into_iter())?;
+            self.0.lift(core_func_index, type_index, &mut options.into_iter() as List<_>)?;
             Ok(self)
         }
 
@@ -73,7 +73,7 @@ impl CanonicalFunctionSection {
             O::IntoIter: ExactSizeIterator,
         }
         {
-            self.0.lower(func_index, options.into_iter())?;
+            self.0.lower(func_index, &mut options.into_iter() as List<_>)?;
             Ok(self)
         }
     }
@@ -117,7 +117,7 @@ macro_rules! calls {
                     O::IntoIter: ExactSizeIterator,
                 }
                 {
-                    self.0.$list($($arg,)* options.into_iter())?;
+                    self.0.$list($($arg,)* &mut options.into_iter() as List<_>)?;
                     Ok(self)
                 })*
 

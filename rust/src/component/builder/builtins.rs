@@ -4,6 +4,7 @@ use crate::component::canonicals::builtins;
 use crate::component::{CanonicalOption, ComponentBuilder, ComponentValType};
 use crate::core::ValType;
 use crate::proved::wasm_encoder::{AddsBuiltin, AddsSlot};
+use crate::shared::List;
 use crate::twins::twins;
 
 /// The builder's call for each row of the table.
@@ -55,7 +56,7 @@ macro_rules! calls {
                     O::IntoIter: ExactSizeIterator,
                 }
                 {
-                    Ok(self.0.$list($($lead,)* options.into_iter())?)
+                    Ok(self.0.$list($($lead,)* &mut options.into_iter() as List<_>)?)
                 })*
 
                 $($(#[$slot_doc])*

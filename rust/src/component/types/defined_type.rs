@@ -1,7 +1,8 @@
 //! The encoder of defined value types.
 
 use super::{ComponentValType, PrimitiveValType};
-use crate::shared::{Labelled, encoders, on};
+use crate::proved::wenc_base::Fault;
+use crate::shared::{Labelled, List, encoders, on};
 use crate::tree::DefinedTree;
 use crate::twins::twins;
 
@@ -56,8 +57,11 @@ impl ComponentDefinedTypeEncoder<'_> {
             T: Into<ComponentValType>,
         }
         {
-            let fields = Labelled(fields.into_iter());
-            Ok(on!(self.by, DefinedBy, encoder, fields => encoder.record(fields))?)
+            let mut fields = Labelled(fields.into_iter());
+            Ok(match self.by {
+                DefinedBy::Builder(encoder) => encoder.record(fields),
+                by => by.record(&mut fields),
+            }?)
         }
 
         /// Defines a `variant` with the names of its cases, each with an optional payload type.
@@ -67,8 +71,7 @@ impl ComponentDefinedTypeEncoder<'_> {
             C::IntoIter: ExactSizeIterator,
         }
         {
-            let cases = cases.into_iter();
-            Ok(on!(self.by, DefinedBy, encoder, cases => encoder.variant(cases))?)
+            Ok(self.by.variant(&mut cases.into_iter())?)
         }
 
         /// Defines a `list` of any length.
@@ -105,8 +108,7 @@ impl ComponentDefinedTypeEncoder<'_> {
             T: Into<ComponentValType>,
         }
         {
-            let types = types.into_iter().map(T::into);
-            Ok(on!(self.by, DefinedBy, encoder, types => encoder.tuple(types))?)
+            Ok(self.by.tuple(&mut types.into_iter().map(T::into))?)
         }
 
         /// Defines `flags` with these names.
@@ -116,8 +118,7 @@ impl ComponentDefinedTypeEncoder<'_> {
             I::IntoIter: ExactSizeIterator,
         }
         {
-            let names = names.into_iter();
-            Ok(on!(self.by, DefinedBy, encoder, names => encoder.flags(names))?)
+            Ok(self.by.flags(&mut names.into_iter())?)
         }
 
         /// Defines an `enum` with these cases.
@@ -127,8 +128,7 @@ impl ComponentDefinedTypeEncoder<'_> {
             I::IntoIter: ExactSizeIterator,
         }
         {
-            let tags = tags.into_iter();
-            Ok(on!(self.by, DefinedBy, encoder, tags => encoder.enum_type(tags))?)
+            Ok(self.by.enum_type(&mut tags.into_iter())?)
         }
 
         /// Defines an `option`.
@@ -166,4 +166,23 @@ impl ComponentDefinedTypeEncoder<'_> {
             Ok(on!(self.by, DefinedBy, encoder => encoder.stream(payload))?)
         }
     }
+}
+
+/// Calls with a list, which aren't compiled again for a user's iterator.
+macro_rules! lists {
+    ($($name:ident $item:ty;)*) => {
+        impl DefinedBy<'_> {
+            $(fn $name<'a>(self, list: List<'_, $item>) -> Result<(), Fault> {
+                on!(self, DefinedBy, encoder => encoder.$name(list))
+            })*
+        }
+    };
+}
+
+lists! {
+    record (&'a str, ComponentValType);
+    variant (&'a str, Option<ComponentValType>);
+    tuple ComponentValType;
+    flags &'a str;
+    enum_type &'a str;
 }
