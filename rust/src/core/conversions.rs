@@ -88,6 +88,7 @@ impl TryFrom<HeapType> for proved::HeapType {
 }
 
 impl From<proved::HeapType> for HeapType {
+    #[inline]
     fn from(ty: proved::HeapType) -> Self {
         match ty {
             proved::HeapType::Abstract(ty) => Self::Abstract { shared: false, ty: ty.into() },
