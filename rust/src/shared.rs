@@ -158,11 +158,11 @@ impl<S: AsRef<str>> proved::Encode for Name<S> {
 
 impl<S: AsRef<str>> proved::Named for Name<S> {}
 
-/// A list that is handed on by a pointer: what takes it is compiled once, not for each iterator.
+/// A list by a pointer to its iterator: what takes it is compiled once, not for each iterator.
 pub(crate) type List<'a, T> = &'a mut (dyn Iterator<Item = T> + 'a);
 
-/// Names and types of a user's, as the proved code takes them. By this the compiler unrolls a list
-/// that it knows; by `map` it doesn't.
+/// The names and types of fields or parameters. The compiler unrolls a list of known length behind
+/// this `?`, which it doesn't behind `map`.
 pub(crate) struct Labelled<I>(pub I);
 
 impl<'a, T, I> Iterator for Labelled<I>

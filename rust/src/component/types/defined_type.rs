@@ -71,7 +71,11 @@ impl ComponentDefinedTypeEncoder<'_> {
             C::IntoIter: ExactSizeIterator,
         }
         {
-            Ok(self.by.variant(&mut cases.into_iter())?)
+            let mut cases = cases.into_iter();
+            Ok(match self.by {
+                DefinedBy::Section(encoder) => encoder.variant(cases),
+                by => by.variant(&mut cases),
+            }?)
         }
 
         /// Defines a `list` of any length.
@@ -172,7 +176,7 @@ impl ComponentDefinedTypeEncoder<'_> {
 macro_rules! lists {
     ($($name:ident $item:ty;)*) => {
         impl DefinedBy<'_> {
-            $(fn $name<'a>(self, list: List<'_, $item>) -> Result<(), Fault> {
+            $(fn $name(self, list: List<'_, $item>) -> Result<(), Fault> {
                 on!(self, DefinedBy, encoder => encoder.$name(list))
             })*
         }
@@ -180,9 +184,9 @@ macro_rules! lists {
 }
 
 lists! {
-    record (&'a str, ComponentValType);
-    variant (&'a str, Option<ComponentValType>);
+    record (&str, ComponentValType);
+    variant (&str, Option<ComponentValType>);
     tuple ComponentValType;
-    flags &'a str;
-    enum_type &'a str;
+    flags &str;
+    enum_type &str;
 }
