@@ -158,8 +158,30 @@ impl<S: AsRef<str>> proved::Encode for Name<S> {
 
 impl<S: AsRef<str>> proved::Named for Name<S> {}
 
-/// A list by a pointer to its iterator: what takes it is compiled once, not for each iterator.
-pub(crate) type List<'a, T> = &'a mut (dyn Iterator<Item = T> + 'a);
+/// A list by a pointer: what takes it is compiled once, not for each iterator.
+pub(crate) struct List<'a, T>(pub &'a mut (dyn Source<T> + 'a));
+
+impl<T> Iterator for List<'_, T> {
+    type Item = T;
+
+    #[inline]
+    fn next(&mut self) -> Option<T> {
+        self.0.draw()
+    }
+}
+
+/// An iterator of which the table of methods has one, where `dyn Iterator` has some ten.
+pub(crate) trait Source<T> {
+    /// The next value.
+    fn draw(&mut self) -> Option<T>;
+}
+
+impl<I: Iterator> Source<I::Item> for I {
+    #[inline]
+    fn draw(&mut self) -> Option<I::Item> {
+        self.next()
+    }
+}
 
 /// The names and types of fields or parameters. The compiler unrolls a list of known length behind
 /// this `?`, which it doesn't behind `map`.

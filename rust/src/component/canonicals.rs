@@ -62,7 +62,7 @@ impl CanonicalFunctionSection {
             O::IntoIter: ExactSizeIterator,
         }
         {
-            self.0.lift(core_func_index, type_index, &mut options.into_iter() as List<_>)?;
+            self.0.lift(core_func_index, type_index, List(&mut options.into_iter()))?;
             Ok(self)
         }
 
@@ -73,7 +73,7 @@ impl CanonicalFunctionSection {
             O::IntoIter: ExactSizeIterator,
         }
         {
-            self.0.lower(func_index, &mut options.into_iter() as List<_>)?;
+            self.0.lower(func_index, List(&mut options.into_iter()))?;
             Ok(self)
         }
     }
@@ -117,7 +117,7 @@ macro_rules! calls {
                     O::IntoIter: ExactSizeIterator,
                 }
                 {
-                    self.0.$list($($arg,)* &mut options.into_iter() as List<_>)?;
+                    self.0.$list($($arg,)* List(&mut options.into_iter()))?;
                     Ok(self)
                 })*
 

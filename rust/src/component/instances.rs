@@ -78,7 +78,7 @@ impl InstanceSection {
             A::IntoIter: ExactSizeIterator,
             S: AsRef<str>,
         } {
-            self.0.instantiate(module_index, &mut named(args) as List<_>)?;
+            self.0.instantiate(module_index, List(&mut named(args)))?;
             Ok(self)
         }
 
@@ -89,7 +89,7 @@ impl InstanceSection {
             E::IntoIter: ExactSizeIterator,
             S: AsRef<str>,
         } {
-            self.0.export_items(&mut named_items(exports) as List<_>)?;
+            self.0.export_items(List(&mut named_items(exports)))?;
             Ok(self)
         }
     }
@@ -105,7 +105,7 @@ impl ComponentInstanceSection {
             A::IntoIter: ExactSizeIterator,
             S: AsRef<str>,
         } {
-            self.0.instantiate(component_index, &mut named_items(args) as List<_>)?;
+            self.0.instantiate(component_index, List(&mut named_items(args)))?;
             Ok(self)
         }
 
@@ -117,7 +117,7 @@ impl ComponentInstanceSection {
             N: Into<ComponentExternName<'a>>,
         } {
             let named = |(name, kind, index): (N, _, _)| (name.into().into_proved(), kind, index);
-            self.0.export_items(&mut exports.into_iter().map(named) as List<_>)?;
+            self.0.export_items(List(&mut exports.into_iter().map(named)))?;
             Ok(self)
         }
     }

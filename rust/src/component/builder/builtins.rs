@@ -56,7 +56,7 @@ macro_rules! calls {
                     O::IntoIter: ExactSizeIterator,
                 }
                 {
-                    Ok(self.0.$list($($lead,)* &mut options.into_iter() as List<_>)?)
+                    Ok(self.0.$list($($lead,)* List(&mut options.into_iter()))?)
                 })*
 
                 $($(#[$slot_doc])*

@@ -23,8 +23,7 @@ impl ComponentBuilder {
             O::IntoIter: ExactSizeIterator,
         }
         {
-            let options: List<_> = &mut options.into_iter();
-            Ok(self.0.lower_func(debug_name, func_index, options)?)
+            Ok(self.0.lower_func(debug_name, func_index, List(&mut options.into_iter()))?)
         }
 
         /// Lifts a core function to the type with this index (`canon lift`) and returns the
@@ -66,8 +65,7 @@ impl ComponentBuilder {
             O::IntoIter: ExactSizeIterator,
         }
         {
-            let options: List<_> = &mut options.into_iter();
-            Ok(self.0.lift_func(debug_name, core_func_index, type_index, options)?)
+            Ok(self.0.lift_func(debug_name, core_func_index, type_index, List(&mut options.into_iter()))?)
         }
     }
 }

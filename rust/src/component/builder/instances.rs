@@ -24,8 +24,7 @@ impl ComponentBuilder {
             A::IntoIter: ExactSizeIterator,
         }
         {
-            let args: List<_> = &mut args.into_iter();
-            Ok(self.0.core_instantiate(debug_name, module_index, args)?)
+            Ok(self.0.core_instantiate(debug_name, module_index, List(&mut args.into_iter()))?)
         }
 
         /// Adds a core instance with these exports: the name, the kind and the index of each.
@@ -56,8 +55,7 @@ impl ComponentBuilder {
             S: AsRef<str>,
         }
         {
-            let args: List<_> = &mut named_items(args);
-            Ok(self.0.instantiate(debug_name, component_index, args)?)
+            Ok(self.0.instantiate(debug_name, component_index, List(&mut named_items(args)))?)
         }
 
         /// Adds an instance with these exports: the name, the kind and the index of each.
@@ -84,8 +82,7 @@ impl ComponentBuilder {
         }
         {
             let named = |(name, kind, index): (N, _, _)| (name.into().into_proved(), kind, index);
-            let exports: List<_> = &mut exports.into_iter().map(named);
-            Ok(self.0.instantiate_exports(debug_name, exports)?)
+            Ok(self.0.instantiate_exports(debug_name, List(&mut exports.into_iter().map(named)))?)
         }
     }
 }

@@ -60,7 +60,7 @@ impl ComponentDefinedTypeEncoder<'_> {
             let mut fields = Labelled(fields.into_iter());
             Ok(match self.by {
                 DefinedBy::Builder(encoder) => encoder.record(fields),
-                by => by.record(&mut fields),
+                by => by.record(List(&mut fields)),
             }?)
         }
 
@@ -74,7 +74,7 @@ impl ComponentDefinedTypeEncoder<'_> {
             let mut cases = cases.into_iter();
             Ok(match self.by {
                 DefinedBy::Section(encoder) => encoder.variant(cases),
-                by => by.variant(&mut cases),
+                by => by.variant(List(&mut cases)),
             }?)
         }
 
@@ -112,7 +112,7 @@ impl ComponentDefinedTypeEncoder<'_> {
             T: Into<ComponentValType>,
         }
         {
-            Ok(self.by.tuple(&mut types.into_iter().map(T::into))?)
+            Ok(self.by.tuple(List(&mut types.into_iter().map(T::into)))?)
         }
 
         /// Defines `flags` with these names.
@@ -122,7 +122,7 @@ impl ComponentDefinedTypeEncoder<'_> {
             I::IntoIter: ExactSizeIterator,
         }
         {
-            Ok(self.by.flags(&mut names.into_iter())?)
+            Ok(self.by.flags(List(&mut names.into_iter()))?)
         }
 
         /// Defines an `enum` with these cases.
@@ -132,7 +132,7 @@ impl ComponentDefinedTypeEncoder<'_> {
             I::IntoIter: ExactSizeIterator,
         }
         {
-            Ok(self.by.enum_type(&mut tags.into_iter())?)
+            Ok(self.by.enum_type(List(&mut tags.into_iter()))?)
         }
 
         /// Defines an `option`.

@@ -74,7 +74,7 @@ impl ComponentFuncTypeEncoder<'_> {
             self.is_amid = true;
             let answer = match &mut self.by {
                 FuncBy::Builder(encoder) => encoder.params(params),
-                by => by.params(&mut params),
+                by => by.params(List(&mut params)),
             };
             self.is_amid = false;
             answer?;
