@@ -4,8 +4,9 @@
 //! them is Rust, but for a few names that mean something else there. What the eraser
 //!
 //! - *leaves out*: clauses (`requires`, `ensures`), `ghost` items and fields with their comments,
-//!   the examples of documentation (they are Rattle), the attributes `tactic`, `cycle` and `error`,
-//!   `Drop` among derives and bounds, and `use thiserror::Error`;
+//!   the examples of documentation (they are Rattle) with the sentence that ends in a colon before
+//!   one, the attributes `tactic`, `cycle` and `error`, `Drop` among derives and bounds, and
+//!   `use thiserror::Error`;
 //! - *renames*: the roots of paths, so that `crate::` and `wenc_base::` are modules of
 //!   `crate::proved`, and `std::` is `crate::proved::rt_std`, which has what the
 //!   sources use of Rattle's library; `Clone` and `clone`, which may be refused there, to
@@ -13,7 +14,7 @@
 //!   names; `derive_where` to `derive`; `pub` of the methods that are not for a user ([`NARROWED`])
 //!   to `pub(crate)`;
 //! - *adds*: the names that stand in scope without being named, in front of a file's first item;
-//!   what a user of Rust expects of a tree ([`known::TREES`], [`known::PRINTED`]); `Display` and
+//!   what a user of Rust expects of a type ([`known::TREES`], [`known::DERIVED_TOO`]); `Display` and
 //!   `Error` after an enum that derives `Error`; `pub` to `main`; `#[inline]` to the methods `encode` of types, which are short and call each other;
 //! - *refuses*: everything else that it doesn't know. Better no crate than one that does something
 //!   else than was proved.
@@ -215,10 +216,10 @@ impl<'a> Eraser<'a> {
             || self.crates.contains(&word)
     }
 
-    /// Leaves out the examples of documentation.
+    /// Leaves out the examples of documentation, with the sentence that ends in a colon before one.
     fn examples(&mut self) -> Result<(), Refused> {
         let mut begun = None;
-        for (token, becomes) in self.tokens.iter().zip(&mut self.becomes) {
+        for (t, token) in self.tokens.iter().enumerate() {
             if token.kind == Kind::Comment {
                 let is_fence = token.text.contains("```");
                 let is_doc = token.text.starts_with("///") || token.text.starts_with("//!");
@@ -226,14 +227,38 @@ impl<'a> Eraser<'a> {
                     return Err((token.line, "an example outside of documentation"));
                 }
                 if is_fence || begun.is_some() {
-                    *becomes = Cow::Borrowed("");
+                    self.becomes[t] = Cow::Borrowed("");
                 }
                 if is_fence {
                     begun = if begun.is_none() { Some(token.line) } else { None };
                 }
+                if is_fence && begun.is_some() {
+                    self.introduction(t);
+                }
             }
         }
         begun.map_or(Ok(()), |line| Err((line, "an example without an end")))
+    }
+
+    /// Leaves out the sentence that ends in a colon before the example that begins at `fence`.
+    fn introduction(&mut self, fence: usize) {
+        let tokens = self.tokens;
+        let is_doc = |t: &usize| [Kind::Space, Kind::Comment].contains(&tokens[*t].kind);
+        let lines = (0..fence).rev().take_while(is_doc);
+        let mut lines = lines.filter(|t| tokens[*t].kind == Kind::Comment).peekable();
+        while lines.next_if(|t| ["///", "//!"].contains(&tokens[*t].text)).is_some() {}
+        if !lines.peek().is_some_and(|t| tokens[*t].text.ends_with(':')) {
+            return;
+        }
+        for t in lines {
+            let text = tokens[t].text;
+            let is_before = text.ends_with('.') || ["///", "//!"].contains(&text);
+            let end = if is_before { text.len() } else { text.rfind(". ").map_or(0, |at| at + 1) };
+            self.becomes[t] = Cow::Borrowed(&text[..end]);
+            if end > 0 {
+                return;
+            }
+        }
     }
 
     /// Leaves out a clause, or a ghost item with what documents it.

@@ -1,4 +1,4 @@
-//! Components, their sections, and what these are made of.
+//! Components, their sections, and the parts of these.
 
 mod aliases;
 mod builder;
@@ -28,11 +28,14 @@ use crate::encode::{Encode, Foreign, append};
 use crate::error::granted;
 use crate::proved::wasm_encoder as proved;
 use alloc::vec::Vec;
+use core::fmt;
 
 pub use proved::ComponentSectionId;
 
-/// A section of a component (component model, binary format, "Component Definitions"). A type of
-/// your own may implement it too.
+/// A section of a component ([component model, binary format, "Component
+/// Definitions"][definitions]). A type of your own may implement it too.
+///
+/// [definitions]: https://github.com/WebAssembly/component-model/blob/main/design/mvp/Binary.md#component-definitions
 ///
 /// ```
 /// use wenc::{Component, ComponentSection, ComponentSectionId, Encode};
@@ -59,21 +62,21 @@ pub use proved::ComponentSectionId;
 /// assert_eq!(component.as_slice()[8..], [0, 3, 1, b'x', 7]);
 /// ```
 pub trait ComponentSection: Encode {
-    /// The section's id.
+    /// Returns the section's id, from 0 to 255.
     fn id(&self) -> u8;
 
-    /// Appends the section, its id in front.
+    /// Appends the section with its id to `dst`.
     ///
     /// # Panics
     ///
-    /// As [`Encode::encode`], and then `dst` is as it was.
+    /// Panics as [`Encode::encode`] does, with `dst` unchanged.
     fn append_to_component(&self, dst: &mut Vec<u8>) {
         append_section(self, dst);
     }
 }
 
-/// Appends a section, its id in front, or leaves the bytes as they were. Room for the id is asked for by itself: where it is
-/// refused, the section is written first and then moved up.
+/// Appends a section with its id, or leaves the bytes unchanged. Room for the id is reserved by
+/// itself: if that fails, the section is written first and then moved up.
 fn append_section<S: ComponentSection + ?Sized>(section: &S, dst: &mut Vec<u8>) {
     let _ = dst.try_reserve(1);
     granted(append(dst, |sink| {
@@ -87,8 +90,8 @@ impl<S: ComponentSection + ?Sized> proved::ComponentSection for Foreign<'_, S> {
     }
 }
 
-/// A component by its sections, which stand in it in the order in which they are appended
-/// (component model, binary format, "Component Definitions").
+/// A component that is built section by section, in their order. Neither the order nor the sections
+/// are checked.
 ///
 /// ```
 /// use wenc::{Component, ComponentImportSection, ComponentTypeRef, ComponentTypeSection};
@@ -105,21 +108,21 @@ impl<S: ComponentSection + ?Sized> proved::ComponentSection for Foreign<'_, S> {
 ///     b"\0asm\x0d\0\x01\0\x07\x05\x01\x40\0\x01\0\x0a\x06\x01\0\x01f\x01\0",
 /// );
 /// ```
-#[derive(Clone, Debug)]
+#[derive(Clone, Debug, PartialEq, Eq, Hash)]
 pub struct Component {
     bytes: Vec<u8>,
 }
 
 impl Component {
-    /// What each component begins with.
+    /// The first bytes of every component.
     pub const HEADER: [u8; 8] = <proved::Component>::HEADER;
 
-    /// A component without sections.
+    /// Creates a component without sections.
     pub fn new() -> Self {
         Self { bytes: Self::HEADER.into() }
     }
 
-    /// The bytes.
+    /// Returns the bytes of the component.
     pub fn finish(self) -> Vec<u8> {
         self.bytes
     }
@@ -128,13 +131,13 @@ impl Component {
     ///
     /// # Panics
     ///
-    /// As [`Encode::encode`], and then the component is as it was.
+    /// Panics as [`Encode::encode`] does, with the component unchanged.
     pub fn section(&mut self, section: &impl ComponentSection) -> &mut Self {
         append_section(section, &mut self.bytes);
         self
     }
 
-    /// The bytes so far.
+    /// Returns the bytes so far.
     pub fn as_slice(&self) -> &[u8] {
         &self.bytes
     }
@@ -146,17 +149,17 @@ impl Default for Component {
     }
 }
 
-/// The sections that have a number of items: a section's id, how many items it has, and how it
-/// prints itself.
+/// The sections that have a number of items: a section's id, how many items it has, and what it
+/// contains.
 macro_rules! sections {
     ($($name:ident)*) => {
         $(impl $name {
-            /// How many items the section has.
+            /// Returns the number of items, with an unfinished one.
             pub fn len(&self) -> u32 {
                 self.0.len()
             }
 
-            /// Whether it has none.
+            /// Returns `true` if the section has no items.
             pub fn is_empty(&self) -> bool {
                 self.0.is_empty()
             }
@@ -168,11 +171,7 @@ macro_rules! sections {
             }
         }
 
-        impl core::fmt::Debug for $name {
-            fn fmt(&self, f: &mut core::fmt::Formatter<'_>) -> core::fmt::Result {
-                f.debug_struct(stringify!($name)).field("len", &self.len()).finish_non_exhaustive()
-            }
-        })*
+        $crate::content::content! { $name })*
     };
 }
 
@@ -181,3 +180,52 @@ pub(crate) use sections;
 crate::encode::encode! {
     ComponentSectionId, value => *value;
 }
+
+impl ComponentSectionId {
+    /// All ids, in their order.
+    pub const ALL: [Self; 12] = [
+        Self::CoreCustom,
+        Self::CoreModule,
+        Self::CoreInstance,
+        Self::CoreType,
+        Self::Component,
+        Self::Instance,
+        Self::Alias,
+        Self::Type,
+        Self::CanonicalFunction,
+        Self::Start,
+        Self::Import,
+        Self::Export,
+    ];
+}
+
+impl TryFrom<u8> for ComponentSectionId {
+    type Error = UnknownSectionId;
+
+    fn try_from(id: u8) -> Result<Self, UnknownSectionId> {
+        Self::ALL.into_iter().find(|known| u8::from(*known) == id).ok_or(UnknownSectionId(id))
+    }
+}
+
+/// No section has this id. The conversions from `u8` to [`ComponentSectionId`] and
+/// [`SectionId`](crate::SectionId) return it.
+///
+/// ```
+/// use wenc::{ComponentSectionId, UnknownSectionId};
+///
+/// assert_eq!(ComponentSectionId::try_from(11), Ok(ComponentSectionId::Export));
+/// assert_eq!(ComponentSectionId::try_from(12), Err(UnknownSectionId(12)));
+/// ```
+#[derive(Clone, Copy, Debug, PartialEq, Eq, Hash)]
+pub struct UnknownSectionId(
+    /// The id, from 0 to 255.
+    pub u8,
+);
+
+impl fmt::Display for UnknownSectionId {
+    fn fmt(&self, f: &mut fmt::Formatter<'_>) -> fmt::Result {
+        write!(f, "no section has the id {}", self.0)
+    }
+}
+
+impl core::error::Error for UnknownSectionId {}

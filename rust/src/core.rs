@@ -1,5 +1,6 @@
 //! Core modules, as far as components have to do with them.
 
+mod conversions;
 mod custom;
 mod exports;
 mod globals;
@@ -23,19 +24,22 @@ pub use tables::TableType;
 pub use tags::{TagKind, TagType};
 pub use types::*;
 
+use crate::UnknownSectionId;
 use crate::encode::{Encode, Foreign, append, encode};
 use crate::error::granted;
 use crate::proved::wasm_encoder as proved;
 use crate::proved::wenc_base::Verbatim;
 use alloc::vec::Vec;
 
-/// A section of a core module (WebAssembly 3.0, binary format, "Sections"). A type of your own may
-/// implement it too.
+/// A section of a core module ([WebAssembly 3.0, binary format, "Sections"][sections]). A type of
+/// your own may implement it too.
+///
+/// [sections]: https://webassembly.github.io/spec/core/binary/modules.html#sections
 ///
 /// ```
 /// use wenc::{Encode, Module, Section, SectionId};
 ///
-/// /// A section that says how many data segments there are.
+/// /// A section with the number of data segments.
 /// struct DataCount(u32);
 ///
 /// impl Encode for DataCount {
@@ -57,21 +61,21 @@ use alloc::vec::Vec;
 /// assert_eq!(module.as_slice()[8..], [12, 1, 0]);
 /// ```
 pub trait Section: Encode {
-    /// The section's id.
+    /// Returns the section's id, from 0 to 255.
     fn id(&self) -> u8;
 
-    /// Appends the section, its id in front.
+    /// Appends the section with its id to `dst`.
     ///
     /// # Panics
     ///
-    /// As [`Encode::encode`], and then `dst` is as it was.
+    /// Panics as [`Encode::encode`] does, with `dst` unchanged.
     fn append_to(&self, dst: &mut Vec<u8>) {
         append_section(self, dst);
     }
 }
 
-/// Appends a section, its id in front, or leaves the bytes as they were. Room for the id is asked for by itself, as for a
-/// section of a component.
+/// Appends a section with its id, or leaves the bytes unchanged. Room for the id is reserved by
+/// itself, as for a section of a component.
 fn append_section<S: Section + ?Sized>(section: &S, dst: &mut Vec<u8>) {
     let _ = dst.try_reserve(1);
     granted(append(dst, |sink| proved::Section::append_to(&Foreign(section), sink)));
@@ -83,11 +87,9 @@ impl<S: Section + ?Sized> proved::Section for Foreign<'_, S> {
     }
 }
 
-/// The ids of the sections of core modules, in their order (WebAssembly 3.0, binary format,
-/// "Sections"): as a number of 8 bits, each is one more than that before it. Only custom sections
-/// are written here, the others are those of a [`RawSection`](crate::RawSection) or of a
-/// [`Section`] of your own.
-#[derive(Clone, Copy, Debug, PartialEq, Eq, PartialOrd, Ord)]
+/// The id of a section of a core module; each is one more than that before it. Only custom sections
+/// have a type here, the others are a [`RawSection`](crate::RawSection) or a [`Section`] of your own.
+#[derive(Clone, Copy, Debug, PartialEq, Eq, PartialOrd, Ord, Hash)]
 #[repr(u8)]
 pub enum SectionId {
     /// A custom section.
@@ -96,7 +98,7 @@ pub enum SectionId {
     Type,
     /// Imports.
     Import,
-    /// Functions, by their types.
+    /// The types of functions.
     Function,
     /// Tables.
     Table,
@@ -106,18 +108,46 @@ pub enum SectionId {
     Global,
     /// Exports.
     Export,
-    /// The function that is called at instantiation.
+    /// The start function.
     Start,
     /// Element segments.
     Element,
-    /// Functions, by their code.
+    /// The code of functions.
     Code,
     /// Data segments.
     Data,
-    /// How many data segments there are.
+    /// The number of data segments.
     DataCount,
     /// Tags.
     Tag,
+}
+
+impl SectionId {
+    /// All ids, in their order.
+    pub const ALL: [Self; 14] = [
+        Self::Custom,
+        Self::Type,
+        Self::Import,
+        Self::Function,
+        Self::Table,
+        Self::Memory,
+        Self::Global,
+        Self::Export,
+        Self::Start,
+        Self::Element,
+        Self::Code,
+        Self::Data,
+        Self::DataCount,
+        Self::Tag,
+    ];
+}
+
+impl TryFrom<u8> for SectionId {
+    type Error = UnknownSectionId;
+
+    fn try_from(id: u8) -> Result<Self, UnknownSectionId> {
+        Self::ALL.into_iter().find(|known| u8::from(*known) == id).ok_or(UnknownSectionId(id))
+    }
 }
 
 impl From<SectionId> for u8 {
@@ -127,9 +157,8 @@ impl From<SectionId> for u8 {
     }
 }
 
-/// A core module by its sections, which stand in it in the order in which they are appended
-/// (WebAssembly 3.0, binary format, "Modules"). Nothing checks that order, nor what the sections
-/// have.
+/// A core module that is built section by section, in their order (WebAssembly 3.0, binary format,
+/// "Modules"). Neither the order nor the sections are checked.
 ///
 /// ```
 /// use wenc::{Component, Module, ModuleSection, RawSection, SectionId};
@@ -145,16 +174,16 @@ impl From<SectionId> for u8 {
 ///     b"\0asm\x0d\0\x01\0\x01\x0e\0asm\x01\0\0\0\x01\x04\x01\x60\0\0",
 /// );
 /// ```
-#[derive(Clone, Debug)]
+#[derive(Clone, Debug, PartialEq, Eq, Hash)]
 pub struct Module {
     bytes: Vec<u8>,
 }
 
 impl Module {
-    /// What each module begins with.
+    /// The first bytes of every module.
     pub const HEADER: [u8; 8] = <proved::Module>::HEADER;
 
-    /// A module without sections.
+    /// Creates a module without sections.
     pub fn new() -> Self {
         Self { bytes: Self::HEADER.into() }
     }
@@ -163,18 +192,18 @@ impl Module {
     ///
     /// # Panics
     ///
-    /// As [`Encode::encode`], and then the module is as it was.
+    /// Panics as [`Encode::encode`] does, with the module unchanged.
     pub fn section(&mut self, section: &impl Section) -> &mut Self {
         append_section(section, &mut self.bytes);
         self
     }
 
-    /// The bytes so far.
+    /// Returns the bytes so far.
     pub fn as_slice(&self) -> &[u8] {
         &self.bytes
     }
 
-    /// The bytes.
+    /// Returns the bytes of the module.
     pub fn finish(self) -> Vec<u8> {
         self.bytes
     }

@@ -5,7 +5,7 @@ use crate::proved::rt_std::string::String as ProvedString;
 use crate::proved::wenc_decode::Decode;
 use crate::proved::wenc_list::Unread;
 use crate::proved::wenc_read::{Refusal, name_of, u32_of};
-use crate::tree::EntityType;
+use crate::tree::CoreEntityType;
 use crate::{CoreSection, ExportKind, ModuleFault, SectionId};
 use alloc::string::String;
 use core::ops::Range;
@@ -21,7 +21,7 @@ pub enum CoreItem {
         /// Its name in that module.
         name: String,
         /// Its type.
-        ty: EntityType,
+        ty: CoreEntityType,
     },
     /// An export.
     Export {
@@ -46,7 +46,7 @@ impl CoreItem {
             SectionId::Import => {
                 let (module, rest) = name_of(Global, bytes)?;
                 let (name, rest) = name_of(Global, rest)?;
-                let (ty, rest) = EntityType::decode(Global, rest)?;
+                let (ty, rest) = CoreEntityType::decode(Global, rest)?;
                 (Self::Import { module: module.into(), name: name.into(), ty }, rest)
             }
             SectionId::Export => {
@@ -79,7 +79,7 @@ impl<'a> CoreSection<'a> {
     /// read and nothing else.
     ///
     /// ```
-    /// use wenc::tree::EntityType;
+    /// use wenc::tree::CoreEntityType;
     /// use wenc::{CoreItem, CoreSections, ModuleFault, Unread};
     ///
     /// // two imports, of which the second ends too early
@@ -91,7 +91,7 @@ impl<'a> CoreSection<'a> {
     /// let (range, item) = items.next().unwrap()?;
     /// let (module, name) = ("m".into(), "f".into());
     /// assert_eq!(range, 11..17);
-    /// assert_eq!(item, CoreItem::Import { module, name, ty: EntityType::Function(5) });
+    /// assert_eq!(item, CoreItem::Import { module, name, ty: CoreEntityType::Function(5) });
     ///
     /// let unread = Unread::Item { number: 1, place: 17 };
     /// assert_eq!(items.next(), Some(Err(ModuleFault::BadItem { unread })));
@@ -141,7 +141,7 @@ impl CoreItems<'_> {
                     (self.left, self.number, self.rest) = (Some(left - 1), self.number + 1, rest);
                     return Some(Ok((place..self.end - rest.len(), item)));
                 }
-                Err(Refusal::Memory) => return Some(Err(ModuleFault::Memory)),
+                Err(Refusal::Memory) => return Some(Err(ModuleFault::NoMemory)),
                 Err(Refusal::Malformed) => Unread::Item { number: self.number, place },
             },
         };
@@ -152,7 +152,7 @@ impl CoreItems<'_> {
 /// # Errors
 ///
 /// [`ModuleFault::BadItem`] where no count or no item begins, or where bytes follow the last item;
-/// or [`ModuleFault::Memory`].
+/// or [`ModuleFault::NoMemory`].
 impl Iterator for CoreItems<'_> {
     type Item = Result<(Range<usize>, CoreItem), ModuleFault>;
 

@@ -23,37 +23,17 @@ pub struct CoreSection<'a> {
 }
 
 impl CoreSection<'_> {
-    /// Returns what the section's id stands for; `None` for an id above 13.
+    /// Returns the section's id as a [`SectionId`]; `None` for an id above 13.
     pub fn kind(&self) -> Option<SectionId> {
-        SectionId::ALL.into_iter().find(|kind| u8::from(*kind) == self.id)
+        self.id.try_into().ok()
     }
 }
 
-impl SectionId {
-    /// All ids, in their order.
-    pub const ALL: [Self; 14] = [
-        Self::Custom,
-        Self::Type,
-        Self::Import,
-        Self::Function,
-        Self::Table,
-        Self::Memory,
-        Self::Global,
-        Self::Export,
-        Self::Start,
-        Self::Element,
-        Self::Code,
-        Self::Data,
-        Self::DataCount,
-        Self::Tag,
-    ];
-}
-
 /// The sections of a core module, in their order (WebAssembly 3.0, binary format, "Modules").
-/// Their contents aren't read, except for the names of custom sections, and nothing checks their
-/// order.
+/// Their contents aren't read, except for the names of custom sections, and their order isn't
+/// checked.
 ///
-/// After a fault there are no further sections.
+/// The iterator ends after an error.
 ///
 /// ```
 /// use wenc::{CoreSections, ModuleFault, SectionId};
@@ -82,7 +62,7 @@ impl<'a> CoreSections<'a> {
     ///
     /// # Errors
     ///
-    /// [`ModuleFault::NotAModule`] where the bytes don't begin with the header of a core module.
+    /// [`ModuleFault::NotAModule`] if the bytes don't begin with the header of a core module.
     pub fn new(module: &'a [u8]) -> Result<Self, ModuleFault> {
         let rest = behind_module_header(module).ok_or(ModuleFault::NotAModule)?;
         Ok(Self { len: module.len(), rest })
@@ -113,21 +93,22 @@ impl<'a> Iterator for CoreSections<'a> {
         let first = self.first();
         self.rest = first.as_ref().map_or(&[], |(_, rest)| rest);
         Some(first.map(|(section, _)| section).map_err(|refusal| match refusal {
-            Refusal::Memory => ModuleFault::Memory,
+            Refusal::Memory => ModuleFault::NoMemory,
             Refusal::Malformed => ModuleFault::BadSection { place },
         }))
     }
 }
 
-/// Why a core module isn't read.
-#[derive(Clone, Copy, Debug, PartialEq, Eq)]
+/// Why a core module can't be read.
+#[derive(Clone, Copy, Debug, PartialEq, Eq, Hash)]
+#[non_exhaustive]
 pub enum ModuleFault {
-    /// An allocation was refused.
-    Memory,
+    /// An allocation failed.
+    NoMemory,
     /// The bytes don't begin with the header of a core module.
     NotAModule,
-    /// A section without a size, or with one that is past the end of the module, or a custom
-    /// section without a name.
+    /// A section lacks a size, or a name if it is a custom one, or has a size past the end of the
+    /// module.
     BadSection {
         /// The byte offset of its id in the module.
         place: usize,
@@ -142,7 +123,7 @@ pub enum ModuleFault {
 impl fmt::Display for ModuleFault {
     fn fmt(&self, f: &mut fmt::Formatter<'_>) -> fmt::Result {
         match self {
-            Self::Memory => f.write_str("no memory"),
+            Self::NoMemory => f.write_str("no memory"),
             Self::NotAModule => f.write_str("no core module's header"),
             Self::BadSection { place } => write!(f, "bad core section at {place:#x}"),
             Self::BadItem { unread } => write_part(f, "bad item", *unread),

@@ -50,13 +50,14 @@ impl<'a> Sections<'a> {
     ///
     /// # Errors
     ///
-    /// [`ListFault::NotAComponent`] where the bytes don't begin with a component's header.
+    /// [`ListFault::NotAComponent`] if the bytes don't begin with a component's header.
     pub fn new(bytes: &'a [u8]) -> Result<Self, ListFault> {
         let left = proved::Sections::new(bytes).map_err(|fault| ListFault::told(bytes, fault))?;
         Ok(Self { bytes, left: Some(left) })
     }
 
-    /// Returns the items of all sections, each with its bytes, up to the first that isn't read.
+    /// Returns the items of all sections, each with its byte offsets, up to the first that can't be
+    /// read.
     pub fn items(self) -> impl Iterator<Item = Result<(Range<usize>, ItemTree), ListFault>> + 'a {
         self.items_of(|_| true)
     }
@@ -128,6 +129,13 @@ impl<'a> Sections<'a> {
     }
 }
 
+impl fmt::Debug for Sections<'_> {
+    fn fmt(&self, f: &mut fmt::Formatter<'_>) -> fmt::Result {
+        let offset = self.left.map(|left| left.place());
+        f.debug_struct("Sections").field("offset", &offset).finish_non_exhaustive()
+    }
+}
+
 /// The values up to the first fault, and that.
 fn up_to_fault<T, E>(
     mut values: impl Iterator<Item = Result<T, E>>,
@@ -142,8 +150,8 @@ fn up_to_fault<T, E>(
 
 /// # Errors
 ///
-/// [`ListFault::BadSection`] where no section begins, and [`ListFault::BadItem`] where the section
-/// has no count of its items.
+/// [`ListFault::BadSection`] if no section begins, and [`ListFault::BadItem`] if the section has no
+/// count of its items.
 impl<'a> Iterator for Sections<'a> {
     type Item = Result<SectionReader<'a>, ListFault>;
 
@@ -192,13 +200,13 @@ impl<'a> SectionReader<'a> {
         self.left.place..self.left.ends
     }
 
-    /// The bytes of the section, from its id on.
+    /// Returns the bytes of the section, from its id on.
     pub fn bytes(&self) -> &'a [u8] {
         &self.bytes[self.range()]
     }
 
-    /// The section as its id and the bytes after its size: for a core module or a nested component,
-    /// those of that module or component.
+    /// Returns the section as its id and the bytes after its size: for a core module or a nested
+    /// component, those of that module or component.
     ///
     /// ```
     /// use wenc::Sections;
@@ -211,11 +219,13 @@ impl<'a> SectionReader<'a> {
     /// # Ok::<(), wenc::ListFault>(())
     /// ```
     pub fn raw(&self) -> RawSection<'a> {
-        let ((id, data), _) = proved::part_of(self.bytes()).expect("its size was read");
+        let Ok(((id, data), _)) = proved::part_of(self.bytes()) else {
+            unreachable!("its size was read")
+        };
         RawSection { id, data }
     }
 
-    /// Returns the number of its items, as the section says it. A custom section, a module, a nested
+    /// Returns the number of its items, as the section gives it. A custom section, a module, a nested
     /// component and a start are one item.
     pub fn count(&self) -> u32 {
         self.left.left
@@ -231,7 +241,7 @@ impl<'a> SectionReader<'a> {
     ///
     /// # Errors
     ///
-    /// [`ListFault::NotAComponent`] where its bytes don't begin with the header of a component.
+    /// [`ListFault::NotAComponent`] if its bytes don't begin with the header of a component.
     ///
     /// ```
     /// use wenc::{ListFault, Sections};
@@ -253,6 +263,13 @@ impl<'a> SectionReader<'a> {
         let left = left.map_err(|_| ListFault::NotAComponent { place })?;
         let left = proved::Sections { ends: self.left.ends, ..left };
         Ok(Some(Sections { bytes: self.bytes, left: Some(left) }))
+    }
+}
+
+impl fmt::Debug for Items<'_> {
+    fn fmt(&self, f: &mut fmt::Formatter<'_>) -> fmt::Result {
+        let offset = self.left.map(|left| left.reached());
+        f.debug_struct("Items").field("offset", &offset).finish_non_exhaustive()
     }
 }
 
@@ -286,7 +303,7 @@ impl fmt::Debug for SectionReader<'_> {
 /// assert_eq!(fault, Some(ListFault::TooDeep { place: 18, unread: None }));
 /// # Ok::<(), ListFault>(())
 /// ```
-#[derive(Clone)]
+#[derive(Clone, Debug)]
 pub struct NestedSections<'a> {
     /// The components that the next section may be in, the innermost last.
     open: Vec<Sections<'a>>,
@@ -302,7 +319,7 @@ impl<'a> NestedSections<'a> {
         if self.open.len() > self.limit {
             return Err(ListFault::TooDeep { place: section.range().start, unread: None });
         }
-        self.open.try_reserve(1).map_err(|_| ListFault::Memory)?;
+        self.open.try_reserve(1).map_err(|_| ListFault::NoMemory)?;
         self.open.push(component);
         Ok(())
     }
@@ -346,9 +363,9 @@ pub struct Items<'a> {
 
 /// # Errors
 ///
-/// [`ListFault::BadItem`] where no item begins or bytes follow the last one, and
+/// [`ListFault::BadItem`] if no item begins or bytes follow the last one, and
 /// [`ListFault::TooDeep`], both at the section's byte offset and with that of the item;
-/// [`ListFault::BadSection`] in a custom section without a name; or [`ListFault::Memory`].
+/// [`ListFault::BadSection`] in a custom section without a name; or [`ListFault::NoMemory`].
 impl Iterator for Items<'_> {
     type Item = Result<(Range<usize>, ItemTree), ListFault>;
 

@@ -1,4 +1,4 @@
-//! Values with a text in the binary format.
+//! Values with an encoding in the binary format.
 
 use crate::Error;
 use crate::error::granted;
@@ -8,7 +8,7 @@ use crate::proved::wenc_base::{self as proved, Fault};
 use alloc::vec::Vec;
 use core::mem::take;
 
-/// A value with a text in the binary format. A type of your own may implement it too, for a section
+/// A value with an encoding in the binary format. A type of your own may implement it, for a section
 /// of your own.
 ///
 /// ```
@@ -20,18 +20,18 @@ use core::mem::take;
 /// assert_eq!(sink, [0xc0, 0x00, 0x01, b'f']);
 /// ```
 pub trait Encode {
-    /// Appends the value's text.
+    /// Appends the bytes of the value to the sink. An implementation removes none.
     ///
     /// # Panics
     ///
-    /// Where the value is refused, and then the sink is as it was: a length is past 4294967295, a
-    /// type or a section isn't whole, a core type isn't of WebAssembly 3.0, or an allocation is
-    /// refused.
+    /// Panics, with the sink unchanged, if a length exceeds 4294967295, a type or a section is
+    /// unfinished, a core type isn't in WebAssembly 3.0, or an allocation fails. What encodes other
+    /// values, as a slice, panics too if one of these removes bytes from the sink.
     fn encode(&self, sink: &mut Vec<u8>);
 }
 
-/// A sink that was taken from its owner, and goes back to it, whatever happens: shortened to what
-/// it had before, if somebody's `Encode` panics.
+/// A sink that was taken from its owner and is given back on drop, truncated to what it had before
+/// if a user's `Encode` panicked.
 struct Taken<'a> {
     owner: &'a mut Vec<u8>,
     bytes: ProvedVec<u8>,
@@ -49,7 +49,7 @@ impl Drop for Taken<'_> {
     }
 }
 
-/// Lends a vector of Rust's to the proved code, which appends to it or leaves it as it was.
+/// Lends a vector of Rust's to the proved code, which appends to it or leaves it unchanged.
 #[inline]
 pub(crate) fn append<E>(
     sink: &mut Vec<u8>,
@@ -63,7 +63,7 @@ pub(crate) fn append<E>(
     Ok(())
 }
 
-/// Appends the text of a value that the proved code writes by itself, and so never panics on its
+/// Appends the encoding of a value that the proved code writes by itself, and so never panics on its
 /// way.
 #[inline]
 #[track_caller]
@@ -74,19 +74,21 @@ pub(crate) fn append_proved<T: proved::Encode>(sink: &mut Vec<u8>, value: &T) {
     granted(answer);
 }
 
-/// A value whose text a user's `Encode` gives, as the proved code takes it.
+/// A value that a user's `Encode` encodes, as the proved code takes it.
 #[derive(Clone, Copy)]
 pub(crate) struct Foreign<'a, T: ?Sized>(pub &'a T);
 
 impl<T: Encode + ?Sized> proved::Encode for Foreign<'_, T> {
     #[inline]
     fn encode<A: Allocator>(&self, sink: &mut ProvedVec<u8, A>) -> Result<(), Fault> {
+        let start = sink.inner.len();
         self.0.encode(&mut sink.inner);
+        assert!(sink.inner.len() >= start, "`Encode::encode` removed bytes from its sink");
         Ok(())
     }
 }
 
-/// How many bytes this number has in the binary format.
+/// Returns the number of bytes of the LEB128 encoding of a number, from 1 to 5.
 ///
 /// ```
 /// assert_eq!(wenc::encoding_size(127), 1);
@@ -103,7 +105,7 @@ impl<T: Encode + ?Sized> Encode for &T {
     }
 }
 
-/// A list: the number of its values, and each.
+/// Encodes a list: the number of values, then each.
 impl<T: Encode> Encode for [T] {
     fn encode(&self, sink: &mut Vec<u8>) {
         granted(append(sink, |sink| proved::encode_list(self.iter().map(Foreign), sink)));
@@ -117,7 +119,7 @@ impl<T: Encode> Encode for Option<T> {
     }
 }
 
-/// A list of bytes.
+/// Encodes a list of bytes.
 impl Encode for [u8] {
     #[inline]
     fn encode(&self, sink: &mut Vec<u8>) {

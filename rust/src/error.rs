@@ -1,28 +1,34 @@
-//! Why a call was refused.
+//! Why a call failed.
 
 use crate::proved::wenc_base::Fault;
+use core::convert::Infallible;
 use core::fmt;
 
-/// Why a call was refused. What it was made on is as it was before, but that an encoder leaves its
-/// type unfinished.
+/// Why a call failed. The receiver is unchanged, except that an encoder leaves its type unfinished.
 #[derive(Clone, Copy, Debug, PartialEq, Eq, Hash)]
 #[non_exhaustive]
 pub enum Error {
-    /// An allocation was refused.
+    /// An allocation failed.
     NoMemory,
-    /// A count, a list or an index space would pass 4294967295.
+    /// A count, a list or an index space would exceed 4294967295.
     TooMany,
-    /// A text, a section or a type would pass 4294967295 bytes.
+    /// A string, a section or a type would exceed 4294967295 bytes.
     TooLarge,
-    /// A type that an encoder was to write isn't whole: the encoder was dropped before its last
-    /// call, or that call was refused. `discard_unfinished` gives the type up. Or a section without
-    /// a count has no item.
+    /// A type was begun and never ended: its encoder was dropped before its last call, or that call
+    /// failed, or an iterator panicked. It is the last one that the receiver, or an argument,
+    /// counts; `discard_unfinished` discards it. Or a section without a count has no item.
     Unfinished,
-    /// A part of a core type that isn't of WebAssembly 3.0, as a shared table or an exact
-    /// reference: nothing here writes it.
+    /// A core type has a part that isn't in WebAssembly 3.0, such as a shared table or an exact
+    /// reference, and can't be encoded.
     Unsupported,
     /// An item belongs to a section with another id.
     WrongSection,
+    /// A call of a [`ComponentFuncTypeEncoder`](crate::ComponentFuncTypeEncoder) came out of turn:
+    /// [`async_`](crate::ComponentFuncTypeEncoder::async_) comes first or not at all,
+    /// [`params`](crate::ComponentFuncTypeEncoder::params) once, then
+    /// [`result`](crate::ComponentFuncTypeEncoder::result) once. Nothing comes after an iterator of
+    /// parameters that panicked.
+    OutOfTurn,
 }
 
 impl fmt::Display for Error {
@@ -31,14 +37,28 @@ impl fmt::Display for Error {
             Self::NoMemory => "no memory",
             Self::TooMany => "too many",
             Self::TooLarge => "too large",
-            Self::Unfinished => "unfinished",
+            Self::Unfinished => {
+                "unfinished: a type or an item was begun and never ended; call the last method of \
+                 its encoder (of a function's type `result`), or `discard_unfinished`"
+            }
             Self::Unsupported => "not supported",
             Self::WrongSection => "item of another section",
+            Self::OutOfTurn => {
+                "out of turn: a function's type is encoded by `async_` or not, `params` once, then \
+                 `result` once"
+            }
         })
     }
 }
 
 impl core::error::Error for Error {}
+
+impl From<Infallible> for Error {
+    #[inline]
+    fn from(never: Infallible) -> Self {
+        match never {}
+    }
+}
 
 impl From<Fault> for Error {
     #[inline]
@@ -52,7 +72,7 @@ impl From<Fault> for Error {
     }
 }
 
-/// What was answered. A refusal panics, as the calls under upstream's names do.
+/// Returns the value. Panics on an error, as the calls with upstream's names do.
 #[inline]
 #[track_caller]
 pub(crate) fn granted<T, E: Into<Error>>(answer: Result<T, E>) -> T {

@@ -36,21 +36,20 @@
 //!
 //! # What is proved
 //!
-//! The sources in `crates/`, of which this crate is made: an accepted call adds exactly the item
-//! that was handed over, and answers that item's index in its space. Where none is a raw custom
-//! section, the finished bytes have one reading, the accepted items in their order. A refused call
-//! changes nothing. `list` answers what that reading is.
+//! The sources in `crates/`, of which this crate is made: a call that succeeds adds exactly the item
+//! that was passed, and returns that item's index in its space. Unless one is a raw custom section,
+//! the finished bytes have one reading, the added items in their order. A call that fails changes
+//! nothing. `list` returns that reading.
 //!
 //! That the Rust does the same rests on what leaves the contracts out (`rust/build`, checked by
-//! `rust/tests/honest.rs`), on what stands for Rattle's standard library
-//! (`rust/src/proved/rt_std`), on equal tokens meaning equal things, and on rustc. The calls under
-//! upstream's names are a layer in plain Rust, which hands values over and holds no byte of the
-//! format.
+//! `rust/tests/honest.rs`), on what replaces Rattle's standard library (`rust/src/proved/rt_std`), on
+//! equal tokens meaning equal things, and on rustc. The calls with upstream's names are a layer in
+//! plain Rust, which passes values on and contains no byte of the format.
 //!
-//! # Refusals
+//! # Errors
 //!
-//! Under upstream's names a refused call panics. Each such call has a form with `try_` in front,
-//! which answers an [`Error`]:
+//! A call with upstream's name panics if it fails. Each such call has a form with `try_` in front,
+//! which returns an [`Error`]:
 //!
 //! ```
 //! use wenc::{ComponentBuilder, ComponentTypeRef, Error, PrimitiveValType};
@@ -62,10 +61,18 @@
 //! assert_eq!(builder.value_count(), u32::MAX);
 //! ```
 //!
-//! An encoder that is dropped before its last call leaves what lent itself unfinished: it refuses
-//! what adds to it or takes it, until `discard_unfinished`. So does an iterator, a name or an
-//! `Into` of the caller's that panics in the midst of a call. What is finished never holds a part
-//! of an item.
+//! An encoder that is dropped before its last call leaves its parent unfinished: calls that add to
+//! the parent or take it fail until `discard_unfinished`. So does an iterator, a name or an `Into` of
+//! the caller's that panics during a call. Finished output never contains a partial item.
+//!
+//! # The standard
+//!
+//! Documentation cites the [binary format][binary] and the [explainer][explainer] of the component
+//! model, and [WebAssembly 3.0][core].
+//!
+//! [binary]: https://github.com/WebAssembly/component-model/blob/main/design/mvp/Binary.md
+//! [explainer]: https://github.com/WebAssembly/component-model/blob/main/design/mvp/Explainer.md
+//! [core]: https://webassembly.github.io/spec/core/
 //!
 //! # Features
 //!
@@ -79,6 +86,7 @@
 #![no_std]
 #![cfg_attr(not(feature = "capi"), forbid(unsafe_code))]
 #![deny(missing_docs)]
+#![warn(clippy::missing_errors_doc, clippy::missing_panics_doc)]
 
 extern crate alloc;
 #[cfg(any(feature = "std", test))]
@@ -87,6 +95,7 @@ extern crate std;
 #[cfg(feature = "capi")]
 mod capi;
 mod component;
+mod content;
 mod core;
 #[cfg(feature = "reader")]
 mod core_items;
@@ -127,9 +136,9 @@ pub use raw::RawSection;
 #[cfg(feature = "reader")]
 pub use rewrite::ItemSection;
 
-/// What was proved of the sources in `crates/`: by which logic and which kits, how many functions
-/// have a proof (those that a `derive` writes aren't counted), how many edits of the code the prover
-/// refused, and a SHA-256 digest of each crate's `src`, `specs`, `proofs` and `must-fail`.
+/// What was proved of the sources in `crates/`: by which logic and which kits, the number of
+/// functions with a proof (without those of a `derive`), the number of edits of the code that the
+/// prover rejected, and a SHA-256 digest of each crate's `src`, `specs`, `proofs` and `must-fail`.
 ///
 /// A digest is that of the lines that `sha256sum` prints of a folder's files, in the order of their
 /// paths. A test of this package, `rust/tests/proof.rs`, computes those of the sources that it has,

@@ -8,60 +8,60 @@ pub use proved::{ListedSection, Listing, Unread};
 
 mod queries;
 
-/// Why a component is not listed. A place is counted in bytes from the front of the component, and
-/// one of a section is that of its id.
+/// Why a component can't be listed. A place is a byte offset in the component, that of a section the
+/// offset of its id.
 ///
 /// ```
 /// use wenc::{ListFault, Unread, list};
 ///
 /// let mut bytes = *b"\0asm\x0d\0\x01\0\x07\x05\x01\x40\0\x01\0\x0a\x06\x01\0\x01f\x01\0";
-/// // Now it is to have two imports.
+/// // The count of imports becomes two.
 /// bytes[17] = 2;
 /// let fault = list(&bytes).unwrap_err();
 /// let unread = Some(Unread::Item { number: 1, place: 23 });
 /// assert_eq!(fault, ListFault::BadItem { place: 15, unread });
 /// assert_eq!(fault.to_string(), "bad item 1 at 0x17 in the section at 0xf");
 /// ```
-#[derive(Clone, Copy, Debug, PartialEq, Eq)]
+#[derive(Clone, Copy, Debug, PartialEq, Eq, Hash)]
+#[non_exhaustive]
 pub enum ListFault {
-    /// An allocation was refused.
-    Memory,
+    /// An allocation failed.
+    NoMemory,
     /// The bytes don't begin with the header of a component.
     NotAComponent {
-        /// It is 0, or that of a nested component.
+        /// 0, or the byte offset of a nested component.
         place: usize,
     },
-    /// Here stands an id above 11, no size, a size past the end, or a custom section without a
-    /// name.
+    /// The section has an id above 11, lacks a size, or a name if it is a custom one, or has a size
+    /// past the end.
     BadSection {
-        /// The first section that isn't read.
+        /// The byte offset of the first section that can't be read.
         place: usize,
     },
-    /// The content of this section is not a count and so many items or, of a start, not one start.
+    /// The content of the section isn't as many items as its count says, or isn't one start.
     BadItem {
         /// The first section that isn't read.
         place: usize,
-        /// The first part of it that isn't read; `None` where there was no memory to look for that.
+        /// The first part of it that can't be read; `None` if looking for that ran out of memory.
         unread: Option<Unread>,
     },
-    /// In this section types of components and instances stand more than 100 deep in one another,
-    /// or it is a component that is nested deeper than [`Sections::nested`](crate::Sections::nested)
-    /// was told.
+    /// The section has types that are nested more than 100 deep, or is a component that is nested
+    /// deeper than the limit of [`Sections::nested`](crate::Sections::nested).
     TooDeep {
         /// The first section that isn't read.
         place: usize,
-        /// The item that does so; `None` of a nested component, and where there was no memory to
-        /// look for it.
+        /// The item with these types; `None` for a nested component, or if looking for it ran out of
+        /// memory.
         unread: Option<Unread>,
     },
 }
 
 impl ListFault {
-    /// The proved fault of these bytes, with the part of its section that isn't read.
+    /// The proved fault of these bytes, with the part of its section that can't be read.
     pub(crate) fn told(bytes: &[u8], fault: proved::ListFault) -> Self {
         let unread = |place| proved::first_unread(Global, bytes, place).unwrap_or(None);
         match fault {
-            proved::ListFault::Memory => Self::Memory,
+            proved::ListFault::Memory => Self::NoMemory,
             proved::ListFault::NotAComponent { place } => Self::NotAComponent { place },
             proved::ListFault::BadSection { place } => Self::BadSection { place },
             proved::ListFault::BadItem { place } => Self::BadItem { place, unread: unread(place) },
@@ -70,7 +70,7 @@ impl ListFault {
     }
 }
 
-/// What isn't read of a section, in front of its place.
+/// Writes what can't be read of a section, then its place.
 fn write_unread(
     f: &mut fmt::Formatter<'_>,
     item: &str,
@@ -96,7 +96,7 @@ pub(crate) fn write_part(f: &mut fmt::Formatter<'_>, item: &str, unread: Unread)
 impl fmt::Display for ListFault {
     fn fmt(&self, f: &mut fmt::Formatter<'_>) -> fmt::Result {
         match *self {
-            Self::Memory => f.write_str("no memory"),
+            Self::NoMemory => f.write_str("no memory"),
             Self::NotAComponent { place } => write!(f, "no component's header at {place:#x}"),
             Self::BadSection { place } => write!(f, "bad section at {place:#x}"),
             Self::BadItem { place, unread } => write_unread(f, "bad item", unread, place),
@@ -107,19 +107,22 @@ impl fmt::Display for ListFault {
 
 impl core::error::Error for ListFault {}
 
-/// The sections of a component with their items, each at its place, and how many indices the items
-/// take (component model, binary format, "Component Definitions"). The bytes have one reading at
-/// most, and this is it. Modules and nested components are bytes, which are not read.
+/// Reads a component. Returns its sections with their items and byte offsets, and the number of
+/// indices that the items define ([component model, binary format, "Component
+/// Definitions"][definitions]). The bytes have at most one reading, and this is it. Modules and
+/// nested components are bytes, which aren't read.
 ///
-/// Besides what this crate writes, these spellings are read: numbers that are padded, to 5 bytes at
-/// most (10 where they have 64 bits), indices among the types of values that are padded, a nullable
-/// abstract reference as its heap type's byte, `func` and `extern` in the long form of such a
-/// reference, and a name of an import or export that begins with `01`.
+/// Besides what this crate encodes, it reads numbers that are padded, to at most 5 bytes (10 for
+/// 64-bit ones), padded type indices among value types, a nullable abstract reference as its heap
+/// type's byte, `func` and `extern` in the long form of such a reference, and names of imports and
+/// exports that begin with `01`.
 ///
 /// # Errors
 ///
-/// The first section that isn't read, and why, as [`ListFault`] says; or want of memory. A count
-/// that the bytes can't fill reserves nothing.
+/// The first section that can't be read, as [`ListFault`] describes, or
+/// [`NoMemory`](ListFault::NoMemory). A count that the bytes can't fill reserves nothing.
+///
+/// [definitions]: https://github.com/WebAssembly/component-model/blob/main/design/mvp/Binary.md#component-definitions
 ///
 /// ```
 /// use wenc::tree::ItemTree;

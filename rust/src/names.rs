@@ -12,9 +12,11 @@ use alloc::string::String;
 use core::borrow::Borrow;
 use core::fmt;
 
-/// The debug names of a component and of its items (component model, binary format, "Name
-/// Section"): what the custom section `component-name` contains. Where that names something twice,
-/// the first name is kept.
+/// The debug names of a component and of its items ([component model, binary format, "Name
+/// Section"][names]), which the custom section `component-name` contains. If that names something
+/// twice, the first name is kept.
+///
+/// [names]: https://github.com/WebAssembly/component-model/blob/main/design/mvp/Binary.md#name-section
 ///
 /// [`Listing::names`](crate::Listing::names) returns those of a component, and
 /// [`ComponentNameSection`] is made from them by `From`.
@@ -50,7 +52,7 @@ impl DebugNames {
     /// The name of the custom section that contains debug names.
     pub const SECTION: &str = NAMES_LABEL;
 
-    /// Returns debug names that name nothing.
+    /// Creates debug names that name nothing.
     pub fn new() -> Self {
         Self::default()
     }
@@ -70,7 +72,7 @@ impl DebugNames {
     ///
     /// # Errors
     ///
-    /// The first subsection that isn't read, or [`NamesFault::Memory`]. The names of the
+    /// The first subsection that can't be read, or [`NamesFault::NoMemory`]. The names of the
     /// subsections before it are added.
     pub fn read(&mut self, item: &ItemTree) -> Result<(), NamesFault> {
         match item {
@@ -84,7 +86,7 @@ impl DebugNames {
         let mut rest = data;
         while !rest.is_empty() {
             let (names, behind) = names_of(Global, rest).map_err(|refusal| match refusal {
-                Refusal::Memory => NamesFault::Memory,
+                Refusal::Memory => NamesFault::NoMemory,
                 Refusal::Malformed => NamesFault::BadSubsection { place: data.len() - rest.len() },
             })?;
             self.add(names);
@@ -138,12 +140,12 @@ impl DebugNames {
     }
 }
 
-/// The section with these names: that of the component first, then those of the items in the order
-/// of [`Space::ALL`].
+/// Makes the section with these names: that of the component first, then those of the items in the
+/// order of [`Space::ALL`].
 ///
 /// # Panics
 ///
-/// Where an allocation is refused, or the section is larger than 4294967295 bytes.
+/// Panics if an allocation fails or the section is larger than 4294967295 bytes.
 impl From<&DebugNames> for ComponentNameSection {
     fn from(names: &DebugNames) -> Self {
         let mut section = Self::new();
@@ -199,11 +201,12 @@ fn space_of(sort: Sort) -> Space {
     }
 }
 
-/// Why debug names aren't read.
-#[derive(Clone, Copy, Debug, PartialEq, Eq)]
+/// Why debug names can't be read.
+#[derive(Clone, Copy, Debug, PartialEq, Eq, Hash)]
+#[non_exhaustive]
 pub enum NamesFault {
-    /// An allocation was refused.
-    Memory,
+    /// An allocation failed.
+    NoMemory,
     /// A subsection isn't framed, or its content isn't names.
     BadSubsection {
         /// The byte offset of the first such subsection, from the end of the section's name on.
@@ -214,7 +217,7 @@ pub enum NamesFault {
 impl fmt::Display for NamesFault {
     fn fmt(&self, f: &mut fmt::Formatter<'_>) -> fmt::Result {
         match self {
-            Self::Memory => f.write_str("no memory"),
+            Self::NoMemory => f.write_str("no memory"),
             Self::BadSubsection { place } => write!(f, "bad subsection of names at {place:#x}"),
         }
     }

@@ -4,11 +4,12 @@ use crate::core::in_either;
 use crate::encode::encode;
 use crate::proved::wasm_encoder as proved;
 
-/// A section with any id, from 0 to 255, whose bytes are written after their size (WebAssembly 3.0,
-/// binary format, "Sections"; component model, binary format, "Component Definitions"). Nothing
-/// checks that they are such a section.
+/// A section as its id, from 0 to 255, and its bytes after the size ([WebAssembly 3.0, binary format,
+/// "Sections"][sections]; [component model, binary format, "Component Definitions"][definitions]).
+/// The bytes aren't checked. It can't be encoded if there are more than 4294967295.
 ///
-/// It is refused, when it is encoded, where there are more than 4294967295 bytes.
+/// [sections]: https://webassembly.github.io/spec/core/binary/modules.html#sections
+/// [definitions]: https://github.com/WebAssembly/component-model/blob/main/design/mvp/Binary.md#component-definitions
 ///
 /// ```
 /// use wenc::{Component, ComponentSectionId, RawSection};
@@ -21,7 +22,7 @@ use crate::proved::wasm_encoder as proved;
 /// });
 /// assert_eq!(component.as_slice()[8..], [7, 3, 1, 0x70, 0x7d]);
 /// ```
-#[derive(Clone, Copy, Debug)]
+#[derive(Clone, Copy, Debug, PartialEq, Eq, Hash)]
 pub struct RawSection<'a> {
     /// The id.
     pub id: u8,

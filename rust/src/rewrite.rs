@@ -18,15 +18,19 @@ encode! {
     SectionReader<'_>, section => Verbatim(&section.bytes()[1..]);
 }
 
-/// The section is appended byte for byte as it is in its component.
+/// Appends the section byte for byte as it is in its component.
 impl ComponentSection for SectionReader<'_> {
     fn id(&self) -> u8 {
         self.id()
     }
 }
 
-/// Encodes each item in its shortest form, as an [`ItemSection`] does. An item of another section
-/// is refused, and so is any number of items but one in a section without a count.
+/// Encodes each item in its shortest form, as an [`ItemSection`] does.
+///
+/// # Panics
+///
+/// Panics if an item belongs to another section, or if a section without a count hasn't exactly one
+/// item.
 impl Encode for ListedSection {
     fn encode(&self, sink: &mut Vec<u8>) {
         let mut section = ItemSection::new(self.id);
@@ -43,14 +47,15 @@ impl ComponentSection for ListedSection {
     }
 }
 
-/// A section that is built item by item (component model, binary format, "Component Definitions").
-/// An item is added as a tree, which is encoded, or as the bytes that it has in a component, which
-/// are copied, so that padded numbers stay padded.
+/// A section that is built item by item ([component model, binary format, "Component
+/// Definitions"][definitions]). An item is added as a tree, which is encoded, or as its bytes in a
+/// component, which are copied, so that padded numbers stay padded.
 ///
 /// Size and count are encoded with the section. A section without a count, which is a core module,
-/// a component, a start or a custom section, has one item: a second one is refused as
-/// [`TooMany`](Error::TooMany), and the section without one as [`Unfinished`](Error::Unfinished)
-/// when it is encoded.
+/// a component, a start or a custom section, has one item: a second one fails with
+/// [`TooMany`](Error::TooMany), and encoding it without one panics.
+///
+/// [definitions]: https://github.com/WebAssembly/component-model/blob/main/design/mvp/Binary.md#component-definitions
 ///
 /// ```
 /// use wenc::tree::{ItemTree, String};
@@ -84,18 +89,18 @@ pub struct ItemSection {
 }
 
 impl ItemSection {
-    /// A section without items, with an id from 0 to 11: that of a [`SectionReader`], or a
-    /// [`ComponentSectionId`]. It takes no memory.
+    /// Creates a section without items, with an id from 0 to 11: that of a [`SectionReader`], or a
+    /// [`ComponentSectionId`]. It doesn't allocate.
     pub fn new(id: impl Into<u8>) -> Self {
         Self { id: id.into(), items: Holder::new(Global) }
     }
 
-    /// How many items the section has.
+    /// Returns the number of items.
     pub fn len(&self) -> u32 {
         self.items.len()
     }
 
-    /// Whether it has none.
+    /// Returns `true` if the section has no items.
     pub fn is_empty(&self) -> bool {
         self.len() == 0
     }
@@ -106,7 +111,7 @@ impl ItemSection {
     ///
     /// [`WrongSection`](Error::WrongSection) if the item belongs to a section with another id;
     /// [`TooMany`](Error::TooMany), [`TooLarge`](Error::TooLarge) or
-    /// [`NoMemory`](Error::NoMemory). The section is unchanged then.
+    /// [`NoMemory`](Error::NoMemory). The section is unchanged.
     pub fn item(&mut self, item: &ItemTree) -> Result<&mut Self, Error> {
         if u8::from(section_id(item)) != self.id {
             return Err(Error::WrongSection);
@@ -146,13 +151,13 @@ impl ItemSection {
         Ok(self)
     }
 
-    /// Adds an item as these bytes: those of a component in the range that
-    /// [`Items`](crate::Items) returns. Nothing checks that they are an item of this section.
+    /// Adds an item as its bytes: those of a component in the range that [`Items`](crate::Items)
+    /// returns. The bytes aren't checked.
     ///
     /// # Errors
     ///
     /// [`TooMany`](Error::TooMany), [`TooLarge`](Error::TooLarge) or
-    /// [`NoMemory`](Error::NoMemory). The section is unchanged then.
+    /// [`NoMemory`](Error::NoMemory), with the section unchanged.
     pub fn raw(&mut self, bytes: &[u8]) -> Result<&mut Self, Error> {
         self.has_room()?;
         if self.is_one_item() { self.items.add_encoded(&bytes) } else { self.items.add(bytes) }?;
@@ -200,10 +205,20 @@ impl Clone for ItemSection {
     }
 }
 
+impl PartialEq for ItemSection {
+    fn eq(&self, other: &Self) -> bool {
+        let [one, two] = [self, other].map(|of| (of.id, of.len(), of.items.as_slice()));
+        one == two
+    }
+}
+
+impl Eq for ItemSection {}
+
 impl fmt::Debug for ItemSection {
     fn fmt(&self, f: &mut fmt::Formatter<'_>) -> fmt::Result {
-        let mut shown = f.debug_struct("ItemSection");
-        shown.field("id", &self.id).field("len", &self.len()).finish_non_exhaustive()
+        let mut printed = f.debug_struct("ItemSection");
+        printed.field("id", &self.id).field("len", &self.len());
+        printed.field("items", &self.items.as_slice()).finish()
     }
 }
 

@@ -1,5 +1,6 @@
 //! What sections and types by hand have in common.
 
+use crate::ComponentValType;
 use crate::proved::rt_std::alloc::Allocator;
 use crate::proved::rt_std::vec::Vec as ProvedVec;
 use crate::proved::wenc_base::{self as proved, Fault};
@@ -12,7 +13,7 @@ macro_rules! collections {
         pub struct $name(pub(crate) $crate::proved::wasm_encoder::$name);
 
         impl $name {
-            /// None. It takes no memory.
+            /// Creates an empty one without allocating.
             #[inline]
             pub fn new() -> Self {
                 Self($crate::proved::wasm_encoder::$name::new($crate::proved::rt_std::alloc::Global))
@@ -20,7 +21,7 @@ macro_rules! collections {
         }
 
         impl Default for $name {
-            /// None. It takes no memory.
+            /// Creates an empty one without allocating.
             #[inline]
             fn default() -> Self {
                 Self::new()
@@ -46,15 +47,15 @@ pub(crate) use collections;
 macro_rules! lenders {
     ($($name:ident)*) => {
         $(impl $name {
-            /// Whether no encoder is to end an item yet. Until then what grows, encodes or takes
-            /// this is refused as [`Unfinished`](crate::Error::Unfinished).
+            /// Returns `false` while an encoder hasn't ended its type. Additions to this, and calls
+            /// that encode or take it, fail with [`Unfinished`](crate::Error::Unfinished) then.
             #[inline]
             pub fn is_finished(&self) -> bool {
                 self.0.is_finished()
             }
 
-            /// Gives up the item that an encoder was to end, and answers whether there was one. All
-            /// is as before that item then. It takes no memory.
+            /// Discards the unfinished type, and returns whether there was one. This is then as it
+            /// was before that type. It doesn't allocate.
             pub fn discard_unfinished(&mut self) -> bool {
                 self.0.discard_unfinished()
             }
@@ -63,6 +64,12 @@ macro_rules! lenders {
 }
 
 pub(crate) use lenders;
+
+/// A proved encoder as the public one. As a `From` of the public one it would be shown there.
+pub(crate) trait Public<T> {
+    /// The encoder.
+    fn public(self) -> T;
+}
 
 /// An encoder with one name, whatever lent itself to it: a case for each lender.
 macro_rules! encoders {
@@ -109,13 +116,11 @@ macro_rules! encoders {
     (
         @one $name:ident $by:ident [$($field:ident = $start:expr)?] $case:ident $lender:ident
     ) => {
-        // Not `From`, which would show the proved encoder among what the public one implements.
-        #[allow(clippy::from_over_into)]
-        impl<'a> Into<$name<'a>>
+        impl<'a> $crate::shared::Public<$name<'a>>
             for $crate::proved::wasm_encoder::$name<'a, $crate::proved::wasm_encoder::$lender>
         {
             #[inline]
-            fn into(self) -> $name<'a> {
+            fn public(self) -> $name<'a> {
                 $name { by: $by::$case(self), $($field: $start,)? }
             }
         }
@@ -139,19 +144,6 @@ macro_rules! on {
 
 pub(crate) use on;
 
-/// Prints the name of a type whose bytes say nothing to who reads them.
-macro_rules! opaque {
-    ($($name:ident)*) => {
-        $(impl core::fmt::Debug for $name {
-            fn fmt(&self, f: &mut core::fmt::Formatter<'_>) -> core::fmt::Result {
-                f.debug_struct(stringify!($name)).finish_non_exhaustive()
-            }
-        })*
-    };
-}
-
-pub(crate) use opaque;
-
 /// A user's name, as the proved code takes it.
 pub(crate) struct Name<S>(S);
 
@@ -163,6 +155,49 @@ impl<S: AsRef<str>> proved::Encode for Name<S> {
 }
 
 impl<S: AsRef<str>> proved::Named for Name<S> {}
+
+/// A list by a pointer: what takes it is compiled once, not for each iterator.
+pub(crate) struct List<'a, T>(pub &'a mut (dyn Source<T> + 'a));
+
+impl<T> Iterator for List<'_, T> {
+    type Item = T;
+
+    #[inline]
+    fn next(&mut self) -> Option<T> {
+        self.0.draw()
+    }
+}
+
+/// An iterator of which the table of methods has one, where `dyn Iterator` has some ten.
+pub(crate) trait Source<T> {
+    /// The next value.
+    fn draw(&mut self) -> Option<T>;
+}
+
+impl<I: Iterator> Source<I::Item> for I {
+    #[inline]
+    fn draw(&mut self) -> Option<I::Item> {
+        self.next()
+    }
+}
+
+/// The names and types of fields or parameters. The compiler unrolls a list of known length behind
+/// this `?`, which it doesn't behind `map`.
+pub(crate) struct Labelled<I>(pub I);
+
+impl<'a, T, I> Iterator for Labelled<I>
+where
+    T: Into<ComponentValType>,
+    I: Iterator<Item = (&'a str, T)>,
+{
+    type Item = (&'a str, ComponentValType);
+
+    #[inline]
+    fn next(&mut self) -> Option<Self::Item> {
+        let (name, ty) = self.0.next()?;
+        Some((name, ty.into()))
+    }
+}
 
 /// Pairs of a user's name and something else, as the proved code takes them.
 #[inline]

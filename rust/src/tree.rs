@@ -1,8 +1,11 @@
-//! Items of a component as values: what [`list`](crate::list) answers, and what [`build`] is given.
+//! Items of a component as values, which [`list`](crate::list) returns and [`build`] takes.
 //!
-//! They own their texts and lists, in the types [`String`], [`Vec`] and [`Box`] of this module:
-//! those of Rust, with calls that answer where memory is refused. `From` makes either of the other
-//! without a copy.
+//! They own their strings and lists in the types [`String`], [`Vec`] and [`Box`] of this module,
+//! which are std's with a `push` that can fail, since the proved code may not abort. `From` converts
+//! either to the other without a copy.
+//!
+//! Core types are those of WebAssembly 3.0, `CoreValType` and others. They convert to the types of
+//! sections with `From`, and from these with `TryFrom`, which fails for what proposals add.
 //!
 //! A builder takes a [`Command`] ([`ComponentBuilder::command`](crate::ComponentBuilder::command)),
 //! a section an [`ItemTree`] ([`ItemSection`](crate::ItemSection)), an encoder the tree of a type.
@@ -38,8 +41,8 @@
 //! # Ok::<(), wenc::Error>(())
 //! ```
 
+mod collections;
 mod conversions;
-mod core_types;
 mod encode;
 mod indices;
 mod space;
@@ -52,31 +55,41 @@ pub use crate::proved::rt_std::boxed::Box;
 pub use crate::proved::rt_std::string::String;
 pub use crate::proved::rt_std::vec::Vec;
 pub use indices::{IndexUse, OuterFault, Scope};
+// The root has other types with the sources' names, with what proposals add.
 pub use proved::{
-    AbstractHeapType, AliasTree, ArrayType, CanonTree, CaseTree, Command, ComponentDecl,
-    CompositeType, CoreInstanceTree, CoreTypeTree, DefinedTree, EntityType, FieldType, FuncType,
-    GlobalType, GroupTree, HeapType, InstanceDecl, InstanceTree, ItemTree, MemoryType, ModuleDecl,
-    NameOptions, NameTree, RefType, Space, StorageType, StructType, SubType, TableType, TagType,
-    TypeTree, ValType,
+    AbstractHeapType as CoreAbstractHeapType, ArrayType as CoreArrayType,
+    CompositeType as CoreCompositeType, EntityType as CoreEntityType, FieldType as CoreFieldType,
+    FuncType as CoreFuncType, GlobalType as CoreGlobalType, HeapType as CoreHeapType,
+    MemoryType as CoreMemoryType, RefType as CoreRefType, StorageType as CoreStorageType,
+    StructType as CoreStructType, SubType as CoreSubType, TableType as CoreTableType,
+    TagType as CoreTagType, ValType as CoreValType,
+};
+use proved::{
+    AbstractHeapType, ArrayType, CompositeType, EntityType, FieldType, FuncType, GlobalType,
+    HeapType, MemoryType, RefType, StorageType, StructType, SubType, TableType, TagType, ValType,
+};
+pub use proved::{
+    AliasTree, CanonTree, CaseTree, Command, ComponentDecl, CoreInstanceTree, CoreTypeTree,
+    DefinedTree, GroupTree, InstanceDecl, InstanceTree, ItemTree, ModuleDecl, NameOptions,
+    NameTree, Space, TypeTree,
 };
 
-/// What the commands of a run answered, and the bytes.
-#[derive(Clone, Debug, PartialEq, Eq)]
+/// The component that commands make, and the index that each returned.
+#[derive(Clone, Debug, PartialEq, Eq, Hash)]
 pub struct Built {
-    /// One answer for each command: the index of its item, if that has one, or why it was refused.
-    /// Custom sections and names have none.
+    /// For each command the index of its item, or its error. Custom sections and names have no index.
     pub answers: alloc::vec::Vec<Result<Option<u32>, Error>>,
-    /// The component.
+    /// The bytes of the component.
     pub bytes: alloc::vec::Vec<u8>,
 }
 
-/// Makes the calls that the commands are, in order, on a new builder, keeps each answer, and
-/// finishes. A refused command adds nothing, and the ones after it run all the same.
+/// Runs commands in order on a new builder, and finishes it. A command that fails adds nothing, and
+/// the ones after it run all the same.
 ///
 /// # Errors
 ///
-/// There is no memory for the builder or for the answers, or a type is refused while it is written:
-/// with that error, and no further command runs.
+/// [`NoMemory`](Error::NoMemory) for the builder or the results, or the error of a type that can't be
+/// encoded; no further command runs then.
 ///
 /// ```
 /// use wenc::tree::{Command, String, build};

@@ -101,6 +101,21 @@ fn examples_are_left_out() {
 }
 
 #[test]
+fn what_introduces_an_example_is_left_out() {
+    let example = "/// ```\n/// f();\n/// ```\nfn f() {}\n";
+    for (docs, left) in [
+        ("/// What it does. As here\n/// or here:\n///\n", "/// What it does.\n\n///\n"),
+        ("/// What it does.\n/// Here:\n", "/// What it does.\n\n"),
+        ("/// What it does.\n///\n/// Here:\n///\n", "/// What it does.\n///\n\n///\n"),
+        ("struct S;\n/// Here:\n///\n", "struct S;\n\n///\n"),
+        ("/// One: two.\n///\n", "/// One: two.\n///\n"),
+        ("/// A list:\n/// one.\n", "/// A list:\n/// one.\n"),
+    ] {
+        becomes(&format!("{docs}{example}"), &format!("{left}\n\n\nfn f() {{}}\n"));
+    }
+}
+
+#[test]
 fn attributes_of_the_prover_are_left_out() {
     becomes("#![tactic(auto)]\n#[tactic(auto, using(a::b))]\nfn f() {}\n", "\n\nfn f() {}\n");
     becomes("#[cycle(types)]\nenum A {}\n", "\nenum A {}\n");
@@ -112,11 +127,11 @@ fn derives() {
     becomes("#[derive(Drop)]\npub struct Holder;\n", "\npub struct Holder;\n");
     becomes(
         "#[derive(Drop)]\n#[cycle(types)]\npub enum TypeTree {}\n",
-        "#[derive(Clone, Debug, PartialEq, Eq)]\n\npub enum TypeTree {}\n",
+        "#[derive(Clone, Debug, PartialEq, Eq, Hash)]\n\npub enum TypeTree {}\n",
     );
     becomes(
         "#[derive(Drop)]\n#[derive_where(PartialEq, Eq, Debug)]\npub struct FuncType<A> {}\n",
-        "#[derive(Clone)]\n#[derive(PartialEq, Eq, Debug)]\npub struct FuncType<A> {}\n",
+        "#[derive(Clone, Hash)]\n#[derive(PartialEq, Eq, Debug)]\npub struct FuncType<A> {}\n",
     );
 }
 
@@ -124,7 +139,7 @@ fn derives() {
 fn what_a_user_prints_or_does_not_call() {
     becomes(
         "#[derive(Clone, Copy)]\npub enum Alias {}\n",
-        "#[derive(Clone, Copy, Debug)]\npub enum Alias {}\n",
+        "#[derive(Clone, Copy, Debug, Hash, PartialEq, Eq)]\npub enum Alias {}\n",
     );
     becomes(
         "impl<A: Copy> FuncType<A> {\n    pub fn new() {}\n    pub fn other() {}\n}\n",
@@ -197,7 +212,7 @@ fn macros_of_other_files() {
 fn errors_have_their_texts() {
     becomes(
         "use thiserror::Error;\n#[derive(Clone, Error)]\npub enum Fault {\n    #[error(\"no memory\")]\n    Memory(A),\n    #[error(\"at {place}\")]\n    Bad { place: u8 },\n}\n",
-        "\n#[derive(Clone )]\npub enum Fault {\n\n    Memory(A),\n\n    Bad { place: u8 },\n} \
+        "\n#[derive(Clone , Hash)]\npub enum Fault {\n\n    Memory(A),\n\n    Bad { place: u8 },\n} \
          impl ::core::fmt::Display for Fault { fn fmt(&self, f: &mut ::core::fmt::Formatter<'_>) -> ::core::fmt::Result \
          { match self { Fault::Memory { .. } => write!(f, \"no memory\"), \
          Fault::Bad { place, .. } => write!(f, \"at {place}\"), } } } \

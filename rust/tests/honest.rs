@@ -9,7 +9,7 @@ mod lexer;
 mod reader;
 
 use lexer::{Token, lex};
-use reader::{NARROWED, PRINTED, TREES, WAYS, compare, read};
+use reader::{DERIVED_TOO, NARROWED, TREES, WAYS, compare, read};
 use std::collections::BTreeMap;
 use std::fs;
 use std::path::{Path, PathBuf};
@@ -70,7 +70,7 @@ fn erased_sources_are_the_sources() {
     let unused: Vec<&&str> = WAYS.iter().filter(|way| !counts.contains_key(**way)).collect();
     assert!(unused.is_empty(), "nothing differs in these ways any more: {unused:?}");
     assert_eq!(counts["derive of a tree"], TREES.len());
-    assert_eq!(counts["derive of what is printed"], PRINTED.len());
+    assert_eq!(counts["derive of more"], DERIVED_TOO.len());
     assert_eq!(counts["method that stays in this crate"], NARROWED.len());
 }
 
@@ -105,7 +105,7 @@ const RUST: &str = "\
 use crate::proved::rt_std::prelude::*; use crate::proved::named::b;
 #[derive(Clone, Copy)]
 pub struct Pair<T>(u8, T);
-#[derive(Clone, Debug, PartialEq, Eq)]
+#[derive(Clone, Debug, PartialEq, Eq, Hash)]
 
 pub enum TypeTree {
     A,
@@ -144,7 +144,7 @@ const CHANGES: [(&str, &str, &str); 21] = [
     ("an attribute that came in", "#[inline]", "#[inline] #[cold]"),
     ("an attribute that is missing", "#[inline] fn encode", "fn encode"),
     ("a derive that is dropped", "Clone, Copy", "Clone"),
-    ("a tree's derive", "Clone, Debug, PartialEq, Eq", "Clone"),
+    ("a tree's derive", "Clone, Debug, PartialEq, Eq, Hash", "Clone"),
     ("a clause that became code", "E>\n\n{", "E>\n{ x < 3 }\n{"),
     ("a ghost field that stays", "A,\n\n", "A,\n    whole: u8,\n"),
     ("a line that moved", "h(1, 2);\n", "h(1, 2);\n\n"),

@@ -107,30 +107,40 @@ fn aliases() {
 
 #[test]
 fn core_types_of_the_core() {
-    use tree::{CompositeType, CoreTypeTree, GroupTree, SubType, ValType};
+    use tree::{CoreCompositeType, CoreSubType, CoreTypeTree, CoreValType, GroupTree};
     let bytes = b"\x03\x60\x01\x7f\x02\x7e\x64\x05\
         \x4e\x02\x50\x01\x00\x5f\x02\x78\x00\x6f\x01\x4f\x01\x00\x5e\x63\x6e\x01\
         \x00\x50\x00\x5f\x00";
-    let sub = |is_final, supertype_idx, composite_type| SubType {
+    let sub = |is_final, supertype_idx, composite_type| CoreSubType {
         is_final,
         supertype_idx,
         composite_type,
     };
-    let reference = |nullable, heap_type| ValType::Ref(tree::RefType { nullable, heap_type });
-    let field = |element_type, mutable| tree::FieldType { element_type, mutable };
-    let to_fifth = reference(false, tree::HeapType::Concrete(5));
-    let function =
-        tree::FuncType::from_lists(vec![ValType::I32].into(), vec![ValType::I64, to_fifth].into());
-    assert_eq!((function.params().len(), function.results()), (1, &[ValType::I64, to_fifth][..]));
-    let external = reference(true, tree::HeapType::Abstract(tree::AbstractHeapType::Extern));
-    let any = reference(true, tree::HeapType::Abstract(tree::AbstractHeapType::Any));
-    let fields =
-        vec![field(tree::StorageType::I8, false), field(tree::StorageType::Val(external), true)];
-    let structure = CompositeType::Struct(tree::StructType { fields: fields.into() });
-    let array = CompositeType::Array(tree::ArrayType(field(tree::StorageType::Val(any), true)));
-    let empty = CompositeType::Struct(tree::StructType { fields: vec![].into() });
+    let reference =
+        |nullable, heap_type| CoreValType::Ref(tree::CoreRefType { nullable, heap_type });
+    let field = |element_type, mutable| tree::CoreFieldType { element_type, mutable };
+    let to_fifth = reference(false, tree::CoreHeapType::Concrete(5));
+    let function = tree::CoreFuncType::from_lists(
+        vec![CoreValType::I32].into(),
+        vec![CoreValType::I64, to_fifth].into(),
+    );
+    assert_eq!(
+        (function.params().len(), function.results()),
+        (1, &[CoreValType::I64, to_fifth][..])
+    );
+    let external =
+        reference(true, tree::CoreHeapType::Abstract(tree::CoreAbstractHeapType::Extern));
+    let any = reference(true, tree::CoreHeapType::Abstract(tree::CoreAbstractHeapType::Any));
+    let fields = vec![
+        field(tree::CoreStorageType::I8, false),
+        field(tree::CoreStorageType::Val(external), true),
+    ];
+    let structure = CoreCompositeType::Struct(tree::CoreStructType { fields: fields.into() });
+    let array =
+        CoreCompositeType::Array(tree::CoreArrayType(field(tree::CoreStorageType::Val(any), true)));
+    let empty = CoreCompositeType::Struct(tree::CoreStructType { fields: vec![].into() });
     let expected = [
-        GroupTree::Sub(sub(true, None, CompositeType::Func(function))),
+        GroupTree::Sub(sub(true, None, CoreCompositeType::Func(function))),
         GroupTree::Rec(vec![sub(false, Some(0), structure), sub(true, Some(0), array)].into()),
         GroupTree::Sub(sub(false, None, empty)),
     ];
@@ -140,7 +150,7 @@ fn core_types_of_the_core() {
 
 #[test]
 fn core_types_of_modules() {
-    use tree::{EntityType, ModuleDecl};
+    use tree::{CoreEntityType, ModuleDecl};
     let bytes = b"\x01\x50\x07\
         \x00\x01a\x01b\x00\x80\x01\
         \x00\x00\x00\x01\x70\x01\x01\x02\
@@ -149,33 +159,38 @@ fn core_types_of_modules() {
         \x01\x60\x00\x00\
         \x02\x10\x01\x01\x03\
         \x03\x01c\x04\x00\x02";
-    let function = tree::FuncType::from_lists(vec![].into(), vec![].into());
-    let table = tree::TableType {
-        element_type: tree::RefType {
+    let function = tree::CoreFuncType::from_lists(vec![].into(), vec![].into());
+    let table = tree::CoreTableType {
+        element_type: tree::CoreRefType {
             nullable: true,
-            heap_type: tree::HeapType::Abstract(tree::AbstractHeapType::Func),
+            heap_type: tree::CoreHeapType::Abstract(tree::CoreAbstractHeapType::Func),
         },
         table64: false,
         minimum: 1,
         maximum: Some(2),
     };
-    let memory = tree::MemoryType { minimum: 1, maximum: Some(2), memory64: false, shared: true };
-    let global = tree::GlobalType { val_type: tree::ValType::F32, mutable: true };
+    let memory =
+        tree::CoreMemoryType { minimum: 1, maximum: Some(2), memory64: false, shared: true };
+    let global = tree::CoreGlobalType { val_type: tree::CoreValType::F32, mutable: true };
     let import = |ty| ModuleDecl::Import { module: text(""), name: text(""), ty };
     let decls = vec![
-        ModuleDecl::Import { module: text("a"), name: text("b"), ty: EntityType::Function(128) },
-        import(EntityType::Table(table)),
-        import(EntityType::Memory(memory)),
-        import(EntityType::Global(global)),
-        ModuleDecl::Type(tree::GroupTree::Sub(tree::SubType {
+        ModuleDecl::Import {
+            module: text("a"),
+            name: text("b"),
+            ty: CoreEntityType::Function(128),
+        },
+        import(CoreEntityType::Table(table)),
+        import(CoreEntityType::Memory(memory)),
+        import(CoreEntityType::Global(global)),
+        ModuleDecl::Type(tree::GroupTree::Sub(tree::CoreSubType {
             is_final: true,
             supertype_idx: None,
-            composite_type: tree::CompositeType::Func(function),
+            composite_type: tree::CoreCompositeType::Func(function),
         })),
         ModuleDecl::Alias { count: 1, index: 3 },
         ModuleDecl::Export {
             name: text("c"),
-            ty: EntityType::Tag(tree::TagType { func_type_idx: 2 }),
+            ty: CoreEntityType::Tag(tree::CoreTagType { func_type_idx: 2 }),
         },
     ];
     let expected = ItemTree::CoreType(tree::CoreTypeTree::Module(decls.into()).into());
@@ -245,7 +260,7 @@ fn types_that_nest() {
             ]
             .into(),
         ),
-        TypeTree::Resource { rep: tree::ValType::I32, dtor: Some(2) },
+        TypeTree::Resource { rep: tree::CoreValType::I32, dtor: Some(2) },
     ];
     assert_eq!(items(7, bytes), expected.map(ItemTree::Type));
 }
@@ -261,7 +276,7 @@ fn canonical_functions() {
         CanonTree::Lower { func: 6, options: vec![].into() },
         CanonTree::ResourceDrop(7),
         CanonTree::TaskReturn { ty: Some(U8), options: vec![].into() },
-        CanonTree::ContextGet { ty: tree::ValType::I32, slot: 1 },
+        CanonTree::ContextGet { ty: tree::CoreValType::I32, slot: 1 },
         CanonTree::ThreadAvailableParallelism,
     ];
     let names = expected.each_ref().map(|canon| canon.name());
@@ -369,7 +384,7 @@ fn faults_say_what_they_are() {
     let count = Some(Unread::Count { place: 10 });
     let behind = Some(Unread::Behind { place: 31 });
     let faults = [
-        (ListFault::Memory, "no memory"),
+        (ListFault::NoMemory, "no memory"),
         (ListFault::NotAComponent { place: 0 }, "no component's header at 0x0"),
         (ListFault::BadSection { place }, "bad section at 0x8"),
         (ListFault::BadItem { place, unread }, "bad item 3 at 0x1f in the section at 0x8"),
@@ -511,13 +526,13 @@ fn core_types_are_of_trees_and_of_sections() {
         nullable: true,
         heap_type: HeapType::Abstract { shared: false, ty: AbstractHeapType::Any },
     });
-    let of_trees = tree::ValType::Ref(tree::RefType {
+    let of_trees = tree::CoreValType::Ref(tree::CoreRefType {
         nullable: true,
-        heap_type: tree::HeapType::Abstract(tree::AbstractHeapType::Any),
+        heap_type: tree::CoreHeapType::Abstract(tree::CoreAbstractHeapType::Any),
     });
-    assert_eq!(tree::ValType::try_from(own), Ok(of_trees));
+    assert_eq!(tree::CoreValType::try_from(own), Ok(of_trees));
     assert_eq!(ValType::from(of_trees), own);
-    assert_eq!(tree::HeapType::try_from(HeapType::Exact(0)), Err(Error::Unsupported));
+    assert_eq!(tree::CoreHeapType::try_from(HeapType::Exact(0)), Err(Error::Unsupported));
 
     // a function, a structure and an array in a group
     let bytes = b"\x01\x4e\x03\x60\x01\x7f\x01\x7e\
@@ -543,7 +558,7 @@ fn core_types_are_of_trees_and_of_sections() {
             CompositeType { inner, shared: false, descriptor: None, describes: None };
         let wanted = SubType { is_final, supertype_idx, composite_type };
         assert_eq!(SubType::from(ty), wanted);
-        assert_eq!(tree::SubType::try_from(&wanted).as_ref(), Ok(ty));
+        assert_eq!(tree::CoreSubType::try_from(&wanted).as_ref(), Ok(ty));
     }
 }
 
@@ -579,7 +594,7 @@ fn what_modules_import_is_of_trees_and_of_sections() {
     for (decl, wanted) in decls.iter().zip(wanted) {
         let tree::ModuleDecl::Import { ty, .. } = decl else { panic!("an import") };
         assert_eq!(EntityType::from(*ty), wanted);
-        assert_eq!(tree::EntityType::try_from(wanted).as_ref(), Ok(ty));
+        assert_eq!(tree::CoreEntityType::try_from(wanted).as_ref(), Ok(ty));
     }
 }
 
@@ -588,7 +603,7 @@ fn lists_and_texts_are_those_of_rust() {
     let list: tree::Vec<u8> = vec![1, 2].into();
     assert_eq!(Vec::from(list.clone()), [1, 2]);
     assert_eq!(list, tree::Vec::from([1, 2]));
-    assert_eq!(list, [1, 2].into_iter().collect());
+    assert_eq!(list, [1, 2].into_iter().collect::<wenc::tree::Vec<_>>());
     let given: String = text("x").into();
     assert_eq!(given, "x");
     assert_eq!(tree::Box::from(3).into_inner(), 3);

@@ -273,7 +273,7 @@ fn a_component_is_listed() {
     are_upstreams(&bytes, 452, 0xf0dd_b91c_41d8_633a);
     let listing = each_is_refused(10, |refusals| match list(&bytes) {
         Err(fault) => {
-            assert_eq!(fault, ListFault::Memory);
+            assert_eq!(fault, ListFault::NoMemory);
             refusals.0 += 1;
             list(&bytes).expect("one request is refused")
         }

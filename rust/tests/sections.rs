@@ -233,7 +233,7 @@ fn copies_stand_by_themselves() {
     section.export("b", ComponentExportKind::Func, 1, None);
     assert_eq!((section.len(), copy.len()), (2, 1));
     assert_eq!(text(&copy), b"\x0b\x07\x01\x00\x01a\x01\x00\x00");
-    assert_eq!(format!("{copy:?}"), "ComponentExportSection { len: 1, .. }");
+    assert_eq!(format!("{copy:?}"), "ComponentExportSection { bytes: [7, 1, 0, 1, 97, 1, 0, 0] }");
 }
 
 /// A section whose text is one byte after its size.
@@ -325,6 +325,27 @@ fn a_section_that_panics_leaves_what_it_was_appended_to() {
     assert!(panics(|| [Panicking].as_slice().encode(&mut sink)));
     assert!(panics(|| Some(Panicking).encode(&mut sink)));
     assert_eq!(sink, [4]);
+}
+
+/// A value whose `encode` removes what the sink had before it.
+struct Cutting;
+
+impl Encode for Cutting {
+    fn encode(&self, sink: &mut Vec<u8>) {
+        sink.clear();
+    }
+}
+
+#[test]
+#[should_panic = "`Encode::encode` removed bytes from its sink"]
+fn a_list_whose_values_cut_the_sink() {
+    [Cutting].as_slice().encode(&mut vec![4]);
+}
+
+#[test]
+#[should_panic = "`Encode::encode` removed bytes from its sink"]
+fn an_option_whose_value_cuts_the_sink() {
+    Some(Cutting).encode(&mut vec![4]);
 }
 
 /// An iterator over two, which panics in place of the second.

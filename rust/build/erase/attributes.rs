@@ -1,6 +1,6 @@
 //! Attributes, and what the eraser writes in their place.
 
-use super::known::{ATTRIBUTES, DERIVED, OF_COMPARED_TREES, OF_TREES, PRINTED, TREES};
+use super::known::{ATTRIBUTES, DERIVED, DERIVED_TOO, OF_COMPARED_TREES, OF_TREES, TREES};
 use super::{Eraser, Refused};
 
 impl Eraser<'_> {
@@ -44,8 +44,8 @@ impl Eraser<'_> {
         }
     }
 
-    /// Leaves out of a derive what Rust has not, and adds what is printed. `Error` becomes an impl
-    /// after the enum.
+    /// Leaves out of a derive what Rust has not, and adds what a user of Rust expects. `Error`
+    /// becomes an impl after the enum.
     fn derive(&mut self, i: usize, end: usize) -> Result<(), Refused> {
         let names = self.derived(i, end)?;
         if names.len() == 1 && self.at(i + 4) == "Drop" {
@@ -55,8 +55,9 @@ impl Eraser<'_> {
             }
             return Ok(());
         }
-        if self.at(end) == "pub" && PRINTED.contains(&self.at(end + 2)) {
-            self.put(end - 3, format!("{}, Debug", self.at(end - 3)));
+        let owner = self.public_type(end)?;
+        if let Some((_, too)) = DERIVED_TOO.iter().find(|(name, _)| *name == owner) {
+            self.put(end - 2, format!(", {too})"));
         }
         for j in names {
             match self.at(j) {
@@ -74,17 +75,19 @@ impl Eraser<'_> {
     /// What a type derives in place of `Drop`, which begins here after that: a tree what it doesn't
     /// derive already.
     fn derived_by_trees(&self, i: usize) -> Result<Option<&'static str>, Refused> {
+        let is_compared = self.stands(i, "# [ derive_where");
+        let derived = if is_compared { OF_COMPARED_TREES } else { OF_TREES };
+        Ok(TREES.contains(&self.public_type(i)?).then_some(derived))
+    }
+
+    /// The name of the public type that begins here, its other attributes first.
+    fn public_type(&self, i: usize) -> Result<&str, Refused> {
         let mut item = i;
-        let mut derived = OF_TREES;
         while self.at(item) == "#" {
-            if self.at(item + 2) == "derive_where" {
-                derived = OF_COMPARED_TREES;
-            }
             item = self.close(item + 1)?;
         }
         let is_type = ["struct", "enum"].contains(&self.at(item + 1));
-        let is_tree = self.at(item) == "pub" && is_type && TREES.contains(&self.at(item + 2));
-        Ok(is_tree.then_some(derived))
+        Ok(if self.at(item) == "pub" && is_type { self.at(item + 2) } else { "" })
     }
 
     /// Writes `Display` and `Error` after the enum of errors that begins here.

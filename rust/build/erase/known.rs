@@ -33,10 +33,10 @@ pub const ATTRIBUTES: [&str; 5] = [
 ];
 
 /// What a tree derives in place of `Drop`.
-pub const OF_TREES: &str = "Clone, Debug, PartialEq, Eq";
+pub const OF_TREES: &str = "Clone, Debug, PartialEq, Eq, Hash";
 
 /// What it derives where it has `derive_where` for the others.
-pub const OF_COMPARED_TREES: &str = "Clone";
+pub const OF_COMPARED_TREES: &str = "Clone, Hash";
 
 /// Trees of items and of commands, whose values a user of Rust compares, prints and copies.
 pub const TREES: [&str; 23] = [
@@ -65,8 +65,31 @@ pub const TREES: [&str; 23] = [
     "TypeTree",
 ];
 
-/// Types that a user of Rust prints, whose sources don't say so.
-pub const PRINTED: [&str; 1] = ["Alias"];
+/// Types that derive more for a user of Rust than their sources say: what they derive besides.
+pub const DERIVED_TOO: [(&str, &str); 22] = [
+    ("AbstractHeapType", "Hash"),
+    ("Alias", "Debug, Hash, PartialEq, Eq"),
+    ("ArrayType", "Hash"),
+    ("CanonicalOption", "Hash"),
+    ("ComponentExportKind", "Hash"),
+    ("ComponentOuterAliasKind", "Hash"),
+    ("ComponentSectionId", "Hash"),
+    ("EntityType", "Hash"),
+    ("ExportKind", "Hash"),
+    ("Fault", "Hash"),
+    ("FieldType", "Hash"),
+    ("GlobalType", "Hash"),
+    ("HeapType", "Hash"),
+    ("MemoryType", "Hash"),
+    ("ModuleArg", "Hash"),
+    ("RefType", "Hash"),
+    ("Space", "Hash, PartialOrd, Ord"),
+    ("StorageType", "Hash"),
+    ("TableType", "Hash"),
+    ("TagType", "Hash"),
+    ("Unread", "Hash"),
+    ("ValType", "Hash"),
+];
 
 /// Methods of trees that stay in this crate: their contracts ask for what nothing tests, or they
 /// answer what the facade has in another shape.

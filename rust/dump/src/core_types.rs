@@ -2,10 +2,13 @@
 
 use super::node::{Indices, Node, Scope, Tree};
 use super::shapes::{part, record, records, variant, variants, words};
-use wenc::tree::{AbstractHeapType, Space};
 use wenc::tree::{
-    ArrayType, CompositeType, EntityType, FieldType, FuncType, GlobalType, GroupTree, HeapType,
-    MemoryType, RefType, StorageType, StructType, SubType, TableType, TagType, ValType,
+    CoreAbstractHeapType as AbstractHeapType, CoreArrayType as ArrayType,
+    CoreCompositeType as CompositeType, CoreEntityType as EntityType, CoreFieldType as FieldType,
+    CoreFuncType as FuncType, CoreGlobalType as GlobalType, CoreHeapType as HeapType,
+    CoreMemoryType as MemoryType, CoreRefType as RefType, CoreStorageType as StorageType,
+    CoreStructType as StructType, CoreSubType as SubType, CoreTableType as TableType,
+    CoreTagType as TagType, CoreValType as ValType, GroupTree, Space,
 };
 
 words! {

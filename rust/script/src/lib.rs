@@ -14,8 +14,8 @@ use std::ffi::OsString;
 use std::io::{Read, Write};
 use std::process::ExitCode;
 
-/// The arguments without the program's name. It fails where there are some that can't be told:
-/// there is no memory for them, or one, or the program's name in front of some, isn't text.
+/// The arguments without the program's name. It fails if there are some and an allocation fails, or
+/// one of them, or the program's name, isn't UTF-8.
 fn arguments(all: impl Iterator<Item = OsString>) -> Result<Vec<String>, Failure> {
     let mut told = Vec::new(Global);
     let mut all = all.peekable();
@@ -32,7 +32,7 @@ fn arguments(all: impl Iterator<Item = OsString>) -> Result<Vec<String>, Failure
     Ok(told)
 }
 
-/// Runs `wenc` with these arguments, the program's name in front of them, and answers the exit
+/// Runs `wenc` with these arguments, of which the first is the program's name, and returns the exit
 /// status.
 pub fn wenc(
     arguments_with_name: impl Iterator<Item = OsString>,
@@ -46,7 +46,7 @@ pub fn wenc(
     }
 }
 
-/// Runs the commands that the bytes on standard input choose, and prints what they answer.
+/// Runs the commands that the bytes on standard input choose, and prints their results.
 pub fn driven() -> ExitCode {
     proved::driven::main(HostRuntime)
 }

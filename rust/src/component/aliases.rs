@@ -14,7 +14,9 @@ encode! {
 }
 
 collections! {
-    /// The section of aliases (component model, binary format, "Alias Definitions").
+    /// The section of aliases ([component model, binary format, "Alias Definitions"][aliases]).
+    ///
+    /// [aliases]: https://github.com/WebAssembly/component-model/blob/main/design/mvp/Binary.md#alias-definitions
     ///
     /// ```
     /// use wenc::{Alias, Component, ComponentAliasSection, ComponentExportKind};
@@ -46,9 +48,6 @@ sections! { ComponentAliasSection }
 impl ComponentAliasSection {
     twins! {
         /// Adds an alias.
-        fn alias | try_alias(&mut self, alias: Alias<'_>) -> &mut Self {
-            self.0.alias(alias)?;
-            Ok(self)
-        }
+        fn alias | try_alias(&mut self, alias: Alias<'_>) -> &mut Self;
     }
 }

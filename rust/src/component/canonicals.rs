@@ -1,5 +1,4 @@
-//! Canonical functions: what is lifted and lowered, what the component model provides, and their
-//! section.
+//! Canonical functions: lifted and lowered ones and builtins, and their section.
 
 mod builtins;
 
@@ -8,7 +7,7 @@ pub(crate) use builtins::builtins;
 use crate::component::{ComponentValType, sections};
 use crate::core::ValType;
 use crate::proved::wasm_encoder::{AddsBuiltin, AddsSlot};
-use crate::shared::collections;
+use crate::shared::{List, collections};
 use crate::twins::twins;
 
 pub use crate::proved::wasm_encoder::CanonicalOption;
@@ -18,8 +17,10 @@ crate::encode::encode! {
 }
 
 collections! {
-    /// The section of canonical functions (component model, binary format, "Canonical
-    /// Definitions").
+    /// The section of canonical functions ([component model, binary format, "Canonical
+    /// Definitions"][canon]).
+    ///
+    /// [canon]: https://github.com/WebAssembly/component-model/blob/main/design/mvp/Binary.md#canonical-definitions
     ///
     /// ```
     /// use wenc::{CanonicalFunctionSection, CanonicalOption, Component, ComponentImportSection};
@@ -46,12 +47,10 @@ collections! {
 
 sections! { CanonicalFunctionSection }
 
-/// Functions between component and core modules (component model, binary format, "Canonical
-/// Definitions"). Options are written in the order in which they come. A call that is refused
-/// leaves the section as it was.
+/// Lifted and lowered functions. Options are encoded in their order.
 impl CanonicalFunctionSection {
     twins! {
-        /// Makes a function, of the type with this index, of a core function.
+        /// Lifts a core function to the type with this index (`canon lift`).
         fn lift | try_lift<O>(
             &mut self,
             core_func_index: u32,
@@ -63,18 +62,18 @@ impl CanonicalFunctionSection {
             O::IntoIter: ExactSizeIterator,
         }
         {
-            self.0.lift(core_func_index, type_index, options.into_iter())?;
+            self.0.lift(core_func_index, type_index, List(&mut options.into_iter()))?;
             Ok(self)
         }
 
-        /// Makes a core function of a function.
+        /// Lowers a function (`canon lower`).
         fn lower | try_lower<O>(&mut self, func_index: u32, options: O) -> &mut Self
         where {
             O: IntoIterator<Item = CanonicalOption>,
             O::IntoIter: ExactSizeIterator,
         }
         {
-            self.0.lower(func_index, options.into_iter())?;
+            self.0.lower(func_index, List(&mut options.into_iter()))?;
             Ok(self)
         }
     }
@@ -102,12 +101,11 @@ macro_rules! calls {
             )*
         }
     ) => {
-        /// Core functions that the component model provides (component model, binary format,
-        /// "Canonical Definitions").
+        /// Builtins: core functions that the component model defines.
         ///
-        /// `ty_index` and `ty` are the index of a type, that of a core type where a thread is made.
-        /// `async_` says whether the call may be answered later. Options are written in the order
-        /// in which they come. A call that is refused leaves the section as it was.
+        /// `ty_index` and `ty` are the index of a type, of a core type if a thread is created;
+        /// `memory` is that of a core memory, `table_index` that of a core table. `async_` says
+        /// whether the builtin may return before it is done. Options are encoded in their order.
         impl CanonicalFunctionSection {
             $(calls! { @plain [$(#[$doc])*] $name $tried $args $($own)? })*
 
@@ -119,15 +117,13 @@ macro_rules! calls {
                     O::IntoIter: ExactSizeIterator,
                 }
                 {
-                    self.0.$list($($arg,)* options.into_iter())?;
+                    self.0.$list($($arg,)* List(&mut options.into_iter()))?;
                     Ok(self)
                 })*
 
                 $($(#[$slot_doc])*
-                fn $slot | $slot_tried(&mut self, ty: ValType, i: u32) -> &mut Self {
-                    self.0.$slot(ty.to_proved()?, i)?;
-                    Ok(self)
-                })*
+                fn $slot | $slot_tried(&mut self, ty: ValType, i: u32) -> &mut Self
+                    as (ty.try_into()?, i);)*
             }
         }
     };

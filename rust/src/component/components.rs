@@ -3,10 +3,10 @@
 use crate::encode::encode;
 use crate::{Component, ComponentSection, ComponentSectionId};
 
-/// A section that is a component of its own (component model, binary format, "Component
-/// Definitions").
+/// A section that is a nested component ([component model, binary format, "Component
+/// Definitions"][definitions]). It can't be encoded if that has more than 4294967295 bytes.
 ///
-/// It is refused, when it is encoded, where that has more than 4294967295 bytes.
+/// [definitions]: https://github.com/WebAssembly/component-model/blob/main/design/mvp/Binary.md#component-definitions
 ///
 /// ```
 /// use wenc::{Component, NestedComponentSection};
@@ -16,7 +16,7 @@ use crate::{Component, ComponentSection, ComponentSectionId};
 /// outer.section(&NestedComponentSection(&inner));
 /// assert_eq!(outer.finish(), b"\0asm\x0d\0\x01\0\x04\x08\0asm\x0d\0\x01\0");
 /// ```
-#[derive(Clone, Debug)]
+#[derive(Clone, Debug, PartialEq, Eq, Hash)]
 pub struct NestedComponentSection<'a>(
     /// The component.
     pub &'a Component,

@@ -14,7 +14,10 @@ encode! {
 }
 
 collections! {
-    /// The section of exports (component model, binary format, "Import and Export Definitions").
+    /// The section of exports ([component model, binary format, "Import and Export
+    /// Definitions"][exports]).
+    ///
+    /// [exports]: https://github.com/WebAssembly/component-model/blob/main/design/mvp/Binary.md#import-and-export-definitions
     ///
     /// ```
     /// use wenc::{Component, ComponentExportKind, ComponentExportSection, ComponentTypeSection};
@@ -38,17 +41,13 @@ sections! { ComponentExportSection }
 
 impl ComponentExportSection {
     twins! {
-        /// Adds an export of the item of this kind with this index under this name, with the type
-        /// that it is ascribed or none.
+        /// Adds an export of the item of this kind with this index, optionally ascribing a type.
         fn export | try_export<'a>(
             &mut self,
             name: impl Into<ComponentExternName<'a>>,
             kind: ComponentExportKind,
             index: u32,
             ty: Option<ComponentTypeRef>,
-        ) -> &mut Self {
-            self.0.export(name.into().into_proved(), kind, index, ty)?;
-            Ok(self)
-        }
+        ) -> &mut Self as (name.into().into_proved(), kind, index, ty);
     }
 }

@@ -11,8 +11,8 @@ use alloc::string::String;
 
 pub use proved::{ComponentTypeRef, TypeBounds};
 
-/// The name of an import or an export, with the options that a name may have (component model,
-/// binary format, `importname'` and `exportname'`).
+/// The name of an import or an export, with its options (component model, binary format,
+/// `importname'` and `exportname'`).
 ///
 /// ```
 /// use wenc::ComponentExternName;
@@ -20,15 +20,15 @@ pub use proved::{ComponentTypeRef, TypeBounds};
 /// let mut name = ComponentExternName::from("wall:clock/now@1");
 /// name.version_suffix = Some(".2.3".into());
 /// ```
-#[derive(Clone, Debug)]
+#[derive(Clone, Debug, PartialEq, Eq, Hash)]
 pub struct ComponentExternName<'a> {
     /// The name.
     pub name: Cow<'a, str>,
-    /// The name of the interface that is implemented (`implements`).
+    /// The name of the interface that the item implements (`implements`).
     pub implements: Option<Cow<'a, str>>,
-    /// What follows the version that the name bears (`versionsuffix`).
+    /// The rest of the version, after the part in the name (`versionsuffix`).
     pub version_suffix: Option<Cow<'a, str>>,
-    /// A name that this one has elsewhere (`external-id`).
+    /// The name of the item elsewhere (`external-id`).
     pub external_id: Option<Cow<'a, str>>,
 }
 
@@ -39,7 +39,7 @@ impl<'a> ComponentExternName<'a> {
         Self { name, implements: None, version_suffix: None, external_id: None }
     }
 
-    /// The name as the proved code takes it. It takes no memory.
+    /// The name as the proved code takes it. It doesn't allocate.
     #[inline]
     pub(crate) fn into_proved(self) -> proved::ComponentExternName<'a> {
         proved::ComponentExternName {
@@ -50,7 +50,7 @@ impl<'a> ComponentExternName<'a> {
         }
     }
 
-    /// The name as the proved code takes it, lent. It takes no memory.
+    /// The name as the proved code takes it, borrowed. It doesn't allocate.
     fn lent(&self) -> proved::ComponentExternName<'_> {
         fn option<'t>(text: &'t Option<Cow<'_, str>>) -> Option<CowStr<'t>> {
             text.as_deref().map(CowStr::Borrowed)
@@ -78,6 +78,13 @@ impl<'a> From<&'a String> for ComponentExternName<'a> {
     }
 }
 
+impl<'a> From<Cow<'a, str>> for ComponentExternName<'a> {
+    #[inline]
+    fn from(name: Cow<'a, str>) -> Self {
+        Self::plain(name)
+    }
+}
+
 impl From<String> for ComponentExternName<'_> {
     #[inline]
     fn from(name: String) -> Self {
@@ -92,7 +99,10 @@ encode! {
 }
 
 collections! {
-    /// The section of imports (component model, binary format, "Import and Export Definitions").
+    /// The section of imports ([component model, binary format, "Import and Export
+    /// Definitions"][imports]).
+    ///
+    /// [imports]: https://github.com/WebAssembly/component-model/blob/main/design/mvp/Binary.md#import-and-export-definitions
     ///
     /// ```
     /// use wenc::{Component, ComponentImportSection, ComponentTypeRef, TypeBounds};
@@ -111,14 +121,11 @@ sections! { ComponentImportSection }
 
 impl ComponentImportSection {
     twins! {
-        /// Adds an import under this name.
+        /// Adds an import by its name and type.
         fn import | try_import<'a>(
             &mut self,
             name: impl Into<ComponentExternName<'a>>,
             ty: ComponentTypeRef,
-        ) -> &mut Self {
-            self.0.import(name.into().into_proved(), ty)?;
-            Ok(self)
-        }
+        ) -> &mut Self as (name.into().into_proved(), ty);
     }
 }

@@ -3,7 +3,7 @@
 use crate::component::sections;
 use crate::encode::encode;
 use crate::proved::wasm_encoder as proved;
-use crate::shared::{collections, named, named_items};
+use crate::shared::{List, collections, named, named_items};
 use crate::twins::twins;
 use crate::{ComponentExportKind, ComponentExternName, ExportKind};
 
@@ -14,7 +14,10 @@ encode! {
 }
 
 collections! {
-    /// The section of core instances (component model, binary format, "Core Instance Definitions").
+    /// The section of core instances ([component model, binary format, "Instance
+    /// Definitions"][instances]).
+    ///
+    /// [instances]: https://github.com/WebAssembly/component-model/blob/main/design/mvp/Binary.md#instance-definitions
     ///
     /// ```
     /// use wenc::{CanonicalFunctionSection, Component, ExportKind, InstanceSection, Module};
@@ -37,7 +40,8 @@ collections! {
     /// );
     /// ```
     InstanceSection;
-    /// The section of component instances (component model, binary format, "Instance Definitions").
+    /// The section of instances of components (component model, binary format, "Instance
+    /// Definitions").
     ///
     /// ```
     /// use wenc::{Component, ComponentExportKind, ComponentInstanceSection};
@@ -66,27 +70,26 @@ sections! { InstanceSection ComponentInstanceSection }
 
 impl InstanceSection {
     twins! {
-        /// Adds an instance of the core module with this index, which is given these arguments
-        /// under their names.
+        /// Instantiates a core module. Each argument is the name of a module from which it imports,
+        /// and the core instance for it.
         fn instantiate | try_instantiate<A, S>(&mut self, module_index: u32, args: A) -> &mut Self
         where {
             A: IntoIterator<Item = (S, ModuleArg)>,
             A::IntoIter: ExactSizeIterator,
             S: AsRef<str>,
         } {
-            self.0.instantiate(module_index, named(args))?;
+            self.0.instantiate(module_index, List(&mut named(args)))?;
             Ok(self)
         }
 
-        /// Adds an instance that exports these core items, of these kinds and with these indices,
-        /// under their names.
+        /// Adds a core instance with these exports: the name, the kind and the index of each.
         fn export_items | try_export_items<E, S>(&mut self, exports: E) -> &mut Self
         where {
             E: IntoIterator<Item = (S, ExportKind, u32)>,
             E::IntoIter: ExactSizeIterator,
             S: AsRef<str>,
         } {
-            self.0.export_items(named_items(exports))?;
+            self.0.export_items(List(&mut named_items(exports)))?;
             Ok(self)
         }
     }
@@ -94,29 +97,27 @@ impl InstanceSection {
 
 impl ComponentInstanceSection {
     twins! {
-        /// Adds an instance of the component with this index, which is given the items of these
-        /// kinds and with these indices under their names.
+        /// Instantiates a component. Each argument is the name of an import, and the kind and the
+        /// index of the item for it.
         fn instantiate | try_instantiate<A, S>(&mut self, component_index: u32, args: A) -> &mut Self
         where {
             A: IntoIterator<Item = (S, ComponentExportKind, u32)>,
             A::IntoIter: ExactSizeIterator,
             S: AsRef<str>,
         } {
-            self.0.instantiate(component_index, named_items(args))?;
+            self.0.instantiate(component_index, List(&mut named_items(args)))?;
             Ok(self)
         }
 
-        /// Adds an instance that exports the items of these kinds and with these indices under
-        /// their names.
+        /// Adds an instance with these exports: the name, the kind and the index of each.
         fn export_items | try_export_items<'a, N, E>(&mut self, exports: E) -> &mut Self
         where {
             E: IntoIterator<Item = (N, ComponentExportKind, u32)>,
             E::IntoIter: ExactSizeIterator,
             N: Into<ComponentExternName<'a>>,
         } {
-            let exports = exports.into_iter();
             let named = |(name, kind, index): (N, _, _)| (name.into().into_proved(), kind, index);
-            self.0.export_items(exports.map(named))?;
+            self.0.export_items(List(&mut exports.into_iter().map(named)))?;
             Ok(self)
         }
     }

@@ -1,14 +1,16 @@
 //! The section of names.
 
+use crate::content::content;
 use crate::proved::wasm_encoder as proved;
-use crate::shared::{collections, opaque};
+use crate::shared::collections;
 use crate::twins::twins;
 use crate::{ComponentSection, CustomSection, NameMap};
 
 collections! {
-    /// Names of a component and of the items in it, for people who read it: a custom section
-    /// (component model, binary format, "Name Section"). Nothing is asked of the order of the
-    /// calls.
+    /// Debug names of a component and its items, a custom section ([component model, binary format,
+    /// "Name Section"][names]). The calls may come in any order.
+    ///
+    /// [names]: https://github.com/WebAssembly/component-model/blob/main/design/mvp/Binary.md#name-section
     ///
     /// ```
     /// use wenc::{Component, ComponentNameSection, NameMap};
@@ -29,7 +31,7 @@ collections! {
     ComponentNameSection;
 }
 
-opaque! { ComponentNameSection }
+content! { ComponentNameSection }
 
 /// The calls that name items of one sort.
 macro_rules! naming {
@@ -38,9 +40,7 @@ macro_rules! naming {
             twins! {
                 $(
                     #[doc = concat!("Names ", $what, ".")]
-                    fn $name | $tried(&mut self, names: &NameMap) -> () {
-                        Ok(self.0.$name(&names.0)?)
-                    }
+                    fn $name | $tried(&mut self, names: &NameMap) -> () as (&names.0);
                 )*
             }
         }
@@ -49,23 +49,20 @@ macro_rules! naming {
 
 impl ComponentNameSection {
     twins! {
-        /// Names the component itself. Readers ask for this name in front of all others.
-        fn component | try_component(&mut self, name: &str) -> () {
-            Ok(self.0.component(name)?)
-        }
+        /// Names the component itself. The standard puts this name first.
+        fn component | try_component(&mut self, name: &str) -> ();
 
-        /// Appends a subsection with this id, from 0 to 255, and these bytes after its size.
-        fn raw | try_raw(&mut self, id: u8, data: &[u8]) -> () {
-            Ok(self.0.raw(id, data)?)
-        }
+        /// Appends a subsection as its id, from 0 to 255, and its bytes after the size. The bytes
+        /// aren't checked.
+        fn raw | try_raw(&mut self, id: u8, data: &[u8]) -> ();
     }
 
-    /// Whether there is no subsection.
+    /// Returns `true` if there is no subsection.
     pub fn is_empty(&self) -> bool {
         self.0.is_empty()
     }
 
-    /// The section as it stands in a component. It takes no memory.
+    /// Returns the section as a custom section. It doesn't allocate.
     pub fn as_custom<'a>(&'a self) -> CustomSection<'a> {
         let proved::CustomSection { name, data } = self.0.as_custom();
         CustomSection { name: name.into(), data: data.into() }

@@ -5,11 +5,11 @@ use crate::proved::wasm_encoder as proved;
 use crate::{ComponentSection, ComponentSectionId};
 use alloc::vec::Vec;
 
-/// The section that has a function called when the component is instantiated (component model,
-/// binary format, "Start Definitions").
+/// The start section: a function that is called when the component is instantiated ([component
+/// model, binary format, "Start Definitions"][binary]). It can't be encoded if there are more than
+/// 4294967295 arguments, or as many bytes after its size.
 ///
-/// It is refused, when it is encoded, where there are more than 4294967295 arguments, or so many
-/// bytes after its size.
+/// [binary]: https://github.com/WebAssembly/component-model/blob/main/design/mvp/Binary.md
 ///
 /// ```
 /// use wenc::{Component, ComponentImportSection, ComponentStartSection, ComponentTypeRef};
@@ -21,7 +21,7 @@ use alloc::vec::Vec;
 /// imports
 ///     .import("f", ComponentTypeRef::Func(0))
 ///     .import("v", ComponentTypeRef::Value(PrimitiveValType::U32.into()));
-/// // function 0 is called with value 0, and answers nothing
+/// // function 0 is called with value 0, and returns nothing
 /// let start = ComponentStartSection { function_index: 0, args: [0], results: 0 };
 ///
 /// let mut component = Component::new();
@@ -32,13 +32,13 @@ use alloc::vec::Vec;
 ///       \x09\x04\0\x01\0\0",
 /// );
 /// ```
-#[derive(Clone, Debug)]
+#[derive(Clone, Debug, PartialEq, Eq, Hash)]
 pub struct ComponentStartSection<A> {
     /// The index of the function.
     pub function_index: u32,
-    /// The indices of the values that it is called with.
+    /// The indices of the values that are its arguments.
     pub args: A,
-    /// How many values it answers.
+    /// The number of its results.
     pub results: u32,
 }
 

@@ -25,13 +25,7 @@ pub use val_type::{ComponentValType, PrimitiveValType};
 macro_rules! declarations {
     ($($name:ident)*) => {
         $crate::shared::lenders! { $($name)* }
-
-        $(impl core::fmt::Debug for $name {
-            fn fmt(&self, f: &mut core::fmt::Formatter<'_>) -> core::fmt::Result {
-                let mut shown = f.debug_struct(stringify!($name));
-                shown.field("type_count", &self.type_count()).finish_non_exhaustive()
-            }
-        })*
+        $crate::content::content! { $($name)* }
     };
 }
 
@@ -42,98 +36,82 @@ macro_rules! declaring {
 
         $(impl $name {
             $crate::twins::twins! {
-                /// Declares a core type, which the encoder writes.
+                /// Begins the declaration of a core type and returns its encoder.
                 ///
-                /// The type isn't whole until it has: what grows or takes the type is refused
-                /// meanwhile, and afterwards too where the encoder was dropped.
-                /// [`discard_unfinished`](Self::discard_unfinished) gives such a declaration up.
-                #[must_use = "the encoder is to write the type"]
+                /// If the encoder is dropped before it has ended that type, this one is unfinished:
+                /// it rejects further additions and can't be encoded until
+                /// [`discard_unfinished`](Self::discard_unfinished).
+                #[must_use = "the encoder has to encode the type"]
                 fn core_type | try_core_type(&mut self) -> $crate::ComponentCoreTypeEncoder<'_> {
-                    Ok(self.0.core_type()?.into())
+                    Ok($crate::shared::Public::public(self.0.core_type()?))
                 }
 
-                /// Declares a type, which the encoder writes; as [`core_type`](Self::core_type).
-                #[must_use = "the encoder is to write the type"]
+                /// Begins the declaration of a type and returns its encoder; see
+                /// [`core_type`](Self::core_type).
+                #[must_use = "the encoder has to encode the type"]
                 fn ty | try_ty(&mut self) -> $crate::ComponentTypeEncoder<'_> {
-                    Ok(self.0.ty()?.into())
+                    Ok($crate::shared::Public::public(self.0.ty()?))
                 }
 
-                /// Declares an alias: of an instance's export, or of what an enclosing component
-                /// has.
-                fn alias | try_alias(&mut self, alias: $crate::Alias<'_>) -> &mut Self {
-                    self.0.alias(alias)?;
-                    Ok(self)
-                }
+                /// Declares an alias of an instance's export, or of an enclosing component's item.
+                fn alias | try_alias(&mut self, alias: $crate::Alias<'_>) -> &mut Self;
 
-                /// Declares an export under this name.
+                /// Declares an export by its name and type.
                 fn export | try_export<'a>(
                     &mut self,
                     name: impl Into<$crate::ComponentExternName<'a>>,
                     ty: $crate::ComponentTypeRef,
-                ) -> &mut Self {
-                    self.0.export(name.into().into_proved(), ty)?;
-                    Ok(self)
-                }
+                ) -> &mut Self as (name.into().into_proved(), ty);
 
-                /// Declares a type of values, which the encoder writes, and answers its index; as
-                /// [`ty`](Self::ty).
-                #[must_use = "the encoder is to write the type"]
+                /// Begins the declaration of a defined value type, and returns its index and its
+                /// encoder; see [`ty`](Self::ty).
+                #[must_use = "the encoder has to encode the type"]
                 fn type_defined | try_type_defined(
                     &mut self,
                 ) -> (u32, $crate::ComponentDefinedTypeEncoder<'_>) {
                     let (index, encoder) = self.0.type_defined()?;
-                    Ok((index, encoder.into()))
+                    Ok((index, $crate::shared::Public::public(encoder)))
                 }
 
-                /// Declares a type of functions, which the encoder writes, and answers its index;
-                /// as [`ty`](Self::ty).
-                #[must_use = "the encoder is to write the type"]
+                /// Begins the declaration of a function type, and returns its index and its
+                /// encoder; see [`ty`](Self::ty).
+                #[must_use = "the encoder has to encode the type"]
                 fn type_function | try_type_function(
                     &mut self,
                 ) -> (u32, $crate::ComponentFuncTypeEncoder<'_>) {
                     let (index, encoder) = self.0.type_function()?;
-                    Ok((index, encoder.into()))
+                    Ok((index, $crate::shared::Public::public(encoder)))
                 }
 
-                /// Declares an alias of the type that this instance exports under this name, and
-                /// answers the alias's index.
+                /// Declares an alias of the type that an instance exports under this name, and
+                /// returns the alias's index.
                 fn alias_export_type | try_alias_export_type(
                     &mut self,
                     instance: u32,
                     name: &str,
-                ) -> u32 {
-                    Ok(self.0.alias_export_type(instance, name)?)
-                }
+                ) -> u32;
 
-                /// Declares an alias of the instance that this instance exports under this name,
-                /// and answers the alias's index.
+                /// Declares an alias of the instance that an instance exports under this name, and
+                /// returns the alias's index.
                 fn alias_export_instance | try_alias_export_instance(
                     &mut self,
                     instance: u32,
                     name: &str,
-                ) -> u32 {
-                    Ok(self.0.alias_export_instance(instance, name)?)
-                }
+                ) -> u32;
 
-                /// Declares an alias of a type that an enclosing component has: how many components
-                /// further out that is, and which index the type has there. Answers the alias's own
-                /// index.
+                /// Declares an alias of the type with the index `outer` in an enclosing component,
+                /// `count` components further out. Returns the alias's index.
                 fn alias_outer_type | try_alias_outer_type(
                     &mut self,
                     count: u32,
                     outer: u32,
-                ) -> u32 {
-                    Ok(self.0.alias_outer_type(count, outer)?)
-                }
+                ) -> u32;
 
-                /// Declares an alias of a core type that an enclosing component has: how many
-                /// components further out that is, and which index the type has there. Answers the
-                /// alias's own index among the core types.
-                fn alias_core_type | try_alias_core_type(&mut self, count: u32, outer: u32) -> u32 {
-                    Ok(self.0.alias_core_type(count, outer)?)
-                }
+                /// Declares an alias of the core type with the index `outer` in an enclosing
+                /// component, `count` components further out. Returns the alias's index.
+                fn alias_core_type | try_alias_core_type(&mut self, count: u32, outer: u32) -> u32;
 
-                /// Declares an export of a type under this name, and answers its index.
+                /// Declares an export of a type and returns its index.
                 ///
                 /// ```
                 /// use wenc::{Component, ComponentTypeRef, ComponentTypeSection, ComponentValType};
@@ -161,34 +139,30 @@ macro_rules! declaring {
                     &mut self,
                     name: impl Into<$crate::ComponentExternName<'a>>,
                     bounds: $crate::TypeBounds,
-                ) -> u32 {
-                    Ok(self.0.export_type(name.into().into_proved(), bounds)?)
-                }
+                ) -> u32 as (name.into().into_proved(), bounds);
 
-                /// Declares an export of an instance of the type with this index under this name,
-                /// and answers its index among the instances.
+                /// Declares an export of an instance of the type with this index, and returns the
+                /// instance's index.
                 fn export_instance | try_export_instance<'a>(
                     &mut self,
                     name: impl Into<$crate::ComponentExternName<'a>>,
                     ty: u32,
-                ) -> u32 {
-                    Ok(self.0.export_instance(name.into().into_proved(), ty)?)
-                }
+                ) -> u32 as (name.into().into_proved(), ty);
             }
 
-            /// How many core types there are: those that were declared, one that is being written
-            /// among them, and those of outer aliases.
+            /// Returns the number of core types: declared ones, with an unfinished one, and outer
+            /// aliases.
             pub fn core_type_count(&self) -> u32 {
                 self.0.core_type_count()
             }
 
-            /// How many types there are: those that were declared, one that is being written among
-            /// them, and those of aliases, imports and exports.
+            /// Returns the number of types: declared ones, with an unfinished one, and those of
+            /// aliases, imports and exports.
             pub fn type_count(&self) -> u32 {
                 self.0.type_count()
             }
 
-            /// How many instances there are: those of aliases, imports and exports.
+            /// Returns the number of instances: those of aliases, imports and exports.
             pub fn instance_count(&self) -> u32 {
                 self.0.instance_count()
             }

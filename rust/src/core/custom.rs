@@ -4,11 +4,10 @@ use crate::encode::encode;
 use crate::proved::wasm_encoder as proved;
 use alloc::borrow::Cow;
 
-/// A section that the standard gives no meaning (WebAssembly 3.0, binary format, "Custom Section").
-/// It stands in a component or in a core module.
+/// A custom section of a component or a core module ([WebAssembly 3.0, binary format, "Custom
+/// Section"][custom]). It can't be encoded if it has more than 4294967295 bytes after its size.
 ///
-/// It is refused, when it is encoded, where it would have more than 4294967295 bytes after its
-/// size.
+/// [custom]: https://webassembly.github.io/spec/core/binary/modules.html#custom-section
 ///
 /// ```
 /// use wenc::{Component, CustomSection};
@@ -17,7 +16,7 @@ use alloc::borrow::Cow;
 /// component.section(&CustomSection { name: "notes".into(), data: [0x2a].as_slice().into() });
 /// assert_eq!(component.finish(), b"\0asm\x0d\0\x01\0\0\x07\x05notes\x2a");
 /// ```
-#[derive(Clone, Debug)]
+#[derive(Clone, Debug, PartialEq, Eq, Hash)]
 pub struct CustomSection<'a> {
     /// The name.
     pub name: Cow<'a, str>,
@@ -26,15 +25,14 @@ pub struct CustomSection<'a> {
 }
 
 impl CustomSection<'_> {
-    /// The section as the proved code takes it. It takes no memory.
+    /// The section as the proved code takes it. It doesn't allocate.
     #[inline]
     pub(crate) fn lent(&self) -> proved::CustomSection<'_> {
         proved::CustomSection { name: &self.name, data: &self.data }
     }
 }
 
-/// The bytes of a custom section after its id, its size among them, as they are (WebAssembly 3.0,
-/// binary format, "Custom Section"). Nothing checks that they are such a section.
+/// A custom section as its bytes after the id, with the size and the name. The bytes aren't checked.
 ///
 /// ```
 /// use wenc::{Component, RawCustomSection};
@@ -43,7 +41,7 @@ impl CustomSection<'_> {
 /// component.section(&RawCustomSection(b"\x02\x01x"));
 /// assert_eq!(component.finish(), b"\0asm\x0d\0\x01\0\0\x02\x01x");
 /// ```
-#[derive(Clone, Debug)]
+#[derive(Clone, Debug, PartialEq, Eq, Hash)]
 pub struct RawCustomSection<'a>(
     /// The bytes.
     pub &'a [u8],
@@ -57,8 +55,7 @@ impl RawCustomSection<'_> {
     }
 }
 
-/// Sections that stand in a core module as well as in a component, with the ids that the proved
-/// code gives them there.
+/// Sections of core modules and of components, with the ids that the proved code has for them there.
 macro_rules! in_either {
     ($($name:ty, $section:ident => $proved:expr;)*) => {
         $(impl $crate::Section for $name {

@@ -1,13 +1,11 @@
 //! What core modules import.
 
 use super::{GlobalType, MemoryType, TableType, TagType};
-use crate::Error;
-use crate::encode::encode;
-use crate::error::granted;
-use crate::proved::wasm_encoder as proved;
 
-/// The type of what a core module imports or exports (WebAssembly 3.0, binary format, "External
-/// Types").
+/// The type of an import or an export of a core module ([WebAssembly 3.0, binary format, "External
+/// Types"][types]).
+///
+/// [types]: https://webassembly.github.io/spec/core/binary/types.html#external-types
 ///
 /// ```
 /// use wenc::{Encode, EntityType, MemoryType};
@@ -35,22 +33,8 @@ pub enum EntityType {
     Global(GlobalType),
     /// A tag.
     Tag(TagType),
-    /// A function of the core type with this index and of none below it, which is not supported.
+    /// A function of exactly the core type with this index, which isn't supported.
     FunctionExact(u32),
-}
-
-impl EntityType {
-    /// The type as the proved code takes it.
-    pub(crate) fn to_proved(self) -> Result<proved::EntityType, Error> {
-        Ok(match self {
-            Self::Function(index) => proved::EntityType::Function(index),
-            Self::Table(ty) => proved::EntityType::Table(ty.to_proved()?),
-            Self::Memory(ty) => proved::EntityType::Memory(ty.to_proved()?),
-            Self::Global(ty) => proved::EntityType::Global(ty.to_proved()?),
-            Self::Tag(ty) => proved::EntityType::Tag(ty.to_proved()?),
-            Self::FunctionExact(_) => return Err(Error::Unsupported),
-        })
-    }
 }
 
 impl From<TableType> for EntityType {
@@ -75,8 +59,4 @@ impl From<TagType> for EntityType {
     fn from(ty: TagType) -> Self {
         Self::Tag(ty)
     }
-}
-
-encode! {
-    EntityType, ty => granted(ty.to_proved());
 }

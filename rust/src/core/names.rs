@@ -1,12 +1,14 @@
 //! Names of items by their indices.
 
-use crate::shared::{collections, opaque};
+use crate::content::content;
+use crate::shared::collections;
 use crate::twins::twins;
 
 collections! {
-    /// Names of items, each with the item's index, in the order in which they were appended
-    /// (WebAssembly 3.0, binary format, "Name Maps"). Readers ask for indices that ascend; nothing
-    /// checks that.
+    /// Names of items by their indices, in the order of the calls ([WebAssembly 3.0, appendix, "Name
+    /// Maps"][maps]). The standard asks for ascending indices, which isn't checked.
+    ///
+    /// [maps]: https://webassembly.github.io/spec/core/appendix/custom.html#name-maps
     ///
     /// ```
     /// use wenc::{Encode, NameMap};
@@ -22,22 +24,20 @@ collections! {
     NameMap;
 }
 
-opaque! { NameMap }
+content! { NameMap }
 
 impl NameMap {
     twins! {
         /// Names the item with this index.
-        fn append | try_append(&mut self, idx: u32, name: &str) -> () {
-            Ok(self.0.append(idx, name)?)
-        }
+        fn append | try_append(&mut self, idx: u32, name: &str) -> ();
     }
 
-    /// How many names there are.
+    /// Returns the number of names.
     pub fn len(&self) -> u32 {
         self.0.len()
     }
 
-    /// Whether there are none.
+    /// Returns `true` if there are no names.
     pub fn is_empty(&self) -> bool {
         self.0.is_empty()
     }

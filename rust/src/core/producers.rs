@@ -1,15 +1,17 @@
-//! The section that says what made a module or a component.
+//! The producers section.
 
+use crate::content::content;
 use crate::core::in_either;
-use crate::shared::{collections, opaque};
+use crate::shared::collections;
 use crate::twins::twins;
 
 collections! {
-    /// The tools that did one thing, such as `processed-by`, each with its version (tool
-    /// conventions, "Producers Section").
+    /// A field of a producers section, such as `processed-by`: tools with their versions.
     ProducersField;
-    /// What the tools did that made a module or a component, and which they were: a custom section
-    /// (tool conventions, "Producers Section").
+    /// The tools that produced a module or a component, a custom section ([tool conventions,
+    /// "Producers Section"][producers]).
+    ///
+    /// [producers]: https://github.com/WebAssembly/tool-conventions/blob/main/ProducersSection.md
     ///
     /// ```
     /// use wenc::{Component, ProducersField, ProducersSection};
@@ -29,7 +31,7 @@ collections! {
     ProducersSection;
 }
 
-opaque! { ProducersField ProducersSection }
+content! { ProducersField ProducersSection }
 
 in_either! {
     ProducersSection, section => section.0;
@@ -38,20 +40,15 @@ in_either! {
 impl ProducersField {
     twins! {
         /// Adds a tool and its version, which may be empty.
-        fn value | try_value(&mut self, name: &str, version: &str) -> &mut Self {
-            self.0.value(name, version)?;
-            Ok(self)
-        }
+        fn value | try_value(&mut self, name: &str, version: &str) -> &mut Self;
     }
 }
 
 impl ProducersSection {
     twins! {
-        /// Adds a field of this name, with its tools. The tool conventions name `language`,
-        /// `processed-by` and `sdk`, each once at most.
-        fn field | try_field(&mut self, name: &str, values: &ProducersField) -> &mut Self {
-            self.0.field(name, &values.0)?;
-            Ok(self)
-        }
+        /// Adds a field. The tool conventions define `language`, `processed-by` and `sdk`, each at
+        /// most once.
+        fn field | try_field(&mut self, name: &str, values: &ProducersField) -> &mut Self
+            as (name, &values.0);
     }
 }

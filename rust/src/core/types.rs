@@ -16,13 +16,13 @@ use crate::proved::rt_std::alloc::Global;
 use crate::proved::rt_std::vec::Vec;
 use crate::proved::wenc_base::Fault;
 
-/// These values as the proved code takes them, or the refusal of one.
-fn converted<T, U>(
-    values: impl IntoIterator<Item = T>,
+/// The values as the proved code takes them, or the first error.
+pub(super) fn converted<T, U>(
+    values: impl IntoIterator<Item = T, IntoIter: ExactSizeIterator>,
     convert: impl Fn(T) -> Result<U, Error>,
 ) -> Result<Vec<U>, Error> {
     let values = values.into_iter();
-    let mut converted = Vec::with_capacity(Global, values.size_hint().0).map_err(Fault::from)?;
+    let mut converted = Vec::with_capacity(Global, values.len()).map_err(Fault::from)?;
     for value in values {
         converted.push(convert(value)?).map_err(Fault::from)?;
     }

@@ -1,42 +1,15 @@
-//! Trees of what they are made of, and what sections take of them.
+//! Conversions between trees and what builders and sections take.
 
-use super::{AliasTree, Box, Command, NameTree, String, Vec};
-use crate::{Alias, ComponentExternName, Error, ProducersSection};
-use alloc::borrow::{Cow, ToOwned};
+use super::{AliasTree, Command, NameOptions, NameTree, String};
+use crate::{Alias, ComponentExternName, ProducersSection};
+use alloc::borrow::Cow;
+use alloc::string::String as StdString;
 
-impl From<&str> for String {
-    fn from(text: &str) -> Self {
-        text.to_owned().into()
-    }
-}
-
-impl<T, const N: usize> From<[T; N]> for Vec<T> {
-    fn from(values: [T; N]) -> Self {
-        alloc::vec::Vec::from(values).into()
-    }
-}
-
-impl<T> FromIterator<T> for Vec<T> {
-    fn from_iter<I: IntoIterator<Item = T>>(values: I) -> Self {
-        alloc::vec::Vec::from_iter(values).into()
-    }
-}
-
-/// # Panics
-///
-/// Where an allocation is refused, which [`Box::new`] answers.
-impl<T> From<T> for Box<T> {
-    fn from(value: T) -> Self {
-        let made = Box::new(super::Global, value);
-        crate::error::granted(made.map_err(|_| Error::NoMemory))
-    }
-}
-
-/// The command that adds the section to a component.
+/// Makes the command that adds the section to a component.
 ///
 /// # Panics
 ///
-/// Where an allocation is refused.
+/// Panics if an allocation fails.
 ///
 /// ```
 /// use wenc::ProducersSection;
@@ -71,5 +44,45 @@ impl<'a> From<&'a NameTree> for ComponentExternName<'a> {
             version_suffix: options.and_then(|options| lent(&options.version_suffix)),
             external_id: options.and_then(|options| lent(&options.external_id)),
         }
+    }
+}
+
+impl From<Alias<'_>> for AliasTree {
+    fn from(alias: Alias<'_>) -> Self {
+        match alias {
+            Alias::InstanceExport { instance, kind, name } => {
+                Self::InstanceExport { instance, kind, name: name.into() }
+            }
+            Alias::CoreInstanceExport { instance, kind, name } => {
+                Self::CoreInstanceExport { instance, kind, name: name.into() }
+            }
+            Alias::Outer { kind, count, index } => Self::Outer { kind, count, index },
+        }
+    }
+}
+
+impl From<ComponentExternName<'_>> for NameTree {
+    fn from(name: ComponentExternName<'_>) -> Self {
+        let ComponentExternName { name, implements, version_suffix, external_id } = name;
+        let [implements, version_suffix, external_id] =
+            [implements, version_suffix, external_id].map(|option| option.map(String::from));
+        let options = NameOptions { implements, version_suffix, external_id };
+        let has_none = matches!(
+            options,
+            NameOptions { implements: None, version_suffix: None, external_id: None }
+        );
+        Self { name: name.into(), options: if has_none { None } else { Some(options.into()) } }
+    }
+}
+
+impl From<&str> for NameTree {
+    fn from(name: &str) -> Self {
+        String::from(name).into()
+    }
+}
+
+impl From<StdString> for NameTree {
+    fn from(name: StdString) -> Self {
+        String::from(name).into()
     }
 }

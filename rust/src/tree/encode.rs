@@ -1,4 +1,4 @@
-//! The bytes of trees.
+//! The encodings of trees.
 
 use super::{
     AbstractHeapType, AliasTree, ArrayType, CanonTree, CaseTree, ComponentDecl, CompositeType,

@@ -60,7 +60,7 @@ fn a_clone_goes_on_by_itself() {
     assert_eq!((functions.len(), again.len()), (1, 2));
     assert_eq!(section(&functions), "08 02 01 05");
     assert_eq!(section(&again), "08 03 02 05 26");
-    assert_eq!(format!("{functions:?}"), "CanonicalFunctionSection { len: 1, .. }");
+    assert_eq!(format!("{functions:?}"), "CanonicalFunctionSection { bytes: [2, 1, 5] }");
 }
 
 /// Two calls out of `try_` are in one chain.

@@ -151,7 +151,7 @@ fn faults_tell_what_they_are() {
     let place = 8;
     let unread = Some(Unread::Item { number: 0, place: 11 });
     let faults = [
-        (ListFault::Memory, "no memory"),
+        (ListFault::NoMemory, "no memory"),
         (ListFault::NotAComponent { place: 0 }, "no component's header at 0x0"),
         (ListFault::BadSection { place }, "bad section at 0x8"),
         (ListFault::BadItem { place, unread }, "bad item 0 at 0xb in the section at 0x8"),

@@ -8,4 +8,5 @@ mod listed;
 #[cfg(panic = "unwind")]
 mod panics;
 mod provided;
+mod traits;
 mod values;

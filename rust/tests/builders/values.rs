@@ -74,7 +74,7 @@ fn a_type_that_is_not_whole_refuses_all_that_adds() {
     assert_eq!(b.try_core_type(None).err(), Some(Error::Unfinished));
     assert_eq!(b.try_ty(None).err(), Some(Error::Unfinished));
     assert_eq!(b.try_type_function(None).err(), Some(Error::Unfinished));
-    assert_eq!(format!("{b:?}"), "ComponentBuilder { is_finished: false, .. }");
+    assert_eq!(format!("{b:?}"), "ComponentBuilder { is_finished: false, type_count: 1, .. }");
     let mut outer = builder();
     assert_eq!(outer.try_component_ref(None, &b), unfinished);
     assert_eq!(b.try_component(None, outer), unfinished);
@@ -94,7 +94,8 @@ fn what_is_given_up_leaves_no_trace() {
     assert_eq!((b.type_count(), b.core_type_count()), (0, 0));
     b.task_cancel();
     b.type_resource(None, ValType::I32, None);
-    assert_eq!(format!("{b:?}"), "ComponentBuilder { is_finished: true, .. }");
+    let printed = "ComponentBuilder { is_finished: true, core_func_count: 2, type_count: 1, .. }";
+    assert_eq!(format!("{b:?}"), printed);
     assert_eq!(behind_header(b), "08 03 02 05 05 07 04 01 3f 7f 00");
 }
 
@@ -172,13 +173,22 @@ mod threads {
 
 #[test]
 fn errors_tell_what_they_are() {
-    let errors: [(Error, &str); 6] = [
+    let errors: [(Error, &str); 7] = [
         (Error::NoMemory, "no memory"),
         (Error::TooMany, "too many"),
         (Error::TooLarge, "too large"),
-        (Error::Unfinished, "unfinished"),
+        (
+            Error::Unfinished,
+            "unfinished: a type or an item was begun and never ended; call the last method of its \
+             encoder (of a function's type `result`), or `discard_unfinished`",
+        ),
         (Error::Unsupported, "not supported"),
         (Error::WrongSection, "item of another section"),
+        (
+            Error::OutOfTurn,
+            "out of turn: a function's type is encoded by `async_` or not, `params` once, then \
+             `result` once",
+        ),
     ];
     for (error, text) in errors {
         let error: Box<dyn std::error::Error + Send + Sync> = error.into();

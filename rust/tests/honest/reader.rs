@@ -15,7 +15,7 @@ pub const WAYS: [&str; 27] = [
     "derive of Drop left out",
     "derive of a tree",
     "derive kept",
-    "derive of what is printed",
+    "derive of more",
     "method that stays in this crate",
     "derive of an error",
     "derive_where is derive",
@@ -52,7 +52,7 @@ const CRATES: [&str; 14] = [
     "hex",
 ];
 
-/// Trees, which a user compares, prints and copies.
+/// Trees, which a user compares, hashes, prints and copies.
 pub const TREES: [&str; 23] = [
     "AliasTree",
     "Built",
@@ -79,8 +79,33 @@ pub const TREES: [&str; 23] = [
     "TypeTree",
 ];
 
-/// Types that are printed, and methods of trees that only this crate calls.
-pub const PRINTED: [&str; 1] = ["Alias"];
+/// Types that derive more than their sources say, and what.
+pub const DERIVED_TOO: [(&str, &str); 22] = [
+    ("AbstractHeapType", "Hash"),
+    ("Alias", "Debug, Hash, PartialEq, Eq"),
+    ("ArrayType", "Hash"),
+    ("CanonicalOption", "Hash"),
+    ("ComponentExportKind", "Hash"),
+    ("ComponentOuterAliasKind", "Hash"),
+    ("ComponentSectionId", "Hash"),
+    ("EntityType", "Hash"),
+    ("ExportKind", "Hash"),
+    ("Fault", "Hash"),
+    ("FieldType", "Hash"),
+    ("GlobalType", "Hash"),
+    ("HeapType", "Hash"),
+    ("MemoryType", "Hash"),
+    ("ModuleArg", "Hash"),
+    ("RefType", "Hash"),
+    ("Space", "Hash, PartialOrd, Ord"),
+    ("StorageType", "Hash"),
+    ("TableType", "Hash"),
+    ("TagType", "Hash"),
+    ("Unread", "Hash"),
+    ("ValType", "Hash"),
+];
+
+/// Methods of trees that only this crate calls.
 pub const NARROWED: [(&str, &str); 2] = [("FuncType", "new"), ("NameTree", "as_name")];
 
 /// What both have next: the way, how many tokens of the source, and the tokens of the Rust.
@@ -285,30 +310,37 @@ impl<'a> Source<'a> {
     /// A derive of so many tokens.
     fn derive(&mut self, len: usize) -> Step {
         if self.stands("# [ derive ( Drop ) ]") {
-            let mut item = len;
-            let mut derived = "#[derive(Clone, Debug, PartialEq, Eq)]";
-            while self.text(item) == "#" {
-                if self.text(item + 2) == "derive_where" {
-                    derived = "#[derive(Clone)]";
-                }
-                item += 1 + self.block(item + 1);
-            }
-            let is_tree = self.text(item) == "pub" && TREES.contains(&self.text(item + 2));
-            return if is_tree {
-                step("derive of a tree", len, derived)
+            let is_compared = self.stands_at(len, "# [ derive_where");
+            let more = if is_compared { "" } else { "Debug, PartialEq, Eq, " };
+            return if TREES.contains(&self.public_type(len)) {
+                step("derive of a tree", len, format!("#[derive(Clone, {more}Hash)]"))
             } else {
                 step("derive of Drop left out", len, "")
             };
         }
         let shown = self.shown(len);
-        if self.text(len) == "pub" && PRINTED.contains(&self.text(len + 2)) {
-            return step("derive of what is printed", len, shown.replace(" ) ]", ", Debug ) ]"));
+        let is_error = shown.ends_with(", Error ) ]");
+        if is_error {
+            self.error = Some(self.display(len));
         }
-        if !shown.ends_with(", Error ) ]") {
-            return step("derive kept", len, shown);
+        let kept = shown.replace(", Error )", ")");
+        let owner = self.public_type(len);
+        match DERIVED_TOO.iter().find(|(name, _)| *name == owner) {
+            Some((_, too)) => {
+                step("derive of more", len, kept.replace(" ) ]", &format!(", {too} ) ]")))
+            }
+            None if is_error => step("derive of an error", len, kept),
+            None => step("derive kept", len, kept),
         }
-        self.error = Some(self.display(len));
-        step("derive of an error", len, shown.replace(", Error )", ")"))
+    }
+
+    /// The name of the public type so many tokens after this, its other attributes first.
+    fn public_type(&self, ahead: usize) -> &'a str {
+        let mut item = ahead;
+        while self.text(item) == "#" {
+            item += 1 + self.block(item + 1);
+        }
+        if self.text(item) == "pub" { self.text(item + 2) } else { "" }
     }
 
     /// Where the enum ends that begins here, and what stands there: `Display` and `Error`.

@@ -2,7 +2,9 @@
 
 use crate::{Seen, expect, here};
 use std::collections::BTreeSet;
-use wenc::tree::{CanonTree as Canon, HeapType, ItemTree, RefType, Space, ValType, Vec};
+use wenc::tree::{
+    CanonTree as Canon, CoreHeapType, CoreRefType, CoreValType, ItemTree, Space, Vec,
+};
 use wenc::{CanonicalOption as Opt, ComponentValType, PrimitiveValType};
 
 /// All options, with indices from 50 on.
@@ -85,7 +87,8 @@ fn of_types() -> std::vec::Vec<(Canon, std::vec::Vec<(Space, u32)>)> {
 
 /// Functions of what is in the core.
 fn of_the_core() -> [(Canon, std::vec::Vec<(Space, u32)>); 8] {
-    let own = ValType::Ref(RefType { nullable: true, heap_type: HeapType::Concrete(4) });
+    let own =
+        CoreValType::Ref(CoreRefType { nullable: true, heap_type: CoreHeapType::Concrete(4) });
     let of_table = [(Space::CoreTypes, 3), (Space::CoreTables, 4)];
     [
         row(Canon::WaitableSetWait(3), &[(Space::CoreMemories, 3)]),
@@ -95,7 +98,7 @@ fn of_the_core() -> [(Canon, std::vec::Vec<(Space, u32)>); 8] {
         row(Canon::ThreadSpawnRef(3), &[(Space::CoreTypes, 3)]),
         row(Canon::ContextGet { ty: own, slot: 5 }, &[(Space::CoreTypes, 4)]),
         row(Canon::ContextSet { ty: own, slot: 5 }, &[(Space::CoreTypes, 4)]),
-        row(Canon::ContextGet { ty: ValType::I32, slot: 5 }, &[]),
+        row(Canon::ContextGet { ty: CoreValType::I32, slot: 5 }, &[]),
     ]
 }
 

@@ -2,44 +2,48 @@
 
 use crate::{Seen, expect, here, inside, text};
 use wenc::tree::{
-    AbstractHeapType, ArrayType, CompositeType, CoreTypeTree, EntityType, FieldType, FuncType,
-    GlobalType, GroupTree, HeapType, InstanceDecl, ItemTree, MemoryType, ModuleDecl, RefType,
-    Scope, Space, StorageType, StructType, SubType, TableType, TagType, TypeTree, ValType, Vec,
+    CoreAbstractHeapType, CoreArrayType, CoreCompositeType, CoreEntityType, CoreFieldType,
+    CoreFuncType, CoreGlobalType, CoreHeapType, CoreMemoryType, CoreRefType, CoreStorageType,
+    CoreStructType, CoreSubType, CoreTableType, CoreTagType, CoreTypeTree, CoreValType, GroupTree,
+    InstanceDecl, ItemTree, ModuleDecl, Scope, Space, TypeTree, Vec,
 };
 
-fn reference(index: u32) -> RefType {
-    RefType { nullable: index % 2 == 0, heap_type: HeapType::Concrete(index) }
+fn reference(index: u32) -> CoreRefType {
+    CoreRefType { nullable: index % 2 == 0, heap_type: CoreHeapType::Concrete(index) }
 }
 
-fn value(index: u32) -> ValType {
-    ValType::Ref(reference(index))
+fn value(index: u32) -> CoreValType {
+    CoreValType::Ref(reference(index))
 }
 
 /// A reference without an index.
-const FUNCREF: RefType =
-    RefType { nullable: true, heap_type: HeapType::Abstract(AbstractHeapType::Func) };
+const FUNCREF: CoreRefType =
+    CoreRefType { nullable: true, heap_type: CoreHeapType::Abstract(CoreAbstractHeapType::Func) };
 
-fn sub(supertype_idx: Option<u32>, composite_type: CompositeType) -> SubType {
-    SubType { is_final: false, supertype_idx, composite_type }
+fn sub(supertype_idx: Option<u32>, composite_type: CoreCompositeType) -> CoreSubType {
+    CoreSubType { is_final: false, supertype_idx, composite_type }
 }
 
-fn field(element_type: StorageType) -> FieldType {
-    FieldType { element_type, mutable: true }
+fn field(element_type: CoreStorageType) -> CoreFieldType {
+    CoreFieldType { element_type, mutable: true }
 }
 
-fn structure(fields: impl Into<Vec<FieldType>>) -> CompositeType {
-    CompositeType::Struct(StructType { fields: fields.into() })
+fn structure(fields: impl Into<Vec<CoreFieldType>>) -> CoreCompositeType {
+    CoreCompositeType::Struct(CoreStructType { fields: fields.into() })
 }
 
-fn function(params: impl Into<Vec<ValType>>, results: impl Into<Vec<ValType>>) -> CompositeType {
-    CompositeType::Func(FuncType::from_lists(params.into(), results.into()))
+fn function(
+    params: impl Into<Vec<CoreValType>>,
+    results: impl Into<Vec<CoreValType>>,
+) -> CoreCompositeType {
+    CoreCompositeType::Func(CoreFuncType::from_lists(params.into(), results.into()))
 }
 
 fn core_types<const N: usize>(indices: [u32; N]) -> [Seen; N] {
     indices.map(|index| here(Space::CoreTypes, index))
 }
 
-fn expect_type<const N: usize>(ty: SubType, indices: [u32; N]) {
+fn expect_type<const N: usize>(ty: CoreSubType, indices: [u32; N]) {
     let group = GroupTree::Sub(ty);
     expect(ItemTree::CoreType(CoreTypeTree::Group(group).into()), &core_types(indices));
 }
@@ -48,16 +52,23 @@ fn expect_type<const N: usize>(ty: SubType, indices: [u32; N]) {
 fn composite_types() {
     expect_type(sub(Some(1), structure([])), [1]);
     expect_type(sub(None, structure([])), []);
-    let params = [ValType::I32, value(2), ValType::I64, value(3)];
-    let results = [value(4), ValType::F32, ValType::F64, ValType::V128, ValType::Ref(FUNCREF)];
+    let params = [CoreValType::I32, value(2), CoreValType::I64, value(3)];
+    let results = [
+        value(4),
+        CoreValType::F32,
+        CoreValType::F64,
+        CoreValType::V128,
+        CoreValType::Ref(FUNCREF),
+    ];
     expect_type(sub(Some(1), function(params, results)), [1, 2, 3, 4]);
     expect_type(sub(None, function([], [value(2)])), [2]);
     expect_type(sub(None, function([value(2)], [])), [2]);
-    expect_type(sub(None, function([ValType::I32], [ValType::Ref(FUNCREF)])), []);
-    let stored = |index| field(StorageType::Val(value(index)));
-    let plain = [StorageType::I8, StorageType::I16, StorageType::Val(ValType::I32)].map(field);
-    expect_type(sub(Some(1), CompositeType::Array(ArrayType(stored(2)))), [1, 2]);
-    expect_type(sub(None, CompositeType::Array(ArrayType(plain[0]))), []);
+    expect_type(sub(None, function([CoreValType::I32], [CoreValType::Ref(FUNCREF)])), []);
+    let stored = |index| field(CoreStorageType::Val(value(index)));
+    let plain = [CoreStorageType::I8, CoreStorageType::I16, CoreStorageType::Val(CoreValType::I32)]
+        .map(field);
+    expect_type(sub(Some(1), CoreCompositeType::Array(CoreArrayType(stored(2)))), [1, 2]);
+    expect_type(sub(None, CoreCompositeType::Array(CoreArrayType(plain[0]))), []);
     expect_type(sub(Some(1), structure([stored(2), plain[0], stored(3)])), [1, 2, 3]);
     expect_type(sub(None, structure(plain)), []);
 }
@@ -74,28 +85,33 @@ fn declarations() -> [(ModuleDecl, std::vec::Vec<Seen>); 13] {
     let import = |ty| ModuleDecl::Import { module: text("a"), name: text("b"), ty };
     let export = |ty| ModuleDecl::Export { name: text("c"), ty };
     let table = |element_type| {
-        EntityType::Table(TableType { element_type, table64: false, minimum: 6, maximum: Some(7) })
+        CoreEntityType::Table(CoreTableType {
+            element_type,
+            table64: false,
+            minimum: 6,
+            maximum: Some(7),
+        })
     };
-    let memory = EntityType::Memory(MemoryType {
+    let memory = CoreEntityType::Memory(CoreMemoryType {
         minimum: 6,
         maximum: Some(7),
         memory64: false,
         shared: false,
     });
-    let global = |val_type| EntityType::Global(GlobalType { val_type, mutable: false });
-    let tag = |func_type_idx| EntityType::Tag(TagType { func_type_idx });
+    let global = |val_type| CoreEntityType::Global(CoreGlobalType { val_type, mutable: false });
+    let tag = |func_type_idx| CoreEntityType::Tag(CoreTagType { func_type_idx });
     let group = GroupTree::Sub(sub(Some(2), structure([])));
     let alias = |count| ModuleDecl::Alias { count, index: 5 };
     let one = |index| vec![inside(Space::CoreTypes, index)];
     [
-        (import(EntityType::Function(2)), one(2)),
+        (import(CoreEntityType::Function(2)), one(2)),
         (import(table(reference(2))), one(2)),
         (import(table(FUNCREF)), vec![]),
         (import(memory), vec![]),
         (import(global(value(2))), one(2)),
-        (import(global(ValType::I32)), vec![]),
+        (import(global(CoreValType::I32)), vec![]),
         (import(tag(2)), one(2)),
-        (export(EntityType::Function(3)), one(3)),
+        (export(CoreEntityType::Function(3)), one(3)),
         (export(tag(3)), one(3)),
         (ModuleDecl::Type(group), one(2)),
         (alias(0), one(5)),
@@ -115,7 +131,7 @@ fn declarations_of_modules() {
 /// The type of a module that an instance type declares: its own types are two types in.
 #[test]
 fn modules_in_instances() {
-    let of_module = ModuleDecl::Export { name: text("c"), ty: EntityType::Function(3) };
+    let of_module = ModuleDecl::Export { name: text("c"), ty: CoreEntityType::Function(3) };
     let alias = |count| ModuleDecl::Alias { count, index: 5 };
     let decls = [alias(0), alias(1), alias(2), alias(3), of_module];
     let decl = InstanceDecl::CoreType(CoreTypeTree::Module(decls.into()));

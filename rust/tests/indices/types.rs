@@ -2,8 +2,9 @@
 
 use crate::{Seen, expect, here, inside, name, text};
 use wenc::tree::{
-    AliasTree, CaseTree, ComponentDecl, CompositeType, CoreTypeTree, DefinedTree, GroupTree,
-    HeapType, InstanceDecl, ItemTree, RefType, Scope, Space, SubType, TypeTree, ValType,
+    AliasTree, CaseTree, ComponentDecl, CoreCompositeType, CoreHeapType, CoreRefType, CoreSubType,
+    CoreTypeTree, CoreValType, DefinedTree, GroupTree, InstanceDecl, ItemTree, Scope, Space,
+    TypeTree,
 };
 use wenc::{
     ComponentExportKind as Kind, ComponentOuterAliasKind as OuterKind, ComponentTypeRef as Ref,
@@ -63,10 +64,11 @@ fn functions_and_resources() {
     let function = TypeTree::Func { is_async: false, params: [].into(), result: None };
     expect(ItemTree::Type(function), &[]);
 
-    let own = ValType::Ref(RefType { nullable: true, heap_type: HeapType::Concrete(5) });
+    let own =
+        CoreValType::Ref(CoreRefType { nullable: true, heap_type: CoreHeapType::Concrete(5) });
     let resource = TypeTree::Resource { rep: own, dtor: Some(6) };
     expect(ItemTree::Type(resource), &[here(Space::CoreTypes, 5), here(Space::CoreFuncs, 6)]);
-    let resource = TypeTree::Resource { rep: ValType::I32, dtor: None };
+    let resource = TypeTree::Resource { rep: CoreValType::I32, dtor: None };
     expect(ItemTree::Type(resource), &[]);
 }
 
@@ -77,10 +79,10 @@ fn declarations() -> [(InstanceDecl, Vec<Seen>); 12] {
     let of_instance = AliasTree::InstanceExport { instance: 3, kind: Kind::Type, name: text("a") };
     let core = CoreKind::Func;
     let of_core = AliasTree::CoreInstanceExport { instance: 4, kind: core, name: text("b") };
-    let extended = GroupTree::Sub(SubType {
+    let extended = GroupTree::Sub(CoreSubType {
         is_final: true,
         supertype_idx: Some(2),
-        composite_type: CompositeType::Struct(wenc::tree::StructType { fields: [].into() }),
+        composite_type: CoreCompositeType::Struct(wenc::tree::CoreStructType { fields: [].into() }),
     });
     let defined = TypeTree::Defined(DefinedTree::Own(5));
     let component = |count| (Space::Types, Scope::Component(count), 8);

@@ -2,7 +2,7 @@
 
 use std::ops::Range;
 use std::path::Path;
-use wenc::tree::{EntityType, ItemTree, MemoryType};
+use wenc::tree::{CoreEntityType as EntityType, CoreMemoryType as MemoryType, ItemTree};
 use wenc::{CoreItem, CoreSection, CoreSections, ExportKind, ModuleFault, SectionId, Unread, list};
 
 fn all(module: &[u8]) -> Vec<Result<CoreSection<'_>, ModuleFault>> {
@@ -48,7 +48,7 @@ fn faults_have_their_places() {
         assert_eq!(told[1], bad, "{bytes:x?}");
     }
     let texts = [
-        (ModuleFault::Memory, "no memory"),
+        (ModuleFault::NoMemory, "no memory"),
         (ModuleFault::NotAModule, "no core module's header"),
         (ModuleFault::BadSection { place: 10 }, "bad core section at 0xa"),
     ];

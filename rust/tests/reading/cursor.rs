@@ -94,3 +94,20 @@ fn names_are_found_without_what_is_bad() {
     let names = sections(&bytes).names();
     assert_eq!(names.get(Space::Funcs, 0), Some("g"));
 }
+
+/// What is printed says how far it has come.
+#[test]
+fn readers_are_printed() {
+    // an alias section without an item, in a component in a component
+    let bytes = b"\0asm\x0d\0\x01\0\x04\x0b\0asm\x0d\0\x01\0\x06\x01\0";
+    let mut outer = sections(bytes);
+    assert_eq!(format!("{outer:?}"), "Sections { offset: Some(8), .. }");
+    let section = outer.next().unwrap().unwrap();
+    assert_eq!(format!("{section:?}"), "SectionReader { id: 4, range: 8..21, .. }");
+    assert_eq!(format!("{:?}", section.items()), "Items { offset: Some(10), .. }");
+    assert_eq!(format!("{outer:?}"), "Sections { offset: Some(21), .. }");
+    let inner = section.component().unwrap().unwrap();
+    assert_eq!(format!("{inner:?}"), "Sections { offset: Some(18), .. }");
+    let nested = format!("{:?}", sections(bytes).nested(1));
+    assert!(nested.starts_with("NestedSections { open: [Sections { offset: Some(8), .. }]"));
+}

@@ -97,7 +97,7 @@ fn what_is_not_read_is_told() {
     assert_eq!(names, DebugNames::default());
     let fault: Box<dyn std::error::Error> = NamesFault::BadSubsection { place: 16 }.into();
     assert_eq!(fault.to_string(), "bad subsection of names at 0x10");
-    assert_eq!(NamesFault::Memory.to_string(), "no memory");
+    assert_eq!(NamesFault::NoMemory.to_string(), "no memory");
 }
 
 /// Names in front of what isn't read, in two sections of names.

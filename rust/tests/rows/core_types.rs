@@ -21,16 +21,16 @@ fn function<const N: usize>(params: [ValType; N]) -> CompositeInnerType {
 }
 
 /// A type of functions that take these, and answer nothing, for a command.
-fn function_tree<const N: usize>(params: [tree::ValType; N]) -> tree::CompositeType {
-    tree::CompositeType::Func(tree::FuncType::from_lists(params.into(), [].into()))
+fn function_tree<const N: usize>(params: [tree::CoreValType; N]) -> tree::CoreCompositeType {
+    tree::CoreCompositeType::Func(tree::CoreFuncType::from_lists(params.into(), [].into()))
 }
 
 fn subtype_tree(
     is_final: bool,
     supertype_idx: Option<u32>,
-    composite_type: tree::CompositeType,
-) -> tree::SubType {
-    tree::SubType { is_final, supertype_idx, composite_type }
+    composite_type: tree::CoreCompositeType,
+) -> tree::CoreSubType {
+    tree::CoreSubType { is_final, supertype_idx, composite_type }
 }
 
 /// The type is the first of a builder, of a section and of what the command builds.
@@ -75,7 +75,7 @@ fn types_that_refer_to_each_other_are_one_core_type() {
     let types = [subtype(true, None, function([])), subtype(true, None, function([ValType::I32]))];
     let trees = [
         subtype_tree(true, None, function_tree([])),
-        subtype_tree(true, None, function_tree([tree::ValType::I32])),
+        subtype_tree(true, None, function_tree([tree::CoreValType::I32])),
     ];
     is_written(
         |ty| ty.rec(types.clone()),
@@ -88,8 +88,8 @@ fn types_that_refer_to_each_other_are_one_core_type() {
 fn a_final_array_extends_another() {
     let element = FieldType { element_type: StorageType::I16, mutable: false };
     let array = subtype(true, Some(4), CompositeInnerType::Array(ArrayType(element)));
-    let element = tree::FieldType { element_type: tree::StorageType::I16, mutable: false };
-    let composite_type = tree::CompositeType::Array(tree::ArrayType(element));
+    let element = tree::CoreFieldType { element_type: tree::CoreStorageType::I16, mutable: false };
+    let composite_type = tree::CoreCompositeType::Array(tree::CoreArrayType(element));
     is_written(
         |ty| ty.subtype(&array),
         GroupTree::Sub(subtype_tree(true, Some(4), composite_type)),
@@ -103,12 +103,13 @@ fn a_struct_has_two_fields() {
         FieldType { element_type: StorageType::I8, mutable: true },
         FieldType { element_type: StorageType::Val(ValType::I32), mutable: false },
     ];
-    let number = tree::StorageType::Val(tree::ValType::I32);
+    let number = tree::CoreStorageType::Val(tree::CoreValType::I32);
     let field_trees = [
-        tree::FieldType { element_type: tree::StorageType::I8, mutable: true },
-        tree::FieldType { element_type: number, mutable: false },
+        tree::CoreFieldType { element_type: tree::CoreStorageType::I8, mutable: true },
+        tree::CoreFieldType { element_type: number, mutable: false },
     ];
-    let structure = tree::CompositeType::Struct(tree::StructType { fields: field_trees.into() });
+    let structure =
+        tree::CoreCompositeType::Struct(tree::CoreStructType { fields: field_trees.into() });
     is_written(
         |ty| ty.struct_(fields),
         GroupTree::Sub(subtype_tree(true, None, structure)),
@@ -124,15 +125,16 @@ fn functions_take_references() {
         ValType::Ref(RefType { nullable: true, heap_type: HeapType::ANY }),
         ValType::Ref(RefType { nullable: true, heap_type: HeapType::Concrete(64) }),
     ];
-    let heap = tree::HeapType::Abstract;
+    let heap = tree::CoreHeapType::Abstract;
     let references = [
-        (true, heap(tree::AbstractHeapType::Func)),
-        (false, heap(tree::AbstractHeapType::Func)),
-        (true, heap(tree::AbstractHeapType::Any)),
-        (true, tree::HeapType::Concrete(64)),
+        (true, heap(tree::CoreAbstractHeapType::Func)),
+        (false, heap(tree::CoreAbstractHeapType::Func)),
+        (true, heap(tree::CoreAbstractHeapType::Any)),
+        (true, tree::CoreHeapType::Concrete(64)),
     ];
-    let param_trees = references
-        .map(|(nullable, heap_type)| tree::ValType::Ref(tree::RefType { nullable, heap_type }));
+    let param_trees = references.map(|(nullable, heap_type)| {
+        tree::CoreValType::Ref(tree::CoreRefType { nullable, heap_type })
+    });
     is_written(
         |ty| ty.function(params, []),
         GroupTree::Sub(subtype_tree(true, None, function_tree(param_trees))),
@@ -168,9 +170,10 @@ fn a_module_type_has_a_memory_an_alias_and_a_tag() {
         .alias_outer_core_type(1, 0)
         .export("t", EntityType::Tag(tag));
     assert_eq!(ty.type_count(), 1);
-    let memory = tree::MemoryType { minimum: 1, maximum: Some(2), memory64: false, shared: true };
-    let memory = tree::EntityType::Memory(memory);
-    let tag = tree::EntityType::Tag(tree::TagType { func_type_idx: 0 });
+    let memory =
+        tree::CoreMemoryType { minimum: 1, maximum: Some(2), memory64: false, shared: true };
+    let memory = tree::CoreEntityType::Memory(memory);
+    let tag = tree::CoreEntityType::Tag(tree::CoreTagType { func_type_idx: 0 });
     let declarations = [
         ModuleDecl::Import { module: text("m"), name: text("n"), ty: memory },
         ModuleDecl::Alias { count: 1, index: 0 },
@@ -195,17 +198,17 @@ fn a_module_type_has_a_table_and_a_global() {
     let global = GlobalType { val_type: ValType::I64, mutable: true, shared: false };
     let mut ty = ModuleType::new();
     ty.export("t", EntityType::Table(table)).export("g", EntityType::Global(global));
-    let heap_type = tree::HeapType::Abstract(tree::AbstractHeapType::Func);
-    let table = tree::TableType {
-        element_type: tree::RefType { nullable: true, heap_type },
+    let heap_type = tree::CoreHeapType::Abstract(tree::CoreAbstractHeapType::Func);
+    let table = tree::CoreTableType {
+        element_type: tree::CoreRefType { nullable: true, heap_type },
         table64: false,
         minimum: 0,
         maximum: None,
     };
-    let global = tree::GlobalType { val_type: tree::ValType::I64, mutable: true };
+    let global = tree::CoreGlobalType { val_type: tree::CoreValType::I64, mutable: true };
     let declarations = [
-        ModuleDecl::Export { name: text("t"), ty: tree::EntityType::Table(table) },
-        ModuleDecl::Export { name: text("g"), ty: tree::EntityType::Global(global) },
+        ModuleDecl::Export { name: text("t"), ty: tree::CoreEntityType::Table(table) },
+        ModuleDecl::Export { name: text("g"), ty: tree::CoreEntityType::Global(global) },
     ];
     is_module(&ty, declarations.into(), "03 10 01 50 02 03 01 74 01 70 00 00 03 01 67 03 7e 01");
 }

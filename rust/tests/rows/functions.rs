@@ -70,7 +70,7 @@ fn three_functions_have_a_slot_a_result_and_a_table() {
     let returned = CanonTree::TaskReturn { ty: None, options: [].into() };
     builds(
         [
-            first(function(CanonTree::ContextGet { ty: tree::ValType::I32, slot: 0 })),
+            first(function(CanonTree::ContextGet { ty: tree::CoreValType::I32, slot: 0 })),
             (function(returned), Ok(Some(1))),
             (function(CanonTree::ThreadSpawnIndirect { ty: 1, table: 2 }), Ok(Some(2))),
         ],

@@ -3,14 +3,14 @@
 use crate::commands::{builds, defined, first, import, text, ty};
 use crate::hex::{behind, behind_header, section};
 use wenc::tree::{
-    self, AliasTree, CaseTree, ComponentDecl, CompositeType, CoreTypeTree, DefinedTree, GroupTree,
-    InstanceDecl, TypeTree,
+    self, AliasTree, CaseTree, ComponentDecl, CoreCompositeType, CoreTypeTree, DefinedTree,
+    GroupTree, InstanceDecl, TypeTree,
 };
 use wenc::{
     Alias, Component, ComponentBuilder, ComponentDefinedTypeEncoder, ComponentExportKind,
     ComponentImportSection, ComponentOuterAliasKind, ComponentType, ComponentTypeRef,
-    ComponentTypeSection, ComponentValType, CompositeInnerType, Error, FuncType, InstanceType,
-    PrimitiveValType, SubType, TypeBounds, ValType,
+    ComponentTypeSection, ComponentValType, CompositeInnerType, CompositeType, Error, FuncType,
+    InstanceType, PrimitiveValType, SubType, TypeBounds, ValType,
 };
 
 const BOOL: ComponentValType = ComponentValType::Primitive(PrimitiveValType::Bool);
@@ -180,16 +180,15 @@ fn a_component_type_is_empty() {
 /// A subtype that isn't final, of functions that take and answer nothing.
 fn open() -> SubType {
     let inner = CompositeInnerType::Func(FuncType::new([], []));
-    let composite_type =
-        wenc::CompositeType { inner, shared: false, descriptor: None, describes: None };
+    let composite_type = CompositeType { inner, shared: false, descriptor: None, describes: None };
     SubType { is_final: false, supertype_idx: None, composite_type }
 }
 
 /// A subtype that isn't final, of functions that take and answer nothing, for a command.
 fn open_tree() -> CoreTypeTree {
-    let function = tree::FuncType::from_lists([].into(), [].into());
-    let composite_type = CompositeType::Func(function);
-    let subtype = tree::SubType { is_final: false, supertype_idx: None, composite_type };
+    let function = tree::CoreFuncType::from_lists([].into(), [].into());
+    let composite_type = CoreCompositeType::Func(function);
+    let subtype = tree::CoreSubType { is_final: false, supertype_idx: None, composite_type };
     CoreTypeTree::Group(GroupTree::Sub(subtype))
 }
 
@@ -228,7 +227,7 @@ fn resources_have_a_destructor_or_none() {
         let mut types = ComponentTypeSection::new();
         types.resource(ValType::I32, dtor);
         assert_eq!(section(&types), wanted);
-        let resource = TypeTree::Resource { rep: tree::ValType::I32, dtor };
+        let resource = TypeTree::Resource { rep: tree::CoreValType::I32, dtor };
         builds([first(ty(resource))], wanted);
     }
 }

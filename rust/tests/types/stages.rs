@@ -1,8 +1,10 @@
-//! The order of calls for a type of functions: a call out of turn panics, and writes nothing.
+//! The order of calls for a type of functions: a call out of turn panics, with `try_` it fails, and
+//! writes nothing.
 
 use std::panic::{AssertUnwindSafe, catch_unwind};
 use wenc::{
-    ComponentFuncTypeEncoder, ComponentTypeSection, ComponentValType, Encode, PrimitiveValType,
+    ComponentBuilder, ComponentFuncTypeEncoder, ComponentTypeSection, ComponentValType, Encode,
+    Error, PrimitiveValType,
 };
 
 const NONE: [(&str, ComponentValType); 0] = [];
@@ -22,21 +24,21 @@ fn panics<T>(call: impl FnOnce() -> T) -> bool {
 }
 
 fn async_panics(encoder: &mut ComponentFuncTypeEncoder<'_>) -> bool {
-    panics(|| drop(encoder.try_async(true)))
+    encoder.try_async(true).err() == Some(Error::OutOfTurn)
         && panics(|| {
             encoder.async_(false);
         })
 }
 
 fn params_panics(encoder: &mut ComponentFuncTypeEncoder<'_>) -> bool {
-    panics(|| drop(encoder.try_params(NONE)))
+    encoder.try_params(NONE).err() == Some(Error::OutOfTurn)
         && panics(|| {
             encoder.params(NONE);
         })
 }
 
 fn result_panics(encoder: &mut ComponentFuncTypeEncoder<'_>) -> bool {
-    panics(|| drop(encoder.try_result(None)))
+    encoder.try_result(None).err() == Some(Error::OutOfTurn)
         && panics(|| {
             encoder.result(None);
         })
@@ -59,6 +61,31 @@ fn out_of_turn() {
     assert!(result_panics(&mut encoder));
     assert!(types.is_finished());
     assert_eq!(text(&types), b"\x08\x01\x43\x01\x01a\x7d\0\x7e");
+}
+
+#[test]
+#[should_panic = "out of turn: a function's type is encoded by"]
+fn the_message_says_the_order() {
+    ComponentTypeSection::new().function().result(None);
+}
+
+/// What is done is forgotten: rustc warns.
+#[test]
+#[deny(unfulfilled_lint_expectations)]
+#[expect(unused_must_use)]
+fn forgotten_in_a_section() {
+    let mut types = ComponentTypeSection::new();
+    types.function();
+    assert!(types.discard_unfinished());
+}
+
+#[test]
+#[deny(unfulfilled_lint_expectations)]
+#[expect(unused_must_use)]
+fn forgotten_at_a_builder() {
+    let mut builder = ComponentBuilder::default();
+    builder.type_function(None);
+    assert!(builder.discard_unfinished());
 }
 
 #[test]

@@ -1,9 +1,10 @@
-//! The builder's calls for the functions that the component model provides.
+//! The builder's calls for builtins.
 
 use crate::component::canonicals::builtins;
 use crate::component::{CanonicalOption, ComponentBuilder, ComponentValType};
 use crate::core::ValType;
 use crate::proved::wasm_encoder::{AddsBuiltin, AddsSlot};
+use crate::shared::List;
 use crate::twins::twins;
 
 /// The builder's call for each row of the table.
@@ -28,17 +29,19 @@ macro_rules! calls {
             )*
         }
     ) => {
-        /// Core functions that the component model provides: each call adds one, and answers its
-        /// index (component model, binary format, "Canonical Definitions").
+        /// Builtins: each call adds a core function that the component model defines, and returns
+        /// its index ([explainer, "Canonical Built-ins"][builtins]).
         ///
-        /// `ty` and `func_ty_idx` are the index of a type, that of a core type where a thread is
-        /// made; `memory` is that of a core memory, `table` and `table_index` that of a core table.
-        /// `async_` says whether the call may be answered later. Options are written in the order
-        /// in which they come.
+        /// `ty` and `func_ty_idx` are the index of a type, of a core type if a thread is created;
+        /// `memory` is that of a core memory, `table` and `table_index` that of a core table.
+        /// `async_` says whether the builtin may return before it is done. Options are encoded in
+        /// their order.
         ///
-        /// Each has its own name as its debug name, `context.get` and `context.set` with the slot's
-        /// number after it. Upstream gives `thread.yield-then-promote` the name of
+        /// The debug name is that of the builtin, for `context.get` and `context.set` with the
+        /// slot's number after it. Upstream gives `thread.yield-then-promote` the name of
         /// `thread.yield-then-resume`, and has `thread.spawn-indirect` on a section alone.
+        ///
+        /// [builtins]: https://github.com/WebAssembly/component-model/blob/main/design/mvp/Explainer.md
         impl ComponentBuilder {
             twins! {
                 $($(#[$doc])*
@@ -53,13 +56,12 @@ macro_rules! calls {
                     O::IntoIter: ExactSizeIterator,
                 }
                 {
-                    Ok(self.0.$list($($lead,)* options.into_iter())?)
+                    Ok(self.0.$list($($lead,)* List(&mut options.into_iter()))?)
                 })*
 
                 $($(#[$slot_doc])*
-                fn $slot | $slot_tried(&mut self, ty: ValType, i: u32) -> u32 {
-                    Ok(self.0.$slot(ty.to_proved()?, i)?)
-                })*
+                fn $slot | $slot_tried(&mut self, ty: ValType, i: u32) -> u32
+                    as (ty.try_into()?, i);)*
             }
         }
     };

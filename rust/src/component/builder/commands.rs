@@ -5,16 +5,16 @@ use crate::component::ComponentBuilder;
 use crate::proved::wasm_encoder as proved;
 use crate::tree::Command;
 
-/// Calls as data.
+/// Commands.
 impl ComponentBuilder {
-    /// Makes the call that this command describes. Returns the index of the item that it adds, or
+    /// Makes the call that a command describes. Returns the index of the item that it adds, or
     /// `None` for a custom section and for names. An item that [`list`](crate::list) returns
     /// becomes a command by `From`; [`build`](crate::tree::build) runs commands on a new builder.
     ///
     /// # Errors
     ///
     /// The error of that call; for a nested component, the first error of its commands. The builder
-    /// is unchanged then: a type that is refused while it is encoded is given up.
+    /// is unchanged, since a type that can't be encoded is discarded.
     ///
     /// ```
     /// use wenc::tree::{Command, String};
@@ -44,8 +44,7 @@ impl ComponentBuilder {
         answer
     }
 
-    /// Makes the call that this command describes. A type that is refused while it is encoded is
-    /// left unfinished.
+    /// Makes the call that a command describes. A type that can't be encoded is left unfinished.
     fn run(&mut self, command: &Command) -> Result<Option<u32>, Error> {
         let (builder, name) = (&mut self.0, debug_name(command));
         let index = match command {

@@ -8,12 +8,14 @@ use crate::core::{CustomSection, ExportKind, Module, ProducersSection};
 use crate::twins::twins;
 use alloc::vec::Vec;
 
-/// What a component imports, exports, aliases and holds. A call that adds an item answers its
-/// index.
+/// Imports, exports and aliases, core modules, nested components, starts and custom sections
+/// ([component model, binary format][binary]).
+///
+/// [binary]: https://github.com/WebAssembly/component-model/blob/main/design/mvp/Binary.md
 impl ComponentBuilder {
     twins! {
-        /// Imports an item. Its name is its debug name too (component model, binary format, "Import
-        /// and Export Definitions").
+        /// Adds an import and returns its index in the space of its sort. The name is its debug
+        /// name too.
         ///
         /// ```
         /// use wenc::{ComponentBuilder, ComponentTypeRef, TypeBounds};
@@ -26,53 +28,41 @@ impl ComponentBuilder {
             &mut self,
             name: impl Into<ComponentExternName<'a>>,
             ty: ComponentTypeRef,
-        ) -> u32 {
-            Ok(self.0.import(name.into().into_proved(), ty)?)
-        }
+        ) -> u32 as (name.into().into_proved(), ty);
 
-        /// Exports the item of this kind with this index, and says of which type it is, or not. The
-        /// index that is answered is that of the exported item. Its name is its debug name too
-        /// (component model, binary format, "Import and Export Definitions").
+        /// Adds an export of the item of this kind with this index, optionally ascribing a type.
+        /// Returns the index of the new item that the export defines. The name is its debug name
+        /// too.
         fn export | try_export<'a>(
             &mut self,
             name: impl Into<ComponentExternName<'a>>,
             kind: ComponentExportKind,
             idx: u32,
             ty: Option<ComponentTypeRef>,
-        ) -> u32 {
-            Ok(self.0.export(name.into().into_proved(), kind, idx, ty)?)
-        }
+        ) -> u32 as (name.into().into_proved(), kind, idx, ty);
 
-        /// Adds an alias of what a core instance exports under this name (component model, binary
-        /// format, "Alias Definitions").
+        /// Adds an alias of a core instance's export of this kind and name, and returns its index.
         fn core_alias_export | try_core_alias_export(
             &mut self,
             debug_name: Option<&str>,
             instance: u32,
             name: &str,
             kind: ExportKind,
-        ) -> u32 {
-            Ok(self.0.core_alias_export(debug_name, instance, name, kind)?)
-        }
+        ) -> u32;
 
-        /// Adds an alias. It has an index in the space of what it stands for (component model,
-        /// binary format, "Alias Definitions").
-        fn alias | try_alias(&mut self, debug_name: Option<&str>, alias: Alias<'_>) -> u32 {
-            Ok(self.0.alias(debug_name, alias)?)
-        }
+        /// Adds an alias and returns its index in the space of its sort.
+        fn alias | try_alias(&mut self, debug_name: Option<&str>, alias: Alias<'_>) -> u32;
 
-        /// Adds an alias of what an instance exports under this name, which is its debug name too
-        /// (component model, binary format, "Alias Definitions").
+        /// Adds an alias of an instance's export of this kind and name, and returns its index. The
+        /// name is its debug name too.
         fn alias_export | try_alias_export(
             &mut self,
             instance: u32,
             name: &str,
             kind: ComponentExportKind,
-        ) -> u32 {
-            Ok(self.0.alias_export(instance, name, kind)?)
-        }
+        ) -> u32;
 
-        /// Adds a core module (component model, binary format, "Component Definitions").
+        /// Adds a core module and returns its index.
         fn core_module | try_core_module(
             &mut self,
             debug_name: Option<&str>,
@@ -81,19 +71,16 @@ impl ComponentBuilder {
             self.try_core_module_raw(debug_name, module.as_slice())
         }
 
-        /// Adds the core module with these bytes, at most 4294967295. Nothing checks that they are
-        /// a module's (component model, binary format, "Component Definitions").
+        /// Adds a core module as its bytes, at most 4294967295, and returns its index. The bytes
+        /// aren't checked.
         fn core_module_raw | try_core_module_raw(
             &mut self,
             debug_name: Option<&str>,
             module: &[u8],
-        ) -> u32 {
-            Ok(self.0.core_module_raw(debug_name, module)?)
-        }
+        ) -> u32;
 
-        /// Adds what another builder holds as a nested component. That builder is given up, also
-        /// where the call is refused, which it is where either is unfinished (component model,
-        /// binary format, "Component Definitions").
+        /// Finishes another builder, adds its component as a nested one and returns its index. That
+        /// builder is dropped, also if the call fails, as it does if either is unfinished.
         ///
         /// ```
         /// use wenc::ComponentBuilder;
@@ -108,54 +95,41 @@ impl ComponentBuilder {
             &mut self,
             debug_name: Option<&str>,
             builder: ComponentBuilder,
-        ) -> u32 {
-            Ok(self.0.component(debug_name, builder.0)?)
-        }
+        ) -> u32 as (debug_name, builder.0);
 
-        /// Adds what another builder holds as a nested component, and leaves that builder as it is:
-        /// so it can be nested twice, or after a refusal. Upstream has no such call (component
-        /// model, binary format, "Component Definitions").
+        /// Adds the component of another builder as a nested one and returns its index. That builder
+        /// is unchanged, so that it can be nested twice, or again after an error. Upstream has no
+        /// such call.
         fn component_ref | try_component_ref(
             &mut self,
             debug_name: Option<&str>,
             builder: &ComponentBuilder,
-        ) -> u32 {
-            Ok(self.0.component_ref(debug_name, &builder.0)?)
-        }
+        ) -> u32 as (debug_name, &builder.0);
 
-        /// Adds the component with these bytes, at most 4294967295. Nothing checks that they are a
-        /// component's (component model, binary format, "Component Definitions").
+        /// Adds a nested component as its bytes, at most 4294967295, and returns its index. The
+        /// bytes aren't checked.
         fn component_raw | try_component_raw(
             &mut self,
             debug_name: Option<&str>,
             data: &[u8],
-        ) -> u32 {
-            Ok(self.0.component_raw(debug_name, data)?)
-        }
+        ) -> u32;
 
-        /// Has this function called, with the values that have these indices, when the component is
-        /// instantiated. It answers `results` values, of which the answer is the first one's index:
-        /// the number of values so far (component model, binary format, "Start Definitions").
+        /// Adds a start function with these arguments, which are indices of values. It defines
+        /// `results` values; returns the index of the first, which is the number of values so far.
         ///
-        /// A valid component has one start at most; nothing checks that.
-        fn start | try_start(&mut self, function_index: u32, args: Vec<u32>, results: u32) -> u32 {
-            Ok(self.0.start(function_index, args, results)?)
-        }
+        /// A valid component has at most one start, which isn't checked.
+        fn start | try_start(&mut self, function_index: u32, args: Vec<u32>, results: u32) -> u32;
 
-        /// Adds a custom section (component model, binary format, "Component Definitions").
-        fn custom_section | try_custom_section(&mut self, section: &CustomSection<'_>) -> () {
-            Ok(self.0.custom_section(&section.lent())?)
-        }
+        /// Adds a custom section.
+        fn custom_section | try_custom_section(&mut self, section: &CustomSection<'_>) -> ()
+            as (&section.lent());
 
-        /// Adds a custom section with these bytes after its id, its size and name among them.
-        /// Nothing checks that they are a section's (component model, binary format, "Component
-        /// Definitions").
-        fn raw_custom_section | try_raw_custom_section(&mut self, section: &[u8]) -> () {
-            Ok(self.0.raw_custom_section(section)?)
-        }
+        /// Adds a custom section as its bytes after the id, with the size and the name. The bytes
+        /// aren't checked.
+        fn raw_custom_section | try_raw_custom_section(&mut self, section: &[u8]) -> ();
 
-        /// Adds a producers section, the custom section with the name `producers`: its bytes are
-        /// written straight after the component's (tool conventions, "Producers Section").
+        /// Adds a producers section, the custom section with the name `producers` (tool
+        /// conventions, "Producers Section").
         ///
         /// ```
         /// use wenc::{ComponentBuilder, ProducersField, ProducersSection};
@@ -169,8 +143,7 @@ impl ComponentBuilder {
         /// builder.producers_section(&producers);
         /// assert_eq!(builder.finish()[8..], *b"\x00\x14\x09producers\x01\x03sdk\x01\x01a\x011");
         /// ```
-        fn producers_section | try_producers_section(&mut self, section: &ProducersSection) -> () {
-            Ok(self.0.producers_section(&section.0)?)
-        }
+        fn producers_section | try_producers_section(&mut self, section: &ProducersSection) -> ()
+            as (&section.0);
     }
 }

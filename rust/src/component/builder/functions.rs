@@ -1,14 +1,17 @@
 //! The builder's calls for functions between a component and its core modules.
 
 use crate::component::{CanonicalOption, ComponentBuilder};
+use crate::shared::List;
 use crate::twins::twins;
 
-/// Functions that are lifted and lowered: each call adds one, with a debug name or none, and
-/// answers its index (component model, binary format, "Canonical Definitions"). Options are written
-/// in the order in which they come.
+/// Lifted and lowered functions: each call adds one, optionally with a debug name, and returns its
+/// index ([component model, binary format, "Canonical Definitions"][canon]). Options are encoded in
+/// their order.
+///
+/// [canon]: https://github.com/WebAssembly/component-model/blob/main/design/mvp/Binary.md#canonical-definitions
 impl ComponentBuilder {
     twins! {
-        /// Makes a core function of a function.
+        /// Lowers a function (`canon lower`) and returns the core function's index.
         fn lower_func | try_lower_func<O>(
             &mut self,
             debug_name: Option<&str>,
@@ -20,10 +23,11 @@ impl ComponentBuilder {
             O::IntoIter: ExactSizeIterator,
         }
         {
-            Ok(self.0.lower_func(debug_name, func_index, options.into_iter())?)
+            Ok(self.0.lower_func(debug_name, func_index, List(&mut options.into_iter()))?)
         }
 
-        /// Makes a function, of the type with this index, of a core function.
+        /// Lifts a core function to the type with this index (`canon lift`) and returns the
+        /// function's index.
         ///
         /// ```
         /// use wenc::{ComponentBuilder, ModuleArg, PrimitiveValType};
@@ -61,7 +65,7 @@ impl ComponentBuilder {
             O::IntoIter: ExactSizeIterator,
         }
         {
-            Ok(self.0.lift_func(debug_name, core_func_index, type_index, options.into_iter())?)
+            Ok(self.0.lift_func(debug_name, core_func_index, type_index, List(&mut options.into_iter()))?)
         }
     }
 }

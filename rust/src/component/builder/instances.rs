@@ -2,16 +2,17 @@
 
 use crate::component::{ComponentBuilder, ComponentExportKind, ComponentExternName, ModuleArg};
 use crate::core::ExportKind;
-use crate::shared::named_items;
+use crate::shared::{List, named_items};
 use crate::twins::twins;
 
-/// Instances: each call adds one, with a debug name or none, and answers its index (component
-/// model, binary format, "Instance Definitions"). What comes out of an iterator is written in its
-/// order.
+/// Instances: each call adds one, optionally with a debug name, and returns its index ([component
+/// model, binary format, "Instance Definitions"][instances]).
+///
+/// [instances]: https://github.com/WebAssembly/component-model/blob/main/design/mvp/Binary.md#instance-definitions
 impl ComponentBuilder {
     twins! {
-        /// Instantiates a core module, with core instances under the names of the modules from
-        /// which it imports.
+        /// Instantiates a core module. Each argument is the name of a module from which it imports,
+        /// and the core instance for it.
         fn core_instantiate | try_core_instantiate<'a, A>(
             &mut self,
             debug_name: Option<&str>,
@@ -23,11 +24,10 @@ impl ComponentBuilder {
             A::IntoIter: ExactSizeIterator,
         }
         {
-            Ok(self.0.core_instantiate(debug_name, module_index, args.into_iter())?)
+            Ok(self.0.core_instantiate(debug_name, module_index, List(&mut args.into_iter()))?)
         }
 
-        /// Adds a core instance of these core items, under these names: the kind of each, and its
-        /// index.
+        /// Adds a core instance with these exports: the name, the kind and the index of each.
         fn core_instantiate_exports | try_core_instantiate_exports<'a, E>(
             &mut self,
             debug_name: Option<&str>,
@@ -41,8 +41,8 @@ impl ComponentBuilder {
             Ok(self.0.core_instantiate_exports(debug_name, exports.into_iter())?)
         }
 
-        /// Instantiates a component, with items under the names of what it imports: the kind of
-        /// each, and its index.
+        /// Instantiates a component. Each argument is the name of an import, and the kind and the
+        /// index of the item for it.
         fn instantiate | try_instantiate<A, S>(
             &mut self,
             debug_name: Option<&str>,
@@ -55,10 +55,10 @@ impl ComponentBuilder {
             S: AsRef<str>,
         }
         {
-            Ok(self.0.instantiate(debug_name, component_index, named_items(args))?)
+            Ok(self.0.instantiate(debug_name, component_index, List(&mut named_items(args)))?)
         }
 
-        /// Adds an instance of these items, under these names: the kind of each, and its index.
+        /// Adds an instance with these exports: the name, the kind and the index of each.
         ///
         /// ```
         /// use wenc::{ComponentBuilder, ComponentExportKind, PrimitiveValType};
@@ -82,7 +82,7 @@ impl ComponentBuilder {
         }
         {
             let named = |(name, kind, index): (N, _, _)| (name.into().into_proved(), kind, index);
-            Ok(self.0.instantiate_exports(debug_name, exports.into_iter().map(named))?)
+            Ok(self.0.instantiate_exports(debug_name, List(&mut exports.into_iter().map(named)))?)
         }
     }
 }

@@ -5,51 +5,50 @@ use crate::component::{
     ComponentFuncTypeEncoder, ComponentType, ComponentTypeEncoder, InstanceType,
 };
 use crate::core::ValType;
+use crate::shared::Public;
 use crate::twins::twins;
 
-/// Types: each call adds one, with a debug name or none, and answers its index (component model,
-/// binary format, "Core Definitions" and "Type Definitions").
+/// Types: each call adds one, optionally with a debug name, and returns its index ([component
+/// model, binary format, "Type Definitions"][types]).
 ///
-/// Where an encoder is answered too, the type isn't whole until the encoder has written it. Where
-/// the encoder is dropped before, or its last call was refused, the builder is unfinished: what
-/// adds to it or takes it is refused, until [`discard_unfinished`](Self::discard_unfinished) gives
-/// the type up.
+/// A call that returns an encoder too begins a type, and the encoder's last call ends it. If the
+/// encoder is dropped before, or that call fails, the builder is unfinished: calls that add to it or
+/// finish it fail with [`Unfinished`](crate::Error::Unfinished) until
+/// [`discard_unfinished`](Self::discard_unfinished).
+///
+/// [types]: https://github.com/WebAssembly/component-model/blob/main/design/mvp/Binary.md#type-definitions
 impl ComponentBuilder {
     twins! {
-        /// Begins a core type, which the encoder writes.
+        /// Begins a core type. Returns its index and its encoder.
         fn core_type | try_core_type(
             &mut self,
             debug_name: Option<&str>,
         ) -> (u32, ComponentCoreTypeEncoder<'_>) {
             let (index, encoder) = self.0.core_type(debug_name)?;
-            Ok((index, encoder.into()))
+            Ok((index, encoder.public()))
         }
 
-        /// Begins a type, which the encoder writes.
+        /// Begins a type. Returns its index and its encoder.
         fn ty | try_ty(&mut self, debug_name: Option<&str>) -> (u32, ComponentTypeEncoder<'_>) {
             let (index, encoder) = self.0.ty(debug_name)?;
-            Ok((index, encoder.into()))
+            Ok((index, encoder.public()))
         }
 
-        /// Adds a type of instances. It is refused where that type isn't whole.
+        /// Adds an instance type. Fails if it is unfinished.
         fn type_instance | try_type_instance(
             &mut self,
             debug_name: Option<&str>,
             ty: &InstanceType,
-        ) -> u32 {
-            Ok(self.0.type_instance(debug_name, &ty.0)?)
-        }
+        ) -> u32 as (debug_name, &ty.0);
 
-        /// Adds a type of components. It is refused where that type isn't whole.
+        /// Adds a component type. Fails if it is unfinished.
         fn type_component | try_type_component(
             &mut self,
             debug_name: Option<&str>,
             ty: &ComponentType,
-        ) -> u32 {
-            Ok(self.0.type_component(debug_name, &ty.0)?)
-        }
+        ) -> u32 as (debug_name, &ty.0);
 
-        /// Begins a type of values, which the encoder writes.
+        /// Begins a defined value type. Returns its index and its encoder.
         ///
         /// ```
         /// use wenc::{ComponentBuilder, PrimitiveValType};
@@ -65,10 +64,10 @@ impl ComponentBuilder {
             debug_name: Option<&str>,
         ) -> (u32, ComponentDefinedTypeEncoder<'_>) {
             let (index, encoder) = self.0.type_defined(debug_name)?;
-            Ok((index, encoder.into()))
+            Ok((index, encoder.public()))
         }
 
-        /// Begins a type of functions, which the encoder writes.
+        /// Begins a function type. Returns its index and its encoder, whose `result` ends it.
         ///
         /// ```
         /// use wenc::{ComponentBuilder, PrimitiveValType};
@@ -84,20 +83,19 @@ impl ComponentBuilder {
             debug_name: Option<&str>,
         ) -> (u32, ComponentFuncTypeEncoder<'_>) {
             let (index, encoder) = self.0.type_function(debug_name)?;
-            Ok((index, encoder.into()))
+            Ok((index, encoder.public()))
         }
 
-        /// Adds a type of resources: what represents one, and the core function that is called when
-        /// it is dropped.
+        /// Adds a resource type: its representation, and optionally the core function that is its
+        /// destructor.
         ///
-        /// It is refused where the representation is a reference that isn't of WebAssembly 3.0.
+        /// Fails with [`Unsupported`](crate::Error::Unsupported) if the representation is a
+        /// reference that isn't in WebAssembly 3.0.
         fn type_resource | try_type_resource(
             &mut self,
             debug_name: Option<&str>,
             rep: ValType,
             dtor: Option<u32>,
-        ) -> u32 {
-            Ok(self.0.type_resource(debug_name, rep.to_proved()?, dtor)?)
-        }
+        ) -> u32 as (debug_name, rep.try_into()?, dtor);
     }
 }

@@ -6,8 +6,10 @@ use crate::twins::twins;
 use crate::{ComponentExternName, ComponentTypeRef, TypeBounds};
 
 collections! {
-    /// The type of a component: what it imports and exports, and the types that these need
-    /// (component model, binary format, "Type Definitions").
+    /// The type of a component: its imports and exports, and the types that these need ([component
+    /// model, binary format, "Type Definitions"][types]).
+    ///
+    /// [types]: https://github.com/WebAssembly/component-model/blob/main/design/mvp/Binary.md#type-definitions
     ///
     /// ```
     /// use wenc::{Component, ComponentType, ComponentTypeRef, ComponentTypeSection};
@@ -35,33 +37,26 @@ declaring! { ComponentType }
 
 impl ComponentType {
     twins! {
-        /// Declares an import under this name.
+        /// Declares an import by its name and type.
         fn import | try_import<'a>(
             &mut self,
             name: impl Into<ComponentExternName<'a>>,
             ty: ComponentTypeRef,
-        ) -> &mut Self {
-            self.0.import(name.into().into_proved(), ty)?;
-            Ok(self)
-        }
+        ) -> &mut Self as (name.into().into_proved(), ty);
 
-        /// Declares an import of a type under this name, and answers its index.
+        /// Declares an import of a type and returns its index.
         fn import_type | try_import_type<'a>(
             &mut self,
             name: impl Into<ComponentExternName<'a>>,
             bounds: TypeBounds,
-        ) -> u32 {
-            Ok(self.0.import_type(name.into().into_proved(), bounds)?)
-        }
+        ) -> u32 as (name.into().into_proved(), bounds);
 
-        /// Declares an import of an instance of the type with this index under this name, and
-        /// answers its index among the instances.
+        /// Declares an import of an instance of the type with this index, and returns the
+        /// instance's index.
         fn import_instance | try_import_instance<'a>(
             &mut self,
             name: impl Into<ComponentExternName<'a>>,
             ty: u32,
-        ) -> u32 {
-            Ok(self.0.import_instance(name.into().into_proved(), ty)?)
-        }
+        ) -> u32 as (name.into().into_proved(), ty);
     }
 }

@@ -1,42 +1,44 @@
 //! The core types of components: their encoder, and their section.
 
 use crate::component::sections;
-use crate::shared::{collections, encoders, lenders, on};
+use crate::shared::{Public, collections, encoders, lenders, on};
 #[cfg(feature = "reader")]
 use crate::tree::CoreTypeTree;
 use crate::twins::twins;
 use crate::{CoreTypeEncoder, ModuleType};
 
 encoders! {
-    /// Writes one core type of a component: the type of a module, or another one (component model,
-    /// binary format, "Core Definitions").
+    /// Encodes a core type in a component: a module type, or another one ([component model, binary
+    /// format, "Type Definitions"][types]).
     ///
-    /// Where it is dropped, or its call is refused, the type is unfinished: whoever lent itself
-    /// refuses to grow until it has given the type up by its `discard_unfinished`.
+    /// If it is dropped, or its call fails, the type is unfinished, and the parent rejects further
+    /// additions until `discard_unfinished`.
+    ///
+    /// [types]: https://github.com/WebAssembly/component-model/blob/main/design/mvp/Binary.md#type-definitions
     #[must_use = "an encoder that is dropped leaves its type unfinished"]
     ComponentCoreTypeEncoder by CoreBy over CoreTypeSection;
 }
 
 impl<'a> ComponentCoreTypeEncoder<'a> {
     twins! {
-        /// This type of modules, which ends the type.
+        /// Encodes a module type, which ends the type. Fails if it is unfinished.
         fn module | try_module(self, ty: &ModuleType) -> () {
             Ok(on!(self.by, CoreBy, encoder => encoder.module(&ty.0))?)
         }
     }
 
-    /// Any other core type, which the encoder writes.
-    #[must_use = "the encoder is to write the type"]
+    /// Returns an encoder of a core type that isn't a module type.
+    #[must_use = "the encoder has to encode the type"]
     #[inline]
     pub fn core(self) -> CoreTypeEncoder<'a> {
-        on!(self.by, CoreBy, encoder => encoder.core().into())
+        on!(self.by, CoreBy, encoder => encoder.core().public())
     }
 }
 
 #[cfg(feature = "reader")]
 impl ComponentCoreTypeEncoder<'_> {
     twins! {
-        /// The type of this tree, which ends the type.
+        /// Encodes the type of a tree, which ends the type.
         fn tree | try_tree(self, ty: &CoreTypeTree) -> () {
             Ok(on!(self.by, CoreBy, encoder => encoder.tree(ty))?)
         }
@@ -44,7 +46,7 @@ impl ComponentCoreTypeEncoder<'_> {
 }
 
 collections! {
-    /// The section of core types (component model, binary format, "Core Definitions").
+    /// The section of core types (component model, binary format, "Type Definitions").
     ///
     /// ```
     /// use wenc::{Component, CoreTypeSection, ModuleType, ValType};
@@ -68,14 +70,14 @@ lenders! { CoreTypeSection }
 
 impl CoreTypeSection {
     twins! {
-        /// Adds a core type, which the encoder writes.
+        /// Begins a core type and returns its encoder.
         ///
-        /// The section isn't whole until it has: what grows or encodes it is refused meanwhile, and
-        /// afterwards too where the encoder was dropped.
-        /// [`discard_unfinished`](Self::discard_unfinished) gives such a type up.
-        #[must_use = "the encoder is to write the type"]
+        /// If the encoder is dropped before it has ended the type, the section is unfinished: it
+        /// rejects further additions and can't be encoded until
+        /// [`discard_unfinished`](Self::discard_unfinished).
+        #[must_use = "the encoder has to encode the type"]
         fn ty | try_ty(&mut self) -> ComponentCoreTypeEncoder<'_> {
-            Ok(self.0.ty()?.into())
+            Ok(self.0.ty()?.public())
         }
     }
 }

@@ -1,17 +1,20 @@
-//! The encoder of types of values.
+//! The encoder of defined value types.
 
 use super::{ComponentValType, PrimitiveValType};
-use crate::shared::{encoders, on};
+use crate::proved::wenc_base::Fault;
+use crate::shared::{Labelled, List, encoders, on};
 #[cfg(feature = "reader")]
 use crate::tree::DefinedTree;
 use crate::twins::twins;
 
 encoders! {
-    /// Writes one type of values (component model, binary format, "Type Definitions"). Each of its
-    /// calls is the last.
+    /// Encodes a defined value type ([component model, binary format, "Type Definitions"][types]).
+    /// Each of its calls ends the type.
     ///
-    /// Where it is dropped, or its call is refused, the type is unfinished: whoever lent itself
-    /// refuses to grow until it has given the type up by its `discard_unfinished`.
+    /// If it is dropped, or its call fails, the type is unfinished, and the parent rejects further
+    /// additions until `discard_unfinished`.
+    ///
+    /// [types]: https://github.com/WebAssembly/component-model/blob/main/design/mvp/Binary.md#type-definitions
     ///
     /// ```
     /// use wenc::{Component, ComponentTypeSection, ComponentValType, PrimitiveValType};
@@ -37,12 +40,12 @@ encoders! {
 
 impl ComponentDefinedTypeEncoder<'_> {
     twins! {
-        /// A primitive type.
+        /// Defines a primitive type.
         fn primitive | try_primitive(self, ty: PrimitiveValType) -> () {
             Ok(on!(self.by, DefinedBy, encoder => encoder.primitive(ty))?)
         }
 
-        /// A record: the names and types of its fields.
+        /// Defines a `record` with the names and types of its fields.
         fn record | try_record<'a, F, T>(self, fields: F) -> ()
         where {
             F: IntoIterator<Item = (&'a str, T)>,
@@ -50,28 +53,34 @@ impl ComponentDefinedTypeEncoder<'_> {
             T: Into<ComponentValType>,
         }
         {
-            let fields = fields.into_iter().map(|(name, ty)| (name, ty.into()));
-            Ok(on!(self.by, DefinedBy, encoder => encoder.record(fields))?)
+            let mut fields = Labelled(fields.into_iter());
+            Ok(match self.by {
+                DefinedBy::Builder(encoder) => encoder.record(fields),
+                by => by.record(List(&mut fields)),
+            }?)
         }
 
-        /// A variant: the names of its cases, each with the type of its value, where it has one.
+        /// Defines a `variant` with the names of its cases, each with an optional payload type.
         fn variant | try_variant<'a, C>(self, cases: C) -> ()
         where {
             C: IntoIterator<Item = (&'a str, Option<ComponentValType>)>,
             C::IntoIter: ExactSizeIterator,
         }
         {
-            let cases = cases.into_iter();
-            Ok(on!(self.by, DefinedBy, encoder => encoder.variant(cases))?)
+            let mut cases = cases.into_iter();
+            Ok(match self.by {
+                DefinedBy::Section(encoder) => encoder.variant(cases),
+                by => by.variant(List(&mut cases)),
+            }?)
         }
 
-        /// A list of any length.
+        /// Defines a `list` of any length.
         fn list | try_list(self, ty: impl Into<ComponentValType>) -> () {
             let ty = ty.into();
             Ok(on!(self.by, DefinedBy, encoder => encoder.list(ty))?)
         }
 
-        /// A map from keys to values.
+        /// Defines a `map` from keys to values.
         fn map | try_map(
             self,
             key: impl Into<ComponentValType>,
@@ -81,7 +90,7 @@ impl ComponentDefinedTypeEncoder<'_> {
             Ok(on!(self.by, DefinedBy, encoder => encoder.map(key, value))?)
         }
 
-        /// A list of this length.
+        /// Defines a `list` of a fixed length.
         fn fixed_length_list | try_fixed_length_list(
             self,
             ty: impl Into<ComponentValType>,
@@ -91,7 +100,7 @@ impl ComponentDefinedTypeEncoder<'_> {
             Ok(on!(self.by, DefinedBy, encoder => encoder.fixed_length_list(ty, elements))?)
         }
 
-        /// A tuple: the types of its values.
+        /// Defines a `tuple` of values of these types.
         fn tuple | try_tuple<I, T>(self, types: I) -> ()
         where {
             I: IntoIterator<Item = T>,
@@ -99,39 +108,36 @@ impl ComponentDefinedTypeEncoder<'_> {
             T: Into<ComponentValType>,
         }
         {
-            let types = types.into_iter().map(T::into);
-            Ok(on!(self.by, DefinedBy, encoder => encoder.tuple(types))?)
+            Ok(self.by.tuple(List(&mut types.into_iter().map(T::into)))?)
         }
 
-        /// A set of flags, by their names.
+        /// Defines `flags` with these names.
         fn flags | try_flags<'a, I>(self, names: I) -> ()
         where {
             I: IntoIterator<Item = &'a str>,
             I::IntoIter: ExactSizeIterator,
         }
         {
-            let names = names.into_iter();
-            Ok(on!(self.by, DefinedBy, encoder => encoder.flags(names))?)
+            Ok(self.by.flags(List(&mut names.into_iter()))?)
         }
 
-        /// One of several names.
+        /// Defines an `enum` with these cases.
         fn enum_type | try_enum_type<'a, I>(self, tags: I) -> ()
         where {
             I: IntoIterator<Item = &'a str>,
             I::IntoIter: ExactSizeIterator,
         }
         {
-            let tags = tags.into_iter();
-            Ok(on!(self.by, DefinedBy, encoder => encoder.enum_type(tags))?)
+            Ok(self.by.enum_type(List(&mut tags.into_iter()))?)
         }
 
-        /// A value or none.
+        /// Defines an `option`.
         fn option | try_option(self, ty: impl Into<ComponentValType>) -> () {
             let ty = ty.into();
             Ok(on!(self.by, DefinedBy, encoder => encoder.option(ty))?)
         }
 
-        /// What went well or what went wrong, each with a value or none.
+        /// Defines a `result`, each case with an optional payload type.
         fn result | try_result(
             self,
             ok: Option<ComponentValType>,
@@ -140,22 +146,22 @@ impl ComponentDefinedTypeEncoder<'_> {
             Ok(on!(self.by, DefinedBy, encoder => encoder.result(ok, err))?)
         }
 
-        /// A handle that owns a resource, by the index of the resource's type.
+        /// Defines an `own` handle of the resource type with this index.
         fn own | try_own(self, idx: u32) -> () {
             Ok(on!(self.by, DefinedBy, encoder => encoder.own(idx))?)
         }
 
-        /// A handle that borrows a resource, by the index of the resource's type.
+        /// Defines a `borrow` handle of the resource type with this index.
         fn borrow | try_borrow(self, idx: u32) -> () {
             Ok(on!(self.by, DefinedBy, encoder => encoder.borrow(idx))?)
         }
 
-        /// A value that comes later, or that something is done.
+        /// Defines a `future`, optionally with a payload type.
         fn future | try_future(self, payload: Option<ComponentValType>) -> () {
             Ok(on!(self.by, DefinedBy, encoder => encoder.future(payload))?)
         }
 
-        /// Values that come one by one, or that something was done so many times.
+        /// Defines a `stream`, optionally with a payload type.
         fn stream | try_stream(self, payload: Option<ComponentValType>) -> () {
             Ok(on!(self.by, DefinedBy, encoder => encoder.stream(payload))?)
         }
@@ -165,9 +171,28 @@ impl ComponentDefinedTypeEncoder<'_> {
 #[cfg(feature = "reader")]
 impl ComponentDefinedTypeEncoder<'_> {
     twins! {
-        /// The type of this tree.
+        /// Encodes the type of a tree.
         fn tree | try_tree(self, ty: &DefinedTree) -> () {
             Ok(on!(self.by, DefinedBy, encoder => encoder.tree(ty))?)
         }
     }
+}
+
+/// Calls with a list, which aren't compiled again for a user's iterator.
+macro_rules! lists {
+    ($($name:ident $item:ty;)*) => {
+        impl DefinedBy<'_> {
+            $(fn $name(self, list: List<'_, $item>) -> Result<(), Fault> {
+                on!(self, DefinedBy, encoder => encoder.$name(list))
+            })*
+        }
+    };
+}
+
+lists! {
+    record (&str, ComponentValType);
+    variant (&str, Option<ComponentValType>);
+    tuple ComponentValType;
+    flags &str;
+    enum_type &str;
 }

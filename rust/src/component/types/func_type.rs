@@ -1,18 +1,20 @@
-//! The encoder of types of functions.
+//! The encoder of function types.
 
-use crate::ComponentValType;
 use crate::proved::wasm_encoder::FuncStage;
-use crate::shared::{encoders, on};
+use crate::proved::wenc_base::Fault;
+use crate::shared::{Labelled, List, encoders, on};
 use crate::twins::twins;
+use crate::{ComponentValType, Error};
 
 encoders! {
-    /// Writes the type of a function: perhaps whether it is asynchronous, then what it takes, then
-    /// what it answers, which ends the type (component model, binary format, "Type Definitions").
+    /// Encodes a function type: whether it is async, then its parameters, then its result, which
+    /// ends the type ([component model, binary format, "Type Definitions"][types]).
     ///
-    /// A call that comes out of turn panics, under both of its names. One that is refused leaves
-    /// what was written, and may be tried again. Where the encoder is dropped before its last call,
-    /// the type is unfinished: whoever lent itself refuses to grow until it has given the type up
-    /// by its `discard_unfinished`.
+    /// A call that fails may be made again: it leaves what was encoded. If the encoder is dropped
+    /// before its last call, the type is unfinished, and the parent rejects further additions until
+    /// `discard_unfinished`.
+    ///
+    /// [types]: https://github.com/WebAssembly/component-model/blob/main/design/mvp/Binary.md#type-definitions
     ///
     /// ```
     /// use wenc::{Component, ComponentTypeSection, PrimitiveValType};
@@ -26,39 +28,40 @@ encoders! {
     /// component.section(&types);
     /// assert_eq!(component.as_slice()[8..], *b"\x07\x08\x01\x43\x01\x01x\x79\0\x7f");
     /// ```
+    #[must_use = "an encoder that is dropped leaves its type unfinished"]
     ComponentFuncTypeEncoder by FuncBy over ComponentTypeSection, is_amid: bool = false;
 }
 
+impl FuncBy<'_> {
+    /// Encodes the parameters, in a call that isn't compiled again for a user's iterator.
+    fn params(&mut self, params: List<'_, (&str, ComponentValType)>) -> Result<(), Fault> {
+        on!(self, FuncBy, encoder => encoder.params(params))
+    }
+}
+
 impl ComponentFuncTypeEncoder<'_> {
-    /// How far the type is written.
-    ///
-    /// # Panics
-    ///
-    /// Where the parameters' iterator panicked: nobody knows which of them are written then.
+    /// Fails unless `is_turn` holds for what was encoded so far. After an iterator of parameters
+    /// panicked nothing does: it is unspecified which were written.
     #[inline]
-    #[track_caller]
-    fn stage(&self) -> FuncStage {
-        assert!(!self.is_amid, "the parameters panicked");
-        on!(&self.by, FuncBy, encoder => encoder.stage())
+    fn at(&self, is_turn: impl FnOnce(FuncStage) -> bool) -> Result<(), Error> {
+        let stage = on!(&self.by, FuncBy, encoder => encoder.stage());
+        if !self.is_amid && is_turn(stage) { Ok(()) } else { Err(Error::OutOfTurn) }
     }
 
     twins! {
-        /// Whether the function is asynchronous. Without this call it isn't.
+        /// Sets whether the function is async. Without this call it isn't.
         ///
-        /// # Panics
-        ///
-        /// Where this was said before, or there are parameters already.
+        /// Fails with [`OutOfTurn`](Error::OutOfTurn) after a call of it or of
+        /// [`params`](Self::params).
         fn async_ | try_async(&mut self, is_async: bool) -> &mut Self {
-            assert!(matches!(self.stage(), FuncStage::Start), "async_ comes first");
+            self.at(|stage| matches!(stage, FuncStage::Start))?;
             on!(&mut self.by, FuncBy, encoder => encoder.async_(is_async))?;
             Ok(self)
         }
 
-        /// What the function takes: names and types.
+        /// Sets the names and types of the parameters.
         ///
-        /// # Panics
-        ///
-        /// Where there are parameters already.
+        /// Fails with [`OutOfTurn`](Error::OutOfTurn) after a call of it.
         fn params | try_params<'b, P, T>(&mut self, params: P) -> &mut Self
         where {
             P: IntoIterator<Item = (&'b str, T)>,
@@ -66,26 +69,24 @@ impl ComponentFuncTypeEncoder<'_> {
             T: Into<ComponentValType>,
         }
         {
-            let stage = self.stage();
-            assert!(
-                matches!(stage, FuncStage::Start | FuncStage::Tagged),
-                "params comes once, before the result"
-            );
-            let params = params.into_iter().map(|(name, ty)| (name, ty.into()));
+            self.at(|stage| matches!(stage, FuncStage::Start | FuncStage::Tagged))?;
+            let mut params = Labelled(params.into_iter());
             self.is_amid = true;
-            let answer = on!(&mut self.by, FuncBy, encoder => encoder.params(params));
+            let answer = match &mut self.by {
+                FuncBy::Builder(encoder) => encoder.params(params),
+                by => by.params(List(&mut params)),
+            };
             self.is_amid = false;
             answer?;
             Ok(self)
         }
 
-        /// What the function answers: a value of this type, or nothing. This ends the type.
+        /// Sets the type of the result, or that there is none. This ends the type.
         ///
-        /// # Panics
-        ///
-        /// Where there are no parameters yet, or a result already.
+        /// Fails with [`OutOfTurn`](Error::OutOfTurn) before [`params`](Self::params), or after a
+        /// call of it.
         fn result | try_result(&mut self, ty: Option<ComponentValType>) -> &mut Self {
-            assert!(matches!(self.stage(), FuncStage::Params), "result comes once, after params");
+            self.at(|stage| matches!(stage, FuncStage::Params))?;
             on!(&mut self.by, FuncBy, encoder => encoder.result(ty))?;
             Ok(self)
         }

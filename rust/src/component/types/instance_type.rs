@@ -5,8 +5,10 @@ use crate::shared::collections;
 use crate::twins::twins;
 
 collections! {
-    /// The type of an instance: what it exports, and the types that this needs (component model,
-    /// binary format, "Type Definitions").
+    /// The type of an instance: its exports, and the types that these need ([component model, binary
+    /// format, "Type Definitions"][types]).
+    ///
+    /// [types]: https://github.com/WebAssembly/component-model/blob/main/design/mvp/Binary.md#type-definitions
     ///
     /// ```
     /// use wenc::{Component, ComponentTypeRef, ComponentTypeSection, InstanceType};
@@ -32,12 +34,12 @@ collections! {
 declaring! { InstanceType }
 
 impl InstanceType {
-    /// Whether nothing was declared.
+    /// Returns `true` if there is no declaration.
     pub fn is_empty(&self) -> bool {
         self.0.is_empty()
     }
 
-    /// How many declarations there are, one that is being written among them.
+    /// Returns the number of declarations, with an unfinished one.
     pub fn len(&self) -> u32 {
         self.0.len()
     }

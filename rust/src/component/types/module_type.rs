@@ -1,13 +1,13 @@
 //! Types of core modules.
 
 use super::declarations;
-use crate::shared::collections;
+use crate::shared::{Public, collections};
 use crate::twins::twins;
 use crate::{CoreTypeEncoder, EntityType};
 
 collections! {
-    /// The type of a core module: what it imports and exports, and the core types that these need
-    /// (component model, binary format, "Core Definitions").
+    /// The type of a core module: its imports and exports, and the core types that these need
+    /// ([component model, binary format, "Type Definitions"][types]).
     ///
     /// ```
     /// use wenc::{Component, CoreTypeSection, EntityType, ModuleType, ValType};
@@ -25,6 +25,8 @@ collections! {
     ///     *b"\x03\x0f\x01\x50\x02\x01\x60\x01\x7f\0\x03\x03run\0\0",
     /// );
     /// ```
+    ///
+    /// [types]: https://github.com/WebAssembly/component-model/blob/main/design/mvp/Binary.md#type-definitions
     ModuleType;
 }
 
@@ -32,54 +34,44 @@ declarations! { ModuleType }
 
 impl ModuleType {
     twins! {
-        /// Declares an import: the name of a module, that of what it has, and the type of that.
+        /// Declares an import by the module's and the item's names and the item's type.
         ///
-        /// A type that isn't of WebAssembly 3.0, as that of a shared table, is refused as
-        /// [`Unsupported`](crate::Error::Unsupported).
-        fn import | try_import(&mut self, module: &str, name: &str, ty: EntityType) -> &mut Self {
-            self.0.import(module, name, ty.to_proved()?)?;
-            Ok(self)
-        }
+        /// Fails with [`Unsupported`](crate::Error::Unsupported) if the type isn't in WebAssembly
+        /// 3.0, such as that of a shared table.
+        fn import | try_import(&mut self, module: &str, name: &str, ty: EntityType) -> &mut Self
+            as (module, name, ty.try_into()?);
 
-        /// Declares a core type, which the encoder writes.
+        /// Begins the declaration of a core type and returns its encoder.
         ///
-        /// The type isn't whole until it has: what grows or takes the type is refused meanwhile,
-        /// and afterwards too where the encoder was dropped.
-        /// [`discard_unfinished`](Self::discard_unfinished) gives such a declaration up.
-        #[must_use = "the encoder is to write the type"]
+        /// If the encoder is dropped before it has ended that type, this one is unfinished: it
+        /// rejects further additions and can't be encoded until
+        /// [`discard_unfinished`](Self::discard_unfinished).
+        #[must_use = "the encoder has to encode the type"]
         fn ty | try_ty(&mut self) -> CoreTypeEncoder<'_> {
-            Ok(self.0.ty()?.into())
+            Ok(self.0.ty()?.public())
         }
 
-        /// Declares a core type that an enclosing component has: how many components further out
-        /// that is, and which index the type has there.
+        /// Declares an alias of the core type with this index in an enclosing component, `count`
+        /// components further out.
         fn alias_outer_core_type | try_alias_outer_core_type(
             &mut self,
             count: u32,
             index: u32,
-        ) -> &mut Self {
-            self.0.alias_outer_core_type(count, index)?;
-            Ok(self)
-        }
+        ) -> &mut Self;
 
-        /// As [`alias_outer_core_type`](Self::alias_outer_core_type), but answers the alias's own
-        /// index.
-        fn alias_core_type | try_alias_core_type(&mut self, count: u32, outer: u32) -> u32 {
-            Ok(self.0.alias_core_type(count, outer)?)
-        }
+        /// Declares what [`alias_outer_core_type`](Self::alias_outer_core_type) does, but returns
+        /// the alias's index.
+        fn alias_core_type | try_alias_core_type(&mut self, count: u32, outer: u32) -> u32;
 
-        /// Declares an export: its name, and its type.
+        /// Declares an export by its name and type.
         ///
-        /// A type that isn't of WebAssembly 3.0, as that of a shared table, is refused as
-        /// [`Unsupported`](crate::Error::Unsupported).
-        fn export | try_export(&mut self, name: &str, ty: EntityType) -> &mut Self {
-            self.0.export(name, ty.to_proved()?)?;
-            Ok(self)
-        }
+        /// Fails with [`Unsupported`](crate::Error::Unsupported) if the type isn't in WebAssembly
+        /// 3.0, such as that of a shared table.
+        fn export | try_export(&mut self, name: &str, ty: EntityType) -> &mut Self
+            as (name, ty.try_into()?);
     }
 
-    /// How many core types there are: those that were declared, one that is being written among
-    /// them, and those of outer aliases.
+    /// Returns the number of core types: declared ones, with an unfinished one, and outer aliases.
     pub fn type_count(&self) -> u32 {
         self.0.type_count()
     }

@@ -6,11 +6,11 @@ use super::{
 };
 use crate::ValType;
 use crate::component::sections;
-use crate::shared::{collections, lenders};
+use crate::shared::{Public, collections, lenders};
 use crate::twins::twins;
 
 collections! {
-    /// The section of types (component model, binary format, "Type Definitions").
+    /// The section of types ([component model, binary format, "Type Definitions"][types]).
     ///
     /// ```
     /// use wenc::{Component, ComponentTypeSection, PrimitiveValType, ValType};
@@ -27,6 +27,8 @@ collections! {
     ///     *b"\x07\x0d\x03\x3f\x7f\0\x69\0\x40\x01\x01a\x73\x01\0",
     /// );
     /// ```
+    ///
+    /// [types]: https://github.com/WebAssembly/component-model/blob/main/design/mvp/Binary.md#type-definitions
     ComponentTypeSection;
 }
 
@@ -35,44 +37,38 @@ lenders! { ComponentTypeSection }
 
 impl ComponentTypeSection {
     twins! {
-        /// Adds a type, which the encoder writes.
+        /// Begins a type and returns its encoder.
         ///
-        /// The section isn't whole until it has: what grows or encodes it is refused meanwhile, and
-        /// afterwards too where the encoder was dropped.
-        /// [`discard_unfinished`](Self::discard_unfinished) gives such a type up.
-        #[must_use = "the encoder is to write the type"]
+        /// If the encoder is dropped before it has ended the type, the section is unfinished: it
+        /// rejects further additions and can't be encoded until
+        /// [`discard_unfinished`](Self::discard_unfinished).
+        #[must_use = "the encoder has to encode the type"]
         fn ty | try_ty(&mut self) -> ComponentTypeEncoder<'_> {
-            Ok(self.0.ty()?.into())
+            Ok(self.0.ty()?.public())
         }
 
-        /// Adds this type of components.
-        fn component | try_component(&mut self, ty: &ComponentType) -> &mut Self {
-            self.0.component(&ty.0)?;
-            Ok(self)
-        }
+        /// Adds a component type. Fails if it is unfinished.
+        fn component | try_component(&mut self, ty: &ComponentType) -> &mut Self as (&ty.0);
 
-        /// Adds this type of instances.
-        fn instance | try_instance(&mut self, ty: &InstanceType) -> &mut Self {
-            self.0.instance(&ty.0)?;
-            Ok(self)
-        }
+        /// Adds an instance type. Fails if it is unfinished.
+        fn instance | try_instance(&mut self, ty: &InstanceType) -> &mut Self as (&ty.0);
 
-        /// Adds a type of functions, which the encoder writes; as [`ty`](Self::ty).
+        /// Begins a function type and returns its encoder, whose `result` ends it; see
+        /// [`ty`](Self::ty).
+        #[must_use = "the encoder has to encode the type"]
         fn function | try_function(&mut self) -> ComponentFuncTypeEncoder<'_> {
-            Ok(self.0.function()?.into())
+            Ok(self.0.function()?.public())
         }
 
-        /// Adds a type of values, which the encoder writes; as [`ty`](Self::ty).
-        #[must_use = "the encoder is to write the type"]
+        /// Begins a defined value type and returns its encoder; see [`ty`](Self::ty).
+        #[must_use = "the encoder has to encode the type"]
         fn defined_type | try_defined_type(&mut self) -> ComponentDefinedTypeEncoder<'_> {
-            Ok(self.0.defined_type()?.into())
+            Ok(self.0.defined_type()?.public())
         }
 
-        /// Adds a type of resources: what represents one, and the index of the core function that
-        /// is called when one is dropped, where there is such a function.
-        fn resource | try_resource(&mut self, rep: ValType, dtor: Option<u32>) -> &mut Self {
-            self.0.resource(rep.to_proved()?, dtor)?;
-            Ok(self)
-        }
+        /// Adds a resource type: its representation, and optionally the index of the core function
+        /// that is its destructor.
+        fn resource | try_resource(&mut self, rep: ValType, dtor: Option<u32>) -> &mut Self
+            as (rep.try_into()?, dtor);
     }
 }

@@ -2,52 +2,55 @@
 
 use super::{ComponentDefinedTypeEncoder, ComponentFuncTypeEncoder, ComponentType, InstanceType};
 use crate::ValType;
-use crate::shared::{encoders, on};
+use crate::shared::{Public, encoders, on};
 #[cfg(feature = "reader")]
 use crate::tree::TypeTree;
 use crate::twins::twins;
 
 encoders! {
-    /// Writes one type (component model, binary format, "Type Definitions"). Each of its calls is
-    /// the last, or hands out the encoder whose call is.
+    /// Encodes a type ([component model, binary format, "Type Definitions"][types]). Each of its
+    /// calls ends the type, or returns the encoder whose last call does.
     ///
-    /// Where it is dropped, or its call is refused, the type is unfinished: whoever lent itself
-    /// refuses to grow until it has given the type up by its `discard_unfinished`.
+    /// If it is dropped, or its call fails, the type is unfinished, and the parent rejects further
+    /// additions until `discard_unfinished`.
+    ///
+    /// [types]: https://github.com/WebAssembly/component-model/blob/main/design/mvp/Binary.md#type-definitions
     #[must_use = "an encoder that is dropped leaves its type unfinished"]
     ComponentTypeEncoder by TypeBy over ComponentTypeSection;
 }
 
 impl<'a> ComponentTypeEncoder<'a> {
     twins! {
-        /// This type of components, which ends the type.
+        /// Encodes a component type, which ends the type. Fails if it is unfinished.
         fn component | try_component(self, ty: &ComponentType) -> () {
             Ok(on!(self.by, TypeBy, encoder => encoder.component(&ty.0))?)
         }
 
-        /// This type of instances, which ends the type.
+        /// Encodes an instance type, which ends the type. Fails if it is unfinished.
         fn instance | try_instance(self, ty: &InstanceType) -> () {
             Ok(on!(self.by, TypeBy, encoder => encoder.instance(&ty.0))?)
         }
     }
 
-    /// A type of functions, which the encoder writes.
+    /// Returns an encoder of a function type.
     #[inline]
+    #[must_use = "the encoder has to encode the type"]
     pub fn function(self) -> ComponentFuncTypeEncoder<'a> {
-        on!(self.by, TypeBy, encoder => encoder.function().into())
+        on!(self.by, TypeBy, encoder => encoder.function().public())
     }
 
-    /// A type of values, which the encoder writes.
+    /// Returns an encoder of a defined value type.
     #[inline]
-    #[must_use = "the encoder is to write the type"]
+    #[must_use = "the encoder has to encode the type"]
     pub fn defined_type(self) -> ComponentDefinedTypeEncoder<'a> {
-        on!(self.by, TypeBy, encoder => encoder.defined_type().into())
+        on!(self.by, TypeBy, encoder => encoder.defined_type().public())
     }
 
     twins! {
-        /// A type of resources: what represents one, and the index of the core function that is
-        /// called when one is dropped, where there is such a function. This ends the type.
+        /// Encodes a resource type, which ends the type: its representation, and optionally the
+        /// index of the core function that is its destructor.
         fn resource | try_resource(self, rep: ValType, dtor: Option<u32>) -> () {
-            let rep = rep.to_proved()?;
+            let rep = rep.try_into()?;
             Ok(on!(self.by, TypeBy, encoder => encoder.resource(rep, dtor))?)
         }
     }
@@ -56,7 +59,7 @@ impl<'a> ComponentTypeEncoder<'a> {
 #[cfg(feature = "reader")]
 impl ComponentTypeEncoder<'_> {
     twins! {
-        /// The type of this tree, which ends the type.
+        /// Encodes the type of a tree, which ends the type.
         ///
         /// ```
         /// use wenc::tree::{DefinedTree, TypeTree};

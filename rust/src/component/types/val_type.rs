@@ -1,4 +1,4 @@
-//! Types of values, as they stand in other types.
+//! Value types.
 
 pub use crate::proved::wasm_encoder::{ComponentValType, PrimitiveValType};
 

@@ -2,16 +2,19 @@
 
 use super::{ContType, FieldType, FuncType, StorageType, SubType, ValType, converted};
 use crate::Error;
+use crate::proved::wasm_encoder as proved;
 use crate::shared::{encoders, on};
 use crate::twins::twins;
 
 encoders! {
-    /// Writes one core type, or types that refer to each other (WebAssembly 3.0, binary format,
-    /// "Recursive Types"). Each of its calls is the last.
+    /// Encodes a core type or a recursion group ([WebAssembly 3.0, binary format, "Recursive
+    /// Types"][types]). Each of its calls ends the type.
     ///
-    /// Where it is dropped, or its call is refused, the type is unfinished: whoever lent itself
-    /// refuses to grow until it has given the type up by its `discard_unfinished`. What isn't of
-    /// WebAssembly 3.0, as a shared type, is refused as [`Unsupported`](Error::Unsupported).
+    /// If it is dropped, or its call fails, the type is unfinished, and the parent rejects further
+    /// additions until `discard_unfinished`. Types that aren't in WebAssembly 3.0, such as shared
+    /// ones, fail with [`Unsupported`](Error::Unsupported).
+    ///
+    /// [types]: https://webassembly.github.io/spec/core/binary/types.html#recursive-types
     ///
     /// ```
     /// use wenc::{Component, CoreTypeSection, FieldType, HeapType, RefType, StorageType, ValType};
@@ -37,7 +40,7 @@ encoders! {
 
 impl CoreTypeEncoder<'_> {
     twins! {
-        /// A type of functions, by the types of what they take and answer.
+        /// Encodes a function type by the types of its parameters and results.
         fn function | try_function<P, R>(self, params: P, results: R) -> ()
         where {
             P: IntoIterator<Item = ValType>,
@@ -46,53 +49,54 @@ impl CoreTypeEncoder<'_> {
             R::IntoIter: ExactSizeIterator,
         }
         {
-            let params = converted(params, ValType::to_proved)?.into_iter();
-            let results = converted(results, ValType::to_proved)?.into_iter();
+            let params = converted(params, proved::ValType::try_from)?.into_iter();
+            let results = converted(results, proved::ValType::try_from)?.into_iter();
             Ok(on!(self.by, CoreTypeBy + Module, encoder => encoder.function(params, results))?)
         }
 
-        /// This type of functions.
+        /// Encodes a function type.
         fn func_type | try_func_type(self, ty: &FuncType) -> () {
-            let ty = ty.to_proved()?;
+            let ty = proved::FuncType::try_from(ty)?;
             Ok(on!(self.by, CoreTypeBy + Module, encoder => encoder.func_type(&ty))?)
         }
 
-        /// A type of arrays: what each element holds, and whether it can be changed.
+        /// Encodes an array type by the type of its elements and whether they are mutable.
         fn array | try_array(self, ty: &StorageType, mutable: bool) -> () {
-            let ty = ty.to_proved()?;
+            let ty = proved::StorageType::try_from(*ty)?;
             Ok(on!(self.by, CoreTypeBy + Module, encoder => encoder.array(&ty, mutable))?)
         }
 
-        /// A type of structs, by their fields.
+        /// Encodes a struct type by its fields.
         fn struct_ | try_struct<F>(self, fields: F) -> ()
         where {
             F: IntoIterator<Item = FieldType>,
             F::IntoIter: ExactSizeIterator,
         }
         {
-            let fields = converted(fields, FieldType::to_proved)?.into_iter();
+            let fields = converted(fields, proved::FieldType::try_from)?.into_iter();
             Ok(on!(self.by, CoreTypeBy + Module, encoder => encoder.struct_(fields))?)
         }
 
-        /// A type of continuations, which is always refused as [`Unsupported`](Error::Unsupported).
+        /// Fails with [`Unsupported`](Error::Unsupported), since no continuation type is encoded.
         fn cont | try_cont(self, _ty: &ContType) -> () {
             Err(Error::Unsupported)
         }
 
-        /// A type with its place among the others.
+        /// Encodes a subtype.
         fn subtype | try_subtype(self, ty: &SubType) -> () {
-            let ty = ty.to_proved()?;
+            let ty = proved::SubType::try_from(ty)?;
             Ok(on!(self.by, CoreTypeBy + Module, encoder => encoder.subtype(&ty))?)
         }
 
-        /// Types that may refer to each other. They count as one core type of what is written.
+        /// Encodes a recursion group, whose types may refer to each other. It counts as one core
+        /// type of its parent.
         fn rec | try_rec<T>(self, types: T) -> ()
         where {
             T: IntoIterator<Item = SubType>,
             T::IntoIter: ExactSizeIterator,
         }
         {
-            let types = converted(types, |ty| ty.to_proved())?;
+            let types = converted(types, |ty| proved::SubType::try_from(&ty))?;
             let types = types.as_slice().iter();
             Ok(on!(self.by, CoreTypeBy + Module, encoder => encoder.rec(types))?)
         }

@@ -1,11 +1,14 @@
 //! Core types of values.
 
 use crate::Error;
+use crate::core::conversions::supported;
 use crate::encode::encode;
 use crate::error::granted;
 use crate::proved::wasm_encoder as proved;
 
-/// A core type of values (WebAssembly 3.0, binary format, "Value Types").
+/// A core value type ([WebAssembly 3.0, binary format, "Value Types"][types]).
+///
+/// [types]: https://webassembly.github.io/spec/core/binary/types.html#value-types
 ///
 /// ```
 /// use wenc::{Encode, HeapType, RefType, ValType};
@@ -18,50 +21,36 @@ use crate::proved::wasm_encoder as proved;
 /// ```
 #[derive(Clone, Copy, Debug, PartialEq, Eq, PartialOrd, Ord, Hash)]
 pub enum ValType {
-    /// A number of 32 bits.
+    /// A 32-bit integer.
     I32,
-    /// A number of 64 bits.
+    /// A 64-bit integer.
     I64,
-    /// A floating point number of 32 bits.
+    /// A 32-bit float.
     F32,
-    /// A floating point number of 64 bits.
+    /// A 64-bit float.
     F64,
-    /// A vector of 128 bits.
+    /// A 128-bit vector.
     V128,
     /// A reference.
     Ref(RefType),
 }
 
 impl ValType {
-    /// A reference to a function, or null.
+    /// A nullable function reference.
     pub const FUNCREF: Self = Self::Ref(RefType::FUNCREF);
-    /// A reference to what the host has, or null.
+    /// A nullable external reference.
     pub const EXTERNREF: Self = Self::Ref(RefType::EXTERNREF);
-    /// A reference to an exception, or null.
+    /// A nullable exception reference.
     pub const EXNREF: Self = Self::Ref(RefType::EXNREF);
-    /// A reference to a continuation, or null, which is not supported.
+    /// A nullable continuation reference, which isn't supported.
     pub const CONTREF: Self = Self::Ref(RefType::CONTREF);
 
-    /// Whether a variable of this type begins with a value: numbers with 0, references with null,
-    /// if they may be null.
+    /// Returns `true` if the type has a default value: a number, a vector or a nullable reference.
     pub fn is_defaultable(&self) -> bool {
         match self {
             Self::I32 | Self::I64 | Self::F32 | Self::F64 | Self::V128 => true,
             Self::Ref(ty) => ty.nullable,
         }
-    }
-
-    /// The type as the proved code takes it.
-    #[inline]
-    pub(crate) fn to_proved(self) -> Result<proved::ValType, Error> {
-        Ok(match self {
-            Self::I32 => proved::ValType::I32,
-            Self::I64 => proved::ValType::I64,
-            Self::F32 => proved::ValType::F32,
-            Self::F64 => proved::ValType::F64,
-            Self::V128 => proved::ValType::V128,
-            Self::Ref(ty) => proved::ValType::Ref(ty.to_proved()?),
-        })
     }
 }
 
@@ -72,170 +61,121 @@ impl From<RefType> for ValType {
     }
 }
 
-/// A type of references (WebAssembly 3.0, binary format, "Reference Types").
+/// A reference type (WebAssembly 3.0, binary format, "Reference Types").
 #[derive(Clone, Copy, Debug, PartialEq, Eq, PartialOrd, Ord, Hash)]
 pub struct RefType {
-    /// Whether null is among them.
+    /// Whether a reference may be null.
     pub nullable: bool,
-    /// What they refer to.
+    /// The type of the referent.
     pub heap_type: HeapType,
 }
 
 impl RefType {
-    /// To a function, or null.
+    /// A nullable function reference.
     pub const FUNCREF: Self = Self::or_null(HeapType::FUNC);
-    /// To what the host has, or null.
+    /// A nullable external reference.
     pub const EXTERNREF: Self = Self::or_null(HeapType::EXTERN);
-    /// To an exception, or null.
+    /// A nullable exception reference.
     pub const EXNREF: Self = Self::or_null(HeapType::EXN);
-    /// To a continuation, or null, which is not supported.
+    /// A nullable continuation reference, which isn't supported.
     pub const CONTREF: Self = Self::or_null(HeapType::CONT);
 
-    /// To what is of this type, or null.
+    /// A nullable reference to this type.
     const fn or_null(heap_type: HeapType) -> Self {
         Self { nullable: true, heap_type }
     }
 
-    /// To one of the types that WebAssembly names, perhaps or null, perhaps shared by threads,
-    /// which is not supported.
+    /// Creates a reference to an abstract heap type. A shared one isn't supported.
     pub fn new_abstract(ty: AbstractHeapType, nullable: bool, shared: bool) -> Self {
         Self { nullable, heap_type: HeapType::Abstract { shared, ty } }
     }
 
-    /// These references, with null among them or without.
+    /// Returns this type with references that may or may not be null.
     pub fn nullable(mut self, nullable: bool) -> Self {
         self.nullable = nullable;
         self
     }
-
-    /// The type as the proved code takes it.
-    #[inline]
-    pub(crate) fn to_proved(self) -> Result<proved::RefType, Error> {
-        let heap_type = self.heap_type.to_proved()?;
-        Ok(proved::RefType { nullable: self.nullable, heap_type })
-    }
 }
 
-/// What a reference refers to (WebAssembly 3.0, binary format, "Heap Types").
+/// A heap type, the type of a referent (WebAssembly 3.0, binary format, "Heap Types").
 #[derive(Clone, Copy, Debug, PartialEq, Eq, PartialOrd, Ord, Hash)]
 pub enum HeapType {
-    /// One of the types that WebAssembly names.
+    /// An abstract heap type.
     Abstract {
-        /// Whether threads share it, which is not supported.
+        /// Whether threads share it, which isn't supported.
         shared: bool,
         /// The type.
         ty: AbstractHeapType,
     },
     /// The core type with this index.
     Concrete(u32),
-    /// The core type with this index and none below it, which is not supported.
+    /// Exactly the core type with this index, which isn't supported.
     Exact(u32),
 }
 
 impl HeapType {
-    /// Functions.
-    pub const FUNC: Self = Self::unshared(AbstractHeapType::Func);
-    /// What the host has.
-    pub const EXTERN: Self = Self::unshared(AbstractHeapType::Extern);
-    /// All that is collected.
-    pub const ANY: Self = Self::unshared(AbstractHeapType::Any);
-    /// What is below all that is collected.
-    pub const NONE: Self = Self::unshared(AbstractHeapType::None);
-    /// What is below all that the host has.
-    pub const NO_EXTERN: Self = Self::unshared(AbstractHeapType::NoExtern);
-    /// What is below all functions.
-    pub const NO_FUNC: Self = Self::unshared(AbstractHeapType::NoFunc);
-    /// What can be compared.
-    pub const EQ: Self = Self::unshared(AbstractHeapType::Eq);
-    /// Structs.
-    pub const STRUCT: Self = Self::unshared(AbstractHeapType::Struct);
-    /// Arrays.
-    pub const ARRAY: Self = Self::unshared(AbstractHeapType::Array);
-    /// Numbers of 31 bits.
-    pub const I31: Self = Self::unshared(AbstractHeapType::I31);
-    /// Exceptions.
-    pub const EXN: Self = Self::unshared(AbstractHeapType::Exn);
-    /// What is below all exceptions.
-    pub const NO_EXN: Self = Self::unshared(AbstractHeapType::NoExn);
-    /// Continuations, which are not supported.
-    pub const CONT: Self = Self::unshared(AbstractHeapType::Cont);
-    /// What is below all continuations, which is not supported.
-    pub const NO_CONT: Self = Self::unshared(AbstractHeapType::NoCont);
-
-    /// One of the types that WebAssembly names, which no threads share.
+    /// An abstract heap type that threads don't share.
     const fn unshared(ty: AbstractHeapType) -> Self {
         Self::Abstract { shared: false, ty }
     }
+}
 
-    /// The type as the proved code takes it.
-    #[inline]
-    pub(crate) fn to_proved(self) -> Result<proved::HeapType, Error> {
-        match self {
-            Self::Abstract { shared: false, ty } => Ok(proved::HeapType::Abstract(ty.to_proved()?)),
-            Self::Concrete(index) => Ok(proved::HeapType::Concrete(index)),
-            Self::Abstract { shared: true, .. } | Self::Exact(_) => Err(Error::Unsupported),
+/// The abstract heap types, each with the constant that stands for it.
+macro_rules! heap_types {
+    (
+        { $($(#[$doc:meta])* $name:ident $constant:ident;)* }
+        without { $($(#[$no_doc:meta])* $no_name:ident $no_constant:ident;)* }
+    ) => {
+        /// An abstract heap type (WebAssembly 3.0, binary format, "Heap Types").
+        #[derive(Clone, Copy, Debug, PartialEq, Eq, PartialOrd, Ord, Hash)]
+        pub enum AbstractHeapType {
+            $($(#[$doc])* $name,)*
+            $($(#[$no_doc])* $no_name,)*
         }
+
+        impl HeapType {
+            $($(#[$doc])*
+            pub const $constant: Self = Self::unshared(AbstractHeapType::$name);)*
+            $($(#[$no_doc])*
+            pub const $no_constant: Self = Self::unshared(AbstractHeapType::$no_name);)*
+        }
+
+        supported! {
+            enum AbstractHeapType { $($name),* } without [$(AbstractHeapType::$no_name)|*];
+        }
+    };
+}
+
+heap_types! {
+    {
+        /// Functions.
+        Func FUNC;
+        /// External host references.
+        Extern EXTERN;
+        /// Top of the `any` hierarchy.
+        Any ANY;
+        /// Bottom of the `any` hierarchy.
+        None NONE;
+        /// Bottom of the `extern` hierarchy.
+        NoExtern NO_EXTERN;
+        /// Bottom of the `func` hierarchy.
+        NoFunc NO_FUNC;
+        /// Values that can be compared.
+        Eq EQ;
+        /// Structs.
+        Struct STRUCT;
+        /// Arrays.
+        Array ARRAY;
+        /// Unboxed 31-bit integers.
+        I31 I31;
+        /// Exceptions.
+        Exn EXN;
+        /// Bottom of the `exn` hierarchy.
+        NoExn NO_EXN;
+    } without {
+        /// Continuations, which aren't supported.
+        Cont CONT;
+        /// Bottom of the `cont` hierarchy, which isn't supported.
+        NoCont NO_CONT;
     }
-}
-
-/// The heap types that WebAssembly names (WebAssembly 3.0, binary format, "Heap Types").
-#[derive(Clone, Copy, Debug, PartialEq, Eq, PartialOrd, Ord, Hash)]
-pub enum AbstractHeapType {
-    /// Functions.
-    Func,
-    /// What the host has.
-    Extern,
-    /// All that is collected.
-    Any,
-    /// What is below all that is collected.
-    None,
-    /// What is below all that the host has.
-    NoExtern,
-    /// What is below all functions.
-    NoFunc,
-    /// What can be compared.
-    Eq,
-    /// Structs.
-    Struct,
-    /// Arrays.
-    Array,
-    /// Numbers of 31 bits.
-    I31,
-    /// Exceptions.
-    Exn,
-    /// What is below all exceptions.
-    NoExn,
-    /// Continuations, which are not supported.
-    Cont,
-    /// What is below all continuations, which is not supported.
-    NoCont,
-}
-
-impl AbstractHeapType {
-    /// The type as the proved code takes it.
-    #[inline]
-    pub(crate) fn to_proved(self) -> Result<proved::AbstractHeapType, Error> {
-        Ok(match self {
-            Self::Func => proved::AbstractHeapType::Func,
-            Self::Extern => proved::AbstractHeapType::Extern,
-            Self::Any => proved::AbstractHeapType::Any,
-            Self::None => proved::AbstractHeapType::None,
-            Self::NoExtern => proved::AbstractHeapType::NoExtern,
-            Self::NoFunc => proved::AbstractHeapType::NoFunc,
-            Self::Eq => proved::AbstractHeapType::Eq,
-            Self::Struct => proved::AbstractHeapType::Struct,
-            Self::Array => proved::AbstractHeapType::Array,
-            Self::I31 => proved::AbstractHeapType::I31,
-            Self::Exn => proved::AbstractHeapType::Exn,
-            Self::NoExn => proved::AbstractHeapType::NoExn,
-            Self::Cont | Self::NoCont => return Err(Error::Unsupported),
-        })
-    }
-}
-
-encode! {
-    ValType, ty => granted(ty.to_proved());
-    RefType, ty => granted(ty.to_proved());
-    HeapType, ty => granted(ty.to_proved());
-    AbstractHeapType, ty => granted(ty.to_proved());
 }

@@ -3,10 +3,9 @@
 use alloc::collections::TryReserveError;
 use core::fmt;
 
-/// Where collections lie. On stable Rust there is one place, [`Global`]; tests have another, which
-/// refuses by a plan.
+/// An allocator. On stable Rust there is one, [`Global`]; tests have another, which fails by a plan.
 pub trait Allocator: Copy + TryClone + Eq + fmt::Debug + sealed::Sealed {
-    /// Whether a request may be made.
+    /// Returns `true` if a request may be made.
     #[inline]
     fn allows(&self) -> bool {
         true
@@ -28,8 +27,8 @@ pub(crate) mod sealed {
     impl Sealed for super::Global {}
 }
 
-/// The allocator refused.
-#[derive(Clone, Copy, Debug, PartialEq, Eq)]
+/// An allocation failed.
+#[derive(Clone, Copy, Debug, PartialEq, Eq, Hash)]
 pub struct AllocError;
 
 impl fmt::Display for AllocError {
@@ -40,10 +39,10 @@ impl fmt::Display for AllocError {
 
 impl core::error::Error for AllocError {}
 
-/// The allocator refused, and this could not be stored.
+/// An allocation failed, and this value couldn't be stored.
 #[derive(Debug)]
 pub struct AllocFailed<T> {
-    /// What is given back.
+    /// The value.
     pub value: T,
 }
 

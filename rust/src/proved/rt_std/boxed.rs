@@ -1,4 +1,4 @@
-//! Values in memory of their own.
+//! Values on the heap.
 
 use super::alloc::{AllocFailed, Allocator, Global};
 use alloc::boxed::Box as Inner;
@@ -7,8 +7,8 @@ use core::fmt;
 use core::marker::PhantomData;
 use core::ops::{Deref, DerefMut};
 
-/// Rust's `Box`, made by a call that answers where memory is refused.
-#[derive(Clone, PartialEq, Eq)]
+/// std's `Box`, whose [`try_new`](Self::try_new) returns an error if the allocation fails.
+#[derive(Clone, PartialEq, Eq, PartialOrd, Ord, Hash)]
 pub struct Box<T, A = Global> {
     /// An array of one, since that is made by way of a vector, which can answer a refusal.
     inner: Inner<[T; 1]>,
@@ -16,9 +16,9 @@ pub struct Box<T, A = Global> {
 }
 
 impl<T, A: Allocator> Box<T, A> {
-    /// A value in memory of its own. The room that is asked for is exact, so that nothing is left
-    /// to be given back, which might be refused.
-    pub fn new(alloc: A, value: T) -> Result<Self, AllocFailed<T>> {
+    /// Moves a value to the heap. The allocation is exact, so that nothing has to be given back,
+    /// which might fail.
+    pub(crate) fn new(alloc: A, value: T) -> Result<Self, AllocFailed<T>> {
         let mut one = Vec::new();
         if !alloc.allows() || one.try_reserve_exact(1).is_err() {
             return Err(AllocFailed { value });
@@ -30,7 +30,7 @@ impl<T, A: Allocator> Box<T, A> {
         }
     }
 
-    /// The value. It takes no memory.
+    /// Returns the value without allocating.
     pub fn into_inner(self) -> T {
         let [value] = *self.inner;
         value

@@ -1,32 +1,32 @@
-//! Texts that are owned.
+//! Owned strings.
 
 use super::alloc::{AllocError, Allocator, Global, TryClone};
 use super::vec::Vec;
 use alloc::string::String as Inner;
 use core::fmt;
+use core::hash::{Hash, Hasher};
 use core::ops::Deref;
 
-/// Rust's `String`, with calls that answer where memory is refused. It is lent as a `str`, and made
-/// of Rust's and into it by `From` without a copy.
+/// std's `String`, with methods that return an error if an allocation fails. It derefs to `str`, and
+/// `From` converts it from std's and back without a copy.
 ///
-/// `Clone` is for the trees that a user holds: as with Rust's texts, a refusal ends the program
-/// there. The proved code calls `try_clone`.
+/// `Clone` and `Extend` are for users, and abort as std's do.
 #[derive(Clone)]
 pub struct String<A = Global> {
-    inner: Inner,
+    pub(crate) inner: Inner,
     alloc: A,
 }
 
 impl<A: Allocator> String<A> {
-    /// No text. It takes no memory.
+    /// Creates an empty string without allocating.
     #[inline]
-    pub fn new(alloc: A) -> Self {
+    pub(crate) fn new(alloc: A) -> Self {
         String { inner: Inner::new(), alloc }
     }
 
-    /// This text once more.
+    /// Copies a string.
     #[inline]
-    pub fn from_str(alloc: A, text: &str) -> Result<Self, AllocError> {
+    pub(crate) fn from_str(alloc: A, text: &str) -> Result<Self, AllocError> {
         let mut made = String::new(alloc);
         if !text.is_empty() {
             made.ask()?;
@@ -36,7 +36,7 @@ impl<A: Allocator> String<A> {
         Ok(made)
     }
 
-    /// The text.
+    /// Returns the string as a slice.
     #[inline]
     pub fn as_str(&self) -> &str {
         &self.inner
@@ -57,6 +57,10 @@ impl<A: Allocator> String<A> {
     }
 
     /// Appends a character.
+    ///
+    /// # Errors
+    ///
+    /// Returns an error if the allocation fails.
     #[inline]
     pub fn push(&mut self, letter: char) -> Result<(), AllocError> {
         self.try_reserve(letter.len_utf8())?;
@@ -64,7 +68,11 @@ impl<A: Allocator> String<A> {
         Ok(())
     }
 
-    /// Appends a text.
+    /// Appends a string.
+    ///
+    /// # Errors
+    ///
+    /// Returns an error if the allocation fails.
     #[inline]
     pub fn push_str(&mut self, text: &str) -> Result<(), AllocError> {
         self.try_reserve(text.len())?;
@@ -72,13 +80,17 @@ impl<A: Allocator> String<A> {
         Ok(())
     }
 
-    /// The bytes of the text. It takes no memory.
+    /// Returns the bytes of the string without allocating.
     #[inline]
     pub fn into_bytes(self) -> Vec<u8, A> {
         Vec { inner: self.inner.into_bytes(), alloc: self.alloc }
     }
 
-    /// What `write!` calls.
+    /// Appends formatted text, for `write!`.
+    ///
+    /// # Errors
+    ///
+    /// Returns an error if the allocation fails.
     pub fn write_fmt(&mut self, arguments: fmt::Arguments<'_>) -> Result<(), AllocError> {
         struct Writer<'a, A>(&'a mut String<A>);
 
@@ -101,7 +113,7 @@ impl<A> Deref for String<A> {
     }
 }
 
-/// Equal letters make equal texts, wherever they lie.
+/// Compares the characters.
 impl<A> PartialEq for String<A> {
     #[inline]
     fn eq(&self, other: &Self) -> bool {
@@ -110,6 +122,12 @@ impl<A> PartialEq for String<A> {
 }
 
 impl<A> Eq for String<A> {}
+
+impl<A> Hash for String<A> {
+    fn hash<H: Hasher>(&self, state: &mut H) {
+        self.inner.hash(state);
+    }
+}
 
 impl<A> fmt::Debug for String<A> {
     fn fmt(&self, f: &mut fmt::Formatter<'_>) -> fmt::Result {

@@ -2,14 +2,14 @@
 
 use super::alloc::{AllocError, AllocFailed, Allocator, Global};
 use alloc::vec::{IntoIter, Vec as Inner};
+use core::hash::{Hash, Hasher};
 use core::ops::{Deref, DerefMut};
 use core::{fmt, slice};
 
-/// Rust's `Vec`, with calls that answer where memory is refused. It is lent as a slice, and made of
-/// Rust's and into it by `From` without a copy.
+/// std's `Vec`, with methods that return an error if an allocation fails. It derefs to a slice, and
+/// `From` converts it from std's and back without a copy.
 ///
-/// `Clone` is for the trees that a user holds: as with Rust's vectors, a refusal ends the program
-/// there. The proved code calls `try_clone`.
+/// `Clone` and `Extend` are for users, and abort as std's do.
 #[derive(Clone)]
 pub struct Vec<T, A = Global> {
     pub(crate) inner: Inner<T>,
@@ -17,15 +17,15 @@ pub struct Vec<T, A = Global> {
 }
 
 impl<T, A: Allocator> Vec<T, A> {
-    /// No elements. It takes no memory.
+    /// Creates an empty vector without allocating.
     #[inline]
-    pub fn new(alloc: A) -> Self {
+    pub(crate) fn new(alloc: A) -> Self {
         Vec { inner: Inner::new(), alloc }
     }
 
-    /// No elements, and room for so many.
+    /// Creates an empty vector with this capacity.
     #[inline]
-    pub fn with_capacity(alloc: A, capacity: usize) -> Result<Self, AllocError> {
+    pub(crate) fn with_capacity(alloc: A, capacity: usize) -> Result<Self, AllocError> {
         let mut made = Vec::new(alloc);
         if capacity > 0 {
             made.ask()?;
@@ -39,38 +39,42 @@ impl<T, A: Allocator> Vec<T, A> {
         if self.alloc.allows() { Ok(()) } else { Err(AllocError) }
     }
 
-    /// Where its elements lie.
+    /// Returns the allocator.
     #[inline]
-    pub fn allocator(&self) -> &A {
+    pub(crate) fn allocator(&self) -> &A {
         &self.alloc
     }
 
-    /// How many elements it has room for.
+    /// Returns the number of elements for which there is room.
     #[inline]
     pub fn capacity(&self) -> usize {
         self.inner.capacity()
     }
 
-    /// Its elements.
+    /// Returns the elements as a slice.
     #[inline]
     pub fn as_slice(&self) -> &[T] {
         &self.inner
     }
 
-    /// Its elements, to be changed.
+    /// Returns the elements as a mutable slice.
     #[inline]
     pub fn as_mut_slice(&mut self) -> &mut [T] {
         &mut self.inner
     }
 
-    /// Asks for room for so many more.
+    /// Reserves room for at least this many more elements.
+    ///
+    /// # Errors
+    ///
+    /// Returns an error if the allocation fails.
     #[inline]
     pub fn try_reserve(&mut self, more: usize) -> Result<(), AllocError> {
         if self.inner.capacity() - self.inner.len() < more { self.grow(more) } else { Ok(()) }
     }
 
-    /// Room for one more than is asked for: the byte in front of what comes next finds it then, where it would be put there
-    /// afterwards, and all moved.
+    /// Reserves room for one more than is asked for: the byte in front of what comes next finds it
+    /// then, where it would be put there afterwards, and all moved.
     #[cold]
     #[inline(never)]
     fn grow(&mut self, more: usize) -> Result<(), AllocError> {
@@ -79,6 +83,10 @@ impl<T, A: Allocator> Vec<T, A> {
     }
 
     /// Appends an element.
+    ///
+    /// # Errors
+    ///
+    /// Returns the element if the allocation fails.
     #[inline]
     pub fn push(&mut self, value: T) -> Result<(), AllocFailed<T>> {
         if self.try_reserve(1).is_err() {
@@ -88,7 +96,15 @@ impl<T, A: Allocator> Vec<T, A> {
         Ok(())
     }
 
-    /// Puts an element in front of the one with this index.
+    /// Inserts an element at an index.
+    ///
+    /// # Errors
+    ///
+    /// Returns the element if the allocation fails.
+    ///
+    /// # Panics
+    ///
+    /// Panics if the index is greater than the length.
     #[inline]
     pub fn insert(&mut self, at: usize, value: T) -> Result<(), AllocFailed<T>> {
         if self.try_reserve(1).is_err() {
@@ -98,20 +114,24 @@ impl<T, A: Allocator> Vec<T, A> {
         Ok(())
     }
 
-    /// Takes out the element with this index.
+    /// Removes and returns the element at an index.
+    ///
+    /// # Panics
+    ///
+    /// Panics if there is no such element.
     #[inline]
     pub fn remove(&mut self, at: usize) -> T {
         self.inner.remove(at)
     }
 
-    /// Cuts off all after the first `len` elements.
+    /// Keeps the first `len` elements and drops the rest.
     #[inline]
     pub fn truncate(&mut self, len: usize) {
         self.inner.truncate(len);
     }
 
-    /// Gives back room that isn't used, or keeps it where the smaller room is refused. Rust's
-    /// `shrink_to_fit` would end the program then.
+    /// Frees capacity that isn't used, or keeps it if the smaller allocation fails, where std's would
+    /// abort.
     pub fn shrink_to_fit(&mut self) {
         let len = self.inner.len();
         if len == self.inner.capacity() {
@@ -126,15 +146,19 @@ impl<T, A: Allocator> Vec<T, A> {
 }
 
 impl<T: Copy, A: Allocator> Vec<T, A> {
-    /// These elements once more.
+    /// Copies a slice.
     #[inline]
-    pub fn from_slice(alloc: A, values: &[T]) -> Result<Self, AllocError> {
+    pub(crate) fn from_slice(alloc: A, values: &[T]) -> Result<Self, AllocError> {
         let mut made = Vec::with_capacity(alloc, values.len())?;
         made.extend_from_slice(values)?;
         Ok(made)
     }
 
-    /// Appends these elements.
+    /// Appends the elements of a slice.
+    ///
+    /// # Errors
+    ///
+    /// Returns an error if the allocation fails.
     #[inline]
     pub fn extend_from_slice(&mut self, values: &[T]) -> Result<(), AllocError> {
         self.try_reserve(values.len())?;
@@ -159,7 +183,7 @@ impl<T, A> DerefMut for Vec<T, A> {
     }
 }
 
-/// Equal elements make equal vectors, wherever they lie.
+/// Compares the elements.
 impl<T: PartialEq, A> PartialEq for Vec<T, A> {
     #[inline]
     fn eq(&self, other: &Self) -> bool {
@@ -168,6 +192,12 @@ impl<T: PartialEq, A> PartialEq for Vec<T, A> {
 }
 
 impl<T: Eq, A> Eq for Vec<T, A> {}
+
+impl<T: Hash, A> Hash for Vec<T, A> {
+    fn hash<H: Hasher>(&self, state: &mut H) {
+        self.inner.hash(state);
+    }
+}
 
 impl<T: fmt::Debug, A> fmt::Debug for Vec<T, A> {
     fn fmt(&self, f: &mut fmt::Formatter<'_>) -> fmt::Result {

@@ -1,0 +1,85 @@
+//! The builder's life: how it is made, finished, and rid of an item that was never ended.
+
+use crate::Error;
+use crate::component::ComponentBuilder;
+use crate::error::granted;
+use crate::proved::rt_std::alloc::Global;
+use crate::proved::wasm_encoder as proved;
+use crate::twins::twins;
+use alloc::vec::Vec;
+
+impl ComponentBuilder {
+    /// Creates a builder of a component without items. [`Default`] does too, or panics.
+    ///
+    /// # Errors
+    ///
+    /// [`NoMemory`](Error::NoMemory).
+    #[inline]
+    pub fn try_new() -> Result<Self, Error> {
+        Ok(Self(proved::ComponentBuilder::new(Global)?))
+    }
+
+    twins! {
+        /// Completes the component and returns its bytes.
+        ///
+        /// Fails with [`Unfinished`](Error::Unfinished) alone, and the component is lost then.
+        ///
+        /// ```
+        /// let builder = wenc::ComponentBuilder::default();
+        /// assert_eq!(builder.finish(), b"\0asm\x0d\0\x01\0");
+        /// ```
+        fn finish | try_finish(self) -> Vec<u8> {
+            Ok(self.0.finish()?.into())
+        }
+
+        /// Adds a section of the debug names so far, if there are any: those of imports, exports
+        /// and aliases are their names, those of builtins the builtins' names, those of other items
+        /// what was passed with them.
+        ///
+        /// It is a custom section with the name `component-name` ([binary format, "Name
+        /// Section"][names]). A second call adds all names again; [`finish`](Self::finish) adds
+        /// none.
+        ///
+        /// [names]: https://github.com/WebAssembly/component-model/blob/main/design/mvp/Binary.md#name-section
+        fn append_names | try_append_names(&mut self) -> ();
+    }
+
+    /// Returns `false` while a type or another item is unfinished.
+    #[inline]
+    pub fn is_finished(&self) -> bool {
+        self.0.is_finished()
+    }
+
+    /// Discards the unfinished item, with its index, and returns whether there was one. It doesn't
+    /// allocate.
+    ///
+    /// An item is unfinished if its encoder was dropped before its last call, or that call failed,
+    /// or if an iterator panicked.
+    ///
+    /// ```
+    /// use wenc::{ComponentBuilder, Error};
+    ///
+    /// let mut builder = ComponentBuilder::default();
+    /// let (_, encoder) = builder.type_defined(None);
+    /// drop(encoder);
+    /// assert_eq!(builder.try_task_cancel(), Err(Error::Unfinished));
+    /// assert!(builder.discard_unfinished());
+    /// assert_eq!(builder.try_task_cancel(), Ok(0));
+    /// ```
+    #[inline]
+    pub fn discard_unfinished(&mut self) -> bool {
+        self.0.discard_unfinished()
+    }
+}
+
+impl Default for ComponentBuilder {
+    /// Creates a builder of a component without items.
+    ///
+    /// # Panics
+    ///
+    /// Panics if [`try_new`](Self::try_new) fails.
+    #[inline]
+    fn default() -> Self {
+        granted(Self::try_new())
+    }
+}
