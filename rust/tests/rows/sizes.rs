@@ -8,6 +8,7 @@ mod encoded;
 mod functions;
 mod instances;
 mod items;
+mod many;
 mod module_types;
 mod modules;
 mod names;
@@ -16,7 +17,7 @@ mod types;
 mod upstream;
 
 use wenc::tree::{self, Command, build};
-use wenc::{Component, ComponentBuilder, ComponentSection, Encode, ItemSection, list};
+use wenc::{Component, ComponentBuilder, ComponentSection, Encode, ItemSection, Sections, list};
 
 /// Sizes on both sides of those from which on a number has one byte more.
 const SIZES: [usize; 8] = [0, 1, 127, 128, 200, 16_383, 16_384, 20_000];
@@ -193,6 +194,13 @@ fn is_read(Kind(id, sort): Kind, command: &Command, item: &[u8]) {
         same(Component::new().section(made).as_slice(), &bytes, "the items'", item.len());
     }
     same(Component::new().section(listed).as_slice(), &bytes, "as listed", item.len());
+    let mut sections = Sections::new(&bytes).expect("a component");
+    let reader = sections.next().expect("a section").expect("it is read");
+    assert!(sections.next().is_none());
+    same(Component::new().section(&reader).as_slice(), &bytes, "as read", item.len());
+    same(Component::new().section(&reader.raw()).as_slice(), &bytes, "as raw", item.len());
+    let (_, read) = reader.items().next().expect("an item").expect("it is read");
+    assert!(read == *tree, "another item of {} bytes", item.len());
 }
 
 /// The commands add the item, whatever the size, without a debug name and with one.

@@ -84,9 +84,8 @@ fn functions_have_parameters_and_results() {
             let (params, results) = shape(n);
             function(params, results)
         };
-        let group = |n| {
-            GroupTree::Sub(subtype_tree(&subtype(None, CompositeInnerType::Func(ty(n)))))
-        };
+        let group =
+            |n| GroupTree::Sub(subtype_tree(&subtype(None, CompositeInnerType::Func(ty(n)))));
         let wanted = |n| {
             let (params, results) = shape(n);
             function_bytes(params, results)
@@ -134,11 +133,7 @@ fn arrays_have_a_debug_name() {
 fn subtypes_extend_others() {
     let ty = |n: usize| subtype(Some(n as u32), structure(n));
     let wanted = |n| joined([&[0x4f, 1], &number(n), &[0x5f], &list_of([0x77, 1], n)]);
-    is_core(
-        |encoder, n| encoder.subtype(&ty(n)),
-        |n| GroupTree::Sub(subtype_tree(&ty(n))),
-        wanted,
-    );
+    is_core(|encoder, n| encoder.subtype(&ty(n)), |n| GroupTree::Sub(subtype_tree(&ty(n))), wanted);
     for n in SIZES {
         same(&encoded(&ty(n)), &wanted(n), "the subtype", n);
         same(&encoded(&subtype_tree(&ty(n))), &wanted(n), "its tree", n);

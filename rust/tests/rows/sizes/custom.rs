@@ -70,10 +70,7 @@ fn raw_custom_sections() {
 }
 
 /// A section of these producers, by each call that takes one.
-fn are_producers(
-    make: impl Fn(usize) -> ProducersSection,
-    fields: impl Fn(usize) -> Vec<u8>,
-) {
+fn are_producers(make: impl Fn(usize) -> ProducersSection, fields: impl Fn(usize) -> Vec<u8>) {
     let content = |n| [sized("producers"), fields(n)].concat();
     makes_named(
         CUSTOM,

@@ -64,8 +64,7 @@ fn trees() {
         check(&|sink| instance.encode(sink), &joined([&[0x00, 0, 1], &wanted, &[0x12, 3]]));
         let instance = CoreInstanceTree::Exports(single!(name(), core_kind, 3));
         check(&|sink| instance.encode(sink), &joined([&[0x01, 1], &wanted, &[0x02, 3]]));
-        let instance =
-            InstanceTree::Instantiate { component: 0, args: single!(name(), kind, 3) };
+        let instance = InstanceTree::Instantiate { component: 0, args: single!(name(), kind, 3) };
         check(&|sink| instance.encode(sink), &joined([&[0x00, 0, 1], &wanted, &[0x01, 3]]));
         let instance = InstanceTree::Exports(single!(name().into(), kind, 3));
         check(&|sink| instance.encode(sink), &joined([&[0x01, 1, 0x00], &wanted, &[0x01, 3]]));

@@ -6,8 +6,7 @@ use super::{
 use crate::commands::text as owned;
 use wenc::tree::{self, CanonTree, Command};
 use wenc::{
-    CanonicalFunctionSection, CanonicalOption, ComponentBuilder, ComponentValType,
-    PrimitiveValType,
+    CanonicalFunctionSection, CanonicalOption, ComponentBuilder, ComponentValType, PrimitiveValType,
 };
 
 type Options = Vec<CanonicalOption>;

@@ -5,9 +5,7 @@ use super::{CORE_INSTANCE, INSTANCE, list_of, makes, number, one, sized, text};
 use crate::commands::text as owned;
 use std::iter::repeat_n;
 use wenc::tree::{Command, CoreInstanceTree, InstanceTree};
-use wenc::{
-    ComponentExportKind, ComponentInstanceSection, ExportKind, InstanceSection, ModuleArg,
-};
+use wenc::{ComponentExportKind, ComponentInstanceSection, ExportKind, InstanceSection, ModuleArg};
 
 /// How many members a list has, and how large the text of each is: a long list, or one long text.
 const SHAPES: [fn(usize) -> (usize, usize); 2] = [|n| (n, 1), |n| (1, n)];

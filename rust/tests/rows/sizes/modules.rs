@@ -103,7 +103,8 @@ fn components_are_nested() {
 #[test]
 fn components_are_nested_twice() {
     for (n, name) in cases() {
-        let tasks = || (0..n).map(|_| Command::Canon { debug_name: None, canon: CanonTree::TaskCancel });
+        let tasks =
+            || (0..n).map(|_| Command::Canon { debug_name: None, canon: CanonTree::TaskCancel });
         let name = || name.as_deref().map(Into::into);
         let inner = Command::Component { debug_name: name(), commands: tasks().collect() };
         let commands = [inner, Command::AppendNames].into();

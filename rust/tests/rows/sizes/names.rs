@@ -112,25 +112,32 @@ fn sections_have_raw_subsections() {
     );
 }
 
+/// The names of the component and of each space, at most so many of each.
+fn are_debug_names(component_name: &str, lens: [usize; 13], name: &str) {
+    let mut debug_names = DebugNames::new();
+    debug_names.set_component(component_name);
+    let mut wanted = joined([&[0], &sized(sized(component_name))]);
+    for ((_, space, sort), len) in NAMINGS.into_iter().zip(lens).filter(|(_, len)| *len > 0) {
+        (0..len).for_each(|index| debug_names.insert(space, index as u32, name));
+        let member = |index| joined([&number(index), &sized(name)]);
+        let members: Vec<u8> = (0..len).flat_map(member).collect();
+        let subsection = sized(joined([sort, &number(len), &members]));
+        wanted.extend(joined([&[1], &subsection]));
+    }
+    let wanted = component(CUSTOM, &joined([&sized("component-name"), &wanted]), None);
+    let mut whole = wenc::Component::new();
+    whole.section(&ComponentNameSection::from(&debug_names));
+    same(whole.as_slice(), &wanted, "the names", lens[0]);
+    let listing = list(&wanted).expect("it is listed");
+    assert!(listing.names() == debug_names, "component {}", component_name.len());
+}
+
 #[test]
 fn debug_names_are_written_and_read() {
     for n in SIZES {
-        let mut debug_names = DebugNames::new();
-        debug_names.set_component(text(n));
-        for (_, space, _) in NAMINGS {
-            (0..n).for_each(|index| debug_names.insert(space, index as u32, "n"));
-        }
-        let section = ComponentNameSection::from(&debug_names);
-        let mut wanted = joined([&[0], &sized(sized(text(n)))]);
-        for (_, _, sort) in NAMINGS.iter().filter(|_| n > 0) {
-            let subsection = sized(joined([sort, &map_bytes(n)]));
-            wanted.extend(joined([&[1], &subsection]));
-        }
-        let wanted = component(CUSTOM, &joined([&sized("component-name"), &wanted]), None);
-        let mut whole = wenc::Component::new();
-        whole.section(&section);
-        same(whole.as_slice(), &wanted, "the names", n);
-        assert!(list(&wanted).expect("it is listed").names() == debug_names, "size {n}");
+        are_debug_names(&text(n), [n.min(200); 13], "n");
+        are_debug_names("c", [1; 13], &text(n));
+        are_debug_names("", std::array::from_fn(|at| if at == n % 13 { n } else { 0 }), "n");
     }
 }
 

@@ -240,8 +240,7 @@ fn imports_of_types_and_of_instances() {
 
 /// So many declarations of each kind, as a tree.
 fn trees(n: usize) -> [(InstanceDecl, Vec<u8>); 4] {
-    let composite_type =
-        CompositeType::Func(tree::FuncType::from_lists([].into(), [].into()));
+    let composite_type = CompositeType::Func(tree::FuncType::from_lists([].into(), [].into()));
     let function = SubType { is_final: true, supertype_idx: None, composite_type };
     let core_type = CoreTypeTree::Group(GroupTree::Sub(function));
     let own = TypeTree::Defined(DefinedTree::Own(n as u32));

@@ -1,6 +1,8 @@
 //! Types of values, functions and resources, by each that lends to their encoders.
 
-use super::{TYPE, SIZES, adds, by_hand, encoded, joined, list_of, makes, number, one, same, sized, text};
+use super::{
+    SIZES, TYPE, adds, by_hand, encoded, joined, list_of, makes, number, one, same, sized, text,
+};
 use crate::commands::text as owned;
 use std::iter::repeat_n;
 use wenc::tree::{CaseTree, Command, ComponentDecl, DefinedTree, InstanceDecl, TypeTree};
@@ -180,11 +182,7 @@ fn flags_and_enumerations_have_names() {
 #[test]
 fn other_types_of_values_have_a_debug_name() {
     let byte = PrimitiveValType::U8;
-    is_defined(
-        |ty, _| ty.primitive(byte),
-        |_| DefinedTree::Primitive(byte),
-        |_| vec![0x7d],
-    );
+    is_defined(|ty, _| ty.primitive(byte), |_| DefinedTree::Primitive(byte), |_| vec![0x7d]);
     is_defined(|ty, _| ty.list(STRING), |_| DefinedTree::List(STRING), |_| vec![0x70, 0x73]);
     is_defined(
         |ty, _| ty.map(byte, STRING),
