@@ -98,11 +98,39 @@ fn data(size: usize) -> Vec<u8> {
     (0..size).map(|at| at as u8).collect()
 }
 
-/// Each size, with each debug name that is tried with it: none, one as large, one of another size.
-fn cases() -> impl Iterator<Item = (usize, Option<String>)> {
-    SIZES.into_iter().zip(SIZES.into_iter().rev()).flat_map(|(size, other)| {
-        [None, Some(text(size)), Some(text(other))].map(|name| (size, name))
+/// What a call is made with at a size: a number, of which its indices are, how many members its
+/// lists have, and the texts of each member.
+#[derive(Debug)]
+struct Case {
+    size: usize,
+    count: usize,
+    text: String,
+    other: String,
+}
+
+impl Case {
+    /// The size as an index.
+    fn index(&self) -> u32 {
+        self.size as u32
+    }
+}
+
+/// At each size, a list so long, and texts so long.
+fn cases() -> impl Iterator<Item = Case> {
+    SIZES.into_iter().flat_map(|size| {
+        [(size, 1, 1), (1, size, 1), (1, 1, size)].map(|(count, text_size, other)| Case {
+            size,
+            count,
+            text: text(text_size),
+            other: text(other),
+        })
     })
+}
+
+/// The debug names that are tried at a size: none, one as large, one of another size.
+fn debug_names(size: usize) -> [Option<String>; 3] {
+    let at = SIZES.iter().position(|other| *other == size).expect("it is one of them");
+    [None, Some(text(size)), Some(text(SIZES[SIZES.len() - 1 - at]))]
 }
 
 /// Both are equal; what differs isn't printed, since it may be long.
@@ -120,48 +148,51 @@ fn encoded(value: &impl Encode) -> Vec<u8> {
     bytes
 }
 
-/// The builder's call adds the first item of its space, whatever the size and the debug name.
+/// The builder's call adds the first item of its space, with each debug name.
 #[track_caller]
 fn adds(
     kind: Kind,
-    add: impl Fn(&mut ComponentBuilder, Option<&str>, usize) -> u32,
-    item: impl Fn(usize) -> Vec<u8>,
+    add: impl Fn(&mut ComponentBuilder, Option<&str>, &Case) -> u32,
+    item: impl Fn(&Case) -> Vec<u8>,
 ) {
-    for (size, name) in cases() {
-        let mut b = ComponentBuilder::default();
-        assert_eq!(add(&mut b, name.as_deref(), size), 0);
-        b.append_names();
-        same(&b.finish(), &component(kind, &item(size), name.as_deref()), "the builder's", size);
+    for case in cases() {
+        for name in debug_names(case.size) {
+            let mut b = ComponentBuilder::default();
+            assert_eq!(add(&mut b, name.as_deref(), &case), 0);
+            b.append_names();
+            let wanted = component(kind, &item(&case), name.as_deref());
+            same(&b.finish(), &wanted, "the builder's", case.size);
+        }
     }
 }
 
 /// The section has these bytes after its id, and so has its clone.
 #[track_caller]
 fn by_hand<S: ComponentSection + Clone>(
-    Kind(id, sort): Kind,
-    make: impl Fn(usize) -> S,
-    item: impl Fn(usize) -> Vec<u8>,
+    kind: Kind,
+    make: impl Fn(&Case) -> S,
+    item: impl Fn(&Case) -> Vec<u8>,
 ) {
-    for size in SIZES {
-        let (made, wanted) = (make(size), component(Kind(id, sort), &item(size), None));
-        same(&encoded(&made.clone()), &wanted[9..], "a clone's", size);
+    for case in cases() {
+        let (made, wanted) = (make(&case), component(kind, &item(&case), None));
+        same(&encoded(&made.clone()), &wanted[9..], "a clone's", case.size);
         let mut whole = Component::new();
         whole.section(&made);
-        same(&whole.clone().finish(), &wanted, "the section's", size);
+        same(&whole.clone().finish(), &wanted, "the section's", case.size);
         let mut appended = Component::HEADER.to_vec();
         made.append_to_component(&mut appended);
-        same(&appended, &wanted, "what is appended", size);
+        same(&appended, &wanted, "what is appended", case.size);
     }
 }
 
-/// The command adds the item, alone and in a nested component, which has the same debug name.
+/// The command adds the item: alone where that has no debug name, and else in a nested component
+/// that has the same one.
 #[track_caller]
 fn builds(kind: Kind, command: &Command, item: &[u8], name: Option<&str>) {
     let wanted = component(kind, item, name);
     let commands = [command.clone(), Command::AppendNames];
-    runs(&commands, &wanted, kind);
-    let debug_name = name.map(tree::String::from);
-    let nested = Command::Component { debug_name, commands: commands.into() };
+    let Some(text) = name else { return runs(&commands, &wanted, kind) };
+    let nested = Command::Component { debug_name: Some(text.into()), commands: commands.into() };
     runs(&[nested, Command::AppendNames], &component(COMPONENT, &wanted, name), COMPONENT);
 }
 
@@ -179,42 +210,46 @@ fn runs(commands: &[Command], wanted: &[u8], Kind(_, sort): Kind) {
     same(&b.finish(), wanted, "each command's", wanted.len());
 }
 
-/// The item is read as this command, without a debug name, and written again by its section.
+/// The item is read as this command, without a debug name, and written again.
 #[track_caller]
-fn is_read(Kind(id, sort): Kind, command: &Command, item: &[u8]) {
-    let bytes = component(Kind(id, sort), item, None);
+fn is_read(kind: Kind, command: &Command, item: &[u8]) {
+    let (bytes, size) = (component(kind, item, None), item.len());
     let listing = list(&bytes).expect("it is listed");
     let [listed] = listing.sections.as_slice() else { panic!("there is one section") };
     let [tree] = listed.items.as_slice() else { panic!("there is one item") };
-    assert!(Command::from(tree.clone()) == *command, "another item of {} bytes", item.len());
-    let (mut anew, mut kept) = (ItemSection::new(id), ItemSection::new(id));
-    anew.item(tree).expect("it is added");
-    kept.raw(item).expect("it is added");
-    for made in [&anew, &anew.clone(), &kept] {
-        same(Component::new().section(made).as_slice(), &bytes, "the items'", item.len());
-    }
-    same(Component::new().section(listed).as_slice(), &bytes, "as listed", item.len());
+    assert!(Command::from(tree.clone()) == *command, "another item of {size} bytes");
     let mut sections = Sections::new(&bytes).expect("a component");
     let reader = sections.next().expect("a section").expect("it is read");
-    assert!(sections.next().is_none());
-    same(Component::new().section(&reader).as_slice(), &bytes, "as read", item.len());
-    same(Component::new().section(&reader.raw()).as_slice(), &bytes, "as raw", item.len());
     let (_, read) = reader.items().next().expect("an item").expect("it is read");
-    assert!(read == *tree, "another item of {} bytes", item.len());
+    assert!(read == *tree, "another item of {size} bytes");
+    let (mut anew, mut kept) = (ItemSection::new(kind.0), ItemSection::new(kind.0));
+    anew.item(tree).expect("it is added");
+    kept.raw(item).expect("it is added");
+    let in_component = |section: &dyn Fn(&mut Component)| {
+        let mut whole = Component::new();
+        section(&mut whole);
+        same(whole.as_slice(), &bytes, "what was read", size);
+    };
+    in_component(&|whole| _ = whole.section(&anew));
+    in_component(&|whole| _ = whole.section(&anew.clone()));
+    in_component(&|whole| _ = whole.section(&kept));
+    in_component(&|whole| _ = whole.section(listed));
+    in_component(&|whole| _ = whole.section(&reader));
+    in_component(&|whole| _ = whole.section(&reader.raw()));
 }
 
-/// The commands add the item, whatever the size, without a debug name and with one.
+/// The commands add the item, without a debug name and with one.
 #[track_caller]
 fn commands(
     kind: Kind,
-    command: impl Fn(Option<tree::String>, usize) -> Command,
-    item: impl Fn(usize) -> Vec<u8>,
+    command: impl Fn(Option<tree::String>, &Case) -> Command,
+    item: impl Fn(&Case) -> Vec<u8>,
 ) {
-    for size in SIZES {
-        let (item, name) = (item(size), text(size));
-        builds(kind, &command(None, size), &item, None);
-        builds(kind, &command(Some(name.as_str().into()), size), &item, Some(&name));
-        is_read(kind, &command(None, size), &item);
+    for case in cases() {
+        let (item, name) = (item(&case), text(case.size));
+        builds(kind, &command(None, &case), &item, None);
+        builds(kind, &command(Some(name.as_str().into()), &case), &item, Some(&name));
+        is_read(kind, &command(None, &case), &item);
     }
 }
 
@@ -222,10 +257,10 @@ fn commands(
 #[track_caller]
 fn makes<S: ComponentSection + Clone>(
     kind: Kind,
-    add: impl Fn(&mut ComponentBuilder, Option<&str>, usize) -> u32,
-    make: impl Fn(usize) -> S,
-    command: impl Fn(Option<tree::String>, usize) -> Command,
-    item: impl Fn(usize) -> Vec<u8>,
+    add: impl Fn(&mut ComponentBuilder, Option<&str>, &Case) -> u32,
+    make: impl Fn(&Case) -> S,
+    command: impl Fn(Option<tree::String>, &Case) -> Command,
+    item: impl Fn(&Case) -> Vec<u8>,
 ) {
     adds(kind, add, &item);
     by_hand(kind, make, &item);
@@ -236,19 +271,20 @@ fn makes<S: ComponentSection + Clone>(
 #[track_caller]
 fn makes_named<S: ComponentSection + Clone>(
     kind: Kind,
-    name: impl Fn(usize) -> Option<String>,
-    add: impl Fn(&mut ComponentBuilder, usize) -> Option<u32>,
-    make: impl Fn(usize) -> S,
-    command: impl Fn(usize) -> Command,
-    item: impl Fn(usize) -> Vec<u8>,
+    name: impl Fn(&Case) -> Option<String>,
+    add: impl Fn(&mut ComponentBuilder, &Case) -> Option<u32>,
+    make: impl Fn(&Case) -> S,
+    command: impl Fn(&Case) -> Command,
+    item: impl Fn(&Case) -> Vec<u8>,
 ) {
     by_hand(kind, make, &item);
-    for size in SIZES {
-        let (item, name, command) = (item(size), name(size), command(size));
+    for case in cases() {
+        let (item, name, command) = (item(&case), name(&case), command(&case));
         let mut b = ComponentBuilder::default();
-        assert_eq!(add(&mut b, size), (!kind.1.is_empty()).then_some(0));
+        assert_eq!(add(&mut b, &case), (!kind.1.is_empty()).then_some(0));
         b.append_names();
-        same(&b.finish(), &component(kind, &item, name.as_deref()), "the builder's", size);
+        let wanted = component(kind, &item, name.as_deref());
+        same(&b.finish(), &wanted, "the builder's", case.size);
         builds(kind, &command, &item, name.as_deref());
         is_read(kind, &command, &item);
     }

@@ -1,7 +1,7 @@
 //! Values that encode themselves.
 
 use super::items::{TEXTS, name, name_bytes, name_tree};
-use super::{SIZES, data, encoded, joined, list_of, number, same, sized, text};
+use super::{SIZES, cases, data, encoded, joined, list_of, number, same, sized, text};
 use crate::commands::text as owned;
 use wenc::tree::{AliasTree, CanonTree, CaseTree, CoreInstanceTree, InstanceTree};
 use wenc::{CanonicalOption, ComponentExportKind, Encode, ExportKind, ModuleArg};
@@ -29,10 +29,11 @@ fn texts_lists_and_bytes() {
 
 #[test]
 fn names() {
-    for (at, n) in TEXTS.into_iter().flat_map(|at| SIZES.map(|n| (at, n))) {
-        same(&encoded(&name(at, n)), &name_bytes(at, n), "the name", n);
-        same(&encoded(&name(at, n).clone()), &name_bytes(at, n), "its clone", n);
-        same(&encoded(&name_tree(at, n)), &name_bytes(at, n), "its tree", n);
+    for (at, case) in TEXTS.into_iter().flat_map(|at| cases().map(move |case| (at, case))) {
+        let wanted = name_bytes(at, &case);
+        same(&encoded(&name(at, &case)), &wanted, "the name", case.size);
+        same(&encoded(&name(at, &case).clone()), &wanted, "its clone", case.size);
+        same(&encoded(&name_tree(at, &case)), &wanted, "its tree", case.size);
     }
 }
 

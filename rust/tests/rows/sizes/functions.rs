@@ -1,7 +1,7 @@
 //! Canonical functions that have options, and those that have indices.
 
 use super::{
-    CORE_FUNCTION, FUNCTION, SIZES, builds, joined, list_of, makes, makes_named, number, text,
+    CORE_FUNCTION, Case, FUNCTION, builds, cases, joined, list_of, makes, makes_named, number,
 };
 use crate::commands::text as owned;
 use wenc::tree::{self, CanonTree, Command};
@@ -12,18 +12,18 @@ use wenc::{
 type Options = Vec<CanonicalOption>;
 
 /// So many options.
-fn options(n: usize) -> Options {
-    vec![CanonicalOption::Realloc(n as u32); n]
+fn options(case: &Case) -> Options {
+    vec![CanonicalOption::Realloc(case.index()); case.count]
 }
 
 /// The same for a command.
-fn option_trees(n: usize) -> tree::Vec<CanonicalOption> {
-    options(n).into()
+fn option_trees(case: &Case) -> tree::Vec<CanonicalOption> {
+    options(case).into()
 }
 
 /// Their bytes.
-fn option_bytes(n: usize) -> Vec<u8> {
-    list_of(joined([&[0x04], &number(n)]), n)
+fn option_bytes(case: &Case) -> Vec<u8> {
+    list_of(joined([&[0x04], &number(case.size)]), case.count)
 }
 
 /// The section of the functions that this call adds.
@@ -37,17 +37,17 @@ fn functions(add: impl Fn(&mut CanonicalFunctionSection)) -> CanonicalFunctionSe
 fn functions_are_lifted() {
     makes(
         FUNCTION,
-        |b, debug_name, n| b.lift_func(debug_name, n as u32, n as u32, options(n)),
-        |n| {
+        |b, debug_name, case| b.lift_func(debug_name, case.index(), case.index(), options(case)),
+        |case| {
             functions(|section| {
-                section.lift(n as u32, n as u32, options(n));
+                section.lift(case.index(), case.index(), options(case));
             })
         },
-        |debug_name, n| {
-            let (core_func, ty, options) = (n as u32, n as u32, option_trees(n));
+        |debug_name, case| {
+            let (core_func, ty, options) = (case.index(), case.index(), option_trees(case));
             Command::Canon { debug_name, canon: CanonTree::Lift { core_func, ty, options } }
         },
-        |n| joined([&[0, 0], &number(n), &option_bytes(n), &number(n)]),
+        |case| joined([&[0, 0], &number(case.size), &option_bytes(case), &number(case.size)]),
     );
 }
 
@@ -55,40 +55,41 @@ fn functions_are_lifted() {
 fn functions_are_lowered() {
     makes(
         CORE_FUNCTION,
-        |b, debug_name, n| b.lower_func(debug_name, n as u32, options(n)),
-        |n| {
+        |b, debug_name, case| b.lower_func(debug_name, case.index(), options(case)),
+        |case| {
             functions(|section| {
-                section.lower(n as u32, options(n));
+                section.lower(case.index(), options(case));
             })
         },
-        |debug_name, n| {
-            let (func, options) = (n as u32, option_trees(n));
+        |debug_name, case| {
+            let (func, options) = (case.index(), option_trees(case));
             Command::Canon { debug_name, canon: CanonTree::Lower { func, options } }
         },
-        |n| joined([&[1, 0], &number(n), &option_bytes(n)]),
+        |case| joined([&[1, 0], &number(case.size), &option_bytes(case)]),
     );
 }
 
 /// A function that the component model provides, with its own debug name.
 fn is_provided(
     name: &str,
-    add: impl Fn(&mut ComponentBuilder, usize) -> u32,
-    append: impl Fn(&mut CanonicalFunctionSection, usize),
-    canon: impl Fn(usize) -> CanonTree,
-    item: impl Fn(usize) -> Vec<u8>,
+    add: impl Fn(&mut ComponentBuilder, &Case) -> u32,
+    append: impl Fn(&mut CanonicalFunctionSection, &Case),
+    canon: impl Fn(&Case) -> CanonTree,
+    item: impl Fn(&Case) -> Vec<u8>,
 ) {
     makes_named(
         CORE_FUNCTION,
         |_| Some(name.into()),
-        |b, n| Some(add(b, n)),
-        |n| functions(|section| append(section, n)),
-        |n| Command::Canon { debug_name: None, canon: canon(n) },
+        |b, case| Some(add(b, case)),
+        |case| functions(|section| append(section, case)),
+        |case| Command::Canon { debug_name: None, canon: canon(case) },
         &item,
     );
     // Whatever the command's debug name is.
-    for n in SIZES {
-        let command = Command::Canon { debug_name: Some(owned(&text(n))), canon: canon(n) };
-        builds(CORE_FUNCTION, &command, &item(n), Some(name));
+    for case in cases() {
+        let debug_name = Some(owned(&case.text));
+        let command = Command::Canon { debug_name, canon: canon(&case) };
+        builds(CORE_FUNCTION, &command, &item(&case), Some(name));
     }
 }
 
@@ -97,12 +98,12 @@ fn tasks_return() {
     let ty = Some(ComponentValType::Primitive(PrimitiveValType::U8));
     is_provided(
         "task.return",
-        |b, n| b.task_return(ty, options(n)),
-        |section, n| {
-            section.task_return(ty, options(n));
+        |b, case| b.task_return(ty, options(case)),
+        |section, case| {
+            section.task_return(ty, options(case));
         },
-        |n| CanonTree::TaskReturn { ty, options: option_trees(n) },
-        |n| joined([&[0x09, 0x00, 0x7d], &option_bytes(n)]),
+        |case| CanonTree::TaskReturn { ty, options: option_trees(case) },
+        |case| joined([&[0x09, 0x00, 0x7d], &option_bytes(case)]),
     );
 }
 
@@ -113,12 +114,12 @@ macro_rules! with_index {
         fn $test() {
             is_provided(
                 $name,
-                |b, n| b.$call(n as u32, options(n)),
-                |section, n| {
-                    section.$call(n as u32, options(n));
+                |b, case| b.$call(case.index(), options(case)),
+                |section, case| {
+                    section.$call(case.index(), options(case));
                 },
-                |n| CanonTree::$variant { ty: n as u32, options: option_trees(n) },
-                |n| joined([&[$opcode], &number(n), &option_bytes(n)]),
+                |case| CanonTree::$variant { ty: case.index(), options: option_trees(case) },
+                |case| joined([&[$opcode], &number(case.size), &option_bytes(case)]),
             );
         })*
     };
@@ -135,20 +136,20 @@ with_index! {
 fn errors_are_made_and_told() {
     is_provided(
         "error-context.new",
-        |b, n| b.error_context_new(options(n)),
-        |section, n| {
-            section.error_context_new(options(n));
+        |b, case| b.error_context_new(options(case)),
+        |section, case| {
+            section.error_context_new(options(case));
         },
-        |n| CanonTree::ErrorContextNew(option_trees(n)),
-        |n| joined([&[0x1c], &option_bytes(n)]),
+        |case| CanonTree::ErrorContextNew(option_trees(case)),
+        |case| joined([&[0x1c], &option_bytes(case)]),
     );
     is_provided(
         "error-context.debug-message",
-        |b, n| b.error_context_debug_message(options(n)),
-        |section, n| {
-            section.error_context_debug_message(options(n));
+        |b, case| b.error_context_debug_message(options(case)),
+        |section, case| {
+            section.error_context_debug_message(options(case));
         },
-        |n| CanonTree::ErrorContextDebugMessage(option_trees(n)),
-        |n| joined([&[0x1d], &option_bytes(n)]),
+        |case| CanonTree::ErrorContextDebugMessage(option_trees(case)),
+        |case| joined([&[0x1d], &option_bytes(case)]),
     );
 }

@@ -1,150 +1,111 @@
 //! Instances, of core modules and of components.
 
 use super::items::{TEXTS, name, name_bytes, name_tree};
-use super::{CORE_INSTANCE, INSTANCE, list_of, makes, number, one, sized, text};
+use super::{CORE_INSTANCE, Case, INSTANCE, list_of, makes, number, sized};
 use crate::commands::text as owned;
 use std::iter::repeat_n;
 use wenc::tree::{Command, CoreInstanceTree, InstanceTree};
 use wenc::{ComponentExportKind, ComponentInstanceSection, ExportKind, InstanceSection, ModuleArg};
 
-/// How many members a list has, and how large the text of each is: a long list, or one long text.
-const SHAPES: [fn(usize) -> (usize, usize); 2] = [|n| (n, 1), |n| (1, n)];
+/// A list of the case's text, followed by these bytes and an index.
+fn named(case: &Case, kind: &[u8]) -> Vec<u8> {
+    list_of([&sized(&case.text), kind, &number(case.size)].concat(), case.count)
+}
 
 #[test]
 fn modules_are_instantiated() {
-    for shape in SHAPES {
-        let arg = |n| ModuleArg::Instance(n as u32);
-        makes(
-            CORE_INSTANCE,
-            |b, debug_name, n| {
-                let (count, size) = shape(n);
-                let text = text(size);
-                b.core_instantiate(debug_name, n as u32, vec![(text.as_str(), arg(n)); count])
-            },
-            |n| {
-                let (count, size) = shape(n);
-                let mut instances = InstanceSection::new();
-                instances.instantiate(n as u32, vec![(text(size), arg(n)); count]);
-                instances
-            },
-            |debug_name, n| {
-                let (count, size) = shape(n);
-                let args = repeat_n((owned(&text(size)), arg(n)), count).collect();
-                let instance = CoreInstanceTree::Instantiate { module: n as u32, args };
-                Command::CoreInstance { debug_name, instance }
-            },
-            |n| {
-                let (count, size) = shape(n);
-                let member = [sized(text(size)), vec![0x12], number(n)].concat();
-                [vec![0x00], number(n), list_of(member, count)].concat()
-            },
-        );
-    }
+    let arg = |case: &Case| ModuleArg::Instance(case.index());
+    makes(
+        CORE_INSTANCE,
+        |b, debug_name, case| {
+            let args = vec![(case.text.as_str(), arg(case)); case.count];
+            b.core_instantiate(debug_name, case.index(), args)
+        },
+        |case| {
+            let mut instances = InstanceSection::new();
+            instances.instantiate(case.index(), vec![(&case.text, arg(case)); case.count]);
+            instances
+        },
+        |debug_name, case| {
+            let args = repeat_n((owned(&case.text), arg(case)), case.count).collect();
+            let instance = CoreInstanceTree::Instantiate { module: case.index(), args };
+            Command::CoreInstance { debug_name, instance }
+        },
+        |case| [vec![0x00], number(case.size), named(case, &[0x12])].concat(),
+    );
 }
 
 #[test]
 fn core_items_are_an_instance() {
     let kind = ExportKind::Table;
-    for shape in SHAPES {
-        makes(
-            CORE_INSTANCE,
-            |b, debug_name, n| {
-                let (count, size) = shape(n);
-                let text = text(size);
-                let exports = vec![(text.as_str(), kind, n as u32); count];
-                b.core_instantiate_exports(debug_name, exports)
-            },
-            |n| {
-                let (count, size) = shape(n);
-                let mut instances = InstanceSection::new();
-                instances.export_items(vec![(text(size), kind, n as u32); count]);
-                instances
-            },
-            |debug_name, n| {
-                let (count, size) = shape(n);
-                let exports = repeat_n((owned(&text(size)), kind, n as u32), count);
-                let instance = CoreInstanceTree::Exports(exports.collect());
-                Command::CoreInstance { debug_name, instance }
-            },
-            |n| {
-                let (count, size) = shape(n);
-                let member = [sized(text(size)), vec![0x01], number(n)].concat();
-                [vec![0x01], list_of(member, count)].concat()
-            },
-        );
-    }
+    makes(
+        CORE_INSTANCE,
+        |b, debug_name, case| {
+            let exports = vec![(case.text.as_str(), kind, case.index()); case.count];
+            b.core_instantiate_exports(debug_name, exports)
+        },
+        |case| {
+            let mut instances = InstanceSection::new();
+            instances.export_items(vec![(&case.text, kind, case.index()); case.count]);
+            instances
+        },
+        |debug_name, case| {
+            let exports = repeat_n((owned(&case.text), kind, case.index()), case.count);
+            let instance = CoreInstanceTree::Exports(exports.collect());
+            Command::CoreInstance { debug_name, instance }
+        },
+        |case| [vec![0x01], named(case, &[0x01])].concat(),
+    );
 }
 
 #[test]
 fn components_are_instantiated() {
     let kind = ComponentExportKind::Module;
-    for shape in SHAPES {
-        makes(
-            INSTANCE,
-            |b, debug_name, n| {
-                let (count, size) = shape(n);
-                b.instantiate(debug_name, n as u32, vec![(text(size), kind, n as u32); count])
-            },
-            |n| {
-                let (count, size) = shape(n);
-                let mut instances = ComponentInstanceSection::new();
-                instances.instantiate(n as u32, vec![(text(size), kind, n as u32); count]);
-                instances
-            },
-            |debug_name, n| {
-                let (count, size) = shape(n);
-                let args = repeat_n((owned(&text(size)), kind, n as u32), count).collect();
-                let instance = InstanceTree::Instantiate { component: n as u32, args };
-                Command::Instance { debug_name, instance }
-            },
-            |n| {
-                let (count, size) = shape(n);
-                let member = [sized(text(size)), vec![0x00, 0x11], number(n)].concat();
-                [vec![0x00], number(n), list_of(member, count)].concat()
-            },
-        );
-    }
-}
-
-#[test]
-fn items_are_an_instance() {
-    let kind = ComponentExportKind::Type;
     makes(
         INSTANCE,
-        |b, debug_name, n| b.instantiate_exports(debug_name, vec![("e", kind, n as u32); n]),
-        |n| {
+        |b, debug_name, case| {
+            let args = vec![(&case.text, kind, case.index()); case.count];
+            b.instantiate(debug_name, case.index(), args)
+        },
+        |case| {
             let mut instances = ComponentInstanceSection::new();
-            instances.export_items(vec![("e", kind, n as u32); n]);
+            let args = vec![(&case.text, kind, case.index()); case.count];
+            instances.instantiate(case.index(), args);
             instances
         },
-        |debug_name, n| {
-            let exports = (0..n).map(|_| (owned("e").into(), kind, n as u32)).collect();
-            Command::Instance { debug_name, instance: InstanceTree::Exports(exports) }
+        |debug_name, case| {
+            let args = repeat_n((owned(&case.text), kind, case.index()), case.count).collect();
+            let instance = InstanceTree::Instantiate { component: case.index(), args };
+            Command::Instance { debug_name, instance }
         },
-        |n| {
-            let member = [b"\x00\x01e\x03", &number(n)[..]].concat();
-            [vec![0x01], list_of(member, n)].concat()
-        },
+        |case| [vec![0x00], number(case.size), named(case, &[0x00, 0x11])].concat(),
     );
 }
 
 #[test]
-fn an_item_of_an_instance_has_a_name() {
+fn items_are_an_instance() {
     let kind = ComponentExportKind::Func;
     for at in TEXTS {
         makes(
             INSTANCE,
-            |b, debug_name, n| b.instantiate_exports(debug_name, [(name(at, n), kind, n as u32)]),
-            |n| {
+            |b, debug_name, case| {
+                let exports = vec![(name(at, case), kind, case.index()); case.count];
+                b.instantiate_exports(debug_name, exports)
+            },
+            |case| {
                 let mut instances = ComponentInstanceSection::new();
-                instances.export_items([(name(at, n), kind, n as u32)]);
+                instances.export_items(vec![(name(at, case), kind, case.index()); case.count]);
                 instances
             },
-            |debug_name, n| {
-                let exports = [(name_tree(at, n), kind, n as u32)].into();
-                Command::Instance { debug_name, instance: InstanceTree::Exports(exports) }
+            |debug_name, case| {
+                let exports = repeat_n((name_tree(at, case), kind, case.index()), case.count);
+                let instance = InstanceTree::Exports(exports.collect());
+                Command::Instance { debug_name, instance }
             },
-            |n| [vec![0x01], one([name_bytes(at, n), vec![0x01], number(n)].concat())].concat(),
+            |case| {
+                let export = [name_bytes(at, case), vec![0x01], number(case.size)].concat();
+                [vec![0x01], list_of(export, case.count)].concat()
+            },
         );
     }
 }

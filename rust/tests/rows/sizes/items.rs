@@ -1,64 +1,67 @@
 //! Imports, exports and aliases.
 
-use super::{Kind, SIZES, adds, makes, makes_named, number, sized, text};
+use super::{Case, Kind, adds, cases, component, makes, makes_named, number, same, sized};
 use crate::commands::text as owned;
 use wenc::tree::{AliasTree, Command, NameOptions, NameTree};
 use wenc::{
-    Alias, ComponentAliasSection, ComponentExportKind, ComponentExportSection, ComponentExternName,
-    ComponentImportSection, ComponentOuterAliasKind, ComponentTypeRef, ExportKind,
+    Alias, ComponentAliasSection, ComponentBuilder, ComponentExportKind, ComponentExportSection,
+    ComponentExternName, ComponentImportSection, ComponentOuterAliasKind, ComponentTypeRef,
+    ExportKind,
 };
 
 /// The texts of a name: itself, the interface that it implements, a version suffix, an id
 /// elsewhere.
 pub const TEXTS: [usize; 4] = [0, 1, 2, 3];
 
-/// A name whose text of this number is so large.
-pub fn name(number: usize, size: usize) -> ComponentExternName<'static> {
-    let at = |wanted| (number == wanted).then(|| text(size).into());
+/// The name itself, where the case's text is that of this number.
+fn own_name(at: usize, case: &Case) -> &str {
+    if at == 0 { &case.text } else { "n" }
+}
+
+/// A name whose text of this number is the case's.
+pub fn name(at: usize, case: &Case) -> ComponentExternName<'_> {
+    let option = |number| (at == number).then(|| case.text.as_str().into());
     ComponentExternName {
-        name: own_name(number, size).into(),
-        implements: at(1),
-        version_suffix: at(2),
-        external_id: at(3),
+        name: own_name(at, case).into(),
+        implements: option(1),
+        version_suffix: option(2),
+        external_id: option(3),
     }
 }
 
 /// The same for a command.
-pub fn name_tree(number: usize, size: usize) -> NameTree {
-    let at = |wanted| (number == wanted).then(|| owned(&text(size)));
-    let options = NameOptions { implements: at(1), version_suffix: at(2), external_id: at(3) };
-    let options = (number > 0).then(|| options.into());
-    NameTree { name: owned(&own_name(number, size)), options }
+pub fn name_tree(at: usize, case: &Case) -> NameTree {
+    let option = |number| (at == number).then(|| owned(&case.text));
+    let options =
+        NameOptions { implements: option(1), version_suffix: option(2), external_id: option(3) };
+    let options = (at > 0).then(|| options.into());
+    NameTree { name: owned(own_name(at, case)), options }
 }
 
 /// Its bytes.
-pub fn name_bytes(number: usize, size: usize) -> Vec<u8> {
-    let text = sized(text(size));
-    if number == 0 {
+pub fn name_bytes(at: usize, case: &Case) -> Vec<u8> {
+    let text = sized(&case.text);
+    if at == 0 {
         return [vec![0x00], text].concat();
     }
-    [vec![0x02, 1, b'n', 1, number as u8 - 1], text].concat()
-}
-
-/// The name without its options.
-fn own_name(number: usize, size: usize) -> String {
-    if number == 0 { text(size) } else { "n".into() }
+    [vec![0x02, 1, b'n', 1, at as u8 - 1], text].concat()
 }
 
 #[test]
 fn imports() {
+    let ty = |case: &Case| ComponentTypeRef::Func(case.index());
     for at in TEXTS {
         makes_named(
             Kind(10, &[0x01]),
-            |n| Some(own_name(at, n)),
-            |b, n| Some(b.import(name(at, n), ComponentTypeRef::Func(n as u32))),
-            |n| {
+            |case| Some(own_name(at, case).into()),
+            |b, case| Some(b.import(name(at, case), ty(case))),
+            |case| {
                 let mut imports = ComponentImportSection::new();
-                imports.import(name(at, n), ComponentTypeRef::Func(n as u32));
+                imports.import(name(at, case), ty(case));
                 imports
             },
-            |n| Command::Import { name: name_tree(at, n), ty: ComponentTypeRef::Func(n as u32) },
-            |n| [name_bytes(at, n), vec![0x01], number(n)].concat(),
+            |case| Command::Import { name: name_tree(at, case), ty: ty(case) },
+            |case| [name_bytes(at, case), vec![0x01], number(case.size)].concat(),
         );
     }
 }
@@ -66,19 +69,25 @@ fn imports() {
 #[test]
 fn exports() {
     let kind = ComponentExportKind::Instance;
-    let ty = |n| Some(ComponentTypeRef::Instance(n as u32));
+    let ty = |case: &Case| Some(ComponentTypeRef::Instance(case.index()));
     for at in TEXTS {
         makes_named(
             Kind(11, &[0x05]),
-            |n| Some(own_name(at, n)),
-            |b, n| Some(b.export(name(at, n), kind, n as u32, ty(n))),
-            |n| {
+            |case| Some(own_name(at, case).into()),
+            |b, case| Some(b.export(name(at, case), kind, case.index(), ty(case))),
+            |case| {
                 let mut exports = ComponentExportSection::new();
-                exports.export(name(at, n), kind, n as u32, ty(n));
+                exports.export(name(at, case), kind, case.index(), ty(case));
                 exports
             },
-            |n| Command::Export { name: name_tree(at, n), kind, index: n as u32, ty: ty(n) },
-            |n| [name_bytes(at, n), vec![0x05], number(n), vec![1, 0x05], number(n)].concat(),
+            |case| {
+                let (name, index) = (name_tree(at, case), case.index());
+                Command::Export { name, kind, index, ty: ty(case) }
+            },
+            |case| {
+                let index = number(case.size);
+                [name_bytes(at, case), vec![0x05], index.clone(), vec![1, 0x05], index].concat()
+            },
         );
     }
 }
@@ -86,19 +95,19 @@ fn exports() {
 /// An alias, by each call that takes one.
 fn is_alias(
     sort: &'static [u8],
-    alias: impl Fn(usize, &str) -> Alias<'_>,
-    tree: impl Fn(usize) -> AliasTree,
-    item: impl Fn(usize) -> Vec<u8>,
+    alias: impl Fn(&Case) -> Alias<'_>,
+    tree: impl Fn(&Case) -> AliasTree,
+    item: impl Fn(&Case) -> Vec<u8>,
 ) {
     makes(
         Kind(6, sort),
-        |b, debug_name, n| b.alias(debug_name, alias(n, &text(n))),
-        |n| {
+        |b, debug_name, case| b.alias(debug_name, alias(case)),
+        |case| {
             let mut aliases = ComponentAliasSection::new();
-            aliases.alias(alias(n, &text(n)));
+            aliases.alias(alias(case));
             aliases
         },
-        |debug_name, n| Command::Alias { debug_name, alias: tree(n) },
+        |debug_name, case| Command::Alias { debug_name, alias: tree(case) },
         item,
     );
 }
@@ -114,19 +123,22 @@ fn aliases_of_exports() {
         (ComponentExportKind::Component, &[0x04]),
     ];
     for (kind, sort) in kinds {
-        let item = |n: usize| [sort, &[0x00], &number(n), &sized(text(n))].concat();
+        let item = |case: &Case| [sort, &[0x00], &number(case.size), &sized(&case.text)].concat();
         is_alias(
             sort,
-            |n, name| Alias::InstanceExport { instance: n as u32, kind, name },
-            |n| AliasTree::InstanceExport { instance: n as u32, kind, name: owned(&text(n)) },
+            |case| Alias::InstanceExport { instance: case.index(), kind, name: &case.text },
+            |case| {
+                let (instance, name) = (case.index(), owned(&case.text));
+                AliasTree::InstanceExport { instance, kind, name }
+            },
             item,
         );
-        for n in SIZES {
-            let mut b = wenc::ComponentBuilder::default();
-            assert_eq!(b.alias_export(n as u32, &text(n), kind), 0);
+        for case in cases() {
+            let mut b = ComponentBuilder::default();
+            assert_eq!(b.alias_export(case.index(), &case.text, kind), 0);
             b.append_names();
-            let wanted = super::component(Kind(6, sort), &item(n), Some(&text(n)));
-            super::same(&b.finish(), &wanted, "the alias", n);
+            let wanted = component(Kind(6, sort), &item(&case), Some(&case.text));
+            same(&b.finish(), &wanted, "the alias", case.size);
         }
     }
 }
@@ -141,16 +153,19 @@ fn aliases_of_core_exports() {
         (ExportKind::Tag, &[0x00, 0x04]),
     ];
     for (kind, sort) in kinds {
-        let item = |n: usize| [sort, &[0x01], &number(n), &sized(text(n))].concat();
+        let item = |case: &Case| [sort, &[0x01], &number(case.size), &sized(&case.text)].concat();
         is_alias(
             sort,
-            |n, name| Alias::CoreInstanceExport { instance: n as u32, kind, name },
-            |n| AliasTree::CoreInstanceExport { instance: n as u32, kind, name: owned(&text(n)) },
+            |case| Alias::CoreInstanceExport { instance: case.index(), kind, name: &case.text },
+            |case| {
+                let (instance, name) = (case.index(), owned(&case.text));
+                AliasTree::CoreInstanceExport { instance, kind, name }
+            },
             item,
         );
         adds(
             Kind(6, sort),
-            |b, debug_name, n| b.core_alias_export(debug_name, n as u32, &text(n), kind),
+            |b, debug_name, case| b.core_alias_export(debug_name, case.index(), &case.text, kind),
             item,
         );
     }
@@ -167,9 +182,9 @@ fn aliases_of_what_is_outside() {
     for (kind, sort) in kinds {
         is_alias(
             sort,
-            |n, _| Alias::Outer { kind, count: n as u32, index: n as u32 },
-            |n| AliasTree::Outer { kind, count: n as u32, index: n as u32 },
-            |n| [sort, &[0x02], &number(n), &number(n)].concat(),
+            |case| Alias::Outer { kind, count: case.index(), index: case.index() },
+            |case| AliasTree::Outer { kind, count: case.index(), index: case.index() },
+            |case| [sort, &[0x02], &number(case.size), &number(case.size)].concat(),
         );
     }
 }

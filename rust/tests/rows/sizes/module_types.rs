@@ -2,7 +2,7 @@
 
 use super::types::is_declared;
 use super::{
-    CORE_TYPE, SIZES, by_hand, encoded, joined, list_of, makes, number, same, sized, text,
+    CORE_TYPE, Case, SIZES, by_hand, cases, encoded, joined, list_of, makes, number, same, sized,
 };
 use crate::commands::text as owned;
 use std::iter::repeat_n;
@@ -16,89 +16,77 @@ fn types(ty: &ModuleType) -> CoreTypeSection {
     types
 }
 
-/// A module type of declarations, how many and each the same, by each call that takes one.
+/// A module type of equal declarations, by each call that takes one.
 fn is_module(
-    declare: impl Fn(&mut ModuleType, usize),
-    declaration: impl Fn(usize) -> ModuleDecl,
-    bytes: impl Fn(usize) -> Vec<u8>,
-    count: impl Fn(usize) -> usize,
+    declare: impl Fn(&mut ModuleType, &Case),
+    declaration: impl Fn(&Case) -> ModuleDecl,
+    bytes: impl Fn(&Case) -> Vec<u8>,
 ) {
-    let make = |n| {
+    let make = |case: &Case| {
         let mut ty = ModuleType::new();
-        (0..count(n)).for_each(|_| declare(&mut ty, n));
+        (0..case.count).for_each(|_| declare(&mut ty, case));
         ty
     };
-    let tree = |n| CoreTypeTree::Module(repeat_n(declaration(n), count(n)).collect());
-    let wanted = |n| joined([&[0x50], &list_of(bytes(n), count(n))]);
+    let tree =
+        |case: &Case| CoreTypeTree::Module(repeat_n(declaration(case), case.count).collect());
+    let wanted = |case: &Case| joined([&[0x50], &list_of(bytes(case), case.count)]);
     makes(
         CORE_TYPE,
-        |b, debug_name, n| {
+        |b, debug_name, case| {
             let (index, encoder) = b.core_type(debug_name);
-            encoder.module(&make(n));
+            encoder.module(&make(case));
             index
         },
-        |n| types(&make(n)),
-        |debug_name, n| Command::CoreType { debug_name, ty: tree(n).into() },
+        |case| types(&make(case)),
+        |debug_name, case| Command::CoreType { debug_name, ty: tree(case).into() },
         wanted,
     );
-    by_hand(CORE_TYPE, |n| types(&make(n).clone()), wanted);
-    for n in SIZES {
+    by_hand(CORE_TYPE, |case| types(&make(case).clone()), wanted);
+    for case in cases() {
+        let (ty, size) = (make(&case), case.size);
         let (mut instance, mut component) = (InstanceType::new(), ComponentType::new());
-        instance.core_type().module(&make(n));
-        component.core_type().module(&make(n));
-        is_declared(&instance, &component, &joined([&[0x00], &wanted(n)]), n);
-        same(&encoded(&make(n)), &wanted(n), "the type", n);
-        same(&encoded(&declaration(n)), &bytes(n), "the declaration", n);
-        same(&encoded(&tree(n)), &wanted(n), "the tree", n);
+        instance.core_type().module(&ty);
+        component.core_type().module(&ty);
+        is_declared(&instance, &component, &joined([&[0x00], &wanted(&case)]), size);
+        same(&encoded(&ty), &wanted(&case), "the type", size);
+        same(&encoded(&declaration(&case)), &bytes(&case), "the declaration", size);
+        same(&encoded(&tree(&case)), &wanted(&case), "the tree", size);
     }
 }
 
-/// The sizes of the module's name and of the item's, and how many declarations there are.
-const SHAPES: [fn(usize) -> (usize, usize, usize); 3] =
-    [|n| (1, 1, n), |n| (n, 1, 1), |n| (1, n, 1)];
-
 #[test]
 fn module_types_have_imports() {
-    for shape in SHAPES {
-        is_module(
-            |ty, n| {
-                let (module, name, _) = shape(n);
-                ty.import(&text(module), &text(name), EntityType::Function(n as u32));
-            },
-            |n| {
-                let (module, name, _) = shape(n);
-                let [module, name] = [module, name].map(|size| owned(&text(size)));
-                ModuleDecl::Import { module, name, ty: tree::EntityType::Function(n as u32) }
-            },
-            |n| {
-                let (module, name, _) = shape(n);
-                joined([&[0x00], &sized(text(module)), &sized(text(name)), &[0x00], &number(n)])
-            },
-            |n| shape(n).2,
-        );
-    }
+    is_module(
+        |ty, case| {
+            ty.import(&case.text, &case.other, EntityType::Function(case.index()));
+        },
+        |case| {
+            let (module, name) = (owned(&case.text), owned(&case.other));
+            ModuleDecl::Import { module, name, ty: tree::EntityType::Function(case.index()) }
+        },
+        |case| {
+            let names = [sized(&case.text), sized(&case.other)].concat();
+            joined([&[0x00], &names, &[0x00], &number(case.size)])
+        },
+    );
 }
 
 #[test]
 fn module_types_have_exports() {
-    let shapes: [fn(usize) -> (usize, usize); 2] = [|n| (1, n), |n| (n, 1)];
-    for shape in shapes {
-        is_module(
-            |ty, n| {
-                ty.export(&text(shape(n).0), EntityType::Function(n as u32));
-            },
-            |n| {
-                let ty = tree::EntityType::Function(n as u32);
-                ModuleDecl::Export { name: owned(&text(shape(n).0)), ty }
-            },
-            |n| joined([&[0x03], &sized(text(shape(n).0)), &[0x00], &number(n)]),
-            |n| shape(n).1,
-        );
-    }
+    is_module(
+        |ty, case| {
+            ty.export(&case.text, EntityType::Function(case.index()));
+        },
+        |case| {
+            let ty = tree::EntityType::Function(case.index());
+            ModuleDecl::Export { name: owned(&case.text), ty }
+        },
+        |case| joined([&[0x03], &sized(&case.text), &[0x00], &number(case.size)]),
+    );
 }
 
 #[test]
-fn module_types_have_types_and_aliases() {
+fn module_types_have_types() {
     is_module(
         |ty, _| ty.ty().function([], []),
         |_| {
@@ -108,15 +96,18 @@ fn module_types_have_types_and_aliases() {
             ModuleDecl::Type(GroupTree::Sub(ty))
         },
         |_| vec![0x01, 0x60, 0, 0],
-        |n| n,
     );
+}
+
+#[test]
+fn module_types_have_aliases() {
+    let bytes = |case: &Case| joined([&[0x02, 0x10, 0x01], &number(case.size), &number(case.size)]);
     is_module(
-        |ty, n| {
-            ty.alias_outer_core_type(n as u32, n as u32);
+        |ty, case| {
+            ty.alias_outer_core_type(case.index(), case.index());
         },
-        |n| ModuleDecl::Alias { count: n as u32, index: n as u32 },
-        |n| joined([&[0x02, 0x10, 0x01], &number(n), &number(n)]),
-        |n| n,
+        |case| ModuleDecl::Alias { count: case.index(), index: case.index() },
+        bytes,
     );
     for n in SIZES {
         let mut ty = ModuleType::new();

@@ -1,15 +1,17 @@
 //! Types of values, functions and resources, by each that lends to their encoders.
 
 use super::{
-    SIZES, TYPE, adds, by_hand, encoded, joined, list_of, makes, number, one, same, sized, text,
+    Case, TYPE, adds, by_hand, cases, encoded, joined, list_of, makes, number, one, same, sized,
 };
 use crate::commands::text as owned;
 use std::iter::repeat_n;
-use wenc::tree::{CaseTree, Command, ComponentDecl, DefinedTree, InstanceDecl, TypeTree};
+use wenc::tree::{self, CaseTree, Command, ComponentDecl, DefinedTree, InstanceDecl, TypeTree};
 use wenc::{
     ComponentDefinedTypeEncoder, ComponentFuncTypeEncoder, ComponentType, ComponentTypeEncoder,
-    ComponentTypeSection, ComponentValType, InstanceType, PrimitiveValType, ValType,
+    ComponentTypeSection, ComponentValType, Encode, InstanceType, PrimitiveValType, ValType,
 };
+
+const BYTE: PrimitiveValType = PrimitiveValType::U8;
 
 const STRING: ComponentValType = ComponentValType::Primitive(PrimitiveValType::String);
 
@@ -22,43 +24,43 @@ fn types(write: impl FnOnce(&mut ComponentTypeSection)) -> ComponentTypeSection 
 
 /// A type, as an item and as a declaration.
 pub fn is_type(
-    write: impl Fn(ComponentTypeEncoder<'_>, usize),
-    tree: impl Fn(usize) -> TypeTree,
-    wanted: impl Fn(usize) -> Vec<u8>,
+    write: impl Fn(ComponentTypeEncoder<'_>, &Case),
+    tree: impl Fn(&Case) -> TypeTree,
+    wanted: impl Fn(&Case) -> Vec<u8>,
 ) {
     makes(
         TYPE,
-        |b, debug_name, n| {
+        |b, debug_name, case| {
             let (index, ty) = b.ty(debug_name);
-            write(ty, n);
+            write(ty, case);
             index
         },
-        |n| types(|types| write(types.ty(), n)),
-        |debug_name, n| Command::Type { debug_name, ty: tree(n) },
+        |case| types(|types| write(types.ty(), case)),
+        |debug_name, case| Command::Type { debug_name, ty: tree(case) },
         &wanted,
     );
-    by_hand(TYPE, |n| types(|types| types.ty().tree(&tree(n))), &wanted);
-    for n in SIZES {
+    by_hand(TYPE, |case| types(|types| types.ty().tree(&tree(case))), &wanted);
+    for case in cases() {
         let (mut instance, mut component) = (InstanceType::new(), ComponentType::new());
-        write(instance.ty(), n);
-        write(component.ty(), n);
-        let (instance, component) = (instance.clone(), component.clone());
-        let declaration = joined([&[0x01], &wanted(n)]);
-        is_declared(&instance, &component, &declaration, n);
-        same(&encoded(&tree(n)), &wanted(n), "the tree", n);
-        let instance = [InstanceDecl::Type(tree(n))];
-        let component = [ComponentDecl::Decl(InstanceDecl::Type(tree(n)))];
-        same(&encoded(&instance[0]), &declaration, "the declaration", n);
-        let (instance, component) = (instance.into(), component.into());
-        let trees = (TypeTree::Instance(instance), TypeTree::Component(component));
-        is_declared(&trees.0, &trees.1, &declaration, n);
+        write(instance.ty(), &case);
+        write(component.ty(), &case);
+        let (wanted, size) = (wanted(&case), case.size);
+        let declaration = joined([&[0x01], &wanted]);
+        is_declared(&instance.clone(), &component.clone(), &declaration, size);
+        same(&encoded(&tree(&case)), &wanted, "the tree", size);
+        let instance = InstanceDecl::Type(tree(&case));
+        same(&encoded(&instance), &declaration, "the declaration", size);
+        let component = ComponentDecl::Decl(instance.clone());
+        let trees =
+            (TypeTree::Instance([instance].into()), TypeTree::Component([component].into()));
+        is_declared(&trees.0, &trees.1, &declaration, size);
     }
 }
 
 /// The types of an instance and of a component have this declaration alone.
 pub fn is_declared(
-    instance: &impl wenc::Encode,
-    component: &impl wenc::Encode,
+    instance: &impl Encode,
+    component: &impl Encode,
     declaration: &[u8],
     size: usize,
 ) {
@@ -69,130 +71,111 @@ pub fn is_declared(
 
 /// A type of values, by each that lends to its encoder.
 fn is_defined(
-    write: impl Fn(ComponentDefinedTypeEncoder<'_>, usize),
-    tree: impl Fn(usize) -> DefinedTree,
-    wanted: impl Fn(usize) -> Vec<u8>,
+    write: impl Fn(ComponentDefinedTypeEncoder<'_>, &Case),
+    tree: impl Fn(&Case) -> DefinedTree,
+    wanted: impl Fn(&Case) -> Vec<u8>,
 ) {
-    is_type(|ty, n| write(ty.defined_type(), n), |n| TypeTree::Defined(tree(n)), &wanted);
+    is_type(
+        |ty, case| write(ty.defined_type(), case),
+        |case| TypeTree::Defined(tree(case)),
+        &wanted,
+    );
     adds(
         TYPE,
-        |b, debug_name, n| {
+        |b, debug_name, case| {
             let (index, ty) = b.type_defined(debug_name);
-            write(ty, n);
+            write(ty, case);
             index
         },
         &wanted,
     );
-    by_hand(TYPE, |n| types(|types| write(types.defined_type(), n)), &wanted);
-    by_hand(TYPE, |n| types(|types| types.defined_type().tree(&tree(n))), &wanted);
-    for n in SIZES {
+    by_hand(TYPE, |case| types(|types| write(types.defined_type(), case)), &wanted);
+    by_hand(TYPE, |case| types(|types| types.defined_type().tree(&tree(case))), &wanted);
+    for case in cases() {
         let (mut instance, mut component) = (InstanceType::new(), ComponentType::new());
-        write(instance.type_defined().1, n);
-        write(component.type_defined().1, n);
-        is_declared(&instance, &component, &joined([&[0x01], &wanted(n)]), n);
-        same(&encoded(&tree(n)), &wanted(n), "the tree", n);
+        write(instance.type_defined().1, &case);
+        write(component.type_defined().1, &case);
+        is_declared(&instance, &component, &joined([&[0x01], &wanted(&case)]), case.size);
+        same(&encoded(&tree(&case)), &wanted(&case), "the tree", case.size);
     }
 }
 
-/// How many members a list has, and how large the name of each is: a long list, or one long name.
-const SHAPES: [fn(usize) -> (usize, usize); 2] = [|n| (n, 1), |n| (1, n)];
+/// A list of the case's text, followed by these bytes.
+fn named(case: &Case, bytes: &[u8]) -> Vec<u8> {
+    list_of(joined([&sized(&case.text), bytes]), case.count)
+}
+
+/// A list of the case's text and a type.
+fn fields(case: &Case) -> Vec<(&str, ComponentValType)> {
+    vec![(&case.text, STRING); case.count]
+}
+
+/// The same for a command.
+fn field_trees(case: &Case) -> tree::Vec<(tree::String, ComponentValType)> {
+    repeat_n((owned(&case.text), STRING), case.count).collect()
+}
 
 #[test]
 fn records_have_fields() {
-    for shape in SHAPES {
-        is_defined(
-            |ty, n| {
-                let (count, size) = shape(n);
-                ty.record(vec![(text(size).as_str(), STRING); count]);
-            },
-            |n| {
-                let (count, size) = shape(n);
-                DefinedTree::Record(repeat_n((owned(&text(size)), STRING), count).collect())
-            },
-            |n| {
-                let (count, size) = shape(n);
-                joined([&[0x72], &list_of(joined([&sized(text(size)), &[0x73]]), count)])
-            },
-        );
-    }
+    is_defined(
+        |ty, case| ty.record(fields(case)),
+        |case| DefinedTree::Record(field_trees(case)),
+        |case| joined([&[0x72], &named(case, &[0x73])]),
+    );
 }
 
 #[test]
 fn variants_have_cases() {
-    for shape in SHAPES {
-        for (ty, bytes) in [(None, &b"\0\0"[..]), (Some(STRING), b"\x01\x73\0")] {
-            is_defined(
-                |encoder, n| {
-                    let (count, size) = shape(n);
-                    encoder.variant(vec![(text(size).as_str(), ty); count]);
-                },
-                |n| {
-                    let (count, size) = shape(n);
-                    let case = CaseTree { name: owned(&text(size)), ty };
-                    DefinedTree::Variant(repeat_n(case, count).collect())
-                },
-                |n| {
-                    let (count, size) = shape(n);
-                    joined([&[0x71], &list_of(joined([&sized(text(size)), bytes]), count)])
-                },
-            );
-        }
+    for (ty, bytes) in [(None, &b"\0\0"[..]), (Some(STRING), b"\x01\x73\0")] {
+        is_defined(
+            |encoder, case| encoder.variant(vec![(case.text.as_str(), ty); case.count]),
+            |case| {
+                let tree = CaseTree { name: owned(&case.text), ty };
+                DefinedTree::Variant(repeat_n(tree, case.count).collect())
+            },
+            |case| joined([&[0x71], &named(case, bytes)]),
+        );
     }
 }
 
 #[test]
 fn tuples_have_types() {
     is_defined(
-        |ty, n| ty.tuple(vec![STRING; n]),
-        |n| DefinedTree::Tuple(vec![STRING; n].into()),
-        |n| joined([&[0x6f], &list_of([0x73], n)]),
+        |ty, case| ty.tuple(vec![STRING; case.count]),
+        |case| DefinedTree::Tuple(vec![STRING; case.count].into()),
+        |case| joined([&[0x6f], &list_of([0x73], case.count)]),
     );
 }
 
 #[test]
 fn flags_and_enumerations_have_names() {
-    for shape in SHAPES {
-        let trees = |n| {
-            let (count, size) = shape(n);
-            repeat_n(owned(&text(size)), count).collect()
-        };
-        let bytes = |n| {
-            let (count, size) = shape(n);
-            list_of(sized(text(size)), count)
-        };
-        is_defined(
-            |ty, n| {
-                let (count, size) = shape(n);
-                ty.flags(vec![text(size).as_str(); count]);
-            },
-            |n| DefinedTree::Flags(trees(n)),
-            |n| joined([&[0x6e], &bytes(n)]),
-        );
-        is_defined(
-            |ty, n| {
-                let (count, size) = shape(n);
-                ty.enum_type(vec![text(size).as_str(); count]);
-            },
-            |n| DefinedTree::Enum(trees(n)),
-            |n| joined([&[0x6d], &bytes(n)]),
-        );
-    }
+    let names = |case: &Case| repeat_n(owned(&case.text), case.count).collect();
+    is_defined(
+        |ty, case| ty.flags(vec![case.text.as_str(); case.count]),
+        |case| DefinedTree::Flags(names(case)),
+        |case| joined([&[0x6e], &named(case, &[])]),
+    );
+    is_defined(
+        |ty, case| ty.enum_type(vec![case.text.as_str(); case.count]),
+        |case| DefinedTree::Enum(names(case)),
+        |case| joined([&[0x6d], &named(case, &[])]),
+    );
 }
 
+/// Types without a list, for their debug names.
 #[test]
-fn other_types_of_values_have_a_debug_name() {
-    let byte = PrimitiveValType::U8;
-    is_defined(|ty, _| ty.primitive(byte), |_| DefinedTree::Primitive(byte), |_| vec![0x7d]);
+fn other_types_of_values() {
+    is_defined(|ty, _| ty.primitive(BYTE), |_| DefinedTree::Primitive(BYTE), |_| vec![0x7d]);
     is_defined(|ty, _| ty.list(STRING), |_| DefinedTree::List(STRING), |_| vec![0x70, 0x73]);
     is_defined(
-        |ty, _| ty.map(byte, STRING),
-        |_| DefinedTree::Map { key: byte.into(), value: STRING },
+        |ty, _| ty.map(BYTE, STRING),
+        |_| DefinedTree::Map { key: BYTE.into(), value: STRING },
         |_| vec![0x63, 0x7d, 0x73],
     );
     is_defined(
-        |ty, n| ty.fixed_length_list(STRING, n as u32),
-        |n| DefinedTree::FixedLengthList { element: STRING, length: n as u32 },
-        |n| joined([&[0x67, 0x73], &number(n)]),
+        |ty, case| ty.fixed_length_list(STRING, case.index()),
+        |case| DefinedTree::FixedLengthList { element: STRING, length: case.index() },
+        |case| joined([&[0x67, 0x73], &number(case.size)]),
     );
     is_defined(|ty, _| ty.option(STRING), |_| DefinedTree::Option(STRING), |_| vec![0x6b, 0x73]);
     is_defined(
@@ -201,14 +184,14 @@ fn other_types_of_values_have_a_debug_name() {
         |_| vec![0x6a, 1, 0x73, 0],
     );
     is_defined(
-        |ty, n| ty.own(n as u32),
-        |n| DefinedTree::Own(n as u32),
-        |n| joined([&[0x69], &number(n)]),
+        |ty, case| ty.own(case.index()),
+        |case| DefinedTree::Own(case.index()),
+        |case| joined([&[0x69], &number(case.size)]),
     );
     is_defined(
-        |ty, n| ty.borrow(n as u32),
-        |n| DefinedTree::Borrow(n as u32),
-        |n| joined([&[0x68], &number(n)]),
+        |ty, case| ty.borrow(case.index()),
+        |case| DefinedTree::Borrow(case.index()),
+        |case| joined([&[0x68], &number(case.size)]),
     );
     is_defined(
         |ty, _| ty.future(Some(STRING)),
@@ -218,73 +201,62 @@ fn other_types_of_values_have_a_debug_name() {
     is_defined(|ty, _| ty.stream(None), |_| DefinedTree::Stream(None), |_| vec![0x66, 0]);
 }
 
-/// Writes a type of functions with so many parameters, the names of which are so large.
-fn function(mut ty: ComponentFuncTypeEncoder<'_>, is_async: bool, (count, size): (usize, usize)) {
+/// Writes a type of functions with the case's parameters.
+fn function(mut ty: ComponentFuncTypeEncoder<'_>, is_async: bool, case: &Case) {
     if is_async {
         ty.async_(true);
     }
-    let result = is_async.then_some(STRING);
-    ty.params(vec![(text(size).as_str(), STRING); count]).result(result);
+    ty.params(fields(case)).result(is_async.then_some(STRING));
 }
 
 #[test]
 fn functions_have_parameters() {
-    for (shape, is_async) in SHAPES.into_iter().flat_map(|shape| [(shape, false), (shape, true)]) {
-        let wanted = |n| {
-            let (count, size) = shape(n);
-            let params = list_of(joined([&sized(text(size)), &[0x73]]), count);
-            let (first, result) = if is_async { (0x43, &[0, 0x73]) } else { (0x40, &[1, 0]) };
-            joined([&[first], &params, result])
+    for is_async in [false, true] {
+        let wanted = |case: &Case| {
+            let (first, result) = if is_async { (0x43, [0, 0x73]) } else { (0x40, [1, 0]) };
+            joined([&[first], &named(case, &[0x73]), &result])
         };
         is_type(
-            |ty, n| function(ty.function(), is_async, shape(n)),
-            |n| {
-                let (count, size) = shape(n);
-                let params = repeat_n((owned(&text(size)), STRING), count).collect();
-                TypeTree::Func { is_async, params, result: is_async.then_some(STRING) }
+            |ty, case| function(ty.function(), is_async, case),
+            |case| {
+                let result = is_async.then_some(STRING);
+                TypeTree::Func { is_async, params: field_trees(case), result }
             },
             wanted,
         );
         adds(
             TYPE,
-            |b, debug_name, n| {
+            |b, debug_name, case| {
                 let (index, ty) = b.type_function(debug_name);
-                function(ty, is_async, shape(n));
+                function(ty, is_async, case);
                 index
             },
             wanted,
         );
-        by_hand(TYPE, |n| types(|types| function(types.function(), is_async, shape(n))), wanted);
-        for n in SIZES {
+        by_hand(TYPE, |case| types(|types| function(types.function(), is_async, case)), wanted);
+        for case in cases() {
             let (mut instance, mut component) = (InstanceType::new(), ComponentType::new());
-            function(instance.type_function().1, is_async, shape(n));
-            function(component.type_function().1, is_async, shape(n));
-            is_declared(&instance, &component, &joined([&[0x01], &wanted(n)]), n);
+            function(instance.type_function().1, is_async, &case);
+            function(component.type_function().1, is_async, &case);
+            is_declared(&instance, &component, &joined([&[0x01], &wanted(&case)]), case.size);
         }
     }
 }
 
 #[test]
-fn resources_have_a_debug_name() {
-    let rep = wenc::tree::ValType::I32;
-    let wanted = |n| joined([&[0x3f, 0x7f, 1], &number(n)]);
+fn resources_have_destructors() {
+    let rep = tree::ValType::I32;
+    let wanted = |case: &Case| joined([&[0x3f, 0x7f, 1], &number(case.size)]);
     is_type(
-        |ty, n| ty.resource(ValType::I32, Some(n as u32)),
-        |n| TypeTree::Resource { rep, dtor: Some(n as u32) },
+        |ty, case| ty.resource(ValType::I32, Some(case.index())),
+        |case| TypeTree::Resource { rep, dtor: Some(case.index()) },
         wanted,
     );
     adds(
         TYPE,
-        |b, debug_name, n| b.type_resource(debug_name, ValType::I32, Some(n as u32)),
+        |b, debug_name, case| b.type_resource(debug_name, ValType::I32, Some(case.index())),
         wanted,
     );
-    by_hand(
-        TYPE,
-        |n| {
-            types(|types| {
-                types.resource(ValType::I32, Some(n as u32));
-            })
-        },
-        wanted,
-    );
+    let resource = |types: &mut ComponentTypeSection, dtor| _ = types.resource(ValType::I32, dtor);
+    by_hand(TYPE, |case| types(|types| resource(types, Some(case.index()))), wanted);
 }
