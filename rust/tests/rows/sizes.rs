@@ -148,13 +148,15 @@ fn encoded(value: &impl Encode) -> Vec<u8> {
     bytes
 }
 
+/// A call of the builder that adds an item with a debug name.
+type Add<'a> = &'a dyn Fn(&mut ComponentBuilder, Option<&str>, &Case) -> u32;
+
+/// The bytes of an item.
+type Item<'a> = &'a dyn Fn(&Case) -> Vec<u8>;
+
 /// The builder's call adds the first item of its space, with each debug name.
 #[track_caller]
-fn adds(
-    kind: Kind,
-    add: impl Fn(&mut ComponentBuilder, Option<&str>, &Case) -> u32,
-    item: impl Fn(&Case) -> Vec<u8>,
-) {
+fn adds(kind: Kind, add: Add<'_>, item: Item<'_>) {
     for case in cases() {
         for name in debug_names(case.size) {
             let mut b = ComponentBuilder::default();
@@ -168,11 +170,7 @@ fn adds(
 
 /// The section has these bytes after its id, and so has its clone.
 #[track_caller]
-fn by_hand<S: ComponentSection + Clone>(
-    kind: Kind,
-    make: impl Fn(&Case) -> S,
-    item: impl Fn(&Case) -> Vec<u8>,
-) {
+fn by_hand<S: ComponentSection + Clone>(kind: Kind, make: &dyn Fn(&Case) -> S, item: Item<'_>) {
     for case in cases() {
         let (made, wanted) = (make(&case), component(kind, &item(&case), None));
         same(&encoded(&made.clone()), &wanted[9..], "a clone's", case.size);
@@ -240,11 +238,7 @@ fn is_read(kind: Kind, command: &Command, item: &[u8]) {
 
 /// The commands add the item, without a debug name and with one.
 #[track_caller]
-fn commands(
-    kind: Kind,
-    command: impl Fn(Option<tree::String>, &Case) -> Command,
-    item: impl Fn(&Case) -> Vec<u8>,
-) {
+fn commands(kind: Kind, command: &dyn Fn(Option<tree::String>, &Case) -> Command, item: Item<'_>) {
     for case in cases() {
         let (item, name) = (item(&case), text(case.size));
         builds(kind, &command(None, &case), &item, None);
@@ -257,27 +251,27 @@ fn commands(
 #[track_caller]
 fn makes<S: ComponentSection + Clone>(
     kind: Kind,
-    add: impl Fn(&mut ComponentBuilder, Option<&str>, &Case) -> u32,
-    make: impl Fn(&Case) -> S,
-    command: impl Fn(Option<tree::String>, &Case) -> Command,
-    item: impl Fn(&Case) -> Vec<u8>,
+    add: Add<'_>,
+    make: &dyn Fn(&Case) -> S,
+    command: &dyn Fn(Option<tree::String>, &Case) -> Command,
+    item: Item<'_>,
 ) {
-    adds(kind, add, &item);
-    by_hand(kind, make, &item);
-    commands(kind, command, &item);
+    adds(kind, add, item);
+    by_hand(kind, make, item);
+    commands(kind, command, item);
 }
 
 /// An item that has a debug name of its own, or none: by the builder, by hand and by commands.
 #[track_caller]
 fn makes_named<S: ComponentSection + Clone>(
     kind: Kind,
-    name: impl Fn(&Case) -> Option<String>,
-    add: impl Fn(&mut ComponentBuilder, &Case) -> Option<u32>,
-    make: impl Fn(&Case) -> S,
-    command: impl Fn(&Case) -> Command,
-    item: impl Fn(&Case) -> Vec<u8>,
+    name: &dyn Fn(&Case) -> Option<String>,
+    add: &dyn Fn(&mut ComponentBuilder, &Case) -> Option<u32>,
+    make: &dyn Fn(&Case) -> S,
+    command: &dyn Fn(&Case) -> Command,
+    item: Item<'_>,
 ) {
-    by_hand(kind, make, &item);
+    by_hand(kind, make, item);
     for case in cases() {
         let (item, name, command) = (item(&case), name(&case), command(&case));
         let mut b = ComponentBuilder::default();

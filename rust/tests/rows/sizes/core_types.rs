@@ -20,23 +20,23 @@ fn types(write: impl FnOnce(&mut CoreTypeSection)) -> CoreTypeSection {
 
 /// A core type, as an item and as a declaration.
 fn is_core(
-    write: impl Fn(CoreTypeEncoder<'_>, &Case),
-    group: impl Fn(&Case) -> GroupTree,
-    wanted: impl Fn(&Case) -> Vec<u8>,
+    write: &dyn Fn(CoreTypeEncoder<'_>, &Case),
+    group: &dyn Fn(&Case) -> GroupTree,
+    wanted: &dyn Fn(&Case) -> Vec<u8>,
 ) {
     let tree = |case: &Case| CoreTypeTree::Group(group(case));
     makes(
         CORE_TYPE,
-        |b, debug_name, case| {
+        &|b, debug_name, case| {
             let (index, ty) = b.core_type(debug_name);
             write(ty.core(), case);
             index
         },
-        |case| types(|types| write(types.ty().core(), case)),
-        |debug_name, case| Command::CoreType { debug_name, ty: tree(case).into() },
+        &|case| types(|types| write(types.ty().core(), case)),
+        &|debug_name, case| Command::CoreType { debug_name, ty: tree(case).into() },
         &wanted,
     );
-    by_hand(CORE_TYPE, |case| types(|types| types.ty().tree(&tree(case))), &wanted);
+    by_hand(CORE_TYPE, &|case| types(|types| types.ty().tree(&tree(case))), &wanted);
     for case in cases() {
         let (wanted, size) = (wanted(&case), case.size);
         let mut module = ModuleType::new();
@@ -64,7 +64,7 @@ fn sub(ty: &SubType) -> tree::SubType {
 }
 
 /// The value is so encoded.
-fn encodes<T: wenc::Encode>(make: impl Fn(&Case) -> T, wanted: impl Fn(&Case) -> Vec<u8>) {
+fn encodes<T: wenc::Encode>(make: &dyn Fn(&Case) -> T, wanted: &dyn Fn(&Case) -> Vec<u8>) {
     for case in cases() {
         same(&encoded(&make(&case)), &wanted(&case), "the value", case.size);
     }
@@ -84,16 +84,16 @@ fn functions_have_parameters_and_results() {
         joined([&[0x60], &list_of([0x7f], case.count), &results])
     };
     is_core(
-        |encoder, case| {
+        &|encoder, case| {
             let ty = ty(case);
             encoder.function(ty.params().iter().copied(), ty.results().iter().copied());
         },
-        group,
-        wanted,
+        &group,
+        &wanted,
     );
-    is_core(|encoder, case| encoder.func_type(&ty(case)), group, wanted);
-    encodes(ty, wanted);
-    encodes(composite, wanted);
+    is_core(&|encoder, case| encoder.func_type(&ty(case)), &group, &wanted);
+    encodes(&ty, &wanted);
+    encodes(&composite, &wanted);
 }
 
 const FIELD: FieldType = FieldType { element_type: StorageType::I16, mutable: true };
@@ -113,19 +113,19 @@ fn structure_bytes(fields: usize) -> Vec<u8> {
 fn structs_have_fields() {
     let group = |case: &Case| GroupTree::Sub(sub(&structure(None, case.count)));
     let wanted = |case: &Case| structure_bytes(case.count);
-    is_core(|encoder, case| encoder.struct_(vec![FIELD; case.count]), group, wanted);
-    is_core(|encoder, case| encoder.subtype(&structure(None, case.count)), group, wanted);
+    is_core(&|encoder, case| encoder.struct_(vec![FIELD; case.count]), &group, &wanted);
+    is_core(&|encoder, case| encoder.subtype(&structure(None, case.count)), &group, &wanted);
     adds(
         CORE_TYPE,
-        |b, debug_name, case| {
+        &|b, debug_name, case| {
             let (index, encoder) = b.core_type(debug_name);
             encoder.tree(&CoreTypeTree::Group(group(case)));
             index
         },
-        wanted,
+        &wanted,
     );
-    encodes(|case| StructType { fields: vec![FIELD; case.count].into() }, wanted);
-    encodes(|case| structure(None, case.count).composite_type, wanted);
+    encodes(&|case| StructType { fields: vec![FIELD; case.count].into() }, &wanted);
+    encodes(&|case| structure(None, case.count).composite_type, &wanted);
 }
 
 #[test]
@@ -134,21 +134,21 @@ fn subtypes_extend_others() {
     let wanted =
         |case: &Case| joined([&[0x4f, 1], &number(case.size), &structure_bytes(case.count)]);
     is_core(
-        |encoder, case| encoder.subtype(&ty(case)),
-        |case| GroupTree::Sub(sub(&ty(case))),
-        wanted,
+        &|encoder, case| encoder.subtype(&ty(case)),
+        &|case| GroupTree::Sub(sub(&ty(case))),
+        &wanted,
     );
-    encodes(ty, wanted);
-    encodes(|case| sub(&ty(case)), wanted);
+    encodes(&ty, &wanted);
+    encodes(&|case| sub(&ty(case)), &wanted);
 }
 
 /// A type without a list, for its debug name.
 #[test]
 fn arrays_have_an_element() {
     is_core(
-        |encoder, _| encoder.array(&StorageType::I16, true),
-        |_| GroupTree::Sub(sub(&subtype(None, CompositeInnerType::Array(ArrayType(FIELD))))),
-        |_| vec![0x5e, 0x77, 1],
+        &|encoder, _| encoder.array(&StorageType::I16, true),
+        &|_| GroupTree::Sub(sub(&subtype(None, CompositeInnerType::Array(ArrayType(FIELD))))),
+        &|_| vec![0x5e, 0x77, 1],
     );
 }
 
@@ -157,8 +157,8 @@ fn groups_have_types() {
     // As many fields as the text has bytes.
     let ty = |case: &Case| structure(None, case.text.len());
     is_core(
-        |encoder, case| encoder.rec(vec![ty(case); case.count]),
-        |case| GroupTree::Rec(repeat_n(sub(&ty(case)), case.count).collect()),
-        |case| joined([&[0x4e], &list_of(structure_bytes(case.text.len()), case.count)]),
+        &|encoder, case| encoder.rec(vec![ty(case); case.count]),
+        &|case| GroupTree::Rec(repeat_n(sub(&ty(case)), case.count).collect()),
+        &|case| joined([&[0x4e], &list_of(structure_bytes(case.text.len()), case.count)]),
     );
 }

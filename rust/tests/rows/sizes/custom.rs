@@ -20,17 +20,17 @@ fn custom_sections() {
     };
     makes_named(
         CUSTOM,
-        |_| None,
-        |b, case| {
+        &|_| None,
+        &|b, case| {
             b.custom_section(&custom(case));
             None
         },
-        custom,
-        |case| {
+        &custom,
+        &|case| {
             let (name, data) = (case.text.as_str().into(), data(case).into());
             Command::Custom { name, data }
         },
-        |case| [sized(&case.text), data(case)].concat(),
+        &|case| [sized(&case.text), data(case)].concat(),
     );
 }
 
@@ -60,18 +60,18 @@ fn raw_custom_sections() {
 }
 
 /// A section of these producers, by each call that takes one.
-fn are_producers(make: impl Fn(&Case) -> ProducersSection, fields: impl Fn(&Case) -> Vec<u8>) {
+fn are_producers(make: &dyn Fn(&Case) -> ProducersSection, fields: &dyn Fn(&Case) -> Vec<u8>) {
     let content = |case: &Case| [sized("producers"), fields(case)].concat();
     makes_named(
         CUSTOM,
-        |_| None,
-        |b, case| {
+        &|_| None,
+        &|b, case| {
             b.producers_section(&make(case));
             None
         },
         &make,
-        |case| Command::from(&make(case)),
-        content,
+        &|case| Command::from(&make(case)),
+        &content,
     );
     for case in super::cases() {
         let mut appended = Vec::new();
@@ -96,12 +96,12 @@ fn fields_have_values() {
         same(&encoded(&make(&case).clone()), &wanted(&case), "its clone", case.size);
     }
     are_producers(
-        |case| {
+        &|case| {
             let mut producers = ProducersSection::new();
             producers.field("sdk", &make(case));
             producers
         },
-        |case| one([sized("sdk"), wanted(case)].concat()),
+        &|case| one([sized("sdk"), wanted(case)].concat()),
     );
 }
 
@@ -110,13 +110,13 @@ fn producers_have_fields() {
     let mut field = ProducersField::new();
     field.value("a", "1");
     are_producers(
-        |case| {
+        &|case| {
             let mut producers = ProducersSection::new();
             for _ in 0..case.count {
                 producers.field(&case.text, &field);
             }
             producers
         },
-        |case| list_of(joined([&sized(&case.text), b"\x01\x01a\x011"]), case.count),
+        &|case| list_of(joined([&sized(&case.text), b"\x01\x01a\x011"]), case.count),
     );
 }

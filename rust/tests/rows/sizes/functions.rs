@@ -37,17 +37,17 @@ fn functions(add: impl Fn(&mut CanonicalFunctionSection)) -> CanonicalFunctionSe
 fn functions_are_lifted() {
     makes(
         FUNCTION,
-        |b, debug_name, case| b.lift_func(debug_name, case.index(), case.index(), options(case)),
-        |case| {
+        &|b, debug_name, case| b.lift_func(debug_name, case.index(), case.index(), options(case)),
+        &|case| {
             functions(|section| {
                 section.lift(case.index(), case.index(), options(case));
             })
         },
-        |debug_name, case| {
+        &|debug_name, case| {
             let (core_func, ty, options) = (case.index(), case.index(), option_trees(case));
             Command::Canon { debug_name, canon: CanonTree::Lift { core_func, ty, options } }
         },
-        |case| joined([&[0, 0], &number(case.size), &option_bytes(case), &number(case.size)]),
+        &|case| joined([&[0, 0], &number(case.size), &option_bytes(case), &number(case.size)]),
     );
 }
 
@@ -55,34 +55,34 @@ fn functions_are_lifted() {
 fn functions_are_lowered() {
     makes(
         CORE_FUNCTION,
-        |b, debug_name, case| b.lower_func(debug_name, case.index(), options(case)),
-        |case| {
+        &|b, debug_name, case| b.lower_func(debug_name, case.index(), options(case)),
+        &|case| {
             functions(|section| {
                 section.lower(case.index(), options(case));
             })
         },
-        |debug_name, case| {
+        &|debug_name, case| {
             let (func, options) = (case.index(), option_trees(case));
             Command::Canon { debug_name, canon: CanonTree::Lower { func, options } }
         },
-        |case| joined([&[1, 0], &number(case.size), &option_bytes(case)]),
+        &|case| joined([&[1, 0], &number(case.size), &option_bytes(case)]),
     );
 }
 
 /// A function that the component model provides, with its own debug name.
 fn is_provided(
     name: &str,
-    add: impl Fn(&mut ComponentBuilder, &Case) -> u32,
-    append: impl Fn(&mut CanonicalFunctionSection, &Case),
-    canon: impl Fn(&Case) -> CanonTree,
-    item: impl Fn(&Case) -> Vec<u8>,
+    add: &dyn Fn(&mut ComponentBuilder, &Case) -> u32,
+    append: &dyn Fn(&mut CanonicalFunctionSection, &Case),
+    canon: &dyn Fn(&Case) -> CanonTree,
+    item: &dyn Fn(&Case) -> Vec<u8>,
 ) {
     makes_named(
         CORE_FUNCTION,
-        |_| Some(name.into()),
-        |b, case| Some(add(b, case)),
-        |case| functions(|section| append(section, case)),
-        |case| Command::Canon { debug_name: None, canon: canon(case) },
+        &|_| Some(name.into()),
+        &|b, case| Some(add(b, case)),
+        &|case| functions(|section| append(section, case)),
+        &|case| Command::Canon { debug_name: None, canon: canon(case) },
         &item,
     );
     // Whatever the command's debug name is.
@@ -98,12 +98,12 @@ fn tasks_return() {
     let ty = Some(ComponentValType::Primitive(PrimitiveValType::U8));
     is_provided(
         "task.return",
-        |b, case| b.task_return(ty, options(case)),
-        |section, case| {
+        &|b, case| b.task_return(ty, options(case)),
+        &|section, case| {
             section.task_return(ty, options(case));
         },
-        |case| CanonTree::TaskReturn { ty, options: option_trees(case) },
-        |case| joined([&[0x09, 0x00, 0x7d], &option_bytes(case)]),
+        &|case| CanonTree::TaskReturn { ty, options: option_trees(case) },
+        &|case| joined([&[0x09, 0x00, 0x7d], &option_bytes(case)]),
     );
 }
 
@@ -114,13 +114,12 @@ macro_rules! with_index {
         fn $test() {
             is_provided(
                 $name,
-                |b, case| b.$call(case.index(), options(case)),
-                |section, case| {
+                &|b, case| b.$call(case.index(), options(case)),
+                &|section, case| {
                     section.$call(case.index(), options(case));
                 },
-                |case| CanonTree::$variant { ty: case.index(), options: option_trees(case) },
-                |case| joined([&[$opcode], &number(case.size), &option_bytes(case)]),
-            );
+                &|case| CanonTree::$variant { ty: case.index(), options: option_trees(case) },
+                &|case| joined([&[$opcode], &number(case.size), &option_bytes(case)]));
         })*
     };
 }
@@ -136,20 +135,20 @@ with_index! {
 fn errors_are_made_and_told() {
     is_provided(
         "error-context.new",
-        |b, case| b.error_context_new(options(case)),
-        |section, case| {
+        &|b, case| b.error_context_new(options(case)),
+        &|section, case| {
             section.error_context_new(options(case));
         },
-        |case| CanonTree::ErrorContextNew(option_trees(case)),
-        |case| joined([&[0x1c], &option_bytes(case)]),
+        &|case| CanonTree::ErrorContextNew(option_trees(case)),
+        &|case| joined([&[0x1c], &option_bytes(case)]),
     );
     is_provided(
         "error-context.debug-message",
-        |b, case| b.error_context_debug_message(options(case)),
-        |section, case| {
+        &|b, case| b.error_context_debug_message(options(case)),
+        &|section, case| {
             section.error_context_debug_message(options(case));
         },
-        |case| CanonTree::ErrorContextDebugMessage(option_trees(case)),
-        |case| joined([&[0x1d], &option_bytes(case)]),
+        &|case| CanonTree::ErrorContextDebugMessage(option_trees(case)),
+        &|case| joined([&[0x1d], &option_bytes(case)]),
     );
 }

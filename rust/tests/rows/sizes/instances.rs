@@ -17,21 +17,21 @@ fn modules_are_instantiated() {
     let arg = |case: &Case| ModuleArg::Instance(case.index());
     makes(
         CORE_INSTANCE,
-        |b, debug_name, case| {
+        &|b, debug_name, case| {
             let args = vec![(case.text.as_str(), arg(case)); case.count];
             b.core_instantiate(debug_name, case.index(), args)
         },
-        |case| {
+        &|case| {
             let mut instances = InstanceSection::new();
             instances.instantiate(case.index(), vec![(&case.text, arg(case)); case.count]);
             instances
         },
-        |debug_name, case| {
+        &|debug_name, case| {
             let args = repeat_n((owned(&case.text), arg(case)), case.count).collect();
             let instance = CoreInstanceTree::Instantiate { module: case.index(), args };
             Command::CoreInstance { debug_name, instance }
         },
-        |case| [vec![0x00], number(case.size), named(case, &[0x12])].concat(),
+        &|case| [vec![0x00], number(case.size), named(case, &[0x12])].concat(),
     );
 }
 
@@ -40,21 +40,21 @@ fn core_items_are_an_instance() {
     let kind = ExportKind::Table;
     makes(
         CORE_INSTANCE,
-        |b, debug_name, case| {
+        &|b, debug_name, case| {
             let exports = vec![(case.text.as_str(), kind, case.index()); case.count];
             b.core_instantiate_exports(debug_name, exports)
         },
-        |case| {
+        &|case| {
             let mut instances = InstanceSection::new();
             instances.export_items(vec![(&case.text, kind, case.index()); case.count]);
             instances
         },
-        |debug_name, case| {
+        &|debug_name, case| {
             let exports = repeat_n((owned(&case.text), kind, case.index()), case.count);
             let instance = CoreInstanceTree::Exports(exports.collect());
             Command::CoreInstance { debug_name, instance }
         },
-        |case| [vec![0x01], named(case, &[0x01])].concat(),
+        &|case| [vec![0x01], named(case, &[0x01])].concat(),
     );
 }
 
@@ -63,22 +63,22 @@ fn components_are_instantiated() {
     let kind = ComponentExportKind::Module;
     makes(
         INSTANCE,
-        |b, debug_name, case| {
+        &|b, debug_name, case| {
             let args = vec![(&case.text, kind, case.index()); case.count];
             b.instantiate(debug_name, case.index(), args)
         },
-        |case| {
+        &|case| {
             let mut instances = ComponentInstanceSection::new();
             let args = vec![(&case.text, kind, case.index()); case.count];
             instances.instantiate(case.index(), args);
             instances
         },
-        |debug_name, case| {
+        &|debug_name, case| {
             let args = repeat_n((owned(&case.text), kind, case.index()), case.count).collect();
             let instance = InstanceTree::Instantiate { component: case.index(), args };
             Command::Instance { debug_name, instance }
         },
-        |case| [vec![0x00], number(case.size), named(case, &[0x00, 0x11])].concat(),
+        &|case| [vec![0x00], number(case.size), named(case, &[0x00, 0x11])].concat(),
     );
 }
 
@@ -88,21 +88,21 @@ fn items_are_an_instance() {
     for at in TEXTS {
         makes(
             INSTANCE,
-            |b, debug_name, case| {
+            &|b, debug_name, case| {
                 let exports = vec![(name(at, case), kind, case.index()); case.count];
                 b.instantiate_exports(debug_name, exports)
             },
-            |case| {
+            &|case| {
                 let mut instances = ComponentInstanceSection::new();
                 instances.export_items(vec![(name(at, case), kind, case.index()); case.count]);
                 instances
             },
-            |debug_name, case| {
+            &|debug_name, case| {
                 let exports = repeat_n((name_tree(at, case), kind, case.index()), case.count);
                 let instance = InstanceTree::Exports(exports.collect());
                 Command::Instance { debug_name, instance }
             },
-            |case| {
+            &|case| {
                 let export = [name_bytes(at, case), vec![0x01], number(case.size)].concat();
                 [vec![0x01], list_of(export, case.count)].concat()
             },

@@ -53,15 +53,15 @@ fn imports() {
     for at in TEXTS {
         makes_named(
             Kind(10, &[0x01]),
-            |case| Some(own_name(at, case).into()),
-            |b, case| Some(b.import(name(at, case), ty(case))),
-            |case| {
+            &|case| Some(own_name(at, case).into()),
+            &|b, case| Some(b.import(name(at, case), ty(case))),
+            &|case| {
                 let mut imports = ComponentImportSection::new();
                 imports.import(name(at, case), ty(case));
                 imports
             },
-            |case| Command::Import { name: name_tree(at, case), ty: ty(case) },
-            |case| [name_bytes(at, case), vec![0x01], number(case.size)].concat(),
+            &|case| Command::Import { name: name_tree(at, case), ty: ty(case) },
+            &|case| [name_bytes(at, case), vec![0x01], number(case.size)].concat(),
         );
     }
 }
@@ -73,18 +73,18 @@ fn exports() {
     for at in TEXTS {
         makes_named(
             Kind(11, &[0x05]),
-            |case| Some(own_name(at, case).into()),
-            |b, case| Some(b.export(name(at, case), kind, case.index(), ty(case))),
-            |case| {
+            &|case| Some(own_name(at, case).into()),
+            &|b, case| Some(b.export(name(at, case), kind, case.index(), ty(case))),
+            &|case| {
                 let mut exports = ComponentExportSection::new();
                 exports.export(name(at, case), kind, case.index(), ty(case));
                 exports
             },
-            |case| {
+            &|case| {
                 let (name, index) = (name_tree(at, case), case.index());
                 Command::Export { name, kind, index, ty: ty(case) }
             },
-            |case| {
+            &|case| {
                 let index = number(case.size);
                 [name_bytes(at, case), vec![0x05], index.clone(), vec![1, 0x05], index].concat()
             },
@@ -95,20 +95,20 @@ fn exports() {
 /// An alias, by each call that takes one.
 fn is_alias(
     sort: &'static [u8],
-    alias: impl Fn(&Case) -> Alias<'_>,
-    tree: impl Fn(&Case) -> AliasTree,
-    item: impl Fn(&Case) -> Vec<u8>,
+    alias: &dyn Fn(&Case) -> Alias<'_>,
+    tree: &dyn Fn(&Case) -> AliasTree,
+    item: &dyn Fn(&Case) -> Vec<u8>,
 ) {
     makes(
         Kind(6, sort),
-        |b, debug_name, case| b.alias(debug_name, alias(case)),
-        |case| {
+        &|b, debug_name, case| b.alias(debug_name, alias(case)),
+        &|case| {
             let mut aliases = ComponentAliasSection::new();
             aliases.alias(alias(case));
             aliases
         },
-        |debug_name, case| Command::Alias { debug_name, alias: tree(case) },
-        item,
+        &|debug_name, case| Command::Alias { debug_name, alias: tree(case) },
+        &item,
     );
 }
 
@@ -126,12 +126,12 @@ fn aliases_of_exports() {
         let item = |case: &Case| [sort, &[0x00], &number(case.size), &sized(&case.text)].concat();
         is_alias(
             sort,
-            |case| Alias::InstanceExport { instance: case.index(), kind, name: &case.text },
-            |case| {
+            &|case| Alias::InstanceExport { instance: case.index(), kind, name: &case.text },
+            &|case| {
                 let (instance, name) = (case.index(), owned(&case.text));
                 AliasTree::InstanceExport { instance, kind, name }
             },
-            item,
+            &item,
         );
         for case in cases() {
             let mut b = ComponentBuilder::default();
@@ -156,17 +156,17 @@ fn aliases_of_core_exports() {
         let item = |case: &Case| [sort, &[0x01], &number(case.size), &sized(&case.text)].concat();
         is_alias(
             sort,
-            |case| Alias::CoreInstanceExport { instance: case.index(), kind, name: &case.text },
-            |case| {
+            &|case| Alias::CoreInstanceExport { instance: case.index(), kind, name: &case.text },
+            &|case| {
                 let (instance, name) = (case.index(), owned(&case.text));
                 AliasTree::CoreInstanceExport { instance, kind, name }
             },
-            item,
+            &item,
         );
         adds(
             Kind(6, sort),
-            |b, debug_name, case| b.core_alias_export(debug_name, case.index(), &case.text, kind),
-            item,
+            &|b, debug_name, case| b.core_alias_export(debug_name, case.index(), &case.text, kind),
+            &item,
         );
     }
 }
@@ -182,9 +182,9 @@ fn aliases_of_what_is_outside() {
     for (kind, sort) in kinds {
         is_alias(
             sort,
-            |case| Alias::Outer { kind, count: case.index(), index: case.index() },
-            |case| AliasTree::Outer { kind, count: case.index(), index: case.index() },
-            |case| [sort, &[0x02], &number(case.size), &number(case.size)].concat(),
+            &|case| Alias::Outer { kind, count: case.index(), index: case.index() },
+            &|case| AliasTree::Outer { kind, count: case.index(), index: case.index() },
+            &|case| [sort, &[0x02], &number(case.size), &number(case.size)].concat(),
         );
     }
 }

@@ -18,9 +18,9 @@ fn types(ty: &ModuleType) -> CoreTypeSection {
 
 /// A module type of equal declarations, by each call that takes one.
 fn is_module(
-    declare: impl Fn(&mut ModuleType, &Case),
-    declaration: impl Fn(&Case) -> ModuleDecl,
-    bytes: impl Fn(&Case) -> Vec<u8>,
+    declare: &dyn Fn(&mut ModuleType, &Case),
+    declaration: &dyn Fn(&Case) -> ModuleDecl,
+    bytes: &dyn Fn(&Case) -> Vec<u8>,
 ) {
     let make = |case: &Case| {
         let mut ty = ModuleType::new();
@@ -32,16 +32,16 @@ fn is_module(
     let wanted = |case: &Case| joined([&[0x50], &list_of(bytes(case), case.count)]);
     makes(
         CORE_TYPE,
-        |b, debug_name, case| {
+        &|b, debug_name, case| {
             let (index, encoder) = b.core_type(debug_name);
             encoder.module(&make(case));
             index
         },
-        |case| types(&make(case)),
-        |debug_name, case| Command::CoreType { debug_name, ty: tree(case).into() },
-        wanted,
+        &|case| types(&make(case)),
+        &|debug_name, case| Command::CoreType { debug_name, ty: tree(case).into() },
+        &wanted,
     );
-    by_hand(CORE_TYPE, |case| types(&make(case).clone()), wanted);
+    by_hand(CORE_TYPE, &|case| types(&make(case).clone()), &wanted);
     for case in cases() {
         let (ty, size) = (make(&case), case.size);
         let (mut instance, mut component) = (InstanceType::new(), ComponentType::new());
@@ -57,14 +57,14 @@ fn is_module(
 #[test]
 fn module_types_have_imports() {
     is_module(
-        |ty, case| {
+        &|ty, case| {
             ty.import(&case.text, &case.other, EntityType::Function(case.index()));
         },
-        |case| {
+        &|case| {
             let (module, name) = (owned(&case.text), owned(&case.other));
             ModuleDecl::Import { module, name, ty: tree::EntityType::Function(case.index()) }
         },
-        |case| {
+        &|case| {
             let names = [sized(&case.text), sized(&case.other)].concat();
             joined([&[0x00], &names, &[0x00], &number(case.size)])
         },
@@ -74,28 +74,28 @@ fn module_types_have_imports() {
 #[test]
 fn module_types_have_exports() {
     is_module(
-        |ty, case| {
+        &|ty, case| {
             ty.export(&case.text, EntityType::Function(case.index()));
         },
-        |case| {
+        &|case| {
             let ty = tree::EntityType::Function(case.index());
             ModuleDecl::Export { name: owned(&case.text), ty }
         },
-        |case| joined([&[0x03], &sized(&case.text), &[0x00], &number(case.size)]),
+        &|case| joined([&[0x03], &sized(&case.text), &[0x00], &number(case.size)]),
     );
 }
 
 #[test]
 fn module_types_have_types() {
     is_module(
-        |ty, _| ty.ty().function([], []),
-        |_| {
+        &|ty, _| ty.ty().function([], []),
+        &|_| {
             let function = tree::FuncType::from_lists([].into(), [].into());
             let composite_type = tree::CompositeType::Func(function);
             let ty = tree::SubType { is_final: true, supertype_idx: None, composite_type };
             ModuleDecl::Type(GroupTree::Sub(ty))
         },
-        |_| vec![0x01, 0x60, 0, 0],
+        &|_| vec![0x01, 0x60, 0, 0],
     );
 }
 
@@ -103,11 +103,11 @@ fn module_types_have_types() {
 fn module_types_have_aliases() {
     let bytes = |case: &Case| joined([&[0x02, 0x10, 0x01], &number(case.size), &number(case.size)]);
     is_module(
-        |ty, case| {
+        &|ty, case| {
             ty.alias_outer_core_type(case.index(), case.index());
         },
-        |case| ModuleDecl::Alias { count: case.index(), index: case.index() },
-        bytes,
+        &|case| ModuleDecl::Alias { count: case.index(), index: case.index() },
+        &bytes,
     );
     for n in SIZES {
         let mut ty = ModuleType::new();

@@ -17,11 +17,11 @@ fn bytes(case: &Case) -> Vec<u8> {
 
 #[test]
 fn modules_are_bytes() {
-    adds(MODULE, |b, debug_name, case| b.core_module_raw(debug_name, &bytes(case)), bytes);
+    adds(MODULE, &|b, debug_name, case| b.core_module_raw(debug_name, &bytes(case)), &bytes);
     commands(
         MODULE,
-        |debug_name, case| Command::CoreModule { debug_name, bytes: bytes(case).into() },
-        bytes,
+        &|debug_name, case| Command::CoreModule { debug_name, bytes: bytes(case).into() },
+        &bytes,
     );
 }
 
@@ -39,11 +39,9 @@ fn module_bytes(size: usize) -> Vec<u8> {
 
 #[test]
 fn modules_have_sections() {
-    adds(
-        MODULE,
-        |b, debug_name, case| b.core_module(debug_name, &module(case.size)),
-        |case| module_bytes(case.size),
-    );
+    adds(MODULE, &|b, debug_name, case| b.core_module(debug_name, &module(case.size)), &|case| {
+        module_bytes(case.size)
+    });
     for n in SIZES {
         let (module, wanted) = (module(n), module_bytes(n));
         same(&module.clone().finish(), &wanted, "the module", n);
@@ -76,11 +74,11 @@ fn modules_have_custom_sections() {
 
 #[test]
 fn components_are_bytes() {
-    adds(COMPONENT, |b, debug_name, case| b.component_raw(debug_name, &bytes(case)), bytes);
+    adds(COMPONENT, &|b, debug_name, case| b.component_raw(debug_name, &bytes(case)), &bytes);
     commands(
         COMPONENT,
-        |debug_name, case| Command::ComponentRaw { debug_name, bytes: bytes(case).into() },
-        bytes,
+        &|debug_name, case| Command::ComponentRaw { debug_name, bytes: bytes(case).into() },
+        &bytes,
     );
 }
 
@@ -94,8 +92,8 @@ fn inner(case: &Case) -> ComponentBuilder {
 #[test]
 fn components_are_nested() {
     let wanted = |case: &Case| component(MODULE, &bytes(case), None);
-    adds(COMPONENT, |b, debug_name, case| b.component(debug_name, inner(case)), wanted);
-    adds(COMPONENT, |b, debug_name, case| b.component_ref(debug_name, &inner(case)), wanted);
+    adds(COMPONENT, &|b, debug_name, case| b.component(debug_name, inner(case)), &wanted);
+    adds(COMPONENT, &|b, debug_name, case| b.component_ref(debug_name, &inner(case)), &wanted);
     for n in SIZES {
         let mut inner = Component::new();
         inner.section(&RawSection { id: 1, data: &data(n) });
@@ -131,17 +129,17 @@ fn starts_have_arguments() {
     let args = |case: &Case| vec![case.index(); case.count];
     makes_named(
         START,
-        |_| None,
-        |b, case| Some(b.start(case.index(), args(case), case.index())),
-        |case| {
+        &|_| None,
+        &|b, case| Some(b.start(case.index(), args(case), case.index())),
+        &|case| {
             let index = case.index();
             ComponentStartSection { function_index: index, args: args(case), results: index }
         },
-        |case| {
+        &|case| {
             let (function, args) = (case.index(), args(case).into());
             Command::Start { function, args, results: function }
         },
-        |case| {
+        &|case| {
             let index = number(case.size);
             joined([&index, &list_of(&index, case.count), &index])
         },

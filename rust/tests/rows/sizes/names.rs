@@ -67,7 +67,7 @@ const NAMINGS: [Naming; 13] = [
 /// The section of names has this content: as it is, cloned, and as a custom section.
 fn is_section(make: impl Fn(usize) -> ComponentNameSection, content: impl Fn(usize) -> Vec<u8>) {
     let content = |n| joined([&sized("component-name"), &content(n)]);
-    by_hand(CUSTOM, |case| make(case.size), |case| content(case.size));
+    by_hand(CUSTOM, &|case| make(case.size), &|case| content(case.size));
     for n in SIZES {
         same(&encoded(&make(n).as_custom()), &sized(content(n)), "as a custom section", n);
     }

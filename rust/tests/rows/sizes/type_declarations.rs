@@ -20,9 +20,9 @@ const KIND: ComponentExportKind = ComponentExportKind::Func;
 
 /// A type of instances of equal declarations, by each call that takes one.
 fn is_instance(
-    declare: impl Fn(&mut InstanceType, &Case),
-    tree: impl Fn(&Case) -> InstanceDecl,
-    declaration: impl Fn(&Case) -> Vec<u8>,
+    declare: &dyn Fn(&mut InstanceType, &Case),
+    tree: &dyn Fn(&Case) -> InstanceDecl,
+    declaration: &dyn Fn(&Case) -> Vec<u8>,
 ) {
     let make = |case: &Case| {
         let mut ty = InstanceType::new();
@@ -32,24 +32,24 @@ fn is_instance(
     };
     let wanted = |case: &Case| joined([&[0x42], &list_of(declaration(case), case.count)]);
     is_type(
-        |ty, case| ty.instance(&make(case)),
-        |case| TypeTree::Instance(repeat_n(tree(case), case.count).collect()),
-        wanted,
+        &|ty, case| ty.instance(&make(case)),
+        &|case| TypeTree::Instance(repeat_n(tree(case), case.count).collect()),
+        &wanted,
     );
-    adds(TYPE, |b, debug_name, case| b.type_instance(debug_name, &make(case)), wanted);
+    adds(TYPE, &|b, debug_name, case| b.type_instance(debug_name, &make(case)), &wanted);
     let section = |case: &Case| {
         let mut types = ComponentTypeSection::new();
         types.instance(&make(case));
         types
     };
-    by_hand(TYPE, section, wanted);
+    by_hand(TYPE, &section, &wanted);
 }
 
 /// A type of components of equal declarations, by each call that takes one.
 fn is_component(
-    declare: impl Fn(&mut ComponentType, &Case),
-    tree: impl Fn(&Case) -> ComponentDecl,
-    declaration: impl Fn(&Case) -> Vec<u8>,
+    declare: &dyn Fn(&mut ComponentType, &Case),
+    tree: &dyn Fn(&Case) -> ComponentDecl,
+    declaration: &dyn Fn(&Case) -> Vec<u8>,
 ) {
     let make = |case: &Case| {
         let mut ty = ComponentType::new();
@@ -58,17 +58,17 @@ fn is_component(
     };
     let wanted = |case: &Case| joined([&[0x41], &list_of(declaration(case), case.count)]);
     is_type(
-        |ty, case| ty.component(&make(case)),
-        |case| TypeTree::Component(repeat_n(tree(case), case.count).collect()),
-        wanted,
+        &|ty, case| ty.component(&make(case)),
+        &|case| TypeTree::Component(repeat_n(tree(case), case.count).collect()),
+        &wanted,
     );
-    adds(TYPE, |b, debug_name, case| b.type_component(debug_name, &make(case)), wanted);
+    adds(TYPE, &|b, debug_name, case| b.type_component(debug_name, &make(case)), &wanted);
     let section = |case: &Case| {
         let mut types = ComponentTypeSection::new();
         types.component(&make(case));
         types
     };
-    by_hand(TYPE, section, wanted);
+    by_hand(TYPE, &section, &wanted);
 }
 
 #[test]
@@ -76,11 +76,11 @@ fn types_have_exports() {
     for at in TEXTS {
         let export = |case: &Case| InstanceDecl::Export { name: name_tree(at, case), ty: FUNCTION };
         let bytes = |case: &Case| joined([&[0x04], &name_bytes(at, case), &[0x01, 0x00]]);
-        is_instance(|ty, case| _ = ty.export(name(at, case), FUNCTION), export, bytes);
+        is_instance(&|ty, case| _ = ty.export(name(at, case), FUNCTION), &export, &bytes);
         is_component(
-            |ty, case| _ = ty.export(name(at, case), FUNCTION),
-            |case| ComponentDecl::Decl(export(case)),
-            bytes,
+            &|ty, case| _ = ty.export(name(at, case), FUNCTION),
+            &|case| ComponentDecl::Decl(export(case)),
+            &bytes,
         );
     }
 }
@@ -89,9 +89,9 @@ fn types_have_exports() {
 fn types_have_imports() {
     for at in TEXTS {
         is_component(
-            |ty, case| _ = ty.import(name(at, case), FUNCTION),
-            |case| ComponentDecl::Import { name: name_tree(at, case), ty: FUNCTION },
-            |case| joined([&[0x03], &name_bytes(at, case), &[0x01, 0x00]]),
+            &|ty, case| _ = ty.import(name(at, case), FUNCTION),
+            &|case| ComponentDecl::Import { name: name_tree(at, case), ty: FUNCTION },
+            &|case| joined([&[0x03], &name_bytes(at, case), &[0x01, 0x00]]),
         );
     }
 }

@@ -24,22 +24,22 @@ fn types(write: impl FnOnce(&mut ComponentTypeSection)) -> ComponentTypeSection 
 
 /// A type, as an item and as a declaration.
 pub fn is_type(
-    write: impl Fn(ComponentTypeEncoder<'_>, &Case),
-    tree: impl Fn(&Case) -> TypeTree,
-    wanted: impl Fn(&Case) -> Vec<u8>,
+    write: &dyn Fn(ComponentTypeEncoder<'_>, &Case),
+    tree: &dyn Fn(&Case) -> TypeTree,
+    wanted: &dyn Fn(&Case) -> Vec<u8>,
 ) {
     makes(
         TYPE,
-        |b, debug_name, case| {
+        &|b, debug_name, case| {
             let (index, ty) = b.ty(debug_name);
             write(ty, case);
             index
         },
-        |case| types(|types| write(types.ty(), case)),
-        |debug_name, case| Command::Type { debug_name, ty: tree(case) },
+        &|case| types(|types| write(types.ty(), case)),
+        &|debug_name, case| Command::Type { debug_name, ty: tree(case) },
         &wanted,
     );
-    by_hand(TYPE, |case| types(|types| types.ty().tree(&tree(case))), &wanted);
+    by_hand(TYPE, &|case| types(|types| types.ty().tree(&tree(case))), &wanted);
     for case in cases() {
         let (mut instance, mut component) = (InstanceType::new(), ComponentType::new());
         write(instance.ty(), &case);
@@ -71,26 +71,26 @@ pub fn is_declared(
 
 /// A type of values, by each that lends to its encoder.
 fn is_defined(
-    write: impl Fn(ComponentDefinedTypeEncoder<'_>, &Case),
-    tree: impl Fn(&Case) -> DefinedTree,
-    wanted: impl Fn(&Case) -> Vec<u8>,
+    write: &dyn Fn(ComponentDefinedTypeEncoder<'_>, &Case),
+    tree: &dyn Fn(&Case) -> DefinedTree,
+    wanted: &dyn Fn(&Case) -> Vec<u8>,
 ) {
     is_type(
-        |ty, case| write(ty.defined_type(), case),
-        |case| TypeTree::Defined(tree(case)),
+        &|ty, case| write(ty.defined_type(), case),
+        &|case| TypeTree::Defined(tree(case)),
         &wanted,
     );
     adds(
         TYPE,
-        |b, debug_name, case| {
+        &|b, debug_name, case| {
             let (index, ty) = b.type_defined(debug_name);
             write(ty, case);
             index
         },
         &wanted,
     );
-    by_hand(TYPE, |case| types(|types| write(types.defined_type(), case)), &wanted);
-    by_hand(TYPE, |case| types(|types| types.defined_type().tree(&tree(case))), &wanted);
+    by_hand(TYPE, &|case| types(|types| write(types.defined_type(), case)), &wanted);
+    by_hand(TYPE, &|case| types(|types| types.defined_type().tree(&tree(case))), &wanted);
     for case in cases() {
         let (mut instance, mut component) = (InstanceType::new(), ComponentType::new());
         write(instance.type_defined().1, &case);
@@ -118,9 +118,9 @@ fn field_trees(case: &Case) -> tree::Vec<(tree::String, ComponentValType)> {
 #[test]
 fn records_have_fields() {
     is_defined(
-        |ty, case| ty.record(fields(case)),
-        |case| DefinedTree::Record(field_trees(case)),
-        |case| joined([&[0x72], &named(case, &[0x73])]),
+        &|ty, case| ty.record(fields(case)),
+        &|case| DefinedTree::Record(field_trees(case)),
+        &|case| joined([&[0x72], &named(case, &[0x73])]),
     );
 }
 
@@ -128,12 +128,12 @@ fn records_have_fields() {
 fn variants_have_cases() {
     for (ty, bytes) in [(None, &b"\0\0"[..]), (Some(STRING), b"\x01\x73\0")] {
         is_defined(
-            |encoder, case| encoder.variant(vec![(case.text.as_str(), ty); case.count]),
-            |case| {
+            &|encoder, case| encoder.variant(vec![(case.text.as_str(), ty); case.count]),
+            &|case| {
                 let tree = CaseTree { name: owned(&case.text), ty };
                 DefinedTree::Variant(repeat_n(tree, case.count).collect())
             },
-            |case| joined([&[0x71], &named(case, bytes)]),
+            &|case| joined([&[0x71], &named(case, bytes)]),
         );
     }
 }
@@ -141,9 +141,9 @@ fn variants_have_cases() {
 #[test]
 fn tuples_have_types() {
     is_defined(
-        |ty, case| ty.tuple(vec![STRING; case.count]),
-        |case| DefinedTree::Tuple(vec![STRING; case.count].into()),
-        |case| joined([&[0x6f], &list_of([0x73], case.count)]),
+        &|ty, case| ty.tuple(vec![STRING; case.count]),
+        &|case| DefinedTree::Tuple(vec![STRING; case.count].into()),
+        &|case| joined([&[0x6f], &list_of([0x73], case.count)]),
     );
 }
 
@@ -151,54 +151,50 @@ fn tuples_have_types() {
 fn flags_and_enumerations_have_names() {
     let names = |case: &Case| repeat_n(owned(&case.text), case.count).collect();
     is_defined(
-        |ty, case| ty.flags(vec![case.text.as_str(); case.count]),
-        |case| DefinedTree::Flags(names(case)),
-        |case| joined([&[0x6e], &named(case, &[])]),
+        &|ty, case| ty.flags(vec![case.text.as_str(); case.count]),
+        &|case| DefinedTree::Flags(names(case)),
+        &|case| joined([&[0x6e], &named(case, &[])]),
     );
     is_defined(
-        |ty, case| ty.enum_type(vec![case.text.as_str(); case.count]),
-        |case| DefinedTree::Enum(names(case)),
-        |case| joined([&[0x6d], &named(case, &[])]),
+        &|ty, case| ty.enum_type(vec![case.text.as_str(); case.count]),
+        &|case| DefinedTree::Enum(names(case)),
+        &|case| joined([&[0x6d], &named(case, &[])]),
     );
 }
 
 /// Types without a list, for their debug names.
 #[test]
 fn other_types_of_values() {
-    is_defined(|ty, _| ty.primitive(BYTE), |_| DefinedTree::Primitive(BYTE), |_| vec![0x7d]);
-    is_defined(|ty, _| ty.list(STRING), |_| DefinedTree::List(STRING), |_| vec![0x70, 0x73]);
+    is_defined(&|ty, _| ty.primitive(BYTE), &|_| DefinedTree::Primitive(BYTE), &|_| vec![0x7d]);
+    is_defined(&|ty, _| ty.list(STRING), &|_| DefinedTree::List(STRING), &|_| vec![0x70, 0x73]);
     is_defined(
-        |ty, _| ty.map(BYTE, STRING),
-        |_| DefinedTree::Map { key: BYTE.into(), value: STRING },
-        |_| vec![0x63, 0x7d, 0x73],
+        &|ty, _| ty.map(BYTE, STRING),
+        &|_| DefinedTree::Map { key: BYTE.into(), value: STRING },
+        &|_| vec![0x63, 0x7d, 0x73],
     );
     is_defined(
-        |ty, case| ty.fixed_length_list(STRING, case.index()),
-        |case| DefinedTree::FixedLengthList { element: STRING, length: case.index() },
-        |case| joined([&[0x67, 0x73], &number(case.size)]),
+        &|ty, case| ty.fixed_length_list(STRING, case.index()),
+        &|case| DefinedTree::FixedLengthList { element: STRING, length: case.index() },
+        &|case| joined([&[0x67, 0x73], &number(case.size)]),
     );
-    is_defined(|ty, _| ty.option(STRING), |_| DefinedTree::Option(STRING), |_| vec![0x6b, 0x73]);
+    is_defined(&|ty, _| ty.option(STRING), &|_| DefinedTree::Option(STRING), &|_| vec![0x6b, 0x73]);
     is_defined(
-        |ty, _| ty.result(Some(STRING), None),
-        |_| DefinedTree::Result { ok: Some(STRING), err: None },
-        |_| vec![0x6a, 1, 0x73, 0],
+        &|ty, _| ty.result(Some(STRING), None),
+        &|_| DefinedTree::Result { ok: Some(STRING), err: None },
+        &|_| vec![0x6a, 1, 0x73, 0],
     );
+    is_defined(&|ty, case| ty.own(case.index()), &|case| DefinedTree::Own(case.index()), &|case| {
+        joined([&[0x69], &number(case.size)])
+    });
     is_defined(
-        |ty, case| ty.own(case.index()),
-        |case| DefinedTree::Own(case.index()),
-        |case| joined([&[0x69], &number(case.size)]),
+        &|ty, case| ty.borrow(case.index()),
+        &|case| DefinedTree::Borrow(case.index()),
+        &|case| joined([&[0x68], &number(case.size)]),
     );
-    is_defined(
-        |ty, case| ty.borrow(case.index()),
-        |case| DefinedTree::Borrow(case.index()),
-        |case| joined([&[0x68], &number(case.size)]),
-    );
-    is_defined(
-        |ty, _| ty.future(Some(STRING)),
-        |_| DefinedTree::Future(Some(STRING)),
-        |_| vec![0x65, 1, 0x73],
-    );
-    is_defined(|ty, _| ty.stream(None), |_| DefinedTree::Stream(None), |_| vec![0x66, 0]);
+    is_defined(&|ty, _| ty.future(Some(STRING)), &|_| DefinedTree::Future(Some(STRING)), &|_| {
+        vec![0x65, 1, 0x73]
+    });
+    is_defined(&|ty, _| ty.stream(None), &|_| DefinedTree::Stream(None), &|_| vec![0x66, 0]);
 }
 
 /// Writes a type of functions with the case's parameters.
@@ -217,23 +213,23 @@ fn functions_have_parameters() {
             joined([&[first], &named(case, &[0x73]), &result])
         };
         is_type(
-            |ty, case| function(ty.function(), is_async, case),
-            |case| {
+            &|ty, case| function(ty.function(), is_async, case),
+            &|case| {
                 let result = is_async.then_some(STRING);
                 TypeTree::Func { is_async, params: field_trees(case), result }
             },
-            wanted,
+            &wanted,
         );
         adds(
             TYPE,
-            |b, debug_name, case| {
+            &|b, debug_name, case| {
                 let (index, ty) = b.type_function(debug_name);
                 function(ty, is_async, case);
                 index
             },
-            wanted,
+            &wanted,
         );
-        by_hand(TYPE, |case| types(|types| function(types.function(), is_async, case)), wanted);
+        by_hand(TYPE, &|case| types(|types| function(types.function(), is_async, case)), &wanted);
         for case in cases() {
             let (mut instance, mut component) = (InstanceType::new(), ComponentType::new());
             function(instance.type_function().1, is_async, &case);
@@ -248,15 +244,15 @@ fn resources_have_destructors() {
     let rep = tree::ValType::I32;
     let wanted = |case: &Case| joined([&[0x3f, 0x7f, 1], &number(case.size)]);
     is_type(
-        |ty, case| ty.resource(ValType::I32, Some(case.index())),
-        |case| TypeTree::Resource { rep, dtor: Some(case.index()) },
-        wanted,
+        &|ty, case| ty.resource(ValType::I32, Some(case.index())),
+        &|case| TypeTree::Resource { rep, dtor: Some(case.index()) },
+        &wanted,
     );
     adds(
         TYPE,
-        |b, debug_name, case| b.type_resource(debug_name, ValType::I32, Some(case.index())),
-        wanted,
+        &|b, debug_name, case| b.type_resource(debug_name, ValType::I32, Some(case.index())),
+        &wanted,
     );
     let resource = |types: &mut ComponentTypeSection, dtor| _ = types.resource(ValType::I32, dtor);
-    by_hand(TYPE, |case| types(|types| resource(types, Some(case.index()))), wanted);
+    by_hand(TYPE, &|case| types(|types| resource(types, Some(case.index()))), &wanted);
 }
