@@ -136,9 +136,11 @@ fn debug_names(size: usize) -> [Option<String>; 3] {
 /// Both are equal; what differs isn't printed, since it may be long.
 #[track_caller]
 fn same(bytes: &[u8], wanted: &[u8], what: &str, size: usize) {
-    let at = bytes.iter().zip(wanted).position(|(byte, other)| byte != other);
-    let lens = (bytes.len(), wanted.len());
-    assert!(bytes == wanted, "{what} at size {size}: lengths {lens:?}, first difference {at:?}");
+    if bytes != wanted {
+        let at = bytes.iter().zip(wanted).position(|(byte, other)| byte != other);
+        let lens = (bytes.len(), wanted.len());
+        panic!("{what} at size {size}: lengths {lens:?}, first difference {at:?}");
+    }
 }
 
 /// The bytes of a value.

@@ -34,9 +34,9 @@ fn is_core(
         },
         &|case| types(|types| write(types.ty().core(), case)),
         &|debug_name, case| Command::CoreType { debug_name, ty: tree(case).into() },
-        &wanted,
+        wanted,
     );
-    by_hand(CORE_TYPE, &|case| types(|types| types.ty().tree(&tree(case))), &wanted);
+    by_hand(CORE_TYPE, &|case| types(|types| types.ty().tree(&tree(case))), wanted);
     for case in cases() {
         let (wanted, size) = (wanted(&case), case.size);
         let mut module = ModuleType::new();

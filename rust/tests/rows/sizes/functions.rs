@@ -83,7 +83,7 @@ fn is_provided(
         &|b, case| Some(add(b, case)),
         &|case| functions(|section| append(section, case)),
         &|case| Command::Canon { debug_name: None, canon: canon(case) },
-        &item,
+        item,
     );
     // Whatever the command's debug name is.
     for case in cases() {
@@ -119,7 +119,8 @@ macro_rules! with_index {
                     section.$call(case.index(), options(case));
                 },
                 &|case| CanonTree::$variant { ty: case.index(), options: option_trees(case) },
-                &|case| joined([&[$opcode], &number(case.size), &option_bytes(case)]));
+                &|case| joined([&[$opcode], &number(case.size), &option_bytes(case)]),
+            );
         })*
     };
 }

@@ -108,7 +108,7 @@ fn is_alias(
             aliases
         },
         &|debug_name, case| Command::Alias { debug_name, alias: tree(case) },
-        &item,
+        item,
     );
 }
 

@@ -37,9 +37,9 @@ pub fn is_type(
         },
         &|case| types(|types| write(types.ty(), case)),
         &|debug_name, case| Command::Type { debug_name, ty: tree(case) },
-        &wanted,
+        wanted,
     );
-    by_hand(TYPE, &|case| types(|types| types.ty().tree(&tree(case))), &wanted);
+    by_hand(TYPE, &|case| types(|types| types.ty().tree(&tree(case))), wanted);
     for case in cases() {
         let (mut instance, mut component) = (InstanceType::new(), ComponentType::new());
         write(instance.ty(), &case);
@@ -78,7 +78,7 @@ fn is_defined(
     is_type(
         &|ty, case| write(ty.defined_type(), case),
         &|case| TypeTree::Defined(tree(case)),
-        &wanted,
+        wanted,
     );
     adds(
         TYPE,
@@ -87,10 +87,10 @@ fn is_defined(
             write(ty, case);
             index
         },
-        &wanted,
+        wanted,
     );
-    by_hand(TYPE, &|case| types(|types| write(types.defined_type(), case)), &wanted);
-    by_hand(TYPE, &|case| types(|types| types.defined_type().tree(&tree(case))), &wanted);
+    by_hand(TYPE, &|case| types(|types| write(types.defined_type(), case)), wanted);
+    by_hand(TYPE, &|case| types(|types| types.defined_type().tree(&tree(case))), wanted);
     for case in cases() {
         let (mut instance, mut component) = (InstanceType::new(), ComponentType::new());
         write(instance.type_defined().1, &case);
