@@ -1,8 +1,8 @@
 //! Maps of names, the section of names, and many items with debug names.
 
 use super::{
-    CUSTOM, SIZES, by_hand, component, encoded, joined, list_of, names, number, one, same, sized,
-    text,
+    CUSTOM, Case, SIZES, by_hand, cases, component, data, encoded, joined, list_of, names, number,
+    one, same, sized, text,
 };
 use crate::names::map as of_one;
 use wenc::tree::Space;
@@ -65,11 +65,12 @@ const NAMINGS: [Naming; 13] = [
 ];
 
 /// The section of names has this content: as it is, cloned, and as a custom section.
-fn is_section(make: impl Fn(usize) -> ComponentNameSection, content: impl Fn(usize) -> Vec<u8>) {
-    let content = |n| joined([&sized("component-name"), &content(n)]);
-    by_hand(CUSTOM, &|case| make(case.size), &|case| content(case.size));
-    for n in SIZES {
-        same(&encoded(&make(n).as_custom()), &sized(content(n)), "as a custom section", n);
+fn is_section(make: &dyn Fn(&Case) -> ComponentNameSection, content: &dyn Fn(&Case) -> Vec<u8>) {
+    let content = |case: &Case| joined([&sized("component-name"), &content(case)]);
+    by_hand(CUSTOM, make, &content);
+    for case in cases() {
+        let custom = encoded(&make(&case).as_custom());
+        same(&custom, &sized(content(&case)), "as a custom section", case.size);
     }
 }
 
@@ -77,38 +78,29 @@ fn is_section(make: impl Fn(usize) -> ComponentNameSection, content: impl Fn(usi
 fn sections_have_maps() {
     for (name, _, sort) in NAMINGS {
         is_section(
-            |n| {
+            &|case| {
                 let mut names = ComponentNameSection::new();
-                name(&mut names, &map(n));
+                name(&mut names, &map(case.count));
                 names
             },
-            |n| joined([&[1], &sized(joined([sort, &map_bytes(n)]))]),
+            &|case| joined([&[1], &sized(joined([sort, &map_bytes(case.count)]))]),
         );
     }
 }
 
 #[test]
-fn sections_name_the_component() {
+fn sections_have_other_subsections() {
     is_section(
-        |n| {
+        &|case| {
             let mut names = ComponentNameSection::new();
-            names.component(&text(n));
+            names.component(&case.text);
+            names.raw(9, &data(case.other.len()));
             names
         },
-        |n| joined([&[0], &sized(sized(text(n)))]),
-    );
-}
-
-#[test]
-fn sections_have_raw_subsections() {
-    is_section(
-        |n| {
-            let mut names = ComponentNameSection::new();
-            names.raw(9, &super::data(n));
-            names.raw(1, &super::data(n));
-            names
+        &|case| {
+            let (name, raw) = (sized(sized(&case.text)), sized(data(case.other.len())));
+            joined([&[0], &name, &[9], &raw])
         },
-        |n| joined([&[9], &sized(super::data(n)), &[1], &sized(super::data(n))]),
     );
 }
 

@@ -73,26 +73,43 @@ fn is_component(
 
 #[test]
 fn types_have_exports() {
-    for at in TEXTS {
-        let export = |case: &Case| InstanceDecl::Export { name: name_tree(at, case), ty: FUNCTION };
-        let bytes = |case: &Case| joined([&[0x04], &name_bytes(at, case), &[0x01, 0x00]]);
-        is_instance(&|ty, case| _ = ty.export(name(at, case), FUNCTION), &export, &bytes);
-        is_component(
-            &|ty, case| _ = ty.export(name(at, case), FUNCTION),
-            &|case| ComponentDecl::Decl(export(case)),
-            &bytes,
-        );
-    }
+    let bytes = |case: &Case| joined([&[0x04, 0x00], &sized(&case.text), &[0x01, 0x00]]);
+    let export = |case: &Case| {
+        let name = owned(&case.text).into();
+        InstanceDecl::Export { name, ty: FUNCTION }
+    };
+    is_instance(&|ty, case| _ = ty.export(&case.text, FUNCTION), &export, &bytes);
+    is_component(
+        &|ty, case| _ = ty.export(&case.text, FUNCTION),
+        &|case| ComponentDecl::Decl(export(case)),
+        &bytes,
+    );
 }
 
 #[test]
 fn types_have_imports() {
-    for at in TEXTS {
-        is_component(
-            &|ty, case| _ = ty.import(name(at, case), FUNCTION),
-            &|case| ComponentDecl::Import { name: name_tree(at, case), ty: FUNCTION },
-            &|case| joined([&[0x03], &name_bytes(at, case), &[0x01, 0x00]]),
-        );
+    is_component(
+        &|ty, case| _ = ty.import(&case.text, FUNCTION),
+        &|case| ComponentDecl::Import { name: owned(&case.text).into(), ty: FUNCTION },
+        &|case| joined([&[0x03, 0x00], &sized(&case.text), &[0x01, 0x00]]),
+    );
+}
+
+#[test]
+fn names_have_options() {
+    for (at, case) in TEXTS.into_iter().flat_map(|at| cases().map(move |case| (at, case))) {
+        let (mut instance, mut component) = (InstanceType::new(), ComponentType::new());
+        instance.export(name(at, &case), FUNCTION);
+        component.export(name(at, &case), FUNCTION).import(name(at, &case), FUNCTION);
+        let bytes = joined([&name_bytes(at, &case), &[0x01, 0x00]]);
+        let wanted = joined([&[0x42, 1, 0x04], &bytes]);
+        same(&encoded(&instance), &wanted, "the instance type", case.size);
+        let wanted = joined([&[0x41, 2, 0x04], &bytes, &[0x03], &bytes]);
+        same(&encoded(&component), &wanted, "the component type", case.size);
+        let export = InstanceDecl::Export { name: name_tree(at, &case), ty: FUNCTION };
+        same(&encoded(&export), &joined([&[0x04], &bytes]), "the export", case.size);
+        let import = ComponentDecl::Import { name: name_tree(at, &case), ty: FUNCTION };
+        same(&encoded(&import), &joined([&[0x03], &bytes]), "the import", case.size);
     }
 }
 
