@@ -10,4 +10,5 @@ mod hex;
 mod instances;
 mod items;
 mod names;
+mod sizes;
 mod types;

@@ -20,7 +20,7 @@ fn byte() -> ComponentTypeRef {
 }
 
 /// One name.
-fn map(index: u32, name: &str) -> NameMap {
+pub fn map(index: u32, name: &str) -> NameMap {
     let mut map = NameMap::new();
     map.append(index, name);
     map
