@@ -1,6 +1,6 @@
 //! Each public function and method of the proved crates is called by a test of the proved calls
-//! (`rust/tests/proved`), and each law, which does nothing, by `facts`: this reads the sources, as
-//! the build script erases them, and those tests, and fails where one has no caller.
+//! (`rust/tests/proved`), and each law, which does nothing, by `facts` or by another law: this reads
+//! the sources, as the build script erases them, and those tests, and fails where one has no caller.
 //!
 //! It goes by names. A function is called where its name stands outside of a `use`; a method where
 //! its name follows a dot or `::` in a file that names its type, an alias of it, or a method that
@@ -60,7 +60,9 @@ fn sources() -> Sources {
 fn each_public_function_is_called() {
     let mut sources = sources();
     let tests = files(&Path::new(env!("CARGO_MANIFEST_DIR")).join("rust/tests/proved"));
-    let facts = files(&erased::folder().join("facts"));
+    let mut facts = files(&erased::folder().join("facts"));
+    let own = files(&erased::folder().join("wasm_encoder"));
+    facts.extend(own.into_iter().filter(|(path, _)| path.starts_with("laws")));
     tests.iter().for_each(|(_, text)| sources.add_aliases(text));
     let calls_of = |files: &[(PathBuf, String)]| -> Vec<Calls> {
         files.iter().map(|(_, text)| Calls::of(text, &sources)).collect()
