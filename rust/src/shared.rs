@@ -199,6 +199,12 @@ where
     }
 }
 
+/// Whether an iterator is large enough to hold values, as that of an array does. What takes such a
+/// list is compiled for it, where its values are known; another list goes by a pointer.
+pub(crate) const fn holds_values<I: Iterator>() -> bool {
+    size_of::<I>() >= size_of::<I::Item>() + 2 * size_of::<usize>()
+}
+
 /// Pairs of a user's name and something else, as the proved code takes them.
 #[inline]
 pub(crate) fn named<S: AsRef<str>, T>(

@@ -65,7 +65,8 @@ impl ComponentBuilder {
             O::IntoIter: ExactSizeIterator,
         }
         {
-            Ok(self.0.lift_func(debug_name, core_func_index, type_index, List(&mut options.into_iter()))?)
+            let mut options = options.into_iter();
+            Ok(self.0.lift_func(debug_name, core_func_index, type_index, List(&mut options))?)
         }
     }
 }

@@ -2,7 +2,7 @@
 
 use super::{ComponentValType, PrimitiveValType};
 use crate::proved::wenc_base::Fault;
-use crate::shared::{Labelled, List, encoders, on};
+use crate::shared::{Labelled, List, encoders, holds_values, on};
 #[cfg(feature = "reader")]
 use crate::tree::DefinedTree;
 use crate::twins::twins;
@@ -55,7 +55,9 @@ impl ComponentDefinedTypeEncoder<'_> {
         {
             let mut fields = Labelled(fields.into_iter());
             Ok(match self.by {
-                DefinedBy::Builder(encoder) => encoder.record(fields),
+                DefinedBy::Builder(encoder) if const { holds_values::<F::IntoIter>() } => {
+                    encoder.record(fields)
+                }
                 by => by.record(List(&mut fields)),
             }?)
         }

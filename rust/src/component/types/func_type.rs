@@ -2,7 +2,7 @@
 
 use crate::proved::wasm_encoder::FuncStage;
 use crate::proved::wenc_base::Fault;
-use crate::shared::{Labelled, List, encoders, on};
+use crate::shared::{Labelled, List, encoders, holds_values, on};
 use crate::twins::twins;
 use crate::{ComponentValType, Error};
 
@@ -73,7 +73,9 @@ impl ComponentFuncTypeEncoder<'_> {
             let mut params = Labelled(params.into_iter());
             self.is_amid = true;
             let answer = match &mut self.by {
-                FuncBy::Builder(encoder) => encoder.params(params),
+                FuncBy::Builder(encoder) if const { holds_values::<P::IntoIter>() } => {
+                    encoder.params(params)
+                }
                 by => by.params(List(&mut params)),
             };
             self.is_amid = false;
