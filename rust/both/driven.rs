@@ -3,5 +3,5 @@
 use std::process::ExitCode;
 
 fn main() -> ExitCode {
-    wenc::program::driven()
+    wenc_script::driven()
 }

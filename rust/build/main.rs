@@ -1,24 +1,21 @@
 //! Makes Rust of the proved sources in `crates/`: one file for each of theirs, and `crates.rs`,
 //! which declares a module for each of their crates.
+//!
+//! It is the build script of the library and of the program `wenc`. With a folder as its argument,
+//! in the repository's, it makes what the published package has in place of a build script.
 
 mod erase;
+mod tidy;
 
 use std::fs;
 use std::path::{Path, PathBuf};
 
-/// The crates of the library, lowest first.
-const LIBRARY: [&str; 10] = [
-    "wenc_base",
-    "wenc_parts",
-    "wenc_types",
-    "wenc_canon",
-    "wenc_sections",
-    "wenc_builder",
-    "wenc_read",
-    "wenc_decode",
-    "wenc_list",
-    "wasm_encoder",
-];
+/// The crates that encode, lowest first.
+const WRITER: [&str; 6] =
+    ["wenc_base", "wenc_parts", "wenc_types", "wenc_canon", "wenc_sections", "wenc_builder"];
+
+/// The crates of the feature `reader`.
+const READER: [&str; 4] = ["wenc_read", "wenc_decode", "wenc_list", "wasm_encoder"];
 
 /// The crates behind the programs.
 const PROGRAMS: [&str; 2] = ["wenc", "driven"];
@@ -37,29 +34,60 @@ const ALLOWED: &str = "#[allow(clippy::all, dead_code, missing_docs, unused_brac
      #[allow(unused_imports, unused_variables)]\n";
 
 fn main() {
-    println!("cargo::rerun-if-changed=rust/build");
-    let known: Vec<&str> = [&LIBRARY[..], &PROGRAMS, &TESTS, &BY_HAND].concat();
+    match std::env::args_os().nth(1) {
+        Some(folder) => erase_all(Path::new("crates"), Path::new(&folder), tidy::tidy),
+        None => build(),
+    }
+}
+
+/// What a build script does.
+fn build() {
+    let package = PathBuf::from(variable("CARGO_MANIFEST_DIR"));
+    let top = package.ancestors().find(|folder| folder.join("crates").is_dir());
+    let top = top.expect("the sources are above the package");
+    println!("cargo::rerun-if-changed={}", top.join("rust/build").display());
+    for name in parts().iter().flat_map(|(names, _)| *names) {
+        println!("cargo::rerun-if-changed={}", top.join("crates").join(name).join("src").display());
+    }
+    println!("cargo::rustc-cfg=in_repository");
+    if variable("CARGO_PKG_NAME") != "wenc" {
+        println!("cargo::rustc-cfg=script");
+    }
     let out = PathBuf::from(variable("OUT_DIR")).join("proved");
-    let sources = PathBuf::from(variable("CARGO_MANIFEST_DIR")).join("crates");
-    let _ = fs::remove_dir_all(&out);
+    erase_all(&top.join("crates"), &out, |_, erased| erased.to_owned());
+    name_shared_library();
+}
+
+/// The crates, and when each is compiled.
+fn parts() -> [(&'static [&'static str], &'static str); 4] {
+    [
+        (&WRITER, ""),
+        (&READER, "#[cfg(any(feature = \"reader\", script, test))]\n"),
+        (&PROGRAMS, "#[cfg(any(script, test))]\n"),
+        (&TESTS, "#[cfg(all(test, not(script)))]\n"),
+    ]
+}
+
+/// Lays out what a source was erased to.
+type Layout = fn(&str, &str) -> String;
+
+/// Erases all crates of a folder into another.
+fn erase_all(sources: &Path, out: &Path, layout: Layout) {
+    let parts = parts();
+    let known: Vec<&str> =
+        parts.iter().flat_map(|(names, _)| *names).chain(&BY_HAND).copied().collect();
+    let _ = fs::remove_dir_all(out);
     let mut declared = String::new();
-    let parts = [
-        (&LIBRARY[..], ""),
-        (&PROGRAMS, "#[cfg(feature = \"std\")]\n"),
-        (&TESTS, "#[cfg(all(test, feature = \"std\"))]\n"),
-    ];
     for (names, condition) in parts {
         for name in names {
             let source = sources.join(name).join("src");
-            println!("cargo::rerun-if-changed={}", source.display());
-            erase_folder(name, &known, &source, &out.join(name));
+            erase_folder(name, &known, (&source, &out.join(name)), layout);
             let root = if source.join("lib.rt").exists() { "lib.rs" } else { "main.rs" };
-            let path = out.join(name).join(root);
-            declared += &format!("{condition}{ALLOWED}#[path = {path:?}]\npub mod {name};\n");
+            let path = format!("#[path = \"{name}/{root}\"]\n");
+            declared += &format!("{condition}{ALLOWED}{path}pub mod {name};\n");
         }
     }
     write(&out.join("crates.rs"), &declared);
-    name_shared_library();
 }
 
 /// Has the shared library for C bear the name that programs find it by.
@@ -74,8 +102,8 @@ fn variable(name: &str) -> String {
     std::env::var(name).unwrap_or_else(|_| panic!("cargo sets {name}"))
 }
 
-/// Erases each file of a folder, and of the folders in it.
-fn erase_folder(name: &str, known: &[&str], from: &Path, to: &Path) {
+/// Erases each file of a folder, and of the folders in it, into another.
+fn erase_folder(name: &str, known: &[&str], (from, to): (&Path, &Path), layout: Layout) {
     let made = fs::create_dir_all(to);
     made.unwrap_or_else(|error| panic!("{}: {error}", to.display()));
     let entries = fs::read_dir(from);
@@ -83,12 +111,12 @@ fn erase_folder(name: &str, known: &[&str], from: &Path, to: &Path) {
         let path = entry.expect("the folder can be read").path();
         let target = to.join(path.file_name().expect("it has a name"));
         if path.is_dir() {
-            erase_folder(name, known, &path, &target);
+            erase_folder(name, known, (&path, &target), layout);
         } else if path.extension().is_some_and(|extension| extension == "rt") {
             let text = fs::read_to_string(&path);
             let text = text.unwrap_or_else(|error| panic!("{}: {error}", path.display()));
             match erase::erase(name, known, &text) {
-                Ok(erased) => write(&target.with_extension("rs"), &erased),
+                Ok(erased) => write(&target.with_extension("rs"), &layout(&text, &erased)),
                 Err((line, why)) => panic!("{}:{line}: {why}", path.display()),
             }
         }

@@ -1,6 +1,7 @@
 //! A core module section by section.
 
 use crate::SectionId;
+use crate::list::{Unread, write_part};
 use crate::proved::rt_std::alloc::Global;
 use crate::proved::wenc_list::{behind_module_header, part_of};
 use crate::proved::wenc_read::{Refusal, name_of};
@@ -112,6 +113,11 @@ pub enum ModuleFault {
         /// The byte offset of its id in the module.
         place: usize,
     },
+    /// A section whose content is not a count and so many items, or not one start.
+    BadItem {
+        /// The first part of it that isn't read, by its byte offset in the module.
+        unread: Unread,
+    },
 }
 
 impl fmt::Display for ModuleFault {
@@ -120,6 +126,7 @@ impl fmt::Display for ModuleFault {
             Self::NoMemory => f.write_str("no memory"),
             Self::NotAModule => f.write_str("no core module's header"),
             Self::BadSection { place } => write!(f, "bad core section at {place:#x}"),
+            Self::BadItem { unread } => write_part(f, "bad item", *unread),
         }
     }
 }

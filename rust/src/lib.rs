@@ -29,17 +29,17 @@
 //! );
 //! ```
 //!
-//! [`list`] reads a component back, as values of [`tree`], which [`tree::build`] makes again.
-//! [`Sections`] reads it section by section, and each can be written again byte for byte
-//! ([`SectionReader`]) or item by item ([`ItemSection`]). What was read can be renumbered:
-//! [`indices_mut`](tree::ItemTree::indices_mut) visits each index that an item contains.
+//! With the feature `reader`, `list` reads a component back, as values of `tree`, which
+//! `tree::build` makes again. `Sections` reads it section by section, and each can be written again
+//! byte for byte (`SectionReader`) or item by item (`ItemSection`). What was read can be renumbered:
+//! `ItemTree::indices_mut` visits each index that an item contains.
 //!
 //! # What is proved
 //!
 //! The sources in `crates/`, of which this crate is made: a call that succeeds adds exactly the item
 //! that was passed, and returns that item's index in its space. Unless one is a raw custom section,
 //! the finished bytes have one reading, the added items in their order. A call that fails changes
-//! nothing. [`list`] returns that reading.
+//! nothing. `list` returns that reading.
 //!
 //! That the Rust does the same rests on what leaves the contracts out (`rust/build`, checked by
 //! `rust/tests/honest.rs`), on what replaces Rattle's standard library (`rust/src/proved/rt_std`), on
@@ -76,16 +76,20 @@
 //!
 //! # Features
 //!
-//! Without the feature `std`, which brings the program `wenc`, the crate is `no_std` and needs
-//! `alloc`. The feature `capi` brings the functions of `c/wenc.h`, for C; without `std`, in a
-//! profile that aborts, they are a library on C's memory alone.
+//! The crate is `no_std` and needs `alloc`. None of its features is on by default:
+//!
+//! - `reader` brings what reads components, and items as values: `list`, `Sections`, `CoreSections`,
+//!   `DebugNames`, `ItemSection` and `tree`. With it the crate takes longer to compile.
+//! - `capi` brings the functions of `c/wenc.h`, for C. Without `std`, in a profile that aborts, they
+//!   are a library on C's memory alone.
+//! - `std` links Rust's `std`, which nothing else here needs.
 #![no_std]
 #![cfg_attr(not(feature = "capi"), forbid(unsafe_code))]
 #![deny(missing_docs)]
 #![warn(clippy::missing_errors_doc, clippy::missing_panics_doc)]
 
 extern crate alloc;
-#[cfg(feature = "std")]
+#[cfg(any(feature = "std", test))]
 extern crate std;
 
 #[cfg(feature = "capi")]
@@ -93,33 +97,43 @@ mod capi;
 mod component;
 mod content;
 mod core;
+#[cfg(feature = "reader")]
+mod core_items;
+#[cfg(feature = "reader")]
 mod core_sections;
+#[cfg(feature = "reader")]
 mod cursor;
-#[cfg(feature = "std")]
-mod dump;
 mod encode;
 mod error;
+#[cfg(feature = "reader")]
 mod list;
+#[cfg(feature = "reader")]
 mod names;
-#[cfg(feature = "std")]
-#[doc(hidden)]
-pub mod program;
 mod proved;
 mod raw;
+#[cfg(feature = "reader")]
 mod rewrite;
 mod shared;
+#[cfg(feature = "reader")]
 pub mod tree;
 mod twins;
 
 pub use self::core::*;
 pub use component::*;
+#[cfg(feature = "reader")]
+pub use core_items::{CoreItem, CoreItems};
+#[cfg(feature = "reader")]
 pub use core_sections::{CoreSection, CoreSections, ModuleFault};
+#[cfg(feature = "reader")]
 pub use cursor::{Items, NestedSections, SectionReader, Sections};
 pub use encode::{Encode, encoding_size};
 pub use error::Error;
+#[cfg(feature = "reader")]
 pub use list::{ListFault, ListedSection, Listing, Unread, list};
+#[cfg(feature = "reader")]
 pub use names::{DebugNames, NamesFault};
 pub use raw::RawSection;
+#[cfg(feature = "reader")]
 pub use rewrite::ItemSection;
 
 /// What was proved of the sources in `crates/`: by which logic and which kits, the number of

@@ -78,12 +78,19 @@ fn write_unread(
     section: usize,
 ) -> fmt::Result {
     match unread {
-        None => write!(f, "{item}")?,
-        Some(Unread::Count { place }) => write!(f, "bad count at {place:#x}")?,
-        Some(Unread::Item { number, place }) => write!(f, "{item} {number} at {place:#x}")?,
-        Some(Unread::Behind { place }) => write!(f, "bytes behind the last item at {place:#x}")?,
+        None => f.write_str(item)?,
+        Some(unread) => write_part(f, item, unread)?,
     }
     write!(f, " in the section at {section:#x}")
+}
+
+/// What isn't read of a section.
+pub(crate) fn write_part(f: &mut fmt::Formatter<'_>, item: &str, unread: Unread) -> fmt::Result {
+    match unread {
+        Unread::Count { place } => write!(f, "bad count at {place:#x}"),
+        Unread::Item { number, place } => write!(f, "{item} {number} at {place:#x}"),
+        Unread::Behind { place } => write!(f, "bytes behind the last item at {place:#x}"),
+    }
 }
 
 impl fmt::Display for ListFault {

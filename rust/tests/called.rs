@@ -11,6 +11,7 @@
 
 #[path = "called/calls.rs"]
 mod calls;
+mod erased;
 #[path = "honest/lexer.rs"]
 mod lexer;
 #[path = "called/parser.rs"]
@@ -42,11 +43,10 @@ fn files(folder: &Path) -> Vec<(PathBuf, String)> {
     found
 }
 
-/// The sources of the crates, by the build script.
+/// The sources of the crates, as they are erased.
 fn sources() -> Sources {
-    let erased = Path::new(env!("OUT_DIR")).join("proved");
     let mut sources = Sources::default();
-    for entry in fs::read_dir(erased).expect("the build script ran") {
+    for entry in fs::read_dir(erased::folder()).expect("the Rust is there") {
         let folder = entry.expect("an entry").path();
         let name = folder.file_name().expect("a name").to_string_lossy().into_owned();
         if folder.is_dir() && name.starts_with('w') {
@@ -60,7 +60,7 @@ fn sources() -> Sources {
 fn each_public_function_is_called() {
     let mut sources = sources();
     let tests = files(&Path::new(env!("CARGO_MANIFEST_DIR")).join("rust/tests/proved"));
-    let facts = files(&Path::new(env!("OUT_DIR")).join("proved/facts"));
+    let facts = files(&erased::folder().join("facts"));
     tests.iter().for_each(|(_, text)| sources.add_aliases(text));
     let calls_of = |files: &[(PathBuf, String)]| -> Vec<Calls> {
         files.iter().map(|(_, text)| Calls::of(text, &sources)).collect()

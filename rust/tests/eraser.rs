@@ -3,6 +3,8 @@
 
 #[path = "../build/erase.rs"]
 mod erase;
+#[path = "../build/tidy.rs"]
+mod tidy;
 
 const CRATES: [&str; 3] = ["wenc_base", "wenc_parts", "hex"];
 const PRELUDE: &str = "use crate::proved::rt_std::prelude::*; ";
@@ -330,4 +332,138 @@ fn paths_that_are_not_known() {
     refuses("use thiserror::Display;\n", 1, "a use of `thiserror` that is not known");
     refuses("\n/// ```\nfn f() {}\n", 2, "an example without an end");
     refuses("/// ```\n// x\n/// ```\nfn f() {}\n", 2, "an example outside of documentation");
+}
+
+/// Rattle with all that is left out, as the published package has it.
+const PAGE: &str = "\
+//! A crate.
+//!
+//! ```
+//! f(3)?;
+//! ```
+ghost use specs.A.{a, b};
+
+use thiserror::Error;
+mod inner;
+
+/// It is *whole*.
+///
+/// ```
+/// f(3)?;
+/// ```
+#[tactic(auto)]
+#[derive(Drop)]
+pub struct Pair<T: Drop>
+where
+    T: Encode,
+{
+    first: T,
+    ghost whole: { length a ≡ 1 },
+}
+
+#[derive(Debug, Error)]
+pub enum Fault {
+    #[error(\"at {place}\")]
+    At { place: usize },
+    #[error(\"no memory\")]
+    Memory,
+}
+
+pub fn f(x: u8) -> Result<u8, Fault>
+    requires { x < 3 }
+    ensures { IfOk result (λ y. { y ≡ x }) }
+{
+    let y = x;
+
+    {
+        g(y);
+    }
+    Ok(y)
+}
+
+impl Encode for Pair {
+    ghost piece = { 1 };
+
+    fn encode(
+        &self,
+    ) -> u8
+        ensures { nothing }
+    {
+        1
+    }
+
+    ghost last = { 2 };
+}
+
+impl Model for Pair {
+    ghost Value = { List };
+}
+
+trait Longer {
+    fn len(&self) -> u8
+        ensures { IsSize result };
+}
+";
+
+const TIDY: &str = "\
+//! A crate.
+
+use crate::proved::rt_std::prelude::*;
+
+mod inner;
+
+/// It is *whole*.
+pub struct Pair<T>
+where
+    T: Encode,
+{
+    first: T,
+}
+
+#[derive(Debug)]
+pub enum Fault {
+    At { place: usize },
+    Memory,
+}
+
+impl ::core::fmt::Display for Fault {
+    fn fmt(&self, f: &mut ::core::fmt::Formatter<'_>) -> ::core::fmt::Result {
+        match self {
+            Fault::At { place, .. } => write!(f, \"at {place}\"),
+            Fault::Memory { .. } => write!(f, \"no memory\"),
+        }
+    }
+}
+
+impl ::core::error::Error for Fault {}
+
+pub fn f(x: u8) -> Result<u8, Fault> {
+    let y = x;
+
+    {
+        g(y);
+    }
+    Ok(y)
+}
+
+impl Encode for Pair {
+    #[inline]
+    fn encode(
+        &self,
+    ) -> u8 {
+        1
+    }
+}
+
+impl Model for Pair {}
+
+trait Longer {
+    fn len(&self) -> u8;
+}
+";
+
+#[test]
+fn the_package_has_no_line_of_what_is_left_out() {
+    let erased = erase::erase("wenc_parts", &CRATES, PAGE).unwrap_or_else(|why| panic!("{why:?}"));
+    assert_eq!(tidy::tidy(PAGE, &erased), TIDY);
 }

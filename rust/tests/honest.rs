@@ -2,6 +2,7 @@
 //! be in one of the ways that `honest/reader.rs` lists; whatever else is left out, changed, added
 //! or moved to another line is found.
 
+mod erased;
 #[path = "honest/lexer.rs"]
 mod lexer;
 #[path = "honest/reader.rs"]
@@ -13,12 +14,16 @@ use std::collections::BTreeMap;
 use std::fs;
 use std::path::{Path, PathBuf};
 
+/// Whether each token is in the line that it has in the source: not in the published package, where
+/// no line is left of contracts.
+const HAS_LINES: bool = cfg!(in_repository);
+
 /// The sources, each with what it was erased to: the crate, the path, the text and the Rust.
 fn sources() -> Vec<(String, PathBuf, String, String)> {
-    let erased = Path::new(env!("OUT_DIR")).join("proved");
+    let erased = erased::folder();
     let sources = Path::new(env!("CARGO_MANIFEST_DIR")).join("crates");
     let mut found = Vec::new();
-    for entry in fs::read_dir(erased).expect("the build script ran") {
+    for entry in fs::read_dir(erased).expect("the Rust is there") {
         let rust = entry.expect("the folder can be read").path();
         if rust.is_dir() {
             let name = rust.file_name().expect("it has a name").to_string_lossy().into_owned();
@@ -57,7 +62,7 @@ fn erased_sources_are_the_sources() {
     let sources = sources();
     assert!(sources.len() > 150, "only {} files", sources.len());
     for (name, path, old, new) in sources {
-        if let Err(why) = read(&name, &old, &new, &mut counts) {
+        if let Err(why) = read(&name, &old, &new, HAS_LINES, &mut counts) {
             panic!("{}:{why}", path.display());
         }
     }
@@ -148,7 +153,7 @@ const CHANGES: [(&str, &str, &str); 21] = [
 
 #[test]
 fn each_change_is_found() {
-    let read = |rust: &str| read("named", SOURCE, rust, &mut BTreeMap::new());
+    let read = |rust: &str| read("named", SOURCE, rust, true, &mut BTreeMap::new());
     assert_eq!(read(RUST), Ok(()));
     for (what, from, to) in CHANGES {
         assert!(RUST.contains(from), "{what}");
@@ -168,7 +173,8 @@ fn each_token_counts() {
         let (old, mut new) = (lex(&old), lex(&new));
         for at in 0..if new.len() < 500 { new.len() } else { 0 } {
             let place = format!("{}:{}", path.display(), new[at].line);
-            let mut is_found = |new: &[Token]| compare(&name, &old, new, &mut counts).is_err();
+            let mut is_found =
+                |new: &[Token]| compare(&name, &old, new, HAS_LINES, &mut counts).is_err();
             let token = new.remove(at);
             assert!(is_found(&new), "{place}: left out");
             new.insert(at, Token { line: token.line, text: format!("{}x", token.text) });

@@ -1,6 +1,7 @@
 //! `PROOF` tells of the sources that the crate is made of: their digests are those that `sha256sum`
 //! gave.
 
+mod erased;
 #[path = "proof/sha256.rs"]
 mod sha256;
 
@@ -63,10 +64,9 @@ fn sources_are_the_proved_ones() {
         let wanted = told.get(at.as_str()).unwrap_or_else(|| panic!("PROOF has no {at}"));
         assert_eq!(digest(files), *wanted, "{at} was changed after it was proved");
     }
-    // Of each crate that the build script made Rust of there was a digest.
-    let erased = Path::new(env!("OUT_DIR")).join("proved");
+    // Of each crate that Rust was made of there was a digest.
     let mut made = 0;
-    for entry in fs::read_dir(erased).expect("the build script ran") {
+    for entry in fs::read_dir(erased::folder()).expect("the Rust is there") {
         let rust = entry.expect("an entry").path();
         if rust.is_dir() {
             let name = rust.file_name().and_then(|name| name.to_str()).expect("a name");

@@ -12,6 +12,7 @@ mod functions;
 
 mod instances;
 
+#[cfg(feature = "reader")]
 mod commands;
 
 mod counts;

@@ -119,16 +119,21 @@ fn step(way: &'static str, old: usize, new: impl Into<String>) -> Step {
 }
 
 /// Reads a source of this crate beside its Rust, and counts each way in which they part. Refuses
-/// what is in no way.
+/// what is in no way, and where lines count, what is in another line.
 pub fn read(
     crate_name: &str,
     old: &str,
     new: &str,
+    has_lines: bool,
     counts: &mut BTreeMap<&'static str, usize>,
 ) -> Result<(), String> {
-    compare(crate_name, &lex(old), &lex(new), counts)?;
+    compare(crate_name, &lex(old), &lex(new), has_lines, counts)?;
     let lines = (old.lines().count(), new.lines().count());
-    if lines.0 == lines.1 { Ok(()) } else { Err(format!("{} lines became {}", lines.0, lines.1)) }
+    if lines.0 == lines.1 || !has_lines {
+        Ok(())
+    } else {
+        Err(format!("{} lines became {}", lines.0, lines.1))
+    }
 }
 
 /// Reads the tokens of a source beside those of its Rust, and counts each way in which they part.
@@ -137,19 +142,21 @@ pub fn compare(
     crate_name: &str,
     old: &[Token],
     new: &[Token],
+    has_lines: bool,
     counts: &mut BTreeMap<&'static str, usize>,
 ) -> Result<(), String> {
     let mut source = Source::new(crate_name, old);
     let mut rest = new;
     if !rest.is_empty() {
         // It stands in the line of what documents the first item.
-        let line = rest[0].line;
+        let line = has_lines.then_some(rest[0].line);
         take("prelude", line, "use crate::proved::rt_std::prelude::*;", &mut rest)?;
         counts.insert("prelude", 1);
     }
     while let Some(first) = old.get(source.at) {
         let Step { way, old, new } = source.step();
-        take(way, first.line, &new, &mut rest)?;
+        let line = has_lines.then_some(first.line);
+        take(way, line, &new, &mut rest).map_err(|why| format!("{}: {why}", first.line))?;
         *counts.entry(way).or_default() += 1;
         source.at += old;
     }
@@ -159,8 +166,8 @@ pub fn compare(
     }
 }
 
-/// Takes these tokens, of which the first stands in this line, from the rest of the Rust.
-fn take(way: &str, line: usize, wanted: &str, rest: &mut &[Token]) -> Result<(), String> {
+/// Takes these tokens from the rest of the Rust. The first stands in this line, if one is told.
+fn take(way: &str, line: Option<usize>, wanted: &str, rest: &mut &[Token]) -> Result<(), String> {
     let wanted = if way == "kept" {
         vec![wanted.to_owned()]
     } else {
@@ -169,10 +176,10 @@ fn take(way: &str, line: usize, wanted: &str, rest: &mut &[Token]) -> Result<(),
     for (n, text) in wanted.iter().enumerate() {
         let Some((found, behind)) = rest.split_first().filter(|(f, _)| f.text == *text) else {
             let found = rest.first().map_or("", |found| &found.text);
-            return Err(format!("{line}: {text:?} became {found:?} ({way})"));
+            return Err(format!("{text:?} became {found:?} ({way})"));
         };
-        if n == 0 && found.line != line || found.line < line {
-            return Err(format!("{line}: it became line {} ({way})", found.line));
+        if line.is_some_and(|line| n == 0 && found.line != line || found.line < line) {
+            return Err(format!("it became line {} ({way})", found.line));
         }
         *rest = behind;
     }

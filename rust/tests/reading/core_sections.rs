@@ -1,8 +1,9 @@
 //! Core modules section by section.
 
+use std::ops::Range;
 use std::path::Path;
-use wenc::tree::ItemTree;
-use wenc::{CoreSection, CoreSections, ModuleFault, SectionId, list};
+use wenc::tree::{CoreEntityType, CoreMemoryType, ItemTree};
+use wenc::{CoreItem, CoreSection, CoreSections, ExportKind, ModuleFault, SectionId, Unread, list};
 
 fn all(module: &[u8]) -> Vec<Result<CoreSection<'_>, ModuleFault>> {
     CoreSections::new(module).expect("it has a header").collect()
@@ -54,6 +55,63 @@ fn faults_have_their_places() {
     for (fault, text) in texts {
         let fault: Box<dyn std::error::Error> = fault.into();
         assert_eq!(fault.to_string(), text);
+    }
+}
+
+/// The items of the only section of a module, after that section's count.
+fn items(section: &[u8]) -> (Option<u32>, Vec<Result<(Range<usize>, CoreItem), ModuleFault>>) {
+    let module = [b"\0asm\x01\0\0\0", section].concat();
+    let section = CoreSections::new(&module).expect("a header").next().expect("a section");
+    let section = section.expect("it is framed");
+    (section.count(), section.items().collect())
+}
+
+#[test]
+fn items_have_their_places() {
+    let memory = CoreMemoryType { minimum: 1, maximum: None, memory64: false, shared: false };
+    let import = |module: &str, name: &str, ty| CoreItem::Import {
+        module: module.into(),
+        name: name.into(),
+        ty,
+    };
+    assert_eq!(
+        items(b"\x02\x0f\x02\x03env\x01f\0\x05\0\x01m\x02\0\x01"),
+        (
+            Some(2),
+            vec![
+                Ok((11..19, import("env", "f", CoreEntityType::Function(5)))),
+                Ok((19..25, import("", "m", CoreEntityType::Memory(memory)))),
+            ],
+        ),
+    );
+    let export = CoreItem::Export { name: "g".into(), kind: ExportKind::Global, index: 128 };
+    assert_eq!(items(b"\x07\x06\x01\x01g\x03\x80\x01"), (Some(1), vec![Ok((11..16, export))]),);
+    let start = CoreItem::Start { function: 7 };
+    assert_eq!(items(b"\x08\x01\x07"), (Some(1), vec![Ok((10..11, start))]));
+}
+
+#[test]
+fn items_that_are_not_read_have_their_places() {
+    let bad = |unread| vec![Err(ModuleFault::BadItem { unread })];
+    // of a section whose items aren't read
+    assert_eq!(items(b"\x01\x04\x01\x60\0\0"), (Some(1), vec![]));
+    assert_eq!(items(b"\x01\0"), (None, bad(Unread::Count { place: 10 })));
+    assert_eq!(items(b"\x07\x01\x80"), (None, bad(Unread::Count { place: 10 })));
+    assert_eq!(items(b"\0\x02\x01x"), (None, vec![]));
+    assert_eq!(items(b"\x0e\x01\x01"), (None, vec![]));
+    let item = |number, place| bad(Unread::Item { number, place });
+    assert_eq!(items(b"\x08\0"), (Some(1), item(0, 10)));
+    assert_eq!(items(b"\x07\x05\x02\x01g\x05\0"), (Some(2), item(0, 11)));
+    let behind = bad(Unread::Behind { place: 11 });
+    assert_eq!(items(b"\x02\x02\0\0"), (Some(0), behind.clone()));
+    assert_eq!(items(b"\x08\x02\x07\0").1[1..], behind);
+    let texts = [
+        (Unread::Count { place: 10 }, "bad count at 0xa"),
+        (Unread::Item { number: 1, place: 17 }, "bad item 1 at 0x11"),
+        (Unread::Behind { place: 16 }, "bytes behind the last item at 0x10"),
+    ];
+    for (unread, text) in texts {
+        assert_eq!(ModuleFault::BadItem { unread }.to_string(), text);
     }
 }
 

@@ -2,6 +2,7 @@
 
 use crate::component::sections;
 use crate::shared::{collections, encoders, lenders, on};
+#[cfg(feature = "reader")]
 use crate::tree::CoreTypeTree;
 use crate::twins::twins;
 use crate::{CoreTypeEncoder, ModuleType};
@@ -24,11 +25,6 @@ impl<'a> ComponentCoreTypeEncoder<'a> {
         fn module | try_module(self, ty: &ModuleType) -> () {
             Ok(on!(self.by, CoreBy, encoder => encoder.module(&ty.0))?)
         }
-
-        /// Encodes the type of a tree, which ends the type.
-        fn tree | try_tree(self, ty: &CoreTypeTree) -> () {
-            Ok(on!(self.by, CoreBy, encoder => encoder.tree(ty))?)
-        }
     }
 
     /// Returns an encoder of a core type that isn't a module type.
@@ -36,6 +32,16 @@ impl<'a> ComponentCoreTypeEncoder<'a> {
     #[inline]
     pub fn core(self) -> CoreTypeEncoder<'a> {
         on!(self.by, CoreBy, encoder => encoder.core().into())
+    }
+}
+
+#[cfg(feature = "reader")]
+impl ComponentCoreTypeEncoder<'_> {
+    twins! {
+        /// Encodes the type of a tree, which ends the type.
+        fn tree | try_tree(self, ty: &CoreTypeTree) -> () {
+            Ok(on!(self.by, CoreBy, encoder => encoder.tree(ty))?)
+        }
     }
 }
 

@@ -2,6 +2,7 @@
 
 use super::{ComponentValType, PrimitiveValType};
 use crate::shared::{encoders, on};
+#[cfg(feature = "reader")]
 use crate::tree::DefinedTree;
 use crate::twins::twins;
 
@@ -38,11 +39,6 @@ encoders! {
 
 impl ComponentDefinedTypeEncoder<'_> {
     twins! {
-        /// Encodes the type of a tree.
-        fn tree | try_tree(self, ty: &DefinedTree) -> () {
-            Ok(on!(self.by, DefinedBy, encoder => encoder.tree(ty))?)
-        }
-
         /// Defines a primitive type.
         fn primitive | try_primitive(self, ty: PrimitiveValType) -> () {
             Ok(on!(self.by, DefinedBy, encoder => encoder.primitive(ty))?)
@@ -164,6 +160,16 @@ impl ComponentDefinedTypeEncoder<'_> {
         /// Defines a `stream`, optionally with a payload type.
         fn stream | try_stream(self, payload: Option<ComponentValType>) -> () {
             Ok(on!(self.by, DefinedBy, encoder => encoder.stream(payload))?)
+        }
+    }
+}
+
+#[cfg(feature = "reader")]
+impl ComponentDefinedTypeEncoder<'_> {
+    twins! {
+        /// Encodes the type of a tree.
+        fn tree | try_tree(self, ty: &DefinedTree) -> () {
+            Ok(on!(self.by, DefinedBy, encoder => encoder.tree(ty))?)
         }
     }
 }

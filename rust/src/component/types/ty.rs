@@ -3,6 +3,7 @@
 use super::{ComponentDefinedTypeEncoder, ComponentFuncTypeEncoder, ComponentType, InstanceType};
 use crate::ValType;
 use crate::shared::{encoders, on};
+#[cfg(feature = "reader")]
 use crate::tree::TypeTree;
 use crate::twins::twins;
 
@@ -29,21 +30,6 @@ impl<'a> ComponentTypeEncoder<'a> {
         fn instance | try_instance(self, ty: &InstanceType) -> () {
             Ok(on!(self.by, TypeBy, encoder => encoder.instance(&ty.0))?)
         }
-
-        /// Encodes the type of a tree, which ends the type.
-        ///
-        /// ```
-        /// use wenc::tree::{DefinedTree, TypeTree};
-        /// use wenc::{ComponentBuilder, PrimitiveValType};
-        ///
-        /// let mut builder = ComponentBuilder::default();
-        /// let bytes = DefinedTree::List(PrimitiveValType::U8.into());
-        /// builder.ty(Some("bytes")).1.tree(&TypeTree::Defined(bytes));
-        /// assert_eq!(builder.finish()[8..], [0x07, 0x03, 0x01, 0x70, 0x7d]);
-        /// ```
-        fn tree | try_tree(self, ty: &TypeTree) -> () {
-            Ok(on!(self.by, TypeBy, encoder => encoder.tree(ty))?)
-        }
     }
 
     /// Returns an encoder of a function type.
@@ -66,6 +52,26 @@ impl<'a> ComponentTypeEncoder<'a> {
         fn resource | try_resource(self, rep: ValType, dtor: Option<u32>) -> () {
             let rep = rep.to_proved()?;
             Ok(on!(self.by, TypeBy, encoder => encoder.resource(rep, dtor))?)
+        }
+    }
+}
+
+#[cfg(feature = "reader")]
+impl ComponentTypeEncoder<'_> {
+    twins! {
+        /// Encodes the type of a tree, which ends the type.
+        ///
+        /// ```
+        /// use wenc::tree::{DefinedTree, TypeTree};
+        /// use wenc::{ComponentBuilder, PrimitiveValType};
+        ///
+        /// let mut builder = ComponentBuilder::default();
+        /// let bytes = DefinedTree::List(PrimitiveValType::U8.into());
+        /// builder.ty(Some("bytes")).1.tree(&TypeTree::Defined(bytes));
+        /// assert_eq!(builder.finish()[8..], [0x07, 0x03, 0x01, 0x70, 0x7d]);
+        /// ```
+        fn tree | try_tree(self, ty: &TypeTree) -> () {
+            Ok(on!(self.by, TypeBy, encoder => encoder.tree(ty))?)
         }
     }
 }

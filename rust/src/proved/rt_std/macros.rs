@@ -7,7 +7,7 @@ macro_rules! format_in {
     }};
 }
 
-#[cfg(all(test, feature = "std"))]
+#[cfg(test)]
 macro_rules! vec_in {
     (in $alloc:expr; $($value:expr),* $(,)?) => {{
         let values = [$($value),*];
@@ -21,5 +21,5 @@ macro_rules! vec_in {
 }
 
 pub(crate) use format_in as format;
-#[cfg(all(test, feature = "std"))]
+#[cfg(test)]
 pub(crate) use vec_in as vec;

@@ -1,0 +1,80 @@
+//! Words for what the format has numbers for, and for counts.
+
+use wenc::tree::Space;
+use wenc::{ComponentSectionId, SectionId};
+
+/// The sections of components, with their words.
+const SECTIONS: [(ComponentSectionId, &str); 12] = [
+    (ComponentSectionId::CoreCustom, "custom"),
+    (ComponentSectionId::CoreModule, "core module"),
+    (ComponentSectionId::CoreInstance, "core instance"),
+    (ComponentSectionId::CoreType, "core type"),
+    (ComponentSectionId::Component, "component"),
+    (ComponentSectionId::Instance, "instance"),
+    (ComponentSectionId::Alias, "alias"),
+    (ComponentSectionId::Type, "type"),
+    (ComponentSectionId::CanonicalFunction, "canonical function"),
+    (ComponentSectionId::Start, "start"),
+    (ComponentSectionId::Import, "import"),
+    (ComponentSectionId::Export, "export"),
+];
+
+/// The sections of core modules, with their words.
+const CORE_SECTIONS: [(SectionId, &str); 14] = [
+    (SectionId::Custom, "custom"),
+    (SectionId::Type, "type"),
+    (SectionId::Import, "import"),
+    (SectionId::Function, "function"),
+    (SectionId::Table, "table"),
+    (SectionId::Memory, "memory"),
+    (SectionId::Global, "global"),
+    (SectionId::Export, "export"),
+    (SectionId::Start, "start"),
+    (SectionId::Element, "element"),
+    (SectionId::Code, "code"),
+    (SectionId::Data, "data"),
+    (SectionId::DataCount, "data count"),
+    (SectionId::Tag, "tag"),
+];
+
+/// The word for a section of a component, which has an id from 0 to 11.
+pub fn section(id: u8) -> Option<&'static str> {
+    found(&SECTIONS, id)
+}
+
+/// The word for a section of a core module; `None` where its id is above 13.
+pub fn core_section(id: u8) -> Option<&'static str> {
+    found(&CORE_SECTIONS, id)
+}
+
+fn found<I: Copy>(all: &[(I, &'static str)], id: u8) -> Option<&'static str>
+where
+    u8: From<I>,
+{
+    all.iter().find(|(of, _)| u8::from(*of) == id).map(|(_, word)| *word)
+}
+
+/// The word for an index space.
+pub fn space(space: Space) -> &'static str {
+    match space {
+        Space::CoreModules => "core module",
+        Space::CoreFuncs => "core func",
+        Space::CoreTypes => "core type",
+        Space::CoreMemories => "core memory",
+        Space::CoreTables => "core table",
+        Space::CoreInstances => "core instance",
+        Space::CoreTags => "core tag",
+        Space::CoreGlobals => "core global",
+        Space::Funcs => "func",
+        Space::Instances => "instance",
+        Space::Values => "value",
+        Space::Components => "component",
+        Space::Types => "type",
+    }
+}
+
+/// So many of these: "1 byte", "2 bytes".
+pub fn counted(count: usize, word: &str) -> String {
+    let end = if count == 1 { "" } else { "s" };
+    format!("{count} {word}{end}")
+}

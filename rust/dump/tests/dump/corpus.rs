@@ -1,0 +1,163 @@
+//! What is printed of the components of the corpus.
+
+use crate::dump;
+use crate::values::Value;
+use std::fs;
+use std::path::{Path, PathBuf};
+use std::process::Output;
+use wenc::tree::Space;
+use wenc::{ListedSection, list};
+
+pub fn corpus(of: &str) -> PathBuf {
+    Path::new(env!("CARGO_MANIFEST_DIR")).join("../tests/real/corpus").join(of)
+}
+
+/// The FNV-1a hash of 64 bits.
+fn digest(bytes: &[u8]) -> u64 {
+    let prime = 0x0100_0000_01b3;
+    bytes
+        .iter()
+        .fold(0xcbf2_9ce4_8422_2325, |hash, byte| (hash ^ u64::from(*byte)).wrapping_mul(prime))
+}
+
+#[test]
+fn digests_are_fnv() {
+    assert_eq!(digest(b""), 0xcbf2_9ce4_8422_2325);
+    assert_eq!(digest(b"a"), 0xaf63_dc4c_8601_ec8c);
+    assert_eq!(digest(b"foobar"), 0x8594_4171_f739_67e8);
+}
+
+/// The names of the components.
+fn names() -> Vec<String> {
+    let files = fs::read_dir(corpus("wasm")).expect("the corpus is there");
+    let names = files.map(|file| file.expect("it is there").path());
+    let mut names: Vec<String> = names
+        .map(|path| path.file_stem().expect("it has a name").to_string_lossy().into_owned())
+        .collect();
+    names.sort();
+    names
+}
+
+/// The lines of what is printed and their digest, with what is said of the component.
+fn line(name: &str, format: &str, output: &Output) -> String {
+    let lines = output.stdout.iter().filter(|byte| **byte == b'\n').count();
+    let err = String::from_utf8_lossy(&output.stderr);
+    let why = err.strip_suffix('\n').and_then(|err| err.split_once(".wasm: "));
+    assert_eq!(output.status.code(), Some(why.is_some().into()), "{name}");
+    let why = why.map(|(_, why)| format!(", {why}")).unwrap_or_default();
+    format!("{name}{format}: {lines} lines, {:016x}{why}\n", digest(&output.stdout))
+}
+
+/// `corpus/dumps.txt` has two lines for each component, of its text and of that with all bytes.
+/// Where they are to be others, `DUMPS=write` in the environment writes them.
+#[test]
+fn the_corpus() {
+    let mut lines = String::new();
+    for name in names() {
+        let file = corpus(&format!("wasm/{name}.wasm"));
+        for (options, format) in [(&[][..], ""), (&["--hex"], " in hexadecimal")] {
+            lines += &line(&name, format, &dump(options, &file));
+        }
+    }
+    if std::env::var_os("DUMPS").is_some() {
+        fs::write(corpus("dumps.txt"), &lines).expect("it is written");
+    }
+    let stored = fs::read_to_string(corpus("dumps.txt")).expect("the corpus is there");
+    for (is, wanted) in lines.lines().zip(stored.lines()) {
+        assert_eq!(is, wanted);
+    }
+    let faults = lines.lines().filter(|line| line.contains(" in the section at ")).count();
+    assert_eq!((lines.lines().count(), stored.lines().count(), faults), (92, 92, 12));
+}
+
+#[test]
+fn whole_outputs_of_the_corpus() {
+    for name in ["29-empty", "10-resource-export", "35-start"] {
+        let stored = corpus(&format!("dumps/{name}.txt"));
+        let output = dump(&[], &corpus(&format!("wasm/{name}.wasm")));
+        if std::env::var_os("DUMPS").is_some() {
+            fs::write(&stored, &output.stdout).expect("it is written");
+        }
+        let wanted = fs::read_to_string(stored).expect("it is there");
+        assert_eq!(String::from_utf8_lossy(&output.stdout), wanted, "{name}");
+    }
+}
+
+/// No line that can be folded is longer than 100 columns: what is, is one text or one name.
+#[test]
+fn lines_are_folded() {
+    for name in names() {
+        let output = dump(&[], &corpus(&format!("wasm/{name}.wasm")));
+        let text = String::from_utf8(output.stdout).expect("it is text");
+        for line in text.lines().filter(|line| line.chars().count() > 100) {
+            assert!(!line.contains(['(', '{', '[']) || line.contains('"'), "{line}");
+        }
+    }
+}
+
+/// The JSON of each component has the sections and the indices that `list` finds, and its sections
+/// are one after the other.
+#[test]
+fn json_is_what_is_listed() {
+    let mut compared = 0;
+    for name in names() {
+        let file = corpus(&format!("wasm/{name}.wasm"));
+        let output = dump(&["--json"], &file);
+        let json = Value::read(std::str::from_utf8(&output.stdout).expect("it is text"));
+        let bytes = fs::read(file).expect("it is there");
+        let Ok(listing) = list(&bytes) else {
+            assert_ne!(json.at("fault"), &Value::Null, "{name}");
+            continue;
+        };
+        let component = json.at("component");
+        let mut next = [0; 13];
+        let mut end = 8;
+        let sections = component.at("sections").list();
+        assert_eq!(sections.len(), listing.sections.len(), "{name}");
+        for (is, listed) in sections.iter().zip(&listing.sections) {
+            assert_eq!(is.at("start").number(), end, "{name}");
+            end = is.at("end").number();
+            section(is, listed, &mut next);
+        }
+        assert_eq!((component.at("start").number(), end), (0, bytes.len() as u128), "{name}");
+        assert_eq!((next, json.at("fault")), (listing.counts, &Value::Null), "{name}");
+        compared += 1;
+    }
+    assert_eq!(compared, 40);
+}
+
+/// The section is the one that was listed, and its items have the next indices.
+fn section(is: &Value, listed: &ListedSection, next: &mut [u128; 13]) {
+    let (id, start) = (is.at("id").number(), is.at("start").number());
+    assert_eq!((id, start), (listed.id.into(), listed.place as u128));
+    let items = is.at("items").list();
+    assert_eq!(items.len(), listed.items.len());
+    assert_eq!(is.at("count").number(), items.len() as u128);
+    for (item, listed) in items.iter().zip(&listed.items) {
+        let Some((space, count)) = listed.indices() else {
+            assert_eq!((item.at("space"), item.at("index")), (&Value::Null, &Value::Null));
+            continue;
+        };
+        assert_eq!(item.at("space").text(), WORDS[space.number()]);
+        assert_eq!(item.at("index").number(), next[space.number()]);
+        assert_eq!(item.at("count").number(), count.into());
+        next[space.number()] += u128::from(count);
+    }
+}
+
+/// The words for the index spaces.
+const WORDS: [&str; Space::ALL.len()] = [
+    "core module",
+    "core func",
+    "core type",
+    "core memory",
+    "core table",
+    "core instance",
+    "core tag",
+    "core global",
+    "func",
+    "instance",
+    "value",
+    "component",
+    "type",
+];

@@ -1,0 +1,21 @@
+//! The program `wenc`: it runs a script of commands on standard input, and prints their answers and
+//! the component that they build; or it lists a component's sections. docs/SCRIPTS.md tells of
+//! both.
+
+use std::io::{self, Write};
+use std::process::ExitCode;
+
+/// Standard output. Where it can be had as a file it is one: std's own looks for the end of a line
+/// in all that is written.
+fn output() -> Box<dyn Write> {
+    #[cfg(unix)]
+    if let Ok(descriptor) = std::os::fd::AsFd::as_fd(&io::stdout()).try_clone_to_owned() {
+        return Box::new(std::fs::File::from(descriptor));
+    }
+    Box::new(io::stdout())
+}
+
+fn main() -> ExitCode {
+    let (mut input, mut out, mut err) = (io::stdin(), output(), io::stderr());
+    ExitCode::from(wenc_script::wenc(std::env::args_os(), &mut input, &mut out, &mut err))
+}

@@ -1,0 +1,151 @@
+//! The program `wenc`: what it prints, its statuses, and what it says on standard error.
+
+#[cfg(unix)]
+#[path = "program/manual.rs"]
+mod manual;
+#[path = "program/scripts.rs"]
+mod scripts;
+
+use scripts::{BAD, SCRIPTS};
+use std::ffi::OsStr;
+use std::io::Write;
+use std::process::{Command, Output, Stdio};
+use std::thread;
+
+fn wenc<A: AsRef<OsStr>>(args: impl IntoIterator<Item = A>) -> Command {
+    let mut command = Command::new(env!("CARGO_BIN_EXE_wenc"));
+    command.args(args).stdin(Stdio::piped()).stdout(Stdio::piped()).stderr(Stdio::piped());
+    command
+}
+
+/// Runs the program with this input. It may end before it has read that.
+fn run(command: &mut Command, input: &[u8]) -> Output {
+    let mut child = command.spawn().expect("the program stands there");
+    let mut stdin = child.stdin.take().expect("it is a pipe");
+    thread::scope(|scope| {
+        scope.spawn(move || drop(stdin.write_all(input)));
+        child.wait_with_output().expect("it ends")
+    })
+}
+
+/// Runs the program, which has this status, prints this, and says that on standard error.
+fn expect<A: AsRef<OsStr>>(
+    args: impl IntoIterator<Item = A>,
+    input: &[u8],
+    (status, out, err): (i32, &str, &str),
+) {
+    let told = run(&mut wenc(args), input);
+    let script = String::from_utf8_lossy(input);
+    assert_eq!(String::from_utf8_lossy(&told.stdout), out, "{script}");
+    assert_eq!(String::from_utf8_lossy(&told.stderr), err, "{script}");
+    assert_eq!(told.status.code(), Some(status), "{script}");
+}
+
+const NO_ARGUMENTS: [&str; 0] = [];
+
+#[test]
+fn scripts_are_run() {
+    for (script, status, out) in SCRIPTS {
+        expect(NO_ARGUMENTS, script, (status, out, ""));
+    }
+}
+
+#[test]
+fn bad_scripts_are_told_by_their_line() {
+    for (script, line) in BAD {
+        expect(NO_ARGUMENTS, script, (1, "", &format!("line {line}\n")));
+    }
+}
+
+#[test]
+fn what_is_refused_adds_nothing() {
+    let script = b"start 0 4294967295\nstart 0 1\nresource.drop 5\n";
+    let out = "0\nrefused 2\n0\n0061736d0d00010009070000ffffffff0f0803010305\n";
+    expect(NO_ARGUMENTS, script, (2, out, ""));
+}
+
+#[test]
+fn components_are_listed() {
+    let listings = [
+        ("0061736d0d000100", "0 0 0 0 0 0 0 0 0 0 0 0 0\n"),
+        (
+            "0061736D0D0001000a060100016601000b0701000167010000\n",
+            "10 1\n11 1\n0 0 0 0 0 0 0 0 2 0 0 0 0\n",
+        ),
+        (
+            "0061736d0d00010009070700ffffffff0f09070700ffffffff0f",
+            "9 1\n9 1\n0 0 0 0 0 0 0 0 0 0 8589934590 0 0\n",
+        ),
+    ];
+    for (digits, out) in listings {
+        expect(["list"], digits.as_bytes(), (0, out, ""));
+    }
+}
+
+#[test]
+fn what_is_not_listed_is_told() {
+    let faults = [
+        ("", "NotAComponent at 0\n"),
+        ("0061736d0d000100060501", "BadSection at 8\n"),
+        ("0061736d0d0001000600\n", "BadItem at 8\n"),
+        ("0061736d0d00010006020109", "BadItem at 8\n"),
+    ];
+    for (digits, err) in faults {
+        expect(["list"], digits.as_bytes(), (3, "", err));
+    }
+    for digits in ["0", "0g", " 00", "00\n\n", "00\r\n"] {
+        expect(["list"], digits.as_bytes(), (1, "", "line 1\n"));
+    }
+}
+
+#[test]
+fn other_arguments_have_the_usage_told() {
+    for args in [&["x"][..], &[""], &["List"], &["list", "list"], &["list", ""]] {
+        expect(args, b"import f func 0\n", (1, "", "usage\n"));
+    }
+}
+
+#[cfg(unix)]
+#[test]
+fn arguments_that_are_no_text_have_the_usage_told() {
+    use std::os::unix::ffi::OsStrExt;
+    use std::os::unix::process::CommandExt;
+    let no_text = OsStr::from_bytes(b"\xff");
+    expect([no_text], b"", (1, "", "usage\n"));
+    expect([OsStr::new("list"), no_text], b"", (1, "", "usage\n"));
+    // the program's name is told with the arguments
+    let told = run(wenc(["list"]).arg0(no_text), b"0061736d0d000100");
+    assert_eq!((told.status.code(), &told.stderr[..]), (Some(1), &b"usage\n"[..]));
+    let told = run(wenc(NO_ARGUMENTS).arg0(no_text), b"");
+    assert_eq!((told.status.code(), &told.stdout[..]), (Some(0), &b"0061736d0d000100\n"[..]));
+}
+
+/// A device that is full takes no byte. (A pipe whose reader is gone isn't certain to refuse: a
+/// process that another test starts at that moment has its reader too.)
+#[cfg(target_os = "linux")]
+#[test]
+fn writes_that_fail_have_a_status() {
+    for (args, input) in [(&[][..], &b"import f func 0\n"[..]), (&["list"], b"0061736d0d000100")] {
+        let full = std::fs::File::options().write(true).open("/dev/full").expect("it is there");
+        let told = run(wenc(args).stdout(full), input);
+        assert_eq!((told.status.code(), &told.stderr[..]), (Some(4), &b""[..]));
+    }
+}
+
+/// A folder can't be read.
+#[cfg(unix)]
+#[test]
+fn reads_that_fail_have_a_status() {
+    for args in [&[][..], &["list"]] {
+        let folder = std::fs::File::open(env!("CARGO_MANIFEST_DIR")).expect("it is there");
+        let told = wenc(args).stdin(folder).output().expect("it ends");
+        assert_eq!(told.status.code(), Some(4));
+        assert_eq!((&told.stdout[..], &told.stderr[..]), (&b""[..], &b""[..]));
+    }
+}
+
+#[cfg(unix)]
+#[test]
+fn of_the_manual() {
+    manual::run(env!("CARGO_BIN_EXE_wenc"), 2);
+}

@@ -1,0 +1,51 @@
+//! The examples of a man page: each command prints the lines that the page has after it.
+
+use std::path::{Path, PathBuf};
+use std::process::Command;
+
+/// The commands of a page, each with the lines after it.
+fn examples(page: &str) -> Vec<(String, String)> {
+    let page = page.replace("\\-", "-").replace("\\e", "\\");
+    let mut examples: Vec<(String, String)> = Vec::new();
+    for block in page.split("\n.EX\n").skip(1) {
+        let (block, _) = block.split_once(".EE\n").expect("the example ends");
+        for line in block.lines() {
+            match line.strip_prefix("$ ") {
+                Some(command) => examples.push((command.into(), String::new())),
+                None => {
+                    let (_, printed) = examples.last_mut().expect("a command is in front");
+                    *printed += line;
+                    *printed += "\n";
+                }
+            }
+        }
+    }
+    examples
+}
+
+/// A folder of this test's own, for the files that the examples write.
+fn room(name: &str) -> PathBuf {
+    let room = Path::new(env!("CARGO_TARGET_TMPDIR")).join(name);
+    std::fs::create_dir_all(&room).expect("it is made");
+    room
+}
+
+/// Runs the examples of a program's page, of which there are so many, with the program in reach.
+pub fn run(program: &str, number: usize) {
+    let program = Path::new(program);
+    let (folder, name) = (program.parent().expect("a folder has it"), program.file_stem());
+    let name = name.expect("it has a name").to_string_lossy();
+    let page = Path::new(env!("CARGO_MANIFEST_DIR")).join(format!("../../docs/man/{name}.1"));
+    let page = std::fs::read_to_string(page).expect("the page is there");
+    let path = format!("{}:/usr/bin:/bin", folder.display());
+    let examples = examples(&page);
+    assert_eq!(examples.len(), number, "{name}");
+    let room = room(&name);
+    for (command, printed) in examples {
+        let mut shell = Command::new("sh");
+        let shell = shell.args(["-c", &command]).env("PATH", &path).current_dir(&room);
+        let told = shell.output().expect("the shell is there");
+        assert_eq!(String::from_utf8_lossy(&told.stdout), printed, "{command}");
+        assert!(told.status.success() && told.stderr.is_empty(), "{command}");
+    }
+}

@@ -1,0 +1,167 @@
+//! The imports, the exports and the start of a core module.
+
+use crate::proved::rt_std::alloc::Global;
+use crate::proved::rt_std::string::String as ProvedString;
+use crate::proved::wenc_decode::Decode;
+use crate::proved::wenc_list::Unread;
+use crate::proved::wenc_read::{Refusal, name_of, u32_of};
+use crate::tree::CoreEntityType;
+use crate::{CoreSection, ExportKind, ModuleFault, SectionId};
+use alloc::string::String;
+use core::ops::Range;
+
+/// An item of a core module (WebAssembly 3.0, binary format, "Import Section", "Export Section" and
+/// "Start Section").
+#[derive(Clone, Debug, PartialEq, Eq)]
+pub enum CoreItem {
+    /// An import.
+    Import {
+        /// The name of the module that it is imported from.
+        module: String,
+        /// Its name in that module.
+        name: String,
+        /// Its type.
+        ty: CoreEntityType,
+    },
+    /// An export.
+    Export {
+        /// Its name.
+        name: String,
+        /// What is exported.
+        kind: ExportKind,
+        /// The index of what is exported, among those of its kind.
+        index: u32,
+    },
+    /// The function that is called at instantiation.
+    Start {
+        /// Its index.
+        function: u32,
+    },
+}
+
+impl CoreItem {
+    /// The item that begins the bytes in a section of this kind, and what is after it.
+    fn first(kind: SectionId, bytes: &[u8]) -> Result<(Self, &[u8]), Refusal> {
+        Ok(match kind {
+            SectionId::Import => {
+                let (module, rest) = name_of(Global, bytes)?;
+                let (name, rest) = name_of(Global, rest)?;
+                let (ty, rest) = CoreEntityType::decode(Global, rest)?;
+                (Self::Import { module: module.into(), name: name.into(), ty }, rest)
+            }
+            SectionId::Export => {
+                // They are encoded as those of a core instance.
+                let (export, rest) = Decode::decode(Global, bytes)?;
+                let (name, kind, index): (ProvedString, _, _) = export;
+                (Self::Export { name: name.into(), kind, index }, rest)
+            }
+            SectionId::Start => {
+                let (function, rest) = u32_of(bytes)?;
+                (Self::Start { function }, rest)
+            }
+            _ => return Err(Refusal::Malformed),
+        })
+    }
+}
+
+impl<'a> CoreSection<'a> {
+    /// Returns the number of its items, as the section says it; a start is one. `None` for a custom
+    /// section and for an id above 13, and where the section has no count.
+    pub fn count(&self) -> Option<u32> {
+        match self.kind()? {
+            SectionId::Custom => None,
+            SectionId::Start => Some(1),
+            _ => u32_of(self.data).ok().map(|(count, _)| count),
+        }
+    }
+
+    /// Returns its imports, its exports or its start. Of the sections of other items the count is
+    /// read and nothing else.
+    ///
+    /// ```
+    /// use wenc::tree::CoreEntityType;
+    /// use wenc::{CoreItem, CoreSections, ModuleFault, Unread};
+    ///
+    /// // two imports, of which the second ends too early
+    /// let module = b"\0asm\x01\0\0\0\x02\x0a\x02\x01m\x01f\0\x05\x01m\x01";
+    /// let imports = CoreSections::new(module)?.next().unwrap()?;
+    /// assert_eq!(imports.count(), Some(2));
+    ///
+    /// let mut items = imports.items();
+    /// let (range, item) = items.next().unwrap()?;
+    /// let (module, name) = ("m".into(), "f".into());
+    /// assert_eq!(range, 11..17);
+    /// assert_eq!(item, CoreItem::Import { module, name, ty: CoreEntityType::Function(5) });
+    ///
+    /// let unread = Unread::Item { number: 1, place: 17 };
+    /// assert_eq!(items.next(), Some(Err(ModuleFault::BadItem { unread })));
+    /// assert_eq!(items.next(), None);
+    /// # Ok::<(), ModuleFault>(())
+    /// ```
+    pub fn items(&self) -> CoreItems<'a> {
+        let (kind, left) = (self.kind(), self.count());
+        let rest = match (kind, left) {
+            (Some(SectionId::Start), _) | (_, None) => self.data,
+            _ => u32_of(self.data).map_or(self.data, |(_, rest)| rest),
+        };
+        let is_read = |kind: &SectionId| match kind {
+            SectionId::Custom => false,
+            SectionId::Import | SectionId::Export | SectionId::Start => true,
+            _ => left.is_none(),
+        };
+        CoreItems { kind: kind.filter(is_read), left, number: 0, rest, end: self.range.end }
+    }
+}
+
+/// An iterator over the items of a section of a core module, each with its byte offsets in the
+/// module. It ends after an error.
+#[derive(Clone, Debug)]
+pub struct CoreItems<'a> {
+    /// Of the section; `None` where nothing of it is read, and after an error.
+    kind: Option<SectionId>,
+    /// How many items follow, as the section says it.
+    left: Option<u32>,
+    /// How many came.
+    number: u32,
+    rest: &'a [u8],
+    /// The byte offset of the section's end.
+    end: usize,
+}
+
+impl CoreItems<'_> {
+    /// The next item, with its byte offsets.
+    fn take(&mut self, kind: SectionId) -> Option<Result<(Range<usize>, CoreItem), ModuleFault>> {
+        let place = self.end - self.rest.len();
+        let unread = match self.left {
+            Some(0) if self.rest.is_empty() => return None,
+            Some(0) => Unread::Behind { place },
+            None => Unread::Count { place },
+            Some(left) => match CoreItem::first(kind, self.rest) {
+                Ok((item, rest)) => {
+                    (self.left, self.number, self.rest) = (Some(left - 1), self.number + 1, rest);
+                    return Some(Ok((place..self.end - rest.len(), item)));
+                }
+                Err(Refusal::Memory) => return Some(Err(ModuleFault::NoMemory)),
+                Err(Refusal::Malformed) => Unread::Item { number: self.number, place },
+            },
+        };
+        Some(Err(ModuleFault::BadItem { unread }))
+    }
+}
+
+/// # Errors
+///
+/// [`ModuleFault::BadItem`] where no count or no item begins, or where bytes follow the last item;
+/// or [`ModuleFault::NoMemory`].
+impl Iterator for CoreItems<'_> {
+    type Item = Result<(Range<usize>, CoreItem), ModuleFault>;
+
+    fn next(&mut self) -> Option<Self::Item> {
+        let kind = self.kind?;
+        let next = self.take(kind);
+        if !matches!(next, Some(Ok(_))) {
+            self.kind = None;
+        }
+        next
+    }
+}
