@@ -2,7 +2,6 @@
 
 use crate::proved::wenc_base::Fault;
 use core::fmt;
-use core::hash::{Hash, Hasher};
 
 /// Why a call failed. The receiver is unchanged, except that an encoder leaves its type unfinished.
 #[derive(Clone, Copy, Debug, PartialEq, Eq, Hash)]
@@ -52,13 +51,6 @@ impl fmt::Display for Error {
 }
 
 impl core::error::Error for Error {}
-
-/// The trees that contain a fault have a hash.
-impl Hash for Fault {
-    fn hash<H: Hasher>(&self, state: &mut H) {
-        Error::from(*self).hash(state);
-    }
-}
 
 impl From<Fault> for Error {
     #[inline]

@@ -212,7 +212,7 @@ fn macros_of_other_files() {
 fn errors_have_their_texts() {
     becomes(
         "use thiserror::Error;\n#[derive(Clone, Error)]\npub enum Fault {\n    #[error(\"no memory\")]\n    Memory(A),\n    #[error(\"at {place}\")]\n    Bad { place: u8 },\n}\n",
-        "\n#[derive(Clone )]\npub enum Fault {\n\n    Memory(A),\n\n    Bad { place: u8 },\n} \
+        "\n#[derive(Clone , Hash)]\npub enum Fault {\n\n    Memory(A),\n\n    Bad { place: u8 },\n} \
          impl ::core::fmt::Display for Fault { fn fmt(&self, f: &mut ::core::fmt::Formatter<'_>) -> ::core::fmt::Result \
          { match self { Fault::Memory { .. } => write!(f, \"no memory\"), \
          Fault::Bad { place, .. } => write!(f, \"at {place}\"), } } } \

@@ -57,7 +57,7 @@ impl Eraser<'_> {
         }
         let owner = self.public_type(end)?;
         if let Some((_, too)) = DERIVED_TOO.iter().find(|(name, _)| *name == owner) {
-            self.put(end - 3, format!("{}, {too}", self.at(end - 3)));
+            self.put(end - 2, format!(", {too})"));
         }
         for j in names {
             match self.at(j) {

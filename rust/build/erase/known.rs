@@ -66,7 +66,7 @@ pub const TREES: [&str; 23] = [
 ];
 
 /// Types that derive more for a user of Rust than their sources say: what they derive besides.
-pub const DERIVED_TOO: [(&str, &str); 21] = [
+pub const DERIVED_TOO: [(&str, &str); 22] = [
     ("AbstractHeapType", "Hash"),
     ("Alias", "Debug, Hash, PartialEq, Eq"),
     ("ArrayType", "Hash"),
@@ -76,6 +76,7 @@ pub const DERIVED_TOO: [(&str, &str); 21] = [
     ("ComponentSectionId", "Hash"),
     ("EntityType", "Hash"),
     ("ExportKind", "Hash"),
+    ("Fault", "Hash"),
     ("FieldType", "Hash"),
     ("GlobalType", "Hash"),
     ("HeapType", "Hash"),

@@ -80,7 +80,7 @@ pub const TREES: [&str; 23] = [
 ];
 
 /// Types that derive more than their sources say, and what.
-pub const DERIVED_TOO: [(&str, &str); 21] = [
+pub const DERIVED_TOO: [(&str, &str); 22] = [
     ("AbstractHeapType", "Hash"),
     ("Alias", "Debug, Hash, PartialEq, Eq"),
     ("ArrayType", "Hash"),
@@ -90,6 +90,7 @@ pub const DERIVED_TOO: [(&str, &str); 21] = [
     ("ComponentSectionId", "Hash"),
     ("EntityType", "Hash"),
     ("ExportKind", "Hash"),
+    ("Fault", "Hash"),
     ("FieldType", "Hash"),
     ("GlobalType", "Hash"),
     ("HeapType", "Hash"),
@@ -318,15 +319,19 @@ impl<'a> Source<'a> {
             };
         }
         let shown = self.shown(len);
+        let is_error = shown.ends_with(", Error ) ]");
+        if is_error {
+            self.error = Some(self.display(len));
+        }
+        let kept = shown.replace(", Error )", ")");
         let owner = self.public_type(len);
-        if let Some((_, too)) = DERIVED_TOO.iter().find(|(name, _)| *name == owner) {
-            return step("derive of more", len, shown.replace(" ) ]", &format!(", {too} ) ]")));
+        match DERIVED_TOO.iter().find(|(name, _)| *name == owner) {
+            Some((_, too)) => {
+                step("derive of more", len, kept.replace(" ) ]", &format!(", {too} ) ]")))
+            }
+            None if is_error => step("derive of an error", len, kept),
+            None => step("derive kept", len, kept),
         }
-        if !shown.ends_with(", Error ) ]") {
-            return step("derive kept", len, shown);
-        }
-        self.error = Some(self.display(len));
-        step("derive of an error", len, shown.replace(", Error )", ")"))
     }
 
     /// The name of the public type so many tokens after this, its other attributes first.
