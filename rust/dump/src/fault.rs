@@ -34,11 +34,11 @@ fn inside(unread: Unread) -> usize {
 impl From<ListFault> for Fault {
     fn from(fault: ListFault) -> Self {
         let place = match fault {
-            ListFault::NoMemory => None,
             ListFault::NotAComponent { place } | ListFault::BadSection { place } => Some(place),
             ListFault::BadItem { place, unread } | ListFault::TooDeep { place, unread } => {
                 Some(unread.map_or(place, inside))
             }
+            _ => None,
         };
         Self { place, message: fault.to_string() }
     }
@@ -48,10 +48,10 @@ impl From<ListFault> for Fault {
 impl From<ModuleFault> for Fault {
     fn from(fault: ModuleFault) -> Self {
         let place = match fault {
-            ModuleFault::NoMemory => None,
             ModuleFault::NotAModule => Some(0),
             ModuleFault::BadSection { place } => Some(place),
             ModuleFault::BadItem { unread } => Some(inside(unread)),
+            _ => None,
         };
         Self { place, message: fault.to_string() }
     }

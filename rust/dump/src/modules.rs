@@ -17,12 +17,12 @@ impl<R: Report> Walk<'_, '_, R> {
         };
         match fault {
             None => {}
-            Some(fault @ ModuleFault::NoMemory) => return Err(fault.into()),
             Some(ModuleFault::NotAModule) => self.report.unread(at, "no core module's header")?,
             Some(ModuleFault::BadSection { place }) => {
                 self.report.unread(at + place, "no core section")?;
             }
             Some(ModuleFault::BadItem { unread }) => self.unread(at, unread)?,
+            Some(fault) => return Err(fault.into()),
         }
         Ok(())
     }
