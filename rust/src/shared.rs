@@ -64,6 +64,12 @@ macro_rules! lenders {
 
 pub(crate) use lenders;
 
+/// A proved encoder as the public one. As a `From` of the public one it would be shown there.
+pub(crate) trait Public<T> {
+    /// The encoder.
+    fn public(self) -> T;
+}
+
 /// An encoder with one name, whatever lent itself to it: a case for each lender.
 macro_rules! encoders {
     ($(
@@ -109,20 +115,12 @@ macro_rules! encoders {
     (
         @one $name:ident $by:ident [$($field:ident = $start:expr)?] $case:ident $lender:ident
     ) => {
-        // The documentation doesn't show the proved encoder.
-        #[doc(hidden)]
-        impl<'a>
-            From<$crate::proved::wasm_encoder::$name<'a, $crate::proved::wasm_encoder::$lender>>
-            for $name<'a>
+        impl<'a> $crate::shared::Public<$name<'a>>
+            for $crate::proved::wasm_encoder::$name<'a, $crate::proved::wasm_encoder::$lender>
         {
             #[inline]
-            fn from(
-                encoder: $crate::proved::wasm_encoder::$name<
-                    'a,
-                    $crate::proved::wasm_encoder::$lender,
-                >,
-            ) -> Self {
-                Self { by: $by::$case(encoder), $($field: $start,)? }
+            fn public(self) -> $name<'a> {
+                $name { by: $by::$case(self), $($field: $start,)? }
             }
         }
     };

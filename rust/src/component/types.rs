@@ -43,14 +43,14 @@ macro_rules! declaring {
                 /// [`discard_unfinished`](Self::discard_unfinished).
                 #[must_use = "the encoder has to encode the type"]
                 fn core_type | try_core_type(&mut self) -> $crate::ComponentCoreTypeEncoder<'_> {
-                    Ok(self.0.core_type()?.into())
+                    Ok($crate::shared::Public::public(self.0.core_type()?))
                 }
 
                 /// Begins the declaration of a type and returns its encoder; see
                 /// [`core_type`](Self::core_type).
                 #[must_use = "the encoder has to encode the type"]
                 fn ty | try_ty(&mut self) -> $crate::ComponentTypeEncoder<'_> {
-                    Ok(self.0.ty()?.into())
+                    Ok($crate::shared::Public::public(self.0.ty()?))
                 }
 
                 /// Declares an alias of an instance's export, or of an enclosing component's item.
@@ -76,7 +76,7 @@ macro_rules! declaring {
                     &mut self,
                 ) -> (u32, $crate::ComponentDefinedTypeEncoder<'_>) {
                     let (index, encoder) = self.0.type_defined()?;
-                    Ok((index, encoder.into()))
+                    Ok((index, $crate::shared::Public::public(encoder)))
                 }
 
                 /// Begins the declaration of a function type, and returns its index and its
@@ -86,7 +86,7 @@ macro_rules! declaring {
                     &mut self,
                 ) -> (u32, $crate::ComponentFuncTypeEncoder<'_>) {
                     let (index, encoder) = self.0.type_function()?;
-                    Ok((index, encoder.into()))
+                    Ok((index, $crate::shared::Public::public(encoder)))
                 }
 
                 /// Declares an alias of the type that an instance exports under this name, and

@@ -6,7 +6,7 @@ use std::io;
 
 impl<T: Copy, A: Allocator> Vec<T, A> {
     /// These elements.
-    pub fn from_array<const N: usize>(alloc: A, values: [T; N]) -> Result<Self, AllocError> {
+    pub(crate) fn from_array<const N: usize>(alloc: A, values: [T; N]) -> Result<Self, AllocError> {
         Vec::from_slice(alloc, &values)
     }
 }

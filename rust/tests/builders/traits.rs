@@ -173,7 +173,8 @@ fn strings_of_trees_are_like_strings() {
     assert_eq!(text, String::from("abcd"));
     text.retain(|letter| letter != 'b');
     assert_eq!(text, tree::String::from(Cow::Borrowed("acd")));
-    assert!(tree::String::from("ab") < text);
+    let smaller = tree::String::from("ab");
+    assert!(smaller < text);
     assert_eq!(HashMap::from([(text.clone(), 1)]).get("acd"), Some(&1));
     text.clear();
     assert_eq!(text, "");
@@ -191,7 +192,8 @@ fn vectors_of_trees_are_like_vectors() {
     assert_eq!(values, [2, 4, 6, 8]);
     values.retain(|value| *value != 4);
     assert_eq!(values, vec![2, 6, 8]);
-    assert!(values < tree::Vec::from([3]));
+    let larger = tree::Vec::from([3]);
+    assert!(values < larger);
     assert_eq!(values.pop(), Some(8));
     assert_eq!(values, tree::Vec::from(&[2, 6][..]));
     assert_eq!(HashMap::from([(values.clone(), 1)]).get([2, 6].as_slice()), Some(&1));

@@ -5,6 +5,7 @@ use crate::component::{
     ComponentFuncTypeEncoder, ComponentType, ComponentTypeEncoder, InstanceType,
 };
 use crate::core::ValType;
+use crate::shared::Public;
 use crate::twins::twins;
 
 /// Types: each call adds one, optionally with a debug name, and returns its index ([component
@@ -24,13 +25,13 @@ impl ComponentBuilder {
             debug_name: Option<&str>,
         ) -> (u32, ComponentCoreTypeEncoder<'_>) {
             let (index, encoder) = self.0.core_type(debug_name)?;
-            Ok((index, encoder.into()))
+            Ok((index, encoder.public()))
         }
 
         /// Begins a type. Returns its index and its encoder.
         fn ty | try_ty(&mut self, debug_name: Option<&str>) -> (u32, ComponentTypeEncoder<'_>) {
             let (index, encoder) = self.0.ty(debug_name)?;
-            Ok((index, encoder.into()))
+            Ok((index, encoder.public()))
         }
 
         /// Adds an instance type. Fails if it is unfinished.
@@ -67,7 +68,7 @@ impl ComponentBuilder {
             debug_name: Option<&str>,
         ) -> (u32, ComponentDefinedTypeEncoder<'_>) {
             let (index, encoder) = self.0.type_defined(debug_name)?;
-            Ok((index, encoder.into()))
+            Ok((index, encoder.public()))
         }
 
         /// Begins a function type. Returns its index and its encoder, whose `result` ends it.
@@ -86,7 +87,7 @@ impl ComponentBuilder {
             debug_name: Option<&str>,
         ) -> (u32, ComponentFuncTypeEncoder<'_>) {
             let (index, encoder) = self.0.type_function(debug_name)?;
-            Ok((index, encoder.into()))
+            Ok((index, encoder.public()))
         }
 
         /// Adds a resource type: its representation, and optionally the core function that is its

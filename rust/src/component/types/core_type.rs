@@ -1,7 +1,7 @@
 //! The core types of components: their encoder, and their section.
 
 use crate::component::sections;
-use crate::shared::{collections, encoders, lenders, on};
+use crate::shared::{Public, collections, encoders, lenders, on};
 #[cfg(feature = "reader")]
 use crate::tree::CoreTypeTree;
 use crate::twins::twins;
@@ -31,7 +31,7 @@ impl<'a> ComponentCoreTypeEncoder<'a> {
     #[must_use = "the encoder has to encode the type"]
     #[inline]
     pub fn core(self) -> CoreTypeEncoder<'a> {
-        on!(self.by, CoreBy, encoder => encoder.core().into())
+        on!(self.by, CoreBy, encoder => encoder.core().public())
     }
 }
 
@@ -77,7 +77,7 @@ impl CoreTypeSection {
         /// [`discard_unfinished`](Self::discard_unfinished).
         #[must_use = "the encoder has to encode the type"]
         fn ty | try_ty(&mut self) -> ComponentCoreTypeEncoder<'_> {
-            Ok(self.0.ty()?.into())
+            Ok(self.0.ty()?.public())
         }
     }
 }

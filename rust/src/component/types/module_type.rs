@@ -1,7 +1,7 @@
 //! Types of core modules.
 
 use super::declarations;
-use crate::shared::collections;
+use crate::shared::{Public, collections};
 use crate::twins::twins;
 use crate::{CoreTypeEncoder, EntityType};
 
@@ -50,7 +50,7 @@ impl ModuleType {
         /// [`discard_unfinished`](Self::discard_unfinished).
         #[must_use = "the encoder has to encode the type"]
         fn ty | try_ty(&mut self) -> CoreTypeEncoder<'_> {
-            Ok(self.0.ty()?.into())
+            Ok(self.0.ty()?.public())
         }
 
         /// Declares an alias of the core type with this index in an enclosing component, `count`

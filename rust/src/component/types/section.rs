@@ -6,7 +6,7 @@ use super::{
 };
 use crate::ValType;
 use crate::component::sections;
-use crate::shared::{collections, lenders};
+use crate::shared::{Public, collections, lenders};
 use crate::twins::twins;
 
 collections! {
@@ -44,7 +44,7 @@ impl ComponentTypeSection {
         /// [`discard_unfinished`](Self::discard_unfinished).
         #[must_use = "the encoder has to encode the type"]
         fn ty | try_ty(&mut self) -> ComponentTypeEncoder<'_> {
-            Ok(self.0.ty()?.into())
+            Ok(self.0.ty()?.public())
         }
 
         /// Adds a component type. Fails if it is unfinished.
@@ -63,13 +63,13 @@ impl ComponentTypeSection {
         /// [`ty`](Self::ty).
         #[must_use = "the encoder has to encode the type"]
         fn function | try_function(&mut self) -> ComponentFuncTypeEncoder<'_> {
-            Ok(self.0.function()?.into())
+            Ok(self.0.function()?.public())
         }
 
         /// Begins a defined value type and returns its encoder; see [`ty`](Self::ty).
         #[must_use = "the encoder has to encode the type"]
         fn defined_type | try_defined_type(&mut self) -> ComponentDefinedTypeEncoder<'_> {
-            Ok(self.0.defined_type()?.into())
+            Ok(self.0.defined_type()?.public())
         }
 
         /// Adds a resource type: its representation, and optionally the index of the core function

@@ -2,7 +2,7 @@
 
 use super::{ComponentDefinedTypeEncoder, ComponentFuncTypeEncoder, ComponentType, InstanceType};
 use crate::ValType;
-use crate::shared::{encoders, on};
+use crate::shared::{Public, encoders, on};
 #[cfg(feature = "reader")]
 use crate::tree::TypeTree;
 use crate::twins::twins;
@@ -36,14 +36,14 @@ impl<'a> ComponentTypeEncoder<'a> {
     #[inline]
     #[must_use = "the encoder has to encode the type"]
     pub fn function(self) -> ComponentFuncTypeEncoder<'a> {
-        on!(self.by, TypeBy, encoder => encoder.function().into())
+        on!(self.by, TypeBy, encoder => encoder.function().public())
     }
 
     /// Returns an encoder of a defined value type.
     #[inline]
     #[must_use = "the encoder has to encode the type"]
     pub fn defined_type(self) -> ComponentDefinedTypeEncoder<'a> {
-        on!(self.by, TypeBy, encoder => encoder.defined_type().into())
+        on!(self.by, TypeBy, encoder => encoder.defined_type().public())
     }
 
     twins! {
