@@ -58,8 +58,11 @@ fn faults_have_their_places() {
     }
 }
 
+/// What is read of a section: its items, with their places.
+type Read = Vec<Result<(Range<usize>, CoreItem), ModuleFault>>;
+
 /// The items of the only section of a module, after that section's count.
-fn items(section: &[u8]) -> (Option<u32>, Vec<Result<(Range<usize>, CoreItem), ModuleFault>>) {
+fn items(section: &[u8]) -> (Option<u32>, Read) {
     let module = [b"\0asm\x01\0\0\0", section].concat();
     let section = CoreSections::new(&module).expect("a header").next().expect("a section");
     let section = section.expect("it is framed");
