@@ -420,7 +420,7 @@ where
     first: T,
 }
 
-#[derive(Debug)]
+#[derive(Debug, Hash)]
 pub enum Fault {
     At { place: usize },
     Memory,
