@@ -1,5 +1,6 @@
 //! Core modules, as far as components have to do with them.
 
+mod conversions;
 mod custom;
 mod exports;
 mod globals;

@@ -1,6 +1,7 @@
 //! Why a call failed.
 
 use crate::proved::wenc_base::Fault;
+use core::convert::Infallible;
 use core::fmt;
 
 /// Why a call failed. The receiver is unchanged, except that an encoder leaves its type unfinished.
@@ -51,6 +52,13 @@ impl fmt::Display for Error {
 }
 
 impl core::error::Error for Error {}
+
+impl From<Infallible> for Error {
+    #[inline]
+    fn from(never: Infallible) -> Self {
+        match never {}
+    }
+}
 
 impl From<Fault> for Error {
     #[inline]

@@ -1,5 +1,6 @@
 //! What sections and types by hand have in common.
 
+use crate::ComponentValType;
 use crate::proved::rt_std::alloc::Allocator;
 use crate::proved::rt_std::vec::Vec as ProvedVec;
 use crate::proved::wenc_base::{self as proved, Fault};
@@ -154,6 +155,49 @@ impl<S: AsRef<str>> proved::Encode for Name<S> {
 }
 
 impl<S: AsRef<str>> proved::Named for Name<S> {}
+
+/// A list by a pointer: what takes it is compiled once, not for each iterator.
+pub(crate) struct List<'a, T>(pub &'a mut (dyn Source<T> + 'a));
+
+impl<T> Iterator for List<'_, T> {
+    type Item = T;
+
+    #[inline]
+    fn next(&mut self) -> Option<T> {
+        self.0.draw()
+    }
+}
+
+/// An iterator of which the table of methods has one, where `dyn Iterator` has some ten.
+pub(crate) trait Source<T> {
+    /// The next value.
+    fn draw(&mut self) -> Option<T>;
+}
+
+impl<I: Iterator> Source<I::Item> for I {
+    #[inline]
+    fn draw(&mut self) -> Option<I::Item> {
+        self.next()
+    }
+}
+
+/// The names and types of fields or parameters. The compiler unrolls a list of known length behind
+/// this `?`, which it doesn't behind `map`.
+pub(crate) struct Labelled<I>(pub I);
+
+impl<'a, T, I> Iterator for Labelled<I>
+where
+    T: Into<ComponentValType>,
+    I: Iterator<Item = (&'a str, T)>,
+{
+    type Item = (&'a str, ComponentValType);
+
+    #[inline]
+    fn next(&mut self) -> Option<Self::Item> {
+        let (name, ty) = self.0.next()?;
+        Some((name, ty.into()))
+    }
+}
 
 /// Pairs of a user's name and something else, as the proved code takes them.
 #[inline]

@@ -43,7 +43,6 @@
 
 mod collections;
 mod conversions;
-mod core_types;
 mod encode;
 mod indices;
 mod space;

@@ -48,9 +48,6 @@ sections! { ComponentAliasSection }
 impl ComponentAliasSection {
     twins! {
         /// Adds an alias.
-        fn alias | try_alias(&mut self, alias: Alias<'_>) -> &mut Self {
-            self.0.alias(alias)?;
-            Ok(self)
-        }
+        fn alias | try_alias(&mut self, alias: Alias<'_>) -> &mut Self;
     }
 }

@@ -7,7 +7,7 @@ pub(crate) use builtins::builtins;
 use crate::component::{ComponentValType, sections};
 use crate::core::ValType;
 use crate::proved::wasm_encoder::{AddsBuiltin, AddsSlot};
-use crate::shared::collections;
+use crate::shared::{List, collections};
 use crate::twins::twins;
 
 pub use crate::proved::wasm_encoder::CanonicalOption;
@@ -62,7 +62,7 @@ impl CanonicalFunctionSection {
             O::IntoIter: ExactSizeIterator,
         }
         {
-            self.0.lift(core_func_index, type_index, options.into_iter())?;
+            self.0.lift(core_func_index, type_index, List(&mut options.into_iter()))?;
             Ok(self)
         }
 
@@ -73,7 +73,7 @@ impl CanonicalFunctionSection {
             O::IntoIter: ExactSizeIterator,
         }
         {
-            self.0.lower(func_index, options.into_iter())?;
+            self.0.lower(func_index, List(&mut options.into_iter()))?;
             Ok(self)
         }
     }
@@ -117,15 +117,13 @@ macro_rules! calls {
                     O::IntoIter: ExactSizeIterator,
                 }
                 {
-                    self.0.$list($($arg,)* options.into_iter())?;
+                    self.0.$list($($arg,)* List(&mut options.into_iter()))?;
                     Ok(self)
                 })*
 
                 $($(#[$slot_doc])*
-                fn $slot | $slot_tried(&mut self, ty: ValType, i: u32) -> &mut Self {
-                    self.0.$slot(ty.to_proved()?, i)?;
-                    Ok(self)
-                })*
+                fn $slot | $slot_tried(&mut self, ty: ValType, i: u32) -> &mut Self
+                    as (ty.try_into()?, i);)*
             }
         }
     };

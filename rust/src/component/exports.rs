@@ -48,9 +48,6 @@ impl ComponentExportSection {
             kind: ComponentExportKind,
             index: u32,
             ty: Option<ComponentTypeRef>,
-        ) -> &mut Self {
-            self.0.export(name.into().into_proved(), kind, index, ty)?;
-            Ok(self)
-        }
+        ) -> &mut Self as (name.into().into_proved(), kind, index, ty);
     }
 }

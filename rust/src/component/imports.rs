@@ -126,9 +126,6 @@ impl ComponentImportSection {
             &mut self,
             name: impl Into<ComponentExternName<'a>>,
             ty: ComponentTypeRef,
-        ) -> &mut Self {
-            self.0.import(name.into().into_proved(), ty)?;
-            Ok(self)
-        }
+        ) -> &mut Self as (name.into().into_proved(), ty);
     }
 }

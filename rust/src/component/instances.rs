@@ -3,7 +3,7 @@
 use crate::component::sections;
 use crate::encode::encode;
 use crate::proved::wasm_encoder as proved;
-use crate::shared::{collections, named, named_items};
+use crate::shared::{List, collections, named, named_items};
 use crate::twins::twins;
 use crate::{ComponentExportKind, ComponentExternName, ExportKind};
 
@@ -78,7 +78,7 @@ impl InstanceSection {
             A::IntoIter: ExactSizeIterator,
             S: AsRef<str>,
         } {
-            self.0.instantiate(module_index, named(args))?;
+            self.0.instantiate(module_index, List(&mut named(args)))?;
             Ok(self)
         }
 
@@ -89,7 +89,7 @@ impl InstanceSection {
             E::IntoIter: ExactSizeIterator,
             S: AsRef<str>,
         } {
-            self.0.export_items(named_items(exports))?;
+            self.0.export_items(List(&mut named_items(exports)))?;
             Ok(self)
         }
     }
@@ -105,7 +105,7 @@ impl ComponentInstanceSection {
             A::IntoIter: ExactSizeIterator,
             S: AsRef<str>,
         } {
-            self.0.instantiate(component_index, named_items(args))?;
+            self.0.instantiate(component_index, List(&mut named_items(args)))?;
             Ok(self)
         }
 
@@ -116,9 +116,8 @@ impl ComponentInstanceSection {
             E::IntoIter: ExactSizeIterator,
             N: Into<ComponentExternName<'a>>,
         } {
-            let exports = exports.into_iter();
             let named = |(name, kind, index): (N, _, _)| (name.into().into_proved(), kind, index);
-            self.0.export_items(exports.map(named))?;
+            self.0.export_items(List(&mut exports.into_iter().map(named)))?;
             Ok(self)
         }
     }

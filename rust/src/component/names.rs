@@ -40,9 +40,7 @@ macro_rules! naming {
             twins! {
                 $(
                     #[doc = concat!("Names ", $what, ".")]
-                    fn $name | $tried(&mut self, names: &NameMap) -> () {
-                        Ok(self.0.$name(&names.0)?)
-                    }
+                    fn $name | $tried(&mut self, names: &NameMap) -> () as (&names.0);
                 )*
             }
         }
@@ -52,15 +50,11 @@ macro_rules! naming {
 impl ComponentNameSection {
     twins! {
         /// Names the component itself. The standard puts this name first.
-        fn component | try_component(&mut self, name: &str) -> () {
-            Ok(self.0.component(name)?)
-        }
+        fn component | try_component(&mut self, name: &str) -> ();
 
         /// Appends a subsection as its id, from 0 to 255, and its bytes after the size. The bytes
         /// aren't checked.
-        fn raw | try_raw(&mut self, id: u8, data: &[u8]) -> () {
-            Ok(self.0.raw(id, data)?)
-        }
+        fn raw | try_raw(&mut self, id: u8, data: &[u8]) -> ();
     }
 
     /// Returns `true` if there is no subsection.

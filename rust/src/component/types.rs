@@ -54,20 +54,14 @@ macro_rules! declaring {
                 }
 
                 /// Declares an alias of an instance's export, or of an enclosing component's item.
-                fn alias | try_alias(&mut self, alias: $crate::Alias<'_>) -> &mut Self {
-                    self.0.alias(alias)?;
-                    Ok(self)
-                }
+                fn alias | try_alias(&mut self, alias: $crate::Alias<'_>) -> &mut Self;
 
                 /// Declares an export by its name and type.
                 fn export | try_export<'a>(
                     &mut self,
                     name: impl Into<$crate::ComponentExternName<'a>>,
                     ty: $crate::ComponentTypeRef,
-                ) -> &mut Self {
-                    self.0.export(name.into().into_proved(), ty)?;
-                    Ok(self)
-                }
+                ) -> &mut Self as (name.into().into_proved(), ty);
 
                 /// Begins the declaration of a defined value type, and returns its index and its
                 /// encoder; see [`ty`](Self::ty).
@@ -95,9 +89,7 @@ macro_rules! declaring {
                     &mut self,
                     instance: u32,
                     name: &str,
-                ) -> u32 {
-                    Ok(self.0.alias_export_type(instance, name)?)
-                }
+                ) -> u32;
 
                 /// Declares an alias of the instance that an instance exports under this name, and
                 /// returns the alias's index.
@@ -105,9 +97,7 @@ macro_rules! declaring {
                     &mut self,
                     instance: u32,
                     name: &str,
-                ) -> u32 {
-                    Ok(self.0.alias_export_instance(instance, name)?)
-                }
+                ) -> u32;
 
                 /// Declares an alias of the type with the index `outer` in an enclosing component,
                 /// `count` components further out. Returns the alias's index.
@@ -115,15 +105,11 @@ macro_rules! declaring {
                     &mut self,
                     count: u32,
                     outer: u32,
-                ) -> u32 {
-                    Ok(self.0.alias_outer_type(count, outer)?)
-                }
+                ) -> u32;
 
                 /// Declares an alias of the core type with the index `outer` in an enclosing
                 /// component, `count` components further out. Returns the alias's index.
-                fn alias_core_type | try_alias_core_type(&mut self, count: u32, outer: u32) -> u32 {
-                    Ok(self.0.alias_core_type(count, outer)?)
-                }
+                fn alias_core_type | try_alias_core_type(&mut self, count: u32, outer: u32) -> u32;
 
                 /// Declares an export of a type and returns its index.
                 ///
@@ -153,9 +139,7 @@ macro_rules! declaring {
                     &mut self,
                     name: impl Into<$crate::ComponentExternName<'a>>,
                     bounds: $crate::TypeBounds,
-                ) -> u32 {
-                    Ok(self.0.export_type(name.into().into_proved(), bounds)?)
-                }
+                ) -> u32 as (name.into().into_proved(), bounds);
 
                 /// Declares an export of an instance of the type with this index, and returns the
                 /// instance's index.
@@ -163,9 +147,7 @@ macro_rules! declaring {
                     &mut self,
                     name: impl Into<$crate::ComponentExternName<'a>>,
                     ty: u32,
-                ) -> u32 {
-                    Ok(self.0.export_instance(name.into().into_proved(), ty)?)
-                }
+                ) -> u32 as (name.into().into_proved(), ty);
             }
 
             /// Returns the number of core types: declared ones, with an unfinished one, and outer

@@ -1,10 +1,6 @@
 //! What core modules import.
 
 use super::{GlobalType, MemoryType, TableType, TagType};
-use crate::Error;
-use crate::encode::encode;
-use crate::error::granted;
-use crate::proved::wasm_encoder as proved;
 
 /// The type of an import or an export of a core module ([WebAssembly 3.0, binary format, "External
 /// Types"][types]).
@@ -41,20 +37,6 @@ pub enum EntityType {
     FunctionExact(u32),
 }
 
-impl EntityType {
-    /// The type as the proved code takes it.
-    pub(crate) fn to_proved(self) -> Result<proved::EntityType, Error> {
-        Ok(match self {
-            Self::Function(index) => proved::EntityType::Function(index),
-            Self::Table(ty) => proved::EntityType::Table(ty.to_proved()?),
-            Self::Memory(ty) => proved::EntityType::Memory(ty.to_proved()?),
-            Self::Global(ty) => proved::EntityType::Global(ty.to_proved()?),
-            Self::Tag(ty) => proved::EntityType::Tag(ty.to_proved()?),
-            Self::FunctionExact(_) => return Err(Error::Unsupported),
-        })
-    }
-}
-
 impl From<TableType> for EntityType {
     fn from(ty: TableType) -> Self {
         Self::Table(ty)
@@ -77,8 +59,4 @@ impl From<TagType> for EntityType {
     fn from(ty: TagType) -> Self {
         Self::Tag(ty)
     }
-}
-
-encode! {
-    EntityType, ty => granted(ty.to_proved());
 }

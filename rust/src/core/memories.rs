@@ -1,10 +1,5 @@
 //! Memories.
 
-use crate::Error;
-use crate::encode::encode;
-use crate::error::granted;
-use crate::proved::wasm_encoder as proved;
-
 /// The type of a memory ([WebAssembly 3.0, binary format, "Memory Types"][types]). A shared one isn't
 /// in that standard: it is encoded as in the proposal for threads.
 ///
@@ -22,23 +17,4 @@ pub struct MemoryType {
     /// The base 2 logarithm of the page size in bytes, if it isn't the standard's 65536. `Some` isn't
     /// supported, even of 16.
     pub page_size_log2: Option<u32>,
-}
-
-impl MemoryType {
-    /// The type as the proved code takes it.
-    pub(crate) fn to_proved(self) -> Result<proved::MemoryType, Error> {
-        if self.page_size_log2.is_some() {
-            return Err(Error::Unsupported);
-        }
-        Ok(proved::MemoryType {
-            minimum: self.minimum,
-            maximum: self.maximum,
-            memory64: self.memory64,
-            shared: self.shared,
-        })
-    }
-}
-
-encode! {
-    MemoryType, ty => granted(ty.to_proved());
 }

@@ -29,9 +29,7 @@ content! { NameMap }
 impl NameMap {
     twins! {
         /// Names the item with this index.
-        fn append | try_append(&mut self, idx: u32, name: &str) -> () {
-            Ok(self.0.append(idx, name)?)
-        }
+        fn append | try_append(&mut self, idx: u32, name: &str) -> ();
     }
 
     /// Returns the number of names.

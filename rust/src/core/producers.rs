@@ -40,10 +40,7 @@ in_either! {
 impl ProducersField {
     twins! {
         /// Adds a tool and its version, which may be empty.
-        fn value | try_value(&mut self, name: &str, version: &str) -> &mut Self {
-            self.0.value(name, version)?;
-            Ok(self)
-        }
+        fn value | try_value(&mut self, name: &str, version: &str) -> &mut Self;
     }
 }
 
@@ -51,9 +48,7 @@ impl ProducersSection {
     twins! {
         /// Adds a field. The tool conventions define `language`, `processed-by` and `sdk`, each at
         /// most once.
-        fn field | try_field(&mut self, name: &str, values: &ProducersField) -> &mut Self {
-            self.0.field(name, &values.0)?;
-            Ok(self)
-        }
+        fn field | try_field(&mut self, name: &str, values: &ProducersField) -> &mut Self
+            as (name, &values.0);
     }
 }

@@ -1,10 +1,6 @@
 //! Tables.
 
 use super::RefType;
-use crate::Error;
-use crate::encode::encode;
-use crate::error::granted;
-use crate::proved::wasm_encoder as proved;
 
 /// The type of a table ([WebAssembly 3.0, binary format, "Table Types"][types]).
 ///
@@ -21,23 +17,4 @@ pub struct TableType {
     pub maximum: Option<u64>,
     /// Whether threads share it, which isn't supported.
     pub shared: bool,
-}
-
-impl TableType {
-    /// The type as the proved code takes it.
-    pub(crate) fn to_proved(self) -> Result<proved::TableType, Error> {
-        if self.shared {
-            return Err(Error::Unsupported);
-        }
-        Ok(proved::TableType {
-            element_type: self.element_type.to_proved()?,
-            table64: self.table64,
-            minimum: self.minimum,
-            maximum: self.maximum,
-        })
-    }
-}
-
-encode! {
-    TableType, ty => granted(ty.to_proved());
 }

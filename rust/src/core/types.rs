@@ -17,7 +17,7 @@ use crate::proved::rt_std::vec::Vec;
 use crate::proved::wenc_base::Fault;
 
 /// The values as the proved code takes them, or the first error.
-fn converted<T, U>(
+pub(super) fn converted<T, U>(
     values: impl IntoIterator<Item = T, IntoIter: ExactSizeIterator>,
     convert: impl Fn(T) -> Result<U, Error>,
 ) -> Result<Vec<U>, Error> {

@@ -4,6 +4,7 @@ use crate::component::canonicals::builtins;
 use crate::component::{CanonicalOption, ComponentBuilder, ComponentValType};
 use crate::core::ValType;
 use crate::proved::wasm_encoder::{AddsBuiltin, AddsSlot};
+use crate::shared::List;
 use crate::twins::twins;
 
 /// The builder's call for each row of the table.
@@ -55,13 +56,12 @@ macro_rules! calls {
                     O::IntoIter: ExactSizeIterator,
                 }
                 {
-                    Ok(self.0.$list($($lead,)* options.into_iter())?)
+                    Ok(self.0.$list($($lead,)* List(&mut options.into_iter()))?)
                 })*
 
                 $($(#[$slot_doc])*
-                fn $slot | $slot_tried(&mut self, ty: ValType, i: u32) -> u32 {
-                    Ok(self.0.$slot(ty.to_proved()?, i)?)
-                })*
+                fn $slot | $slot_tried(&mut self, ty: ValType, i: u32) -> u32
+                    as (ty.try_into()?, i);)*
             }
         }
     };

@@ -28,9 +28,7 @@ impl ComponentBuilder {
             &mut self,
             name: impl Into<ComponentExternName<'a>>,
             ty: ComponentTypeRef,
-        ) -> u32 {
-            Ok(self.0.import(name.into().into_proved(), ty)?)
-        }
+        ) -> u32 as (name.into().into_proved(), ty);
 
         /// Adds an export of the item of this kind with this index, optionally ascribing a type.
         /// Returns the index of the new item that the export defines. The name is its debug name
@@ -41,9 +39,7 @@ impl ComponentBuilder {
             kind: ComponentExportKind,
             idx: u32,
             ty: Option<ComponentTypeRef>,
-        ) -> u32 {
-            Ok(self.0.export(name.into().into_proved(), kind, idx, ty)?)
-        }
+        ) -> u32 as (name.into().into_proved(), kind, idx, ty);
 
         /// Adds an alias of a core instance's export of this kind and name, and returns its index.
         fn core_alias_export | try_core_alias_export(
@@ -52,14 +48,10 @@ impl ComponentBuilder {
             instance: u32,
             name: &str,
             kind: ExportKind,
-        ) -> u32 {
-            Ok(self.0.core_alias_export(debug_name, instance, name, kind)?)
-        }
+        ) -> u32;
 
         /// Adds an alias and returns its index in the space of its sort.
-        fn alias | try_alias(&mut self, debug_name: Option<&str>, alias: Alias<'_>) -> u32 {
-            Ok(self.0.alias(debug_name, alias)?)
-        }
+        fn alias | try_alias(&mut self, debug_name: Option<&str>, alias: Alias<'_>) -> u32;
 
         /// Adds an alias of an instance's export of this kind and name, and returns its index. The
         /// name is its debug name too.
@@ -68,9 +60,7 @@ impl ComponentBuilder {
             instance: u32,
             name: &str,
             kind: ComponentExportKind,
-        ) -> u32 {
-            Ok(self.0.alias_export(instance, name, kind)?)
-        }
+        ) -> u32;
 
         /// Adds a core module and returns its index.
         fn core_module | try_core_module(
@@ -87,9 +77,7 @@ impl ComponentBuilder {
             &mut self,
             debug_name: Option<&str>,
             module: &[u8],
-        ) -> u32 {
-            Ok(self.0.core_module_raw(debug_name, module)?)
-        }
+        ) -> u32;
 
         /// Finishes another builder, adds its component as a nested one and returns its index. That
         /// builder is dropped, also if the call fails, as it does if either is unfinished.
@@ -107,9 +95,7 @@ impl ComponentBuilder {
             &mut self,
             debug_name: Option<&str>,
             builder: ComponentBuilder,
-        ) -> u32 {
-            Ok(self.0.component(debug_name, builder.0)?)
-        }
+        ) -> u32 as (debug_name, builder.0);
 
         /// Adds the component of another builder as a nested one and returns its index. That builder
         /// is unchanged, so that it can be nested twice, or again after an error. Upstream has no
@@ -118,9 +104,7 @@ impl ComponentBuilder {
             &mut self,
             debug_name: Option<&str>,
             builder: &ComponentBuilder,
-        ) -> u32 {
-            Ok(self.0.component_ref(debug_name, &builder.0)?)
-        }
+        ) -> u32 as (debug_name, &builder.0);
 
         /// Adds a nested component as its bytes, at most 4294967295, and returns its index. The
         /// bytes aren't checked.
@@ -128,28 +112,21 @@ impl ComponentBuilder {
             &mut self,
             debug_name: Option<&str>,
             data: &[u8],
-        ) -> u32 {
-            Ok(self.0.component_raw(debug_name, data)?)
-        }
+        ) -> u32;
 
         /// Adds a start function with these arguments, which are indices of values. It defines
         /// `results` values; returns the index of the first, which is the number of values so far.
         ///
         /// A valid component has at most one start, which isn't checked.
-        fn start | try_start(&mut self, function_index: u32, args: Vec<u32>, results: u32) -> u32 {
-            Ok(self.0.start(function_index, args, results)?)
-        }
+        fn start | try_start(&mut self, function_index: u32, args: Vec<u32>, results: u32) -> u32;
 
         /// Adds a custom section.
-        fn custom_section | try_custom_section(&mut self, section: &CustomSection<'_>) -> () {
-            Ok(self.0.custom_section(&section.lent())?)
-        }
+        fn custom_section | try_custom_section(&mut self, section: &CustomSection<'_>) -> ()
+            as (&section.lent());
 
         /// Adds a custom section as its bytes after the id, with the size and the name. The bytes
         /// aren't checked.
-        fn raw_custom_section | try_raw_custom_section(&mut self, section: &[u8]) -> () {
-            Ok(self.0.raw_custom_section(section)?)
-        }
+        fn raw_custom_section | try_raw_custom_section(&mut self, section: &[u8]) -> ();
 
         /// Adds a producers section, the custom section with the name `producers` (tool
         /// conventions, "Producers Section").
@@ -166,8 +143,7 @@ impl ComponentBuilder {
         /// builder.producers_section(&producers);
         /// assert_eq!(builder.finish()[8..], *b"\x00\x14\x09producers\x01\x03sdk\x01\x01a\x011");
         /// ```
-        fn producers_section | try_producers_section(&mut self, section: &ProducersSection) -> () {
-            Ok(self.0.producers_section(&section.0)?)
-        }
+        fn producers_section | try_producers_section(&mut self, section: &ProducersSection) -> ()
+            as (&section.0);
     }
 }

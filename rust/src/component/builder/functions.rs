@@ -1,6 +1,7 @@
 //! The builder's calls for functions between a component and its core modules.
 
 use crate::component::{CanonicalOption, ComponentBuilder};
+use crate::shared::List;
 use crate::twins::twins;
 
 /// Lifted and lowered functions: each call adds one, optionally with a debug name, and returns its
@@ -22,7 +23,7 @@ impl ComponentBuilder {
             O::IntoIter: ExactSizeIterator,
         }
         {
-            Ok(self.0.lower_func(debug_name, func_index, options.into_iter())?)
+            Ok(self.0.lower_func(debug_name, func_index, List(&mut options.into_iter()))?)
         }
 
         /// Lifts a core function to the type with this index (`canon lift`) and returns the
@@ -64,7 +65,8 @@ impl ComponentBuilder {
             O::IntoIter: ExactSizeIterator,
         }
         {
-            Ok(self.0.lift_func(debug_name, core_func_index, type_index, options.into_iter())?)
+            let mut options = options.into_iter();
+            Ok(self.0.lift_func(debug_name, core_func_index, type_index, List(&mut options))?)
         }
     }
 }

@@ -2,7 +2,7 @@
 
 use crate::component::{ComponentBuilder, ComponentExportKind, ComponentExternName, ModuleArg};
 use crate::core::ExportKind;
-use crate::shared::named_items;
+use crate::shared::{List, named_items};
 use crate::twins::twins;
 
 /// Instances: each call adds one, optionally with a debug name, and returns its index ([component
@@ -24,7 +24,7 @@ impl ComponentBuilder {
             A::IntoIter: ExactSizeIterator,
         }
         {
-            Ok(self.0.core_instantiate(debug_name, module_index, args.into_iter())?)
+            Ok(self.0.core_instantiate(debug_name, module_index, List(&mut args.into_iter()))?)
         }
 
         /// Adds a core instance with these exports: the name, the kind and the index of each.
@@ -55,7 +55,7 @@ impl ComponentBuilder {
             S: AsRef<str>,
         }
         {
-            Ok(self.0.instantiate(debug_name, component_index, named_items(args))?)
+            Ok(self.0.instantiate(debug_name, component_index, List(&mut named_items(args)))?)
         }
 
         /// Adds an instance with these exports: the name, the kind and the index of each.
@@ -82,7 +82,7 @@ impl ComponentBuilder {
         }
         {
             let named = |(name, kind, index): (N, _, _)| (name.into().into_proved(), kind, index);
-            Ok(self.0.instantiate_exports(debug_name, exports.into_iter().map(named))?)
+            Ok(self.0.instantiate_exports(debug_name, List(&mut exports.into_iter().map(named)))?)
         }
     }
 }

@@ -41,9 +41,7 @@ impl ComponentBuilder {
         /// none.
         ///
         /// [names]: https://github.com/WebAssembly/component-model/blob/main/design/mvp/Binary.md#name-section
-        fn append_names | try_append_names(&mut self) -> () {
-            Ok(self.0.append_names()?)
-        }
+        fn append_names | try_append_names(&mut self) -> ();
     }
 
     /// Returns `false` while a type or another item is unfinished.

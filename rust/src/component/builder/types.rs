@@ -39,18 +39,14 @@ impl ComponentBuilder {
             &mut self,
             debug_name: Option<&str>,
             ty: &InstanceType,
-        ) -> u32 {
-            Ok(self.0.type_instance(debug_name, &ty.0)?)
-        }
+        ) -> u32 as (debug_name, &ty.0);
 
         /// Adds a component type. Fails if it is unfinished.
         fn type_component | try_type_component(
             &mut self,
             debug_name: Option<&str>,
             ty: &ComponentType,
-        ) -> u32 {
-            Ok(self.0.type_component(debug_name, &ty.0)?)
-        }
+        ) -> u32 as (debug_name, &ty.0);
 
         /// Begins a defined value type. Returns its index and its encoder.
         ///
@@ -100,8 +96,6 @@ impl ComponentBuilder {
             debug_name: Option<&str>,
             rep: ValType,
             dtor: Option<u32>,
-        ) -> u32 {
-            Ok(self.0.type_resource(debug_name, rep.to_proved()?, dtor)?)
-        }
+        ) -> u32 as (debug_name, rep.try_into()?, dtor);
     }
 }

@@ -42,19 +42,14 @@ impl ComponentType {
             &mut self,
             name: impl Into<ComponentExternName<'a>>,
             ty: ComponentTypeRef,
-        ) -> &mut Self {
-            self.0.import(name.into().into_proved(), ty)?;
-            Ok(self)
-        }
+        ) -> &mut Self as (name.into().into_proved(), ty);
 
         /// Declares an import of a type and returns its index.
         fn import_type | try_import_type<'a>(
             &mut self,
             name: impl Into<ComponentExternName<'a>>,
             bounds: TypeBounds,
-        ) -> u32 {
-            Ok(self.0.import_type(name.into().into_proved(), bounds)?)
-        }
+        ) -> u32 as (name.into().into_proved(), bounds);
 
         /// Declares an import of an instance of the type with this index, and returns the
         /// instance's index.
@@ -62,8 +57,6 @@ impl ComponentType {
             &mut self,
             name: impl Into<ComponentExternName<'a>>,
             ty: u32,
-        ) -> u32 {
-            Ok(self.0.import_instance(name.into().into_proved(), ty)?)
-        }
+        ) -> u32 as (name.into().into_proved(), ty);
     }
 }

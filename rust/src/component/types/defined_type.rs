@@ -1,7 +1,8 @@
 //! The encoder of defined value types.
 
 use super::{ComponentValType, PrimitiveValType};
-use crate::shared::{encoders, on};
+use crate::proved::wenc_base::Fault;
+use crate::shared::{Labelled, List, encoders, on};
 #[cfg(feature = "reader")]
 use crate::tree::DefinedTree;
 use crate::twins::twins;
@@ -52,8 +53,11 @@ impl ComponentDefinedTypeEncoder<'_> {
             T: Into<ComponentValType>,
         }
         {
-            let fields = fields.into_iter().map(|(name, ty)| (name, ty.into()));
-            Ok(on!(self.by, DefinedBy, encoder => encoder.record(fields))?)
+            let mut fields = Labelled(fields.into_iter());
+            Ok(match self.by {
+                DefinedBy::Builder(encoder) => encoder.record(fields),
+                by => by.record(List(&mut fields)),
+            }?)
         }
 
         /// Defines a `variant` with the names of its cases, each with an optional payload type.
@@ -63,8 +67,11 @@ impl ComponentDefinedTypeEncoder<'_> {
             C::IntoIter: ExactSizeIterator,
         }
         {
-            let cases = cases.into_iter();
-            Ok(on!(self.by, DefinedBy, encoder => encoder.variant(cases))?)
+            let mut cases = cases.into_iter();
+            Ok(match self.by {
+                DefinedBy::Section(encoder) => encoder.variant(cases),
+                by => by.variant(List(&mut cases)),
+            }?)
         }
 
         /// Defines a `list` of any length.
@@ -101,8 +108,7 @@ impl ComponentDefinedTypeEncoder<'_> {
             T: Into<ComponentValType>,
         }
         {
-            let types = types.into_iter().map(T::into);
-            Ok(on!(self.by, DefinedBy, encoder => encoder.tuple(types))?)
+            Ok(self.by.tuple(List(&mut types.into_iter().map(T::into)))?)
         }
 
         /// Defines `flags` with these names.
@@ -112,8 +118,7 @@ impl ComponentDefinedTypeEncoder<'_> {
             I::IntoIter: ExactSizeIterator,
         }
         {
-            let names = names.into_iter();
-            Ok(on!(self.by, DefinedBy, encoder => encoder.flags(names))?)
+            Ok(self.by.flags(List(&mut names.into_iter()))?)
         }
 
         /// Defines an `enum` with these cases.
@@ -123,8 +128,7 @@ impl ComponentDefinedTypeEncoder<'_> {
             I::IntoIter: ExactSizeIterator,
         }
         {
-            let tags = tags.into_iter();
-            Ok(on!(self.by, DefinedBy, encoder => encoder.enum_type(tags))?)
+            Ok(self.by.enum_type(List(&mut tags.into_iter()))?)
         }
 
         /// Defines an `option`.
@@ -172,4 +176,23 @@ impl ComponentDefinedTypeEncoder<'_> {
             Ok(on!(self.by, DefinedBy, encoder => encoder.tree(ty))?)
         }
     }
+}
+
+/// Calls with a list, which aren't compiled again for a user's iterator.
+macro_rules! lists {
+    ($($name:ident $item:ty;)*) => {
+        impl DefinedBy<'_> {
+            $(fn $name(self, list: List<'_, $item>) -> Result<(), Fault> {
+                on!(self, DefinedBy, encoder => encoder.$name(list))
+            })*
+        }
+    };
+}
+
+lists! {
+    record (&str, ComponentValType);
+    variant (&str, Option<ComponentValType>);
+    tuple ComponentValType;
+    flags &str;
+    enum_type &str;
 }

@@ -1,7 +1,8 @@
 //! The encoder of function types.
 
 use crate::proved::wasm_encoder::FuncStage;
-use crate::shared::{encoders, on};
+use crate::proved::wenc_base::Fault;
+use crate::shared::{Labelled, List, encoders, on};
 use crate::twins::twins;
 use crate::{ComponentValType, Error};
 
@@ -29,6 +30,13 @@ encoders! {
     /// ```
     #[must_use = "an encoder that is dropped leaves its type unfinished"]
     ComponentFuncTypeEncoder by FuncBy over ComponentTypeSection, is_amid: bool = false;
+}
+
+impl FuncBy<'_> {
+    /// Encodes the parameters, in a call that isn't compiled again for a user's iterator.
+    fn params(&mut self, params: List<'_, (&str, ComponentValType)>) -> Result<(), Fault> {
+        on!(self, FuncBy, encoder => encoder.params(params))
+    }
 }
 
 impl ComponentFuncTypeEncoder<'_> {
@@ -62,9 +70,12 @@ impl ComponentFuncTypeEncoder<'_> {
         }
         {
             self.at(|stage| matches!(stage, FuncStage::Start | FuncStage::Tagged))?;
-            let params = params.into_iter().map(|(name, ty)| (name, ty.into()));
+            let mut params = Labelled(params.into_iter());
             self.is_amid = true;
-            let answer = on!(&mut self.by, FuncBy, encoder => encoder.params(params));
+            let answer = match &mut self.by {
+                FuncBy::Builder(encoder) => encoder.params(params),
+                by => by.params(List(&mut params)),
+            };
             self.is_amid = false;
             answer?;
             Ok(self)

@@ -38,10 +38,8 @@ impl ModuleType {
         ///
         /// Fails with [`Unsupported`](crate::Error::Unsupported) if the type isn't in WebAssembly
         /// 3.0, such as that of a shared table.
-        fn import | try_import(&mut self, module: &str, name: &str, ty: EntityType) -> &mut Self {
-            self.0.import(module, name, ty.to_proved()?)?;
-            Ok(self)
-        }
+        fn import | try_import(&mut self, module: &str, name: &str, ty: EntityType) -> &mut Self
+            as (module, name, ty.try_into()?);
 
         /// Begins the declaration of a core type and returns its encoder.
         ///
@@ -59,25 +57,18 @@ impl ModuleType {
             &mut self,
             count: u32,
             index: u32,
-        ) -> &mut Self {
-            self.0.alias_outer_core_type(count, index)?;
-            Ok(self)
-        }
+        ) -> &mut Self;
 
         /// Declares what [`alias_outer_core_type`](Self::alias_outer_core_type) does, but returns
         /// the alias's index.
-        fn alias_core_type | try_alias_core_type(&mut self, count: u32, outer: u32) -> u32 {
-            Ok(self.0.alias_core_type(count, outer)?)
-        }
+        fn alias_core_type | try_alias_core_type(&mut self, count: u32, outer: u32) -> u32;
 
         /// Declares an export by its name and type.
         ///
         /// Fails with [`Unsupported`](crate::Error::Unsupported) if the type isn't in WebAssembly
         /// 3.0, such as that of a shared table.
-        fn export | try_export(&mut self, name: &str, ty: EntityType) -> &mut Self {
-            self.0.export(name, ty.to_proved()?)?;
-            Ok(self)
-        }
+        fn export | try_export(&mut self, name: &str, ty: EntityType) -> &mut Self
+            as (name, ty.try_into()?);
     }
 
     /// Returns the number of core types: declared ones, with an unfinished one, and outer aliases.

@@ -48,16 +48,10 @@ impl ComponentTypeSection {
         }
 
         /// Adds a component type. Fails if it is unfinished.
-        fn component | try_component(&mut self, ty: &ComponentType) -> &mut Self {
-            self.0.component(&ty.0)?;
-            Ok(self)
-        }
+        fn component | try_component(&mut self, ty: &ComponentType) -> &mut Self as (&ty.0);
 
         /// Adds an instance type. Fails if it is unfinished.
-        fn instance | try_instance(&mut self, ty: &InstanceType) -> &mut Self {
-            self.0.instance(&ty.0)?;
-            Ok(self)
-        }
+        fn instance | try_instance(&mut self, ty: &InstanceType) -> &mut Self as (&ty.0);
 
         /// Begins a function type and returns its encoder, whose `result` ends it; see
         /// [`ty`](Self::ty).
@@ -74,9 +68,7 @@ impl ComponentTypeSection {
 
         /// Adds a resource type: its representation, and optionally the index of the core function
         /// that is its destructor.
-        fn resource | try_resource(&mut self, rep: ValType, dtor: Option<u32>) -> &mut Self {
-            self.0.resource(rep.to_proved()?, dtor)?;
-            Ok(self)
-        }
+        fn resource | try_resource(&mut self, rep: ValType, dtor: Option<u32>) -> &mut Self
+            as (rep.try_into()?, dtor);
     }
 }

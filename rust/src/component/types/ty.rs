@@ -50,7 +50,7 @@ impl<'a> ComponentTypeEncoder<'a> {
         /// Encodes a resource type, which ends the type: its representation, and optionally the
         /// index of the core function that is its destructor.
         fn resource | try_resource(self, rep: ValType, dtor: Option<u32>) -> () {
-            let rep = rep.to_proved()?;
+            let rep = rep.try_into()?;
             Ok(on!(self.by, TypeBy, encoder => encoder.resource(rep, dtor))?)
         }
     }

@@ -1,10 +1,6 @@
 //! Core types of functions, arrays and structs.
 
-use super::{ValType, converted};
-use crate::Error;
-use crate::encode::encode;
-use crate::error::granted;
-use crate::proved::wasm_encoder as proved;
+use super::ValType;
 use alloc::boxed::Box;
 use alloc::vec::Vec;
 
@@ -30,16 +26,6 @@ impl StorageType {
             Self::Val(ty) => ty.is_defaultable(),
         }
     }
-
-    /// The type as the proved code takes it.
-    #[inline]
-    pub(crate) fn to_proved(self) -> Result<proved::StorageType, Error> {
-        Ok(match self {
-            Self::I8 => proved::StorageType::I8,
-            Self::I16 => proved::StorageType::I16,
-            Self::Val(ty) => proved::StorageType::Val(ty.to_proved()?),
-        })
-    }
 }
 
 /// A field of a struct, or the elements of an array.
@@ -49,15 +35,6 @@ pub struct FieldType {
     pub element_type: StorageType,
     /// Whether it is mutable.
     pub mutable: bool,
-}
-
-impl FieldType {
-    /// The type as the proved code takes it.
-    #[inline]
-    pub(crate) fn to_proved(self) -> Result<proved::FieldType, Error> {
-        let element_type = self.element_type.to_proved()?;
-        Ok(proved::FieldType { element_type, mutable: self.mutable })
-    }
 }
 
 /// The type of a core function.
@@ -99,13 +76,6 @@ impl FuncType {
     pub fn results(&self) -> &[ValType] {
         &self.values[self.params..]
     }
-
-    /// The type as the proved code takes it.
-    pub(crate) fn to_proved(&self) -> Result<proved::FuncType, Error> {
-        let params = converted(self.params(), |ty| ty.to_proved())?;
-        let results = converted(self.results(), |ty| ty.to_proved())?;
-        Ok(proved::FuncType::from_lists(params, results))
-    }
 }
 
 /// An array type.
@@ -115,26 +85,11 @@ pub struct ArrayType(
     pub FieldType,
 );
 
-impl ArrayType {
-    /// The type as the proved code takes it.
-    pub(crate) fn to_proved(self) -> Result<proved::ArrayType, Error> {
-        Ok(proved::ArrayType(self.0.to_proved()?))
-    }
-}
-
 /// A struct type.
 #[derive(Clone, Debug, PartialEq, Eq, PartialOrd, Ord, Hash)]
 pub struct StructType {
     /// The fields, in their order.
     pub fields: Box<[FieldType]>,
-}
-
-impl StructType {
-    /// The type as the proved code takes it.
-    pub(crate) fn to_proved(&self) -> Result<proved::StructType, Error> {
-        let fields = converted(&self.fields, |field| field.to_proved())?;
-        Ok(proved::StructType { fields })
-    }
 }
 
 /// A continuation type. It isn't in WebAssembly 3.0, and isn't supported.
@@ -157,16 +112,6 @@ pub struct CompositeType {
     pub describes: Option<u32>,
 }
 
-impl CompositeType {
-    /// The type as the proved code takes it.
-    pub(crate) fn to_proved(&self) -> Result<proved::CompositeType, Error> {
-        if self.shared || self.descriptor.is_some() || self.describes.is_some() {
-            return Err(Error::Unsupported);
-        }
-        self.inner.to_proved()
-    }
-}
-
 /// A function, array or struct type.
 #[derive(Clone, Debug, PartialEq, Eq, PartialOrd, Ord, Hash)]
 pub enum CompositeInnerType {
@@ -180,18 +125,6 @@ pub enum CompositeInnerType {
     Cont(ContType),
 }
 
-impl CompositeInnerType {
-    /// The type as the proved code takes it.
-    pub(crate) fn to_proved(&self) -> Result<proved::CompositeType, Error> {
-        Ok(match self {
-            Self::Func(ty) => proved::CompositeType::Func(ty.to_proved()?),
-            Self::Array(ty) => proved::CompositeType::Array(ty.to_proved()?),
-            Self::Struct(ty) => proved::CompositeType::Struct(ty.to_proved()?),
-            Self::Cont(_) => return Err(Error::Unsupported),
-        })
-    }
-}
-
 /// A composite type as a subtype (WebAssembly 3.0, binary format, "Recursive Types").
 #[derive(Clone, Debug, PartialEq, Eq, PartialOrd, Ord, Hash)]
 pub struct SubType {
@@ -201,26 +134,4 @@ pub struct SubType {
     pub supertype_idx: Option<u32>,
     /// The type itself.
     pub composite_type: CompositeType,
-}
-
-impl SubType {
-    /// The type as the proved code takes it.
-    pub(crate) fn to_proved(&self) -> Result<proved::SubType, Error> {
-        Ok(proved::SubType {
-            is_final: self.is_final,
-            supertype_idx: self.supertype_idx,
-            composite_type: self.composite_type.to_proved()?,
-        })
-    }
-}
-
-encode! {
-    StorageType, ty => granted(ty.to_proved());
-    FieldType, ty => granted(ty.to_proved());
-    FuncType, ty => granted(ty.to_proved());
-    ArrayType, ty => granted(ty.to_proved());
-    StructType, ty => granted(ty.to_proved());
-    CompositeType, ty => granted(ty.to_proved());
-    CompositeInnerType, ty => granted(ty.to_proved());
-    SubType, ty => granted(ty.to_proved());
 }

@@ -2,6 +2,7 @@
 
 use super::{ContType, FieldType, FuncType, StorageType, SubType, ValType, converted};
 use crate::Error;
+use crate::proved::wasm_encoder as proved;
 use crate::shared::{encoders, on};
 use crate::twins::twins;
 
@@ -48,20 +49,20 @@ impl CoreTypeEncoder<'_> {
             R::IntoIter: ExactSizeIterator,
         }
         {
-            let params = converted(params, ValType::to_proved)?.into_iter();
-            let results = converted(results, ValType::to_proved)?.into_iter();
+            let params = converted(params, proved::ValType::try_from)?.into_iter();
+            let results = converted(results, proved::ValType::try_from)?.into_iter();
             Ok(on!(self.by, CoreTypeBy + Module, encoder => encoder.function(params, results))?)
         }
 
         /// Encodes a function type.
         fn func_type | try_func_type(self, ty: &FuncType) -> () {
-            let ty = ty.to_proved()?;
+            let ty = proved::FuncType::try_from(ty)?;
             Ok(on!(self.by, CoreTypeBy + Module, encoder => encoder.func_type(&ty))?)
         }
 
         /// Encodes an array type by the type of its elements and whether they are mutable.
         fn array | try_array(self, ty: &StorageType, mutable: bool) -> () {
-            let ty = ty.to_proved()?;
+            let ty = proved::StorageType::try_from(*ty)?;
             Ok(on!(self.by, CoreTypeBy + Module, encoder => encoder.array(&ty, mutable))?)
         }
 
@@ -72,7 +73,7 @@ impl CoreTypeEncoder<'_> {
             F::IntoIter: ExactSizeIterator,
         }
         {
-            let fields = converted(fields, FieldType::to_proved)?.into_iter();
+            let fields = converted(fields, proved::FieldType::try_from)?.into_iter();
             Ok(on!(self.by, CoreTypeBy + Module, encoder => encoder.struct_(fields))?)
         }
 
@@ -83,7 +84,7 @@ impl CoreTypeEncoder<'_> {
 
         /// Encodes a subtype.
         fn subtype | try_subtype(self, ty: &SubType) -> () {
-            let ty = ty.to_proved()?;
+            let ty = proved::SubType::try_from(ty)?;
             Ok(on!(self.by, CoreTypeBy + Module, encoder => encoder.subtype(&ty))?)
         }
 
@@ -95,7 +96,7 @@ impl CoreTypeEncoder<'_> {
             T::IntoIter: ExactSizeIterator,
         }
         {
-            let types = converted(types, |ty| ty.to_proved())?;
+            let types = converted(types, |ty| proved::SubType::try_from(&ty))?;
             let types = types.as_slice().iter();
             Ok(on!(self.by, CoreTypeBy + Module, encoder => encoder.rec(types))?)
         }

@@ -1,6 +1,7 @@
 //! Core types of values.
 
 use crate::Error;
+use crate::core::conversions::supported;
 use crate::encode::encode;
 use crate::error::granted;
 use crate::proved::wasm_encoder as proved;
@@ -51,19 +52,6 @@ impl ValType {
             Self::Ref(ty) => ty.nullable,
         }
     }
-
-    /// The type as the proved code takes it.
-    #[inline]
-    pub(crate) fn to_proved(self) -> Result<proved::ValType, Error> {
-        Ok(match self {
-            Self::I32 => proved::ValType::I32,
-            Self::I64 => proved::ValType::I64,
-            Self::F32 => proved::ValType::F32,
-            Self::F64 => proved::ValType::F64,
-            Self::V128 => proved::ValType::V128,
-            Self::Ref(ty) => proved::ValType::Ref(ty.to_proved()?),
-        })
-    }
 }
 
 impl From<RefType> for ValType {
@@ -107,13 +95,6 @@ impl RefType {
         self.nullable = nullable;
         self
     }
-
-    /// The type as the proved code takes it.
-    #[inline]
-    pub(crate) fn to_proved(self) -> Result<proved::RefType, Error> {
-        let heap_type = self.heap_type.to_proved()?;
-        Ok(proved::RefType { nullable: self.nullable, heap_type })
-    }
 }
 
 /// A heap type, the type of a referent (WebAssembly 3.0, binary format, "Heap Types").
@@ -133,109 +114,68 @@ pub enum HeapType {
 }
 
 impl HeapType {
-    /// Functions.
-    pub const FUNC: Self = Self::unshared(AbstractHeapType::Func);
-    /// External host references.
-    pub const EXTERN: Self = Self::unshared(AbstractHeapType::Extern);
-    /// Top of the `any` hierarchy.
-    pub const ANY: Self = Self::unshared(AbstractHeapType::Any);
-    /// Bottom of the `any` hierarchy.
-    pub const NONE: Self = Self::unshared(AbstractHeapType::None);
-    /// Bottom of the `extern` hierarchy.
-    pub const NO_EXTERN: Self = Self::unshared(AbstractHeapType::NoExtern);
-    /// Bottom of the `func` hierarchy.
-    pub const NO_FUNC: Self = Self::unshared(AbstractHeapType::NoFunc);
-    /// Values that can be compared.
-    pub const EQ: Self = Self::unshared(AbstractHeapType::Eq);
-    /// Structs.
-    pub const STRUCT: Self = Self::unshared(AbstractHeapType::Struct);
-    /// Arrays.
-    pub const ARRAY: Self = Self::unshared(AbstractHeapType::Array);
-    /// Unboxed 31-bit integers.
-    pub const I31: Self = Self::unshared(AbstractHeapType::I31);
-    /// Exceptions.
-    pub const EXN: Self = Self::unshared(AbstractHeapType::Exn);
-    /// Bottom of the `exn` hierarchy.
-    pub const NO_EXN: Self = Self::unshared(AbstractHeapType::NoExn);
-    /// Continuations, which aren't supported.
-    pub const CONT: Self = Self::unshared(AbstractHeapType::Cont);
-    /// Bottom of the `cont` hierarchy, which isn't supported.
-    pub const NO_CONT: Self = Self::unshared(AbstractHeapType::NoCont);
-
     /// An abstract heap type that threads don't share.
     const fn unshared(ty: AbstractHeapType) -> Self {
         Self::Abstract { shared: false, ty }
     }
+}
 
-    /// The type as the proved code takes it.
-    #[inline]
-    pub(crate) fn to_proved(self) -> Result<proved::HeapType, Error> {
-        match self {
-            Self::Abstract { shared: false, ty } => Ok(proved::HeapType::Abstract(ty.to_proved()?)),
-            Self::Concrete(index) => Ok(proved::HeapType::Concrete(index)),
-            Self::Abstract { shared: true, .. } | Self::Exact(_) => Err(Error::Unsupported),
+/// The abstract heap types, each with the constant that stands for it.
+macro_rules! heap_types {
+    (
+        { $($(#[$doc:meta])* $name:ident $constant:ident;)* }
+        without { $($(#[$no_doc:meta])* $no_name:ident $no_constant:ident;)* }
+    ) => {
+        /// An abstract heap type (WebAssembly 3.0, binary format, "Heap Types").
+        #[derive(Clone, Copy, Debug, PartialEq, Eq, PartialOrd, Ord, Hash)]
+        pub enum AbstractHeapType {
+            $($(#[$doc])* $name,)*
+            $($(#[$no_doc])* $no_name,)*
         }
+
+        impl HeapType {
+            $($(#[$doc])*
+            pub const $constant: Self = Self::unshared(AbstractHeapType::$name);)*
+            $($(#[$no_doc])*
+            pub const $no_constant: Self = Self::unshared(AbstractHeapType::$no_name);)*
+        }
+
+        supported! {
+            enum AbstractHeapType { $($name),* } without [$(AbstractHeapType::$no_name)|*];
+        }
+    };
+}
+
+heap_types! {
+    {
+        /// Functions.
+        Func FUNC;
+        /// External host references.
+        Extern EXTERN;
+        /// Top of the `any` hierarchy.
+        Any ANY;
+        /// Bottom of the `any` hierarchy.
+        None NONE;
+        /// Bottom of the `extern` hierarchy.
+        NoExtern NO_EXTERN;
+        /// Bottom of the `func` hierarchy.
+        NoFunc NO_FUNC;
+        /// Values that can be compared.
+        Eq EQ;
+        /// Structs.
+        Struct STRUCT;
+        /// Arrays.
+        Array ARRAY;
+        /// Unboxed 31-bit integers.
+        I31 I31;
+        /// Exceptions.
+        Exn EXN;
+        /// Bottom of the `exn` hierarchy.
+        NoExn NO_EXN;
+    } without {
+        /// Continuations, which aren't supported.
+        Cont CONT;
+        /// Bottom of the `cont` hierarchy, which isn't supported.
+        NoCont NO_CONT;
     }
-}
-
-/// An abstract heap type (WebAssembly 3.0, binary format, "Heap Types").
-#[derive(Clone, Copy, Debug, PartialEq, Eq, PartialOrd, Ord, Hash)]
-pub enum AbstractHeapType {
-    /// Functions.
-    Func,
-    /// External host references.
-    Extern,
-    /// Top of the `any` hierarchy.
-    Any,
-    /// Bottom of the `any` hierarchy.
-    None,
-    /// Bottom of the `extern` hierarchy.
-    NoExtern,
-    /// Bottom of the `func` hierarchy.
-    NoFunc,
-    /// Values that can be compared.
-    Eq,
-    /// Structs.
-    Struct,
-    /// Arrays.
-    Array,
-    /// Unboxed 31-bit integers.
-    I31,
-    /// Exceptions.
-    Exn,
-    /// Bottom of the `exn` hierarchy.
-    NoExn,
-    /// Continuations, which aren't supported.
-    Cont,
-    /// Bottom of the `cont` hierarchy, which isn't supported.
-    NoCont,
-}
-
-impl AbstractHeapType {
-    /// The type as the proved code takes it.
-    #[inline]
-    pub(crate) fn to_proved(self) -> Result<proved::AbstractHeapType, Error> {
-        Ok(match self {
-            Self::Func => proved::AbstractHeapType::Func,
-            Self::Extern => proved::AbstractHeapType::Extern,
-            Self::Any => proved::AbstractHeapType::Any,
-            Self::None => proved::AbstractHeapType::None,
-            Self::NoExtern => proved::AbstractHeapType::NoExtern,
-            Self::NoFunc => proved::AbstractHeapType::NoFunc,
-            Self::Eq => proved::AbstractHeapType::Eq,
-            Self::Struct => proved::AbstractHeapType::Struct,
-            Self::Array => proved::AbstractHeapType::Array,
-            Self::I31 => proved::AbstractHeapType::I31,
-            Self::Exn => proved::AbstractHeapType::Exn,
-            Self::NoExn => proved::AbstractHeapType::NoExn,
-            Self::Cont | Self::NoCont => return Err(Error::Unsupported),
-        })
-    }
-}
-
-encode! {
-    ValType, ty => granted(ty.to_proved());
-    RefType, ty => granted(ty.to_proved());
-    HeapType, ty => granted(ty.to_proved());
-    AbstractHeapType, ty => granted(ty.to_proved());
 }
