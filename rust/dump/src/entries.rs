@@ -2,17 +2,17 @@
 
 use super::node::{Clause, Indices, Node, Scope, Tree};
 use wenc::CoreItem;
-use wenc::tree::{CoreEntityType, Space};
+use wenc::tree::{CoreEntityType as EntityType, Space};
 
 /// The space in which an item has an index, if any.
 pub fn space(item: &CoreItem) -> Option<Space> {
     let CoreItem::Import { ty, .. } = item else { return None };
     Some(match ty {
-        CoreEntityType::Function(_) => Space::CoreFuncs,
-        CoreEntityType::Table(_) => Space::CoreTables,
-        CoreEntityType::Memory(_) => Space::CoreMemories,
-        CoreEntityType::Global(_) => Space::CoreGlobals,
-        CoreEntityType::Tag(_) => Space::CoreTags,
+        EntityType::Function(_) => Space::CoreFuncs,
+        EntityType::Table(_) => Space::CoreTables,
+        EntityType::Memory(_) => Space::CoreMemories,
+        EntityType::Global(_) => Space::CoreGlobals,
+        EntityType::Tag(_) => Space::CoreTags,
     })
 }
 

@@ -2,7 +2,7 @@
 
 use std::ops::Range;
 use std::path::Path;
-use wenc::tree::{CoreEntityType as EntityType, CoreMemoryType as MemoryType, ItemTree};
+use wenc::tree::{CoreEntityType, CoreMemoryType, ItemTree};
 use wenc::{CoreItem, CoreSection, CoreSections, ExportKind, ModuleFault, SectionId, Unread, list};
 
 fn all(module: &[u8]) -> Vec<Result<CoreSection<'_>, ModuleFault>> {
@@ -71,7 +71,7 @@ fn items(section: &[u8]) -> (Option<u32>, Read) {
 
 #[test]
 fn items_have_their_places() {
-    let memory = MemoryType { minimum: 1, maximum: None, memory64: false, shared: false };
+    let memory = CoreMemoryType { minimum: 1, maximum: None, memory64: false, shared: false };
     let import = |module: &str, name: &str, ty| CoreItem::Import {
         module: module.into(),
         name: name.into(),
@@ -82,8 +82,8 @@ fn items_have_their_places() {
         (
             Some(2),
             vec![
-                Ok((11..19, import("env", "f", EntityType::Function(5)))),
-                Ok((19..25, import("", "m", EntityType::Memory(memory)))),
+                Ok((11..19, import("env", "f", CoreEntityType::Function(5)))),
+                Ok((19..25, import("", "m", CoreEntityType::Memory(memory)))),
             ],
         ),
     );
