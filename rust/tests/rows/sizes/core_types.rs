@@ -59,7 +59,7 @@ fn subtype(supertype_idx: Option<u32>, inner: CompositeInnerType) -> SubType {
 }
 
 /// The tree of a subtype.
-fn sub(ty: &SubType) -> tree::SubType {
+fn sub(ty: &SubType) -> tree::CoreSubType {
     ty.try_into().expect("it is of WebAssembly 3.0")
 }
 

@@ -62,7 +62,7 @@ fn module_types_have_imports() {
         },
         &|case| {
             let (module, name) = (owned(&case.text), owned(&case.other));
-            ModuleDecl::Import { module, name, ty: tree::EntityType::Function(case.index()) }
+            ModuleDecl::Import { module, name, ty: tree::CoreEntityType::Function(case.index()) }
         },
         &|case| {
             let names = [sized(&case.text), sized(&case.other)].concat();
@@ -78,7 +78,7 @@ fn module_types_have_exports() {
             ty.export(&case.text, EntityType::Function(case.index()));
         },
         &|case| {
-            let ty = tree::EntityType::Function(case.index());
+            let ty = tree::CoreEntityType::Function(case.index());
             ModuleDecl::Export { name: owned(&case.text), ty }
         },
         &|case| joined([&[0x03], &sized(&case.text), &[0x00], &number(case.size)]),
@@ -90,9 +90,9 @@ fn module_types_have_types() {
     is_module(
         &|ty, _| ty.ty().function([], []),
         &|_| {
-            let function = tree::FuncType::from_lists([].into(), [].into());
-            let composite_type = tree::CompositeType::Func(function);
-            let ty = tree::SubType { is_final: true, supertype_idx: None, composite_type };
+            let function = tree::CoreFuncType::from_lists([].into(), [].into());
+            let composite_type = tree::CoreCompositeType::Func(function);
+            let ty = tree::CoreSubType { is_final: true, supertype_idx: None, composite_type };
             ModuleDecl::Type(GroupTree::Sub(ty))
         },
         &|_| vec![0x01, 0x60, 0, 0],

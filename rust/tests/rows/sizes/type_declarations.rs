@@ -6,8 +6,8 @@ use super::{Case, TYPE, adds, by_hand, cases, encoded, joined, list_of, number, 
 use crate::commands::text as owned;
 use std::iter::repeat_n;
 use wenc::tree::{
-    self, AliasTree, ComponentDecl, CompositeType, CoreTypeTree, DefinedTree, GroupTree,
-    InstanceDecl, SubType, TypeTree,
+    self, AliasTree, ComponentDecl, CoreCompositeType, CoreSubType, CoreTypeTree, DefinedTree,
+    GroupTree, InstanceDecl, TypeTree,
 };
 use wenc::{
     Alias, ComponentExportKind, ComponentOuterAliasKind, ComponentType, ComponentTypeRef,
@@ -195,8 +195,9 @@ fn imports_of_types_and_of_instances() {
 
 /// A declaration of each kind that isn't an import or export, and its bytes.
 fn declarations(case: &Case) -> [(InstanceDecl, Vec<u8>); 4] {
-    let composite_type = CompositeType::Func(tree::FuncType::from_lists([].into(), [].into()));
-    let function = SubType { is_final: true, supertype_idx: None, composite_type };
+    let composite_type =
+        CoreCompositeType::Func(tree::CoreFuncType::from_lists([].into(), [].into()));
+    let function = CoreSubType { is_final: true, supertype_idx: None, composite_type };
     let core_type = CoreTypeTree::Group(GroupTree::Sub(function));
     let own = TypeTree::Defined(DefinedTree::Own(case.index()));
     let (instance, name) = (case.index(), owned(&case.text));

@@ -241,7 +241,7 @@ fn functions_have_parameters() {
 
 #[test]
 fn resources_have_destructors() {
-    let rep = tree::ValType::I32;
+    let rep = tree::CoreValType::I32;
     let wanted = |case: &Case| joined([&[0x3f, 0x7f, 1], &number(case.size)]);
     is_type(
         &|ty, case| ty.resource(ValType::I32, Some(case.index())),
