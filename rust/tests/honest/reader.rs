@@ -167,7 +167,7 @@ pub fn compare(
     }
 }
 
-/// Takes these tokens from the rest of the Rust. The first stands in this line, if one is told.
+/// Takes these tokens from the rest of the Rust. The first is in this line, if one is given.
 fn take(way: &str, line: Option<usize>, wanted: &str, rest: &mut &[Token]) -> Result<(), String> {
     let wanted = if way == "kept" {
         vec![wanted.to_owned()]
