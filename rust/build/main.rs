@@ -17,7 +17,7 @@ const WRITER: [&str; 6] =
 /// The crates of the feature `reader`.
 const READER: [&str; 4] = ["wenc_read", "wenc_decode", "wenc_list", "wasm_encoder"];
 
-/// The crates behind the programs.
+/// The crates of the programs.
 const PROGRAMS: [&str; 2] = ["wenc", "driven"];
 
 /// What the tests call beside those: proved callers, the examples of the documentation, and types

@@ -2,7 +2,7 @@
 //! proved sources.
 //!
 //! A call reads its arguments before it changes anything, and a whole list before it writes the
-//! first member: so a call that fails changes nothing. What is behind a length of 0 or a false flag
+//! first member: so a call that fails changes nothing. What belongs to a length of 0 or a false flag
 //! isn't read. A pointer that isn't NULL has to be as the header says: nothing can check that.
 #![allow(unsafe_code)]
 

@@ -1,4 +1,4 @@
-//! The proved sources without their contracts, and what stands for Rattle's standard library and for
+//! The proved sources without their contracts, and what replaces Rattle's standard library and
 //! crates of the kit. Nothing here but trees is for a user: the erased calls owe what contracts
 //! demand, and nothing tests that.
 

@@ -42,8 +42,8 @@ macro_rules! collections {
 
 pub(crate) use collections;
 
-/// What lends itself to encoders: whether one of them is to end an item yet, and how that item is
-/// given up.
+/// What can be the parent of encoders: whether an encoder hasn't ended its item, and how that item
+/// is discarded.
 macro_rules! lenders {
     ($($name:ident)*) => {
         $(impl $name {
@@ -71,7 +71,7 @@ pub(crate) trait Public<T> {
     fn public(self) -> T;
 }
 
-/// An encoder with one name, whatever lent itself to it: a case for each lender.
+/// An encoder with one name, whichever its parent: a case for each.
 macro_rules! encoders {
     ($(
         $(#[$meta:meta])*
@@ -129,7 +129,7 @@ macro_rules! encoders {
 
 pub(crate) use encoders;
 
-/// One call of an encoder, the same whoever lent itself.
+/// One call of an encoder, whichever its parent.
 macro_rules! on {
     ($encoder:expr, $by:ident $(+ $case:ident)*, $name:ident => $call:expr) => {
         match $encoder {
@@ -181,8 +181,8 @@ impl<I: Iterator> Source<I::Item> for I {
     }
 }
 
-/// The names and types of fields or parameters. The compiler unrolls a list of known length behind
-/// this `?`, which it doesn't behind `map`.
+/// The names and types of fields or parameters. The compiler unrolls a list of known length with
+/// this `?`, and with `map` it doesn't.
 pub(crate) struct Labelled<I>(pub I);
 
 impl<'a, T, I> Iterator for Labelled<I>

@@ -1,5 +1,5 @@
-//! The program `wenc`: it runs a script of commands on standard input, and prints their answers and
-//! the component that they build; or it lists a component's sections. docs/SCRIPTS.md tells of
+//! The program `wenc`: it runs a script of commands on standard input, and prints their results and
+//! the component that they build; or it lists a component's sections. docs/SCRIPTS.md describes
 //! both.
 
 use std::io::{self, Write};

@@ -1,4 +1,4 @@
-//! The proved sources behind the programs, as the build script erases them.
+//! The proved sources of the programs, as the build script erases them.
 
 #[path = "../../src/proved/hex.rs"]
 pub mod hex;

@@ -202,7 +202,7 @@ fn all<T: Decode<Global>>(bytes: &[u8]) -> Answer<T> {
     ended(value, rest)
 }
 
-/// Returns a value if no bytes are left behind it.
+/// Returns a value if no bytes follow it.
 fn ended<T>(value: T, rest: &[u8]) -> Answer<T> {
     if rest.is_empty() { Ok(value) } else { Err(Status::Malformed) }
 }

@@ -120,7 +120,7 @@ impl HeapType {
     }
 }
 
-/// The abstract heap types, each with the constant that stands for it.
+/// The abstract heap types, each with its constant.
 macro_rules! heap_types {
     (
         { $($(#[$doc:meta])* $name:ident $constant:ident;)* }

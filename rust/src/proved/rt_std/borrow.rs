@@ -1,15 +1,15 @@
-//! Texts that are lent or owned.
+//! Strings that are borrowed or owned.
 
 use super::alloc::{AllocError, Allocator, Global, TryClone};
 use super::string::String;
 use alloc::borrow::Cow;
 
-/// A text that is lent or owned.
+/// A string that is borrowed or owned.
 #[derive(Debug)]
 pub enum CowStr<'a, A: Allocator = Global> {
-    /// It is lent.
+    /// Borrowed.
     Borrowed(&'a str),
-    /// It is owned.
+    /// Owned.
     Owned(String<A>),
 }
 
@@ -24,7 +24,7 @@ impl<A: Allocator> CowStr<'_, A> {
     }
 }
 
-/// Equal letters make equal texts, lent or owned.
+/// Strings with equal bytes are equal, borrowed or owned.
 impl<A: Allocator> PartialEq for CowStr<'_, A> {
     #[inline]
     fn eq(&self, other: &Self) -> bool {

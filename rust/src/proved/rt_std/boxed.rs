@@ -10,7 +10,7 @@ use core::ops::{Deref, DerefMut};
 /// std's `Box`, whose [`try_new`](Self::try_new) returns an error if the allocation fails.
 #[derive(Clone, PartialEq, Eq, PartialOrd, Ord, Hash)]
 pub struct Box<T, A = Global> {
-    /// An array of one, since that is made by way of a vector, which can answer a refusal.
+    /// An array of one, since that is made of a vector, whose growth can fail.
     inner: Inner<[T; 1]>,
     alloc: PhantomData<A>,
 }

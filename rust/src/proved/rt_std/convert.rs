@@ -3,7 +3,7 @@
 use super::alloc::Allocator;
 use super::vec::Vec;
 
-/// What lends a slice.
+/// What has a slice.
 pub trait AsSlice<T> {
     /// The slice.
     fn as_slice(&self) -> &[T];

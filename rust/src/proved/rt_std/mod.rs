@@ -1,6 +1,6 @@
-//! What the proved sources use of Rattle's standard library, over Rust's. Memory is asked for by
-//! `try_reserve`, so that a refusal is an answer, as it is there. Only names that stand here
-//! compile: a call of the sources that this lacks is an error of the build.
+//! What the proved sources use of Rattle's standard library, over Rust's. Memory is allocated by
+//! `try_reserve`, so that a failed allocation is an error, as it is there. A call of the sources to
+//! what isn't here doesn't compile.
 
 pub mod alloc;
 pub mod borrow;
@@ -11,7 +11,7 @@ mod macros;
 pub mod string;
 pub mod vec;
 
-/// What stands in scope without being named.
+/// What is in scope without being named.
 pub mod prelude {
     pub use super::alloc::TryClone;
     pub use super::boxed::Box;
@@ -33,7 +33,7 @@ pub mod marker {
 }
 
 pub mod str {
-    //! Texts that are lent.
+    //! Borrowed strings.
 
     pub use core::str::from_utf8;
 }
