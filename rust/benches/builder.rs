@@ -10,8 +10,8 @@
 //!     numbers    `Encode` of N numbers
 //!     variant    a variant of N cases
 //!     nested     a component by hand in another, around a core module of N bytes
-//!     module     a core module of N bytes after an import
-//!     custom     a custom section of N bytes after an import
+//!     module     a core module of N bytes after a function
+//!     custom     a custom section of N bytes after a function
 //!
 //! `turns` compiles this file over upstream too, with `use wenc::*;` alone changed;
 //! `count` counts the instructions that `work` takes. `reader.rs` reads what is built here.
@@ -70,10 +70,10 @@ pub fn work(n: u32, what: &str, names: &[Names], module: &[u8]) -> Vec<u8> {
         "numbers" => numbers(n),
         "variant" => variant(n, names),
         "nested" => nested(module),
-        "module" => after_an_import(|builder| {
+        "module" => after_a_function(|builder| {
             builder.core_module_raw(None, module);
         }),
-        "custom" => after_an_import(|builder| {
+        "custom" => after_a_function(|builder| {
             builder.custom_section(&CustomSection { name: "x".into(), data: module.into() });
         }),
         other => panic!("no work is {other}"),
@@ -150,9 +150,11 @@ fn nested(module: &[u8]) -> Vec<u8> {
     outer.finish()
 }
 
-fn after_an_import(add: impl FnOnce(&mut ComponentBuilder)) -> Vec<u8> {
+/// With a section open. The function is none of those that the rounds add: a call in a second place
+/// isn't inlined in theirs.
+fn after_a_function(add: impl FnOnce(&mut ComponentBuilder)) -> Vec<u8> {
     let mut builder = ComponentBuilder::default();
-    builder.import("i", ComponentTypeRef::Func(0));
+    builder.resource_new(0);
     add(&mut builder);
     builder.finish()
 }
