@@ -10,8 +10,6 @@
 //!     numbers    `Encode` of N numbers
 //!     variant    a variant of N cases
 //!     nested     a component by hand in another, around a core module of N bytes
-//!     module     a core module of N bytes after a function
-//!     custom     a custom section of N bytes after a function
 //!
 //! `turns` compiles this file over upstream too, with `use wenc::*;` alone changed;
 //! `count` counts the instructions that `work` takes. `reader.rs` reads what is built here.
@@ -70,12 +68,6 @@ pub fn work(n: u32, what: &str, names: &[Names], module: &[u8]) -> Vec<u8> {
         "numbers" => numbers(n),
         "variant" => variant(n, names),
         "nested" => nested(module),
-        "module" => after_a_function(|builder| {
-            builder.core_module_raw(None, module);
-        }),
-        "custom" => after_a_function(|builder| {
-            builder.custom_section(&CustomSection { name: "x".into(), data: module.into() });
-        }),
         other => panic!("no work is {other}"),
     })
 }
@@ -150,15 +142,6 @@ fn nested(module: &[u8]) -> Vec<u8> {
     outer.finish()
 }
 
-/// With a section open. The function is none of those that the rounds add: a call in a second place
-/// isn't inlined in theirs.
-fn after_a_function(add: impl FnOnce(&mut ComponentBuilder)) -> Vec<u8> {
-    let mut builder = ComponentBuilder::default();
-    builder.resource_new(0);
-    add(&mut builder);
-    builder.finish()
-}
-
 /// The names of so many rounds.
 pub fn names(n: u32) -> Vec<Names> {
     let named =
@@ -176,8 +159,7 @@ fn main() {
     let words: Vec<String> = std::env::args().skip(1).filter(|word| word != "--bench").collect();
     let n = words.first().map_or(Ok(1000), |word| word.parse()).expect("a number of rounds");
     let what = words.get(1).map_or("", |word| word.as_str());
-    let of_bytes = matches!(what, "nested" | "module" | "custom");
-    let (named_len, module_len) = if of_bytes { (0, n) } else { (n, 0) };
+    let (named_len, module_len) = if what == "nested" { (0, n) } else { (n, 0) };
     let names = names(named_len);
     let module = vec![7; module_len as usize];
     let begin = Instant::now();
