@@ -47,7 +47,7 @@ pub enum Status {
 }
 
 /// The result of a call, or the status with which it fails.
-type Answer<T> = Result<T, Status>;
+type Result<T, E = Status> = core::result::Result<T, E>;
 
 impl From<Fault> for Status {
     fn from(fault: Fault) -> Self {
@@ -90,9 +90,9 @@ impl From<NestedRefusal> for Status {
     }
 }
 
-impl From<Answer<()>> for Status {
-    fn from(answer: Answer<()>) -> Self {
-        answer.err().unwrap_or(Self::Done)
+impl From<Result<()>> for Status {
+    fn from(result: Result<()>) -> Self {
+        result.err().unwrap_or(Self::Done)
     }
 }
 
@@ -104,13 +104,13 @@ pub struct Handle {
 }
 
 /// The session of a handle.
-unsafe fn session<'a>(handle: *mut Handle) -> Answer<&'a mut Session> {
+unsafe fn session<'a>(handle: *mut Handle) -> Result<&'a mut Session> {
     let handle = unsafe { handle.as_ref() }.ok_or(Status::NoHandle)?;
     unsafe { handle.at.as_mut() }.ok_or(Status::NoHandle)
 }
 
 /// The session of a second handle, which has to be another one than that of the first.
-unsafe fn other<'a>(session: &Session, handle: *mut Handle) -> Answer<&'a mut Session> {
+unsafe fn other<'a>(session: &Session, handle: *mut Handle) -> Result<&'a mut Session> {
     let at = unsafe { handle.as_ref() }.map_or(ptr::null_mut(), |handle| handle.at);
     if ptr::eq(at, session) {
         return Err(Status::BadArgument);
@@ -129,7 +129,7 @@ unsafe fn put<T>(at: *mut T, value: T) {
 unsafe fn indexed(
     handle: *mut Handle,
     index: *mut u32,
-    call: impl FnOnce(&mut Session) -> Answer<u32>,
+    call: impl FnOnce(&mut Session) -> Result<u32>,
 ) -> Status {
     match unsafe { session(handle) }.and_then(call) {
         Ok(value) => {
@@ -141,7 +141,7 @@ unsafe fn indexed(
 }
 
 /// Makes a call without a result.
-unsafe fn made(handle: *mut Handle, call: impl FnOnce(&mut Session) -> Answer<()>) -> Status {
+unsafe fn made(handle: *mut Handle, call: impl FnOnce(&mut Session) -> Result<()>) -> Status {
     unsafe { session(handle) }.and_then(call).into()
 }
 

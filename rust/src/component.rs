@@ -25,7 +25,7 @@ pub use start::*;
 pub use types::*;
 
 use crate::encode::{Encode, Foreign, append};
-use crate::error::granted;
+use crate::error::or_panic;
 use crate::proved::wasm_encoder as proved;
 use alloc::vec::Vec;
 use core::fmt;
@@ -79,7 +79,7 @@ pub trait ComponentSection: Encode {
 /// itself: if that fails, the section is written first and then moved up.
 fn append_section<S: ComponentSection + ?Sized>(section: &S, dst: &mut Vec<u8>) {
     let _ = dst.try_reserve(1);
-    granted(append(dst, |sink| {
+    or_panic(append(dst, |sink| {
         proved::ComponentSection::append_to_component(&Foreign(section), sink)
     }));
 }

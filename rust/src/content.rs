@@ -1,6 +1,6 @@
 //! Comparison and output of sections and types by their content.
 
-use crate::error::granted;
+use crate::error::or_panic;
 use crate::proved::rt_std::alloc::Global;
 use crate::proved::rt_std::vec::Vec;
 use crate::proved::wenc_base::{Encode, Fault};
@@ -11,7 +11,7 @@ pub(crate) fn encoded(value: &impl Encode) -> Option<Vec<u8>> {
     match value.encode(&mut bytes) {
         Err(Fault::Unfinished) => None,
         result => {
-            granted(result);
+            or_panic(result);
             Some(bytes)
         }
     }

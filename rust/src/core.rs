@@ -26,7 +26,7 @@ pub use types::*;
 
 use crate::UnknownSectionId;
 use crate::encode::{Encode, Foreign, append, encode};
-use crate::error::granted;
+use crate::error::or_panic;
 use crate::proved::wasm_encoder as proved;
 use crate::proved::wenc_base::Verbatim;
 use alloc::vec::Vec;
@@ -78,7 +78,7 @@ pub trait Section: Encode {
 /// itself, as for a section of a component.
 fn append_section<S: Section + ?Sized>(section: &S, dst: &mut Vec<u8>) {
     let _ = dst.try_reserve(1);
-    granted(append(dst, |sink| proved::Section::append_to(&Foreign(section), sink)));
+    or_panic(append(dst, |sink| proved::Section::append_to(&Foreign(section), sink)));
 }
 
 impl<S: Section + ?Sized> proved::Section for Foreign<'_, S> {

@@ -52,7 +52,7 @@ impl<'a> Sections<'a> {
     ///
     /// [`ListFault::NotAComponent`] if the bytes don't begin with a component's header.
     pub fn new(bytes: &'a [u8]) -> Result<Self, ListFault> {
-        let left = proved::Sections::new(bytes).map_err(|fault| ListFault::told(bytes, fault))?;
+        let left = proved::Sections::new(bytes).map_err(|fault| ListFault::new(bytes, fault))?;
         Ok(Self { bytes, left: Some(left) })
     }
 
@@ -160,8 +160,8 @@ impl<'a> Iterator for Sections<'a> {
         if next.is_err() {
             self.left = None;
         }
-        let told = |fault| ListFault::told(self.bytes, fault);
-        Some(next.map(|left| SectionReader { bytes: self.bytes, left }).map_err(told))
+        let to_fault = |fault| ListFault::new(self.bytes, fault);
+        Some(next.map(|left| SectionReader { bytes: self.bytes, left }).map_err(to_fault))
     }
 }
 
@@ -377,7 +377,7 @@ impl Iterator for Items<'_> {
             Ok(item) => Some(Ok((place..left.reached(), item))),
             Err(fault) => {
                 self.left = None;
-                Some(Err(ListFault::told(self.bytes, fault)))
+                Some(Err(ListFault::new(self.bytes, fault)))
             }
         }
     }

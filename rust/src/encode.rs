@@ -1,7 +1,7 @@
 //! Values with an encoding in the binary format.
 
 use crate::Error;
-use crate::error::granted;
+use crate::error::or_panic;
 use crate::proved::rt_std::alloc::Allocator;
 use crate::proved::rt_std::vec::Vec as ProvedVec;
 use crate::proved::wenc_base::{self as proved, Fault};
@@ -69,9 +69,9 @@ pub(crate) fn append<E>(
 #[track_caller]
 pub(crate) fn append_proved<T: proved::Encode>(sink: &mut Vec<u8>, value: &T) {
     let mut bytes = ProvedVec::from(take(sink));
-    let answer = value.encode(&mut bytes);
+    let result = value.encode(&mut bytes);
     *sink = bytes.into();
-    granted(answer);
+    or_panic(result);
 }
 
 /// A value that a user's `Encode` encodes, as the proved code takes it.
@@ -108,14 +108,14 @@ impl<T: Encode + ?Sized> Encode for &T {
 /// Encodes a list: the number of values, then each.
 impl<T: Encode> Encode for [T] {
     fn encode(&self, sink: &mut Vec<u8>) {
-        granted(append(sink, |sink| proved::encode_list(self.iter().map(Foreign), sink)));
+        or_panic(append(sink, |sink| proved::encode_list(self.iter().map(Foreign), sink)));
     }
 }
 
 impl<T: Encode> Encode for Option<T> {
     fn encode(&self, sink: &mut Vec<u8>) {
         let foreign = self.as_ref().map(Foreign);
-        granted(append(sink, |sink| proved::Encode::encode(&foreign, sink)));
+        or_panic(append(sink, |sink| proved::Encode::encode(&foreign, sink)));
     }
 }
 
@@ -137,7 +137,7 @@ impl Encode for str {
 impl Encode for usize {
     #[inline]
     fn encode(&self, sink: &mut Vec<u8>) {
-        granted(u32::try_from(*self).map_err(|_| Error::TooMany)).encode(sink);
+        or_panic(u32::try_from(*self).map_err(|_| Error::TooMany)).encode(sink);
     }
 }
 

@@ -75,8 +75,8 @@ impl From<Fault> for Error {
 /// Returns the value. Panics on an error, as the calls with upstream's names do.
 #[inline]
 #[track_caller]
-pub(crate) fn granted<T, E: Into<Error>>(answer: Result<T, E>) -> T {
-    match answer {
+pub(crate) fn or_panic<T, E: Into<Error>>(result: Result<T, E>) -> T {
+    match result {
         Ok(value) => value,
         Err(error) => refused(error.into()),
     }

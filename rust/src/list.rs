@@ -58,7 +58,7 @@ pub enum ListFault {
 
 impl ListFault {
     /// The proved fault of these bytes, with the part of its section that can't be read.
-    pub(crate) fn told(bytes: &[u8], fault: proved::ListFault) -> Self {
+    pub(crate) fn new(bytes: &[u8], fault: proved::ListFault) -> Self {
         let unread = |place| proved::first_unread(Global, bytes, place).unwrap_or(None);
         match fault {
             proved::ListFault::Memory => Self::NoMemory,
@@ -141,5 +141,5 @@ impl core::error::Error for ListFault {}
 /// # Ok::<(), ListFault>(())
 /// ```
 pub fn list(bytes: &[u8]) -> Result<Listing, ListFault> {
-    proved::list(Global, bytes).map_err(|fault| ListFault::told(bytes, fault))
+    proved::list(Global, bytes).map_err(|fault| ListFault::new(bytes, fault))
 }

@@ -33,15 +33,15 @@ pub struct RawSection<'a> {
 impl RawSection<'_> {
     /// The section as the proved code takes it.
     #[inline]
-    fn lent(&self) -> proved::RawSection<'_> {
+    fn borrowed(&self) -> proved::RawSection<'_> {
         proved::RawSection { id: self.id, data: self.data }
     }
 }
 
 encode! {
-    RawSection<'_>, section => section.lent();
+    RawSection<'_>, section => section.borrowed();
 }
 
 in_either! {
-    RawSection<'_>, section => section.lent();
+    RawSection<'_>, section => section.borrowed();
 }

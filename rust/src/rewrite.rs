@@ -3,7 +3,7 @@
 use crate::component::{ComponentSection, ComponentSectionId};
 use crate::cursor::SectionReader;
 use crate::encode::{Encode, append, encode};
-use crate::error::{Error, granted};
+use crate::error::{Error, or_panic};
 use crate::list::ListedSection;
 use crate::proved::rt_std::alloc::Global;
 use crate::proved::rt_std::vec::Vec as ProvedVec;
@@ -35,7 +35,7 @@ impl Encode for ListedSection {
     fn encode(&self, sink: &mut Vec<u8>) {
         let mut section = ItemSection::new(self.id);
         for item in &self.items {
-            granted(section.item(item));
+            or_panic(section.item(item));
         }
         section.encode(sink);
     }
@@ -189,7 +189,7 @@ impl ItemSection {
 
 impl Encode for ItemSection {
     fn encode(&self, sink: &mut Vec<u8>) {
-        granted(append(sink, |sink| self.append(sink)));
+        or_panic(append(sink, |sink| self.append(sink)));
     }
 }
 
@@ -201,7 +201,7 @@ impl ComponentSection for ItemSection {
 
 impl Clone for ItemSection {
     fn clone(&self) -> Self {
-        Self { id: self.id, items: granted(self.items.try_clone()) }
+        Self { id: self.id, items: or_panic(self.items.try_clone()) }
     }
 }
 

@@ -30,7 +30,7 @@ macro_rules! collections {
 
         impl Clone for $name {
             fn clone(&self) -> Self {
-                Self($crate::error::granted(self.0.try_clone()))
+                Self($crate::error::or_panic(self.0.try_clone()))
             }
         }
 

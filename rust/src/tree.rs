@@ -102,8 +102,8 @@ pub struct Built {
 /// ```
 pub fn build(commands: &[Command]) -> Result<Built, Error> {
     let proved::Built { answers, bytes } = proved::build(Global, commands)?;
-    let mut told = alloc::vec::Vec::new();
-    told.try_reserve_exact(answers.len()).map_err(|_| Error::NoMemory)?;
-    told.extend(answers.into_iter().map(|answer| answer.map_err(Error::from)));
-    Ok(Built { answers: told, bytes: bytes.into() })
+    let mut results = alloc::vec::Vec::new();
+    results.try_reserve_exact(answers.len()).map_err(|_| Error::NoMemory)?;
+    results.extend(answers.into_iter().map(|result| result.map_err(Error::from)));
+    Ok(Built { answers: results, bytes: bytes.into() })
 }

@@ -7,26 +7,26 @@ macro_rules! twins {
     () => {};
     (
         $(#[$meta:meta])*
-        fn $name:ident | $tried:ident $(<$($generic:tt),+>)? ($($args:tt)*) -> $answer:ty
+        fn $name:ident | $tried:ident $(<$($generic:tt),+>)? ($($args:tt)*) -> $output:ty
         $(where { $($bounds:tt)* })?
         $body:block
         $($rest:tt)*
     ) => {
         twins! {
             @receiver ($($args)*)
-            [$(#[$meta])*] [$name] [$tried] [$(<$($generic),+>)?] [$answer] [$($($bounds)*)?] $body
+            [$(#[$meta])*] [$name] [$tried] [$(<$($generic),+>)?] [$output] [$($($bounds)*)?] $body
         }
         twins! { $($rest)* }
     };
     (
         $(#[$meta:meta])*
         fn $name:ident | $tried:ident $(<$($generic:tt),+>)?
-        (&mut $self:ident $(, $arg:ident : $ty:ty)* $(,)?) -> $answer:ty;
+        (&mut $self:ident $(, $arg:ident : $ty:ty)* $(,)?) -> $output:ty;
         $($rest:tt)*
     ) => {
         twins! {
             $(#[$meta])*
-            fn $name | $tried $(<$($generic),+>)? (&mut $self $(, $arg: $ty)*) -> $answer
+            fn $name | $tried $(<$($generic),+>)? (&mut $self $(, $arg: $ty)*) -> $output
                 as ($($arg),*);
             $($rest)*
         }
@@ -34,14 +34,14 @@ macro_rules! twins {
     (
         $(#[$meta:meta])*
         fn $name:ident | $tried:ident $(<$($generic:tt),+>)?
-        (&mut $self:ident $($args:tt)*) -> $answer:ty as ($($handed:tt)*);
+        (&mut $self:ident $($args:tt)*) -> $output:ty as ($($handed:tt)*);
         $($rest:tt)*
     ) => {
         twins! {
             $(#[$meta])*
-            fn $name | $tried $(<$($generic),+>)? (&mut $self $($args)*) -> $answer {
-                let answer = $self.0.$name($($handed)*)?;
-                Ok($crate::twins::Answer::answer($self, answer))
+            fn $name | $tried $(<$($generic),+>)? (&mut $self $($args)*) -> $output {
+                let value = $self.0.$name($($handed)*)?;
+                Ok($crate::twins::Output::of($self, value))
             }
             $($rest)*
         }
@@ -54,7 +54,7 @@ macro_rules! twins {
     };
     (
         @both [$($receiver:tt)*] $self:ident [$($params:tt)*] [$($args:tt)*]
-        [$(#[$meta:meta])*] [$name:ident] [$tried:ident] [$($generics:tt)*] [$answer:ty]
+        [$(#[$meta:meta])*] [$name:ident] [$tried:ident] [$($generics:tt)*] [$output:ty]
         [$($bounds:tt)*] $body:block
     ) => {
         $(#[$meta])*
@@ -66,10 +66,10 @@ macro_rules! twins {
         )]
         #[inline]
         #[track_caller]
-        pub fn $name $($generics)* ($($receiver)*, $($params)*) -> $answer
+        pub fn $name $($generics)* ($($receiver)*, $($params)*) -> $output
         where $($bounds)*
         {
-            $crate::error::granted($self.$tried($($args)*))
+            $crate::error::or_panic($self.$tried($($args)*))
         }
 
         #[doc = concat!(
@@ -81,7 +81,7 @@ macro_rules! twins {
         ///
         /// Fails as [`Error`](crate::Error) describes.
         #[inline]
-        pub fn $tried $($generics)* ($($receiver)*, $($params)*) -> Result<$answer, $crate::Error>
+        pub fn $tried $($generics)* ($($receiver)*, $($params)*) -> Result<$output, $crate::Error>
         where $($bounds)*
         $body
     };
@@ -90,21 +90,21 @@ macro_rules! twins {
 pub(crate) use twins;
 
 /// What a call without a body returns: its receiver, or what the proved call does.
-pub(crate) trait Answer<S, V> {
+pub(crate) trait Output<S, V> {
     /// Returns the one or the other.
-    fn answer(receiver: S, value: V) -> Self;
+    fn of(receiver: S, value: V) -> Self;
 }
 
-impl<'a, S> Answer<&'a mut S, ()> for &'a mut S {
+impl<'a, S> Output<&'a mut S, ()> for &'a mut S {
     #[inline]
-    fn answer(receiver: &'a mut S, (): ()) -> Self {
+    fn of(receiver: &'a mut S, (): ()) -> Self {
         receiver
     }
 }
 
-impl<S, V> Answer<&mut S, V> for V {
+impl<S, V> Output<&mut S, V> for V {
     #[inline]
-    fn answer(_: &mut S, value: V) -> V {
+    fn of(_: &mut S, value: V) -> V {
         value
     }
 }

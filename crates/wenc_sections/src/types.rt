@@ -1,5 +1,5 @@
 //! The sections of core types and of types.
-ghost use Rattle.std.specs.Borrow.{sem, RestsIfErr};
+ghost use Rattle.std.specs.Borrow.{sem};
 ghost use Rattle.std.specs.Prelude.{◌≡◌, [], List, false, IfOk, IfErr, Err};
 ghost use Rattle.wenc_base.specs.Holder.{is_finished, held_members, AddCause, AddsMember, EncodeCause};
 ghost use Rattle.wenc_base.specs.Lender.{Lends};
@@ -8,6 +8,7 @@ ghost use Rattle.wenc_base.specs.Piece.{◌▸◌, refused_for};
 ghost use Rattle.wenc_base.specs.declared.fault.Fault.TheVariants.{Unfinished};
 ghost use Rattle.wenc_types.specs.ComponentTypes.{InstanceDeclaration, ComponentDeclaration, ComponentType as ComponentTypeSpec, InstanceType as InstanceTypeSpec, ResourceType, components_of, instances_of, def_type};
 ghost use Rattle.wenc_types.specs.Declarations.{ComponentDeclares, InstanceDeclares};
+ghost use Rattle.wenc_types.specs.Loans.{unchanged_on_err};
 ghost use Rattle.wenc_types.specs.declared.func_type.FuncStage.TheVariants as stages;
 
 use crate::counted::{Counted, CountedKind, EncoderKind};
@@ -60,9 +61,9 @@ impl<A: Allocator> Counted<CoreTypes, A> {
     /// Fails with `Unfinished` while a type is being written, with `TooMany` if the number of types
     /// would exceed 4294967295, and with `TooLarge` if the size of the section would.
     pub fn ty(&mut self) -> Result<ComponentCoreTypeEncoder<'_, CoreTypeSection<A>>, Fault>
-        ensures* refused { sem 𝓛 (RestsIfErr (the_row kind A.row
-            ⟦<CoreTypes as CountedKind>⟧ A.Allocator) self.entry
-            (λ e. e.lender.ghost_name) result (λ n. n ≡ self.old)) }
+        ensures* refused { sem 𝓛 (unchanged_on_err
+            (the_row kind A.row ⟦<CoreTypes as CountedKind>⟧ A.Allocator) self.entry
+            (λ e. e.lender) result) }
         ensures same_reference { IfOk result (λ e. e.lender.ghost_name ≡ self.entry.ghost_name) }
         ensures lent { Lends (λ e. e.lender.now) (member_begun self.old [])
             (is_finished self.old) result (AddCause self.old [] (λ _. ⊥)) }
@@ -116,9 +117,9 @@ impl<A: Allocator> Counted<ComponentTypes, A> {
     /// Fails with `Unfinished` while a type is being written, with `TooMany` if the number of types
     /// would exceed 4294967295, and with `TooLarge` if the size of the section would.
     pub fn ty(&mut self) -> Result<ComponentTypeEncoder<'_, ComponentTypeSection<A>>, Fault>
-        ensures* refused { sem 𝓛 (RestsIfErr (the_row kind A.row
-            ⟦<ComponentTypes as CountedKind>⟧ A.Allocator) self.entry
-            (λ e. e.lender.ghost_name) result (λ n. n ≡ self.old)) }
+        ensures* refused { sem 𝓛 (unchanged_on_err
+            (the_row kind A.row ⟦<ComponentTypes as CountedKind>⟧ A.Allocator) self.entry
+            (λ e. e.lender) result) }
         ensures same_reference { IfOk result (λ e. e.lender.ghost_name ≡ self.entry.ghost_name) }
         ensures lent { Lends (λ e. e.lender.now) (member_begun self.old [])
             (is_finished self.old) result (AddCause self.old [] (λ _. ⊥)) }
@@ -136,9 +137,9 @@ impl<A: Allocator> Counted<ComponentTypes, A> {
     pub fn function(
         &mut self,
     ) -> Result<ComponentFuncTypeEncoder<'_, ComponentTypeSection<A>>, Fault>
-        ensures* refused { sem 𝓛 (RestsIfErr (the_row kind A.row
-            ⟦<ComponentTypes as CountedKind>⟧ A.Allocator) self.entry
-            (λ e. e.lender.ghost_name) result (λ n. n ≡ self.old)) }
+        ensures* refused { sem 𝓛 (unchanged_on_err
+            (the_row kind A.row ⟦<ComponentTypes as CountedKind>⟧ A.Allocator) self.entry
+            (λ e. e.lender) result) }
         ensures same_reference { IfOk result (λ e. e.lender.ghost_name ≡ self.entry.ghost_name) }
         ensures lent { Lends (λ e. e.lender.now) (member_begun self.old [])
             (is_finished self.old) result (AddCause self.old [] (λ _. ⊥)) }
@@ -157,9 +158,9 @@ impl<A: Allocator> Counted<ComponentTypes, A> {
     pub fn defined_type(
         &mut self,
     ) -> Result<ComponentDefinedTypeEncoder<'_, ComponentTypeSection<A>>, Fault>
-        ensures* refused { sem 𝓛 (RestsIfErr (the_row kind A.row
-            ⟦<ComponentTypes as CountedKind>⟧ A.Allocator) self.entry
-            (λ e. e.lender.ghost_name) result (λ n. n ≡ self.old)) }
+        ensures* refused { sem 𝓛 (unchanged_on_err
+            (the_row kind A.row ⟦<ComponentTypes as CountedKind>⟧ A.Allocator) self.entry
+            (λ e. e.lender) result) }
         ensures same_reference { IfOk result (λ e. e.lender.ghost_name ≡ self.entry.ghost_name) }
         ensures lent { Lends (λ e. e.lender.now) (member_begun self.old [])
             (is_finished self.old) result (AddCause self.old [] (λ _. ⊥)) }

@@ -1,5 +1,5 @@
 //! Declarations, of which the types of modules, components and instances consist.
-ghost use Rattle.std.specs.Borrow.{sem, RestsIfErr};
+ghost use Rattle.std.specs.Borrow.{sem};
 ghost use Rattle.std.specs.Prelude.{◌≡◌, ◌==◌, ◌∷◌, ℕ, [], Option as Optional, Some, OnOk, OnErr, IfOk, IfErr, true, false};
 ghost use Rattle.wenc_base.specs.Encode.{Appends, Serves};
 ghost use Rattle.wenc_base.specs.Fault.{IsMemory, IsWarranted, NoCause};
@@ -9,6 +9,7 @@ ghost use Rattle.wenc_base.specs.Piece.{◌▸◌, Form};
 ghost use Rattle.wenc_base.specs.declared.fault.Fault.TheVariants.{Unfinished};
 ghost use Rattle.wenc_types.specs.ComponentTypes.{InstanceDeclaration, instance_declaration};
 ghost use Rattle.wenc_types.specs.Declarations.{instance_sort, no_declarations, lead_of, type_begun, type_given_up, NoneBegun, DeclaresSome, IsDeclaration, AddsDeclaration};
+ghost use Rattle.wenc_types.specs.Loans.{unchanged_on_err};
 ghost use Rattle.wenc_types.specs.declared.counts.Sort.{Sort as SortSpec};
 ghost use Rattle.wenc_types.specs.declared.counts.Sort.TheVariants as sorts;
 ghost use Rattle.wenc_types.specs.declared.func_type.FuncStage.TheVariants as stages;
@@ -201,9 +202,8 @@ impl<K: DeclaringKind, A: Allocator> Declarations<K, A> {
     /// Fails with `Unfinished` while a type is being written, with `TooMany` if the number of
     /// declarations would exceed 4294967295, and with `TooLarge` if their bytes would.
     pub fn core_type(&mut self) -> Result<ComponentCoreTypeEncoder<'_, Declarations<K, A>>, Fault>
-        ensures* refused { sem 𝓛 (RestsIfErr (the_row K.row A.row K.DeclaredKind A.Allocator)
-            self.entry
-            (λ e. e.lender.ghost_name) result (λ n. n ≡ self.old)) }
+        ensures* refused { sem 𝓛 (unchanged_on_err (the_row K.row A.row K.DeclaredKind A.Allocator)
+            self.entry (λ e. e.lender) result) }
         ensures same_reference { IfOk result (λ e. e.lender.ghost_name ≡ self.entry.ghost_name) }
         ensures lent { Lends (λ e. e.lender.now) (type_begun sorts.CoreType self.old)
             (is_finished self.old.held) result
@@ -220,9 +220,8 @@ impl<K: DeclaringKind, A: Allocator> Declarations<K, A> {
     ///
     /// Fails as `core_type` does.
     pub fn ty(&mut self) -> Result<ComponentTypeEncoder<'_, Declarations<K, A>>, Fault>
-        ensures* refused { sem 𝓛 (RestsIfErr (the_row K.row A.row K.DeclaredKind A.Allocator)
-            self.entry
-            (λ e. e.lender.ghost_name) result (λ n. n ≡ self.old)) }
+        ensures* refused { sem 𝓛 (unchanged_on_err (the_row K.row A.row K.DeclaredKind A.Allocator)
+            self.entry (λ e. e.lender) result) }
         ensures same_reference { IfOk result (λ e. e.lender.ghost_name ≡ self.entry.ghost_name) }
         ensures lent { Lends (λ e. e.lender.now) (type_begun sorts.«Type» self.old)
             (is_finished self.old.held) result
@@ -241,9 +240,8 @@ impl<K: DeclaringKind, A: Allocator> Declarations<K, A> {
     pub fn type_defined(
         &mut self,
     ) -> Result<(u32, ComponentDefinedTypeEncoder<'_, Declarations<K, A>>), Fault>
-        ensures* refused { sem 𝓛 (RestsIfErr (the_row K.row A.row K.DeclaredKind A.Allocator)
-            self.entry
-            (λ e. e.1.lender.ghost_name) result (λ n. n ≡ self.old)) }
+        ensures* refused { sem 𝓛 (unchanged_on_err (the_row K.row A.row K.DeclaredKind A.Allocator)
+            self.entry (λ e. e.1.lender) result) }
         ensures same_reference { IfOk result (λ e. e.1.lender.ghost_name ≡ self.entry.ghost_name) }
         ensures lent { Lends (λ e. e.1.lender.now) (type_begun sorts.«Type» self.old)
             (is_finished self.old.held) result
@@ -264,9 +262,8 @@ impl<K: DeclaringKind, A: Allocator> Declarations<K, A> {
     pub fn type_function(
         &mut self,
     ) -> Result<(u32, ComponentFuncTypeEncoder<'_, Declarations<K, A>>), Fault>
-        ensures* refused { sem 𝓛 (RestsIfErr (the_row K.row A.row K.DeclaredKind A.Allocator)
-            self.entry
-            (λ e. e.1.lender.ghost_name) result (λ n. n ≡ self.old)) }
+        ensures* refused { sem 𝓛 (unchanged_on_err (the_row K.row A.row K.DeclaredKind A.Allocator)
+            self.entry (λ e. e.1.lender) result) }
         ensures same_reference { IfOk result (λ e. e.1.lender.ghost_name ≡ self.entry.ghost_name) }
         ensures lent { Lends (λ e. e.1.lender.now) (type_begun sorts.«Type» self.old)
             (is_finished self.old.held) result

@@ -1,10 +1,11 @@
 //! Types of core modules.
-ghost use Rattle.std.specs.Borrow.{sem, RestsIfErr};
+ghost use Rattle.std.specs.Borrow.{sem};
 ghost use Rattle.std.specs.Prelude.{◌≡◌, false, OnOk, IfOk};
 ghost use Rattle.wenc_base.specs.Holder.{is_finished, AddCause};
 ghost use Rattle.wenc_base.specs.Lender.{Lends};
 ghost use Rattle.wenc_types.specs.CoreTypes.{ModuleImport, ModuleOuter, ModuleExport};
 ghost use Rattle.wenc_types.specs.Declarations.{AddsToModule, NoneBegun, indexed_outcome, lead_of, type_begun};
+ghost use Rattle.wenc_types.specs.Loans.{unchanged_on_err};
 ghost use Rattle.wenc_types.specs.declared.counts.Sort.TheVariants as sorts;
 
 use crate::counts::Sort;
@@ -108,9 +109,9 @@ impl<A: Allocator> Declarations<ModuleTypes, A> {
     ///
     /// Fails as `import` does.
     pub fn ty(&mut self) -> Result<CoreTypeEncoder<'_, ModuleType<A>>, Fault>
-        ensures* refused { sem 𝓛 (RestsIfErr (the_row kind A.row
-            ⟦<ModuleTypes as DeclaredKind>⟧ A.Allocator) self.entry
-            (λ e. e.lender.ghost_name) result (λ n. n ≡ self.old)) }
+        ensures* refused { sem 𝓛 (unchanged_on_err
+            (the_row kind A.row ⟦<ModuleTypes as DeclaredKind>⟧ A.Allocator) self.entry
+            (λ e. e.lender) result) }
         ensures same_reference { IfOk result (λ e. e.lender.ghost_name ≡ self.entry.ghost_name) }
         ensures lent { Lends (λ e. e.lender.now) (type_begun sorts.«Type» self.old)
             (is_finished self.old.held) result

@@ -17,19 +17,19 @@ use std::process::ExitCode;
 /// The arguments without the program's name. It fails if there are some and an allocation fails, or
 /// one of them, or the program's name, isn't UTF-8.
 fn arguments(all: impl Iterator<Item = OsString>) -> Result<Vec<String>, Failure> {
-    let mut told = Vec::new(Global);
+    let mut arguments = Vec::new(Global);
     let mut all = all.peekable();
     let program = all.next();
     if all.peek().is_none() {
-        return Ok(told);
+        return Ok(arguments);
     }
     for (at, argument) in program.into_iter().chain(all).enumerate() {
         let argument = argument.into_string().map_err(|_| Failure::Arguments)?;
         if at > 0 {
-            told.push(argument.into()).map_err(|_| Failure::from(AllocError))?;
+            arguments.push(argument.into()).map_err(|_| Failure::from(AllocError))?;
         }
     }
-    Ok(told)
+    Ok(arguments)
 }
 
 /// Runs `wenc` with these arguments, of which the first is the program's name, and returns the exit

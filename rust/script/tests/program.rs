@@ -34,11 +34,11 @@ fn expect<A: AsRef<OsStr>>(
     input: &[u8],
     (status, out, err): (i32, &str, &str),
 ) {
-    let told = run(&mut wenc(args), input);
+    let output = run(&mut wenc(args), input);
     let script = String::from_utf8_lossy(input);
-    assert_eq!(String::from_utf8_lossy(&told.stdout), out, "{script}");
-    assert_eq!(String::from_utf8_lossy(&told.stderr), err, "{script}");
-    assert_eq!(told.status.code(), Some(status), "{script}");
+    assert_eq!(String::from_utf8_lossy(&output.stdout), out, "{script}");
+    assert_eq!(String::from_utf8_lossy(&output.stderr), err, "{script}");
+    assert_eq!(output.status.code(), Some(status), "{script}");
 }
 
 const NO_ARGUMENTS: [&str; 0] = [];
@@ -113,11 +113,11 @@ fn arguments_that_are_no_text_have_the_usage_told() {
     let no_text = OsStr::from_bytes(b"\xff");
     expect([no_text], b"", (1, "", "usage\n"));
     expect([OsStr::new("list"), no_text], b"", (1, "", "usage\n"));
-    // the program's name is told with the arguments
-    let told = run(wenc(["list"]).arg0(no_text), b"0061736d0d000100");
-    assert_eq!((told.status.code(), &told.stderr[..]), (Some(1), &b"usage\n"[..]));
-    let told = run(wenc(NO_ARGUMENTS).arg0(no_text), b"");
-    assert_eq!((told.status.code(), &told.stdout[..]), (Some(0), &b"0061736d0d000100\n"[..]));
+    // the program's name is one of the arguments
+    let output = run(wenc(["list"]).arg0(no_text), b"0061736d0d000100");
+    assert_eq!((output.status.code(), &output.stderr[..]), (Some(1), &b"usage\n"[..]));
+    let output = run(wenc(NO_ARGUMENTS).arg0(no_text), b"");
+    assert_eq!((output.status.code(), &output.stdout[..]), (Some(0), &b"0061736d0d000100\n"[..]));
 }
 
 /// A device that is full takes no byte. (A pipe whose reader is gone isn't certain to refuse: a
@@ -127,8 +127,8 @@ fn arguments_that_are_no_text_have_the_usage_told() {
 fn writes_that_fail_have_a_status() {
     for (args, input) in [(&[][..], &b"import f func 0\n"[..]), (&["list"], b"0061736d0d000100")] {
         let full = std::fs::File::options().write(true).open("/dev/full").expect("it is there");
-        let told = run(wenc(args).stdout(full), input);
-        assert_eq!((told.status.code(), &told.stderr[..]), (Some(4), &b""[..]));
+        let output = run(wenc(args).stdout(full), input);
+        assert_eq!((output.status.code(), &output.stderr[..]), (Some(4), &b""[..]));
     }
 }
 
@@ -138,9 +138,9 @@ fn writes_that_fail_have_a_status() {
 fn reads_that_fail_have_a_status() {
     for args in [&[][..], &["list"]] {
         let folder = std::fs::File::open(env!("CARGO_MANIFEST_DIR")).expect("it is there");
-        let told = wenc(args).stdin(folder).output().expect("it ends");
-        assert_eq!(told.status.code(), Some(4));
-        assert_eq!((&told.stdout[..], &told.stderr[..]), (&b""[..], &b""[..]));
+        let output = wenc(args).stdin(folder).output().expect("it ends");
+        assert_eq!(output.status.code(), Some(4));
+        assert_eq!((&output.stdout[..], &output.stderr[..]), (&b""[..], &b""[..]));
     }
 }
 

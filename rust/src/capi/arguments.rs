@@ -1,7 +1,7 @@
 //! Arguments of C: texts, arrays, and the structures of the header.
 
 use super::numbers;
-use super::{Answer, Status};
+use super::{Result, Status};
 use crate::proved::rt_std::borrow::CowStr;
 use crate::proved::wasm_encoder::{ComponentExternName, EntityType};
 use core::{slice, str};
@@ -102,7 +102,7 @@ pub struct IndexName {
 /// # Errors
 ///
 /// The pointer is NULL, or no array is as long.
-pub unsafe fn list<'a, T>(at: *const T, len: usize) -> Answer<&'a [T]> {
+pub unsafe fn list<'a, T>(at: *const T, len: usize) -> Result<&'a [T]> {
     if len == 0 {
         Ok(&[])
     } else if at.is_null() || len > isize::MAX as usize / size_of::<T>() {
@@ -113,7 +113,7 @@ pub unsafe fn list<'a, T>(at: *const T, len: usize) -> Answer<&'a [T]> {
 }
 
 /// A text in UTF-8. Most are ASCII, which is faster to check.
-pub unsafe fn text<'a>(at: *const u8, len: usize) -> Answer<&'a str> {
+pub unsafe fn text<'a>(at: *const u8, len: usize) -> Result<&'a str> {
     let bytes = unsafe { list(at, len) }?;
     if bytes.is_ascii() {
         return Ok(unsafe { str::from_utf8_unchecked(bytes) });
@@ -122,14 +122,14 @@ pub unsafe fn text<'a>(at: *const u8, len: usize) -> Answer<&'a str> {
 }
 
 /// A text that is there if the flag is set. Else the pointer isn't used.
-pub unsafe fn optional<'a>(has: Flag, at: *const u8, len: usize) -> Answer<Option<&'a str>> {
+pub unsafe fn optional<'a>(has: Flag, at: *const u8, len: usize) -> Result<Option<&'a str>> {
     if has.is_set() { unsafe { text(at, len) }.map(Some) } else { Ok(None) }
 }
 
 impl Name {
     /// The name, with what goes with it.
-    pub unsafe fn read<'a>(&self) -> Answer<ComponentExternName<'a>> {
-        let option = |has, at, len| -> Answer<Option<CowStr<'a>>> {
+    pub unsafe fn read<'a>(&self) -> Result<ComponentExternName<'a>> {
+        let option = |has, at, len| -> Result<Option<CowStr<'a>>> {
             Ok(unsafe { optional(has, at, len) }?.map(CowStr::Borrowed))
         };
         Ok(ComponentExternName {
@@ -147,7 +147,7 @@ impl Name {
 
 impl Entity {
     /// The type of what is imported or exported.
-    pub fn read(&self) -> Answer<EntityType> {
+    pub fn read(&self) -> Result<EntityType> {
         numbers::entity(self).ok_or(Status::BadArgument)
     }
 }
@@ -160,7 +160,7 @@ impl Entity {
 pub unsafe fn named<'a, T>(
     parts: &'a [Part],
     of: impl Fn(u32, u32) -> Option<T> + 'a,
-) -> Answer<impl Iterator<Item = (&'a str, T)>> {
+) -> Result<impl Iterator<Item = (&'a str, T)>> {
     for part in parts {
         unsafe { text(part.name, part.name_len) }?;
         of(part.sort, part.number).ok_or(Status::BadArgument)?;
@@ -175,7 +175,7 @@ pub unsafe fn named<'a, T>(
 pub fn unnamed<'a, T>(
     pairs: &'a [Pair],
     of: impl Fn(u32, u32) -> Option<T> + 'a,
-) -> Answer<impl Iterator<Item = T>> {
+) -> Result<impl Iterator<Item = T>> {
     if pairs.iter().any(|pair| of(pair.sort, pair.number).is_none()) {
         return Err(Status::BadArgument);
     }
@@ -183,6 +183,6 @@ pub fn unnamed<'a, T>(
 }
 
 /// Names alone, as [`named`]: the numbers with them aren't used.
-pub unsafe fn names(parts: &[Part]) -> Answer<impl Iterator<Item = &str>> {
+pub unsafe fn names(parts: &[Part]) -> Result<impl Iterator<Item = &str>> {
     Ok(unsafe { named(parts, |_, _| Some(())) }?.map(|(name, ())| name))
 }

@@ -2,7 +2,7 @@
 
 use super::arguments::{Entity, Pair, Subtype, list, unnamed};
 use super::session::{Session, settled};
-use super::{Answer, Status, calls, numbers};
+use super::{Result, Status, calls, numbers};
 use crate::proved::rt_std::alloc::Global;
 use crate::proved::rt_std::vec::Vec;
 use crate::proved::wasm_encoder::{ArrayType, CompositeType, FuncType, StructType, SubType};
@@ -82,7 +82,7 @@ calls! {
 
 impl Subtype {
     /// The type, with copies of its lists.
-    unsafe fn read(&self) -> Answer<SubType> {
+    unsafe fn read(&self) -> Result<SubType> {
         let fields = unsafe { list(self.fields, self.fields_len) }?;
         let composite_type = match self.kind {
             1 => {

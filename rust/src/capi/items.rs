@@ -2,14 +2,14 @@
 
 use super::arguments::{Name, Pair, Part, named, unnamed};
 use super::session::{Session, counted};
-use super::{Answer, Handle, Status, calls, numbers, other};
+use super::{Handle, Result, Status, calls, numbers, other};
 use crate::proved::wasm_encoder::{
     AddsBuiltin, AddsSlot, Alias, CanonicalOption, ComponentExternName, ComponentSectionId,
     ComponentStartSection, ModuleArg, RawSection, ValType,
 };
 
 /// The value of a number, or `BadArgument`.
-fn known<T>(value: Option<T>) -> Answer<T> {
+fn known<T>(value: Option<T>) -> Result<T> {
     value.ok_or(Status::BadArgument)
 }
 
@@ -165,7 +165,7 @@ calls! {
 }
 
 /// Adds a component by its bytes.
-fn add_component(session: &mut Session, debug_name: Option<&str>, bytes: &[u8]) -> Answer<u32> {
+fn add_component(session: &mut Session, debug_name: Option<&str>, bytes: &[u8]) -> Result<u32> {
     match session {
         Session::Building(builder) => Ok(builder.component_raw(debug_name, bytes)?),
         _ => session.append(&RawSection { id: ComponentSectionId::Component.into(), data: bytes }),
@@ -173,7 +173,7 @@ fn add_component(session: &mut Session, debug_name: Option<&str>, bytes: &[u8]) 
 }
 
 /// Adds the component of another handle, which keeps it.
-fn nest(session: &mut Session, debug_name: Option<&str>, nested: &Session) -> Answer<u32> {
+fn nest(session: &mut Session, debug_name: Option<&str>, nested: &Session) -> Result<u32> {
     match nested {
         Session::Building(nested) => Ok(session.builder()?.component_ref(debug_name, nested)?),
         Session::ByHand(nested) => add_component(session, debug_name, nested.as_slice()),
@@ -182,7 +182,7 @@ fn nest(session: &mut Session, debug_name: Option<&str>, nested: &Session) -> An
 }
 
 /// A flag that is passed as a number.
-fn flag(number: u32) -> Answer<bool> {
+fn flag(number: u32) -> Result<bool> {
     match number {
         0 => Ok(false),
         1 => Ok(true),
@@ -196,7 +196,7 @@ fn add_builtin<B: AddsBuiltin>(
     function: u32,
     first: u32,
     second: u32,
-) -> Answer<B::Answer> {
+) -> Result<B::Answer> {
     let added = match function {
         1 => to.resource_new(first),
         2 => to.resource_drop(first),
@@ -225,7 +225,7 @@ fn add_builtin<B: AddsBuiltin>(
 }
 
 /// Adds one of `enum wenc_function` that takes no number.
-fn add_plain_builtin<B: AddsBuiltin>(to: &mut B, function: u32) -> Answer<B::Answer> {
+fn add_plain_builtin<B: AddsBuiltin>(to: &mut B, function: u32) -> Result<B::Answer> {
     let added = match function {
         4 => to.task_cancel(),
         6 => to.thread_yield(),
@@ -255,7 +255,7 @@ fn add_builtin_with<B: AddsBuiltin>(
     function: u32,
     first: u32,
     options: impl Iterator<Item = CanonicalOption>,
-) -> Answer<B::Answer> {
+) -> Result<B::Answer> {
     let added = match function {
         1 => to.stream_read(first, options),
         2 => to.stream_write(first, options),
@@ -269,7 +269,7 @@ fn add_builtin_with<B: AddsBuiltin>(
 }
 
 /// Adds one of `enum wenc_context_function`.
-fn add_slot<B: AddsSlot>(to: &mut B, function: u32, ty: ValType, slot: u32) -> Answer<B::Answer> {
+fn add_slot<B: AddsSlot>(to: &mut B, function: u32, ty: ValType, slot: u32) -> Result<B::Answer> {
     match function {
         1 => Ok(to.context_get(ty, slot)?),
         2 => Ok(to.context_set(ty, slot)?),

@@ -2,7 +2,7 @@
 
 use super::listing::Listed;
 use super::session::Session;
-use super::{Answer, Handle, Status, numbers, put, session};
+use super::{Handle, Result, Status, numbers, put, session};
 use crate::proved::rt_std::alloc::Global;
 use crate::proved::rt_std::boxed::Box as Boxed;
 use crate::proved::rt_std::vec::Vec;
@@ -48,7 +48,7 @@ pub extern "C" fn wenc_status_text(status: u32) -> *const c_char {
 }
 
 /// Makes a session for a handle that owns nothing.
-unsafe fn begin(handle: *mut Handle, make: impl FnOnce() -> Answer<Session>) -> Answer<()> {
+unsafe fn begin(handle: *mut Handle, make: impl FnOnce() -> Result<Session>) -> Result<()> {
     let handle = unsafe { handle.as_mut() }.ok_or(Status::NoHandle)?;
     if !handle.at.is_null() {
         return Err(Status::BadArgument);
@@ -175,7 +175,7 @@ pub unsafe extern "C" fn wenc_free(handle: *mut Handle) {
 }
 
 /// The bytes of a component, which this finishes.
-fn finished(session: &mut Session) -> Answer<&[u8]> {
+fn finished(session: &mut Session) -> Result<&[u8]> {
     if let Session::Building(_) | Session::ByHand(_) = session {
         let bytes = match mem::replace(session, Session::Finished(Vec::new(Global))) {
             // No call leaves an item unfinished.
@@ -221,7 +221,7 @@ pub unsafe extern "C" fn wenc_bytes(handle: *mut Handle, bytes: *mut u8, len: us
 }
 
 /// Writes a number to where C wants it.
-unsafe fn counted<T>(at: *mut T, count: Answer<T>) -> Status {
+unsafe fn counted<T>(at: *mut T, count: Result<T>) -> Status {
     count.map(|count| unsafe { put(at, count) }).into()
 }
 

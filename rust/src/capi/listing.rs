@@ -1,7 +1,7 @@
 //! Components that were read, and items from their bytes.
 
 use super::session::{Session, settled};
-use super::{Answer, Handle, Status, calls, numbers, other, put};
+use super::{Handle, Result, Status, calls, numbers, other, put};
 use crate::proved::rt_std::alloc::Global;
 use crate::proved::rt_std::boxed::Box;
 use crate::proved::rt_std::vec::Vec;
@@ -29,7 +29,7 @@ pub struct Listed {
 
 impl Listed {
     /// Reads a component.
-    pub fn read(bytes: &[u8]) -> Answer<Result<Self, ListFault>> {
+    pub fn read(bytes: &[u8]) -> Result<Result<Self, ListFault>> {
         let listing = match list(Global, bytes) {
             Ok(listing) => listing,
             Err(fault) => return Ok(Err(fault)),
@@ -53,11 +53,11 @@ impl Listed {
     }
 
     /// How many items there are in an index space.
-    pub fn count(&self, space: Space) -> Answer<u32> {
+    pub fn count(&self, space: Space) -> Result<u32> {
         u32::try_from(self.counts[space.number()]).map_err(|_| Status::TooLarge)
     }
 
-    fn section(&self, number: usize) -> Answer<SectionRow> {
+    fn section(&self, number: usize) -> Result<SectionRow> {
         let section = self.sections.get(number).ok_or(Status::BadArgument)?;
         let end = self.sections.get(number + 1).map_or(self.len, |next| next.place);
         Ok(SectionRow {
@@ -68,12 +68,12 @@ impl Listed {
         })
     }
 
-    fn item(&self, section: usize, item: usize) -> Answer<&ItemTree> {
+    fn item(&self, section: usize, item: usize) -> Result<&ItemTree> {
         let section = self.sections.get(section).ok_or(Status::BadArgument)?;
         section.items.get(item).ok_or(Status::BadArgument)
     }
 
-    fn row(&self, section: usize, item: usize) -> Answer<ItemRow> {
+    fn row(&self, section: usize, item: usize) -> Result<ItemRow> {
         let tree = self.item(section, item)?;
         let before: usize = self.sections[..section].iter().map(|one| one.items.len()).sum();
         let (space, indices) = match tree.indices() {
@@ -138,7 +138,7 @@ pub struct ItemRow {
 }
 
 /// The component that a handle has read.
-fn listed(session: &Session) -> Answer<&Listed> {
+fn listed(session: &Session) -> Result<&Listed> {
     match session {
         Session::Listed(listed) => Ok(listed),
         _ => Err(session.refusal()),
@@ -166,7 +166,7 @@ calls! {
 }
 
 /// Adds an item, and returns its index, or 0 for a custom section, which has none.
-fn add(builder: &mut ComponentBuilder, name: Option<&str>, item: &ItemTree) -> Answer<u32> {
+fn add(builder: &mut ComponentBuilder, name: Option<&str>, item: &ItemTree) -> Result<u32> {
     Ok(match item {
         ItemTree::Module(bytes) => builder.core_module_raw(name, bytes)?,
         ItemTree::CoreInstance(instance) => builder.core_instance_tree(name, instance)?,
@@ -197,18 +197,18 @@ fn add(builder: &mut ComponentBuilder, name: Option<&str>, item: &ItemTree) -> A
 }
 
 /// Reads a value that takes all bytes.
-fn all<T: Decode<Global>>(bytes: &[u8]) -> Answer<T> {
+fn all<T: Decode<Global>>(bytes: &[u8]) -> Result<T> {
     let (value, rest) = T::decode(Global, bytes)?;
     ended(value, rest)
 }
 
 /// Returns a value if no bytes follow it.
-fn ended<T>(value: T, rest: &[u8]) -> Answer<T> {
+fn ended<T>(value: T, rest: &[u8]) -> Result<T> {
     if rest.is_empty() { Ok(value) } else { Err(Status::Malformed) }
 }
 
 /// Reads an item of a section, which takes all bytes.
-fn read(section: ComponentSectionId, bytes: &[u8]) -> Answer<ItemTree> {
+fn read(section: ComponentSectionId, bytes: &[u8]) -> Result<ItemTree> {
     Ok(match section {
         ComponentSectionId::CoreCustom => {
             let (name, data) = name_of(Global, bytes)?;

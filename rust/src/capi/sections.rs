@@ -2,7 +2,7 @@
 
 use super::arguments::{IndexName, Producer, text};
 use super::session::Session;
-use super::{Answer, Handle, Status, calls, numbers, other};
+use super::{Handle, Result, Status, calls, numbers, other};
 use crate::proved::rt_std::alloc::Global;
 use crate::proved::wasm_encoder::{
     ComponentNameSection, CustomSection, NameMap, ProducersField, ProducersSection,
@@ -55,7 +55,7 @@ calls! {
     wenc_names_raw(id: u8, bytes[len]: u8) = |session| Ok(of_names(session)?.raw(id, bytes)?);
 }
 
-fn add_custom(session: &mut Session, section: &CustomSection<'_>) -> Answer<()> {
+fn add_custom(session: &mut Session, section: &CustomSection<'_>) -> Result<()> {
     match session {
         Session::Building(builder) => Ok(builder.custom_section(section)?),
         _ => session.append(section).map(drop),
@@ -63,14 +63,14 @@ fn add_custom(session: &mut Session, section: &CustomSection<'_>) -> Answer<()> 
 }
 
 /// The section of names that a handle owns.
-fn of_names(session: &mut Session) -> Answer<&mut ComponentNameSection> {
+fn of_names(session: &mut Session) -> Result<&mut ComponentNameSection> {
     match session {
         Session::Names(section) => Ok(section),
         _ => Err(session.refusal()),
     }
 }
 
-fn name_items(section: &mut ComponentNameSection, space: Space, names: &NameMap) -> Answer<()> {
+fn name_items(section: &mut ComponentNameSection, space: Space, names: &NameMap) -> Result<()> {
     Ok(match space {
         Space::CoreModules => section.core_modules(names),
         Space::CoreFuncs => section.core_funcs(names),
@@ -89,7 +89,7 @@ fn name_items(section: &mut ComponentNameSection, space: Space, names: &NameMap)
 }
 
 /// A section of these tools. Neighbours with one field share it.
-unsafe fn read_producers(producers: &[Producer]) -> Answer<ProducersSection> {
+unsafe fn read_producers(producers: &[Producer]) -> Result<ProducersSection> {
     let field_of = |producer: &Producer| unsafe { text(producer.field, producer.field_len) };
     let mut section = ProducersSection::new(Global);
     let mut rest = producers;

@@ -1,7 +1,7 @@
 //! What a handle owns, and the calls that several kinds of it take.
 
 use super::listing::Listed;
-use super::{Answer, Status};
+use super::{Result, Status};
 use crate::proved::rt_std::alloc::Global;
 use crate::proved::rt_std::vec::Vec;
 use crate::proved::wasm_encoder::{
@@ -56,7 +56,7 @@ pub fn settled(
     written: Result<(), Fault>,
     index: u32,
     discard: impl FnOnce() -> bool,
-) -> Answer<u32> {
+) -> Result<u32> {
     match written {
         Ok(()) => Ok(index),
         Err(fault) => {
@@ -87,21 +87,21 @@ impl Session {
     }
 
     /// Checks a debug name: only items of a builder may have one.
-    pub fn take_name(&self, debug_name: Option<&str>) -> Answer<()> {
+    pub fn take_name(&self, debug_name: Option<&str>) -> Result<()> {
         match (self, debug_name) {
             (Self::Building(_), _) | (_, None) => Ok(()),
             _ => Err(self.refusal()),
         }
     }
 
-    pub fn builder(&mut self) -> Answer<&mut ComponentBuilder> {
+    pub fn builder(&mut self) -> Result<&mut ComponentBuilder> {
         match self {
             Self::Building(builder) => Ok(builder),
             _ => Err(self.refusal()),
         }
     }
 
-    pub fn import(&mut self, name: ComponentExternName<'_>, ty: ComponentTypeRef) -> Answer<u32> {
+    pub fn import(&mut self, name: ComponentExternName<'_>, ty: ComponentTypeRef) -> Result<u32> {
         match self {
             Self::Building(builder) => Ok(builder.import(name, ty)?),
             Self::ComponentType(to) => {
@@ -120,7 +120,7 @@ impl Session {
         kind: ComponentExportKind,
         item: u32,
         ty: Option<ComponentTypeRef>,
-    ) -> Answer<u32> {
+    ) -> Result<u32> {
         match self {
             Self::Building(builder) => Ok(builder.export(name, kind, item, ty)?),
             Self::Exports(section) => counted!(section => section.export(name, kind, item, ty)),
@@ -129,7 +129,7 @@ impl Session {
     }
 
     /// Declares an export.
-    pub fn declare(&mut self, name: ComponentExternName<'_>, ty: ComponentTypeRef) -> Answer<u32> {
+    pub fn declare(&mut self, name: ComponentExternName<'_>, ty: ComponentTypeRef) -> Result<u32> {
         let sort = sort_of_kind(ty.kind());
         match self {
             Self::ComponentType(to) => {
@@ -146,7 +146,7 @@ impl Session {
         }
     }
 
-    pub fn alias(&mut self, debug_name: Option<&str>, alias: Alias<'_>) -> Answer<u32> {
+    pub fn alias(&mut self, debug_name: Option<&str>, alias: Alias<'_>) -> Result<u32> {
         let sort = sort_of_alias(&alias);
         match self {
             Self::Building(builder) => Ok(builder.alias(debug_name, alias)?),
@@ -172,7 +172,7 @@ impl Session {
     }
 
     /// Appends a section to a component by hand. Sections have no indices.
-    pub fn append(&mut self, section: &impl ComponentSection) -> Answer<u32> {
+    pub fn append(&mut self, section: &impl ComponentSection) -> Result<u32> {
         match self {
             Self::ByHand(component) => Ok(component.section(section).map(|()| 0)?),
             _ => Err(self.refusal()),
@@ -180,7 +180,7 @@ impl Session {
     }
 
     /// How many items there are in an index space.
-    pub fn count(&self, space: Space) -> Answer<u32> {
+    pub fn count(&self, space: Space) -> Result<u32> {
         match (self, space) {
             (Self::Building(builder), _) => Ok(count_built(builder, space)),
             (Self::ModuleType(ty), Space::CoreTypes) => Ok(ty.type_count()),
@@ -192,7 +192,7 @@ impl Session {
     }
 
     /// How many members a section or a type has, or a component that was read sections.
-    pub fn len(&self) -> Answer<usize> {
+    pub fn len(&self) -> Result<usize> {
         let len = match self {
             Self::ComponentType(ty) => ty.len(),
             Self::InstanceType(ty) => ty.len(),
@@ -229,7 +229,7 @@ fn count_built(builder: &ComponentBuilder, space: Space) -> u32 {
     }
 }
 
-fn count_declared<K: DeclaringKind>(ty: &Declarations<K, Global>, space: Space) -> Answer<u32> {
+fn count_declared<K: DeclaringKind>(ty: &Declarations<K, Global>, space: Space) -> Result<u32> {
     match space {
         Space::CoreTypes => Ok(ty.core_type_count()),
         Space::Types => Ok(ty.type_count()),

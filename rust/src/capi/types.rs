@@ -2,7 +2,7 @@
 
 use super::arguments::{Flag, Name, Pair, Part, named, names, unnamed};
 use super::session::{Session, settled};
-use super::{Answer, Handle, Status, calls, numbers, other};
+use super::{Handle, Result, Status, calls, numbers, other};
 use crate::proved::wasm_encoder::{
     ComponentTypeEncoder, ComponentValType, Fault, Lender, ModuleType, ValType,
 };
@@ -28,11 +28,11 @@ macro_rules! write_type {
     }};
 }
 
-fn value(reference: u32, of: u32) -> Answer<ComponentValType> {
+fn value(reference: u32, of: u32) -> Result<ComponentValType> {
     numbers::value(reference, of).ok_or(Status::BadArgument)
 }
 
-fn maybe_value(reference: u32, of: u32) -> Answer<Option<ComponentValType>> {
+fn maybe_value(reference: u32, of: u32) -> Result<Option<ComponentValType>> {
     numbers::maybe_value(reference, of).ok_or(Status::BadArgument)
 }
 
@@ -147,7 +147,7 @@ fn write_function<'a, L: Lender>(
 }
 
 /// Adds the type of a core module, as a core type.
-fn write_module(session: &mut Session, debug_name: Option<&str>, ty: &ModuleType) -> Answer<u32> {
+fn write_module(session: &mut Session, debug_name: Option<&str>, ty: &ModuleType) -> Result<u32> {
     match session {
         Session::Building(to) => {
             let (index, encoder) = to.core_type(debug_name)?;

@@ -51,7 +51,7 @@ impl<'a> ComponentExternName<'a> {
     }
 
     /// The name as the proved code takes it, borrowed. It doesn't allocate.
-    fn lent(&self) -> proved::ComponentExternName<'_> {
+    fn borrowed(&self) -> proved::ComponentExternName<'_> {
         fn option<'t>(text: &'t Option<Cow<'_, str>>) -> Option<CowStr<'t>> {
             text.as_deref().map(CowStr::Borrowed)
         }
@@ -93,7 +93,7 @@ impl From<String> for ComponentExternName<'_> {
 }
 
 encode! {
-    ComponentExternName<'_>, name => name.lent();
+    ComponentExternName<'_>, name => name.borrowed();
     ComponentTypeRef, ty => *ty;
     TypeBounds, bounds => *bounds;
 }

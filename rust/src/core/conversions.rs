@@ -8,7 +8,7 @@ use super::{
 };
 use crate::Error;
 use crate::encode::encode;
-use crate::error::granted;
+use crate::error::or_panic;
 use crate::proved::wasm_encoder as proved;
 
 /// Converts types whose variants or fields are those of the proved ones, but for some that aren't
@@ -18,7 +18,7 @@ macro_rules! supported {
         $(supported! { @$kind $name $body [$($($absent)*)?] })*
 
         encode! {
-            $($name, ty => granted(proved::$name::try_from(*ty));)*
+            $($name, ty => or_panic(proved::$name::try_from(*ty));)*
         }
     };
     (@enum $name:ident { $($variant:ident $(($inner:ident))?),* } [$($absent:pat)?]) => {
@@ -110,7 +110,7 @@ macro_rules! borrowed {
         })*
 
         encode! {
-            $($name, ty => granted(proved::$proved::try_from(ty));)*
+            $($name, ty => or_panic(proved::$proved::try_from(ty));)*
         }
     };
 }
@@ -144,7 +144,7 @@ borrowed! {
 }
 
 encode! {
-    HeapType, ty => granted(proved::HeapType::try_from(*ty));
+    HeapType, ty => or_panic(proved::HeapType::try_from(*ty));
 }
 
 impl From<&proved::FuncType> for FuncType {

@@ -27,7 +27,7 @@ pub struct CustomSection<'a> {
 impl CustomSection<'_> {
     /// The section as the proved code takes it. It doesn't allocate.
     #[inline]
-    pub(crate) fn lent(&self) -> proved::CustomSection<'_> {
+    pub(crate) fn borrowed(&self) -> proved::CustomSection<'_> {
         proved::CustomSection { name: &self.name, data: &self.data }
     }
 }
@@ -50,7 +50,7 @@ pub struct RawCustomSection<'a>(
 impl RawCustomSection<'_> {
     /// The section as the proved code takes it.
     #[inline]
-    fn lent(&self) -> proved::RawCustomSection<'_> {
+    fn borrowed(&self) -> proved::RawCustomSection<'_> {
         proved::RawCustomSection(self.0)
     }
 }
@@ -77,11 +77,11 @@ macro_rules! in_either {
 pub(crate) use in_either;
 
 encode! {
-    CustomSection<'_>, section => section.lent();
-    RawCustomSection<'_>, section => section.lent();
+    CustomSection<'_>, section => section.borrowed();
+    RawCustomSection<'_>, section => section.borrowed();
 }
 
 in_either! {
-    CustomSection<'_>, section => section.lent();
-    RawCustomSection<'_>, section => section.lent();
+    CustomSection<'_>, section => section.borrowed();
+    RawCustomSection<'_>, section => section.borrowed();
 }

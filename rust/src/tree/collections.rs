@@ -2,7 +2,7 @@
 
 use super::{AllocFailed, Box, String, Vec};
 use crate::Error;
-use crate::error::granted;
+use crate::error::or_panic;
 use alloc::borrow::{Borrow, Cow, ToOwned};
 use alloc::string::String as StdString;
 use alloc::vec::Vec as StdVec;
@@ -219,7 +219,7 @@ impl<T> Box<T> {
 /// Panics if the allocation fails, which [`Box::try_new`] returns as an error.
 impl<T> From<T> for Box<T> {
     fn from(value: T) -> Self {
-        granted(Self::try_new(value).map_err(|_| Error::NoMemory))
+        or_panic(Self::try_new(value).map_err(|_| Error::NoMemory))
     }
 }
 

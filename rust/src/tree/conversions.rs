@@ -22,7 +22,7 @@ use alloc::string::String as StdString;
 impl From<&ProducersSection> for Command {
     fn from(section: &ProducersSection) -> Self {
         let command = crate::proved::wasm_encoder::producers_command(super::Global, &section.0);
-        crate::error::granted(command)
+        crate::error::or_panic(command)
     }
 }
 
@@ -34,15 +34,15 @@ impl<'a> From<&'a AliasTree> for Alias<'a> {
 
 impl<'a> From<&'a NameTree> for ComponentExternName<'a> {
     fn from(name: &'a NameTree) -> Self {
-        fn lent(text: &Option<String>) -> Option<Cow<'_, str>> {
+        fn borrowed(text: &Option<String>) -> Option<Cow<'_, str>> {
             text.as_deref().map(Cow::Borrowed)
         }
         let options = name.options.as_deref();
         Self {
             name: Cow::Borrowed(&name.name),
-            implements: options.and_then(|options| lent(&options.implements)),
-            version_suffix: options.and_then(|options| lent(&options.version_suffix)),
-            external_id: options.and_then(|options| lent(&options.external_id)),
+            implements: options.and_then(|options| borrowed(&options.implements)),
+            version_suffix: options.and_then(|options| borrowed(&options.version_suffix)),
+            external_id: options.and_then(|options| borrowed(&options.external_id)),
         }
     }
 }

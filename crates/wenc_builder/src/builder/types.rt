@@ -1,5 +1,5 @@
 //! Methods that add types.
-ghost use Rattle.std.specs.Borrow.{sem, RestsIfErr};
+ghost use Rattle.std.specs.Borrow.{sem};
 ghost use Rattle.std.specs.Option.{option_copied};
 ghost use Rattle.std.specs.Prelude.{◌≡◌, [], List, false, Err, IfOk, OnErr};
 ghost use Rattle.wenc_base.specs.Holder.{is_finished, held_members};
@@ -11,6 +11,7 @@ ghost use Rattle.wenc_parts.specs.declared.component.ComponentSectionId.TheVaria
 ghost use Rattle.wenc_builder.specs.Entry.{type_entry};
 ghost use Rattle.wenc_types.specs.ComponentTypes.{InstanceDeclaration, ComponentDeclaration, InstanceType, ComponentType as ComponentTypeSpec, ResourceType, instances_of, components_of};
 ghost use Rattle.wenc_types.specs.Declarations.{InstanceDeclares, ComponentDeclares};
+ghost use Rattle.wenc_types.specs.Loans.{unchanged_on_err};
 ghost use Rattle.wenc_types.specs.declared.func_type.FuncStage.TheVariants as stages;
 
 use super::ComponentBuilder;
@@ -44,8 +45,8 @@ impl<A: Allocator> ComponentBuilder<A> {
         &mut self,
         debug_name: Option<&str>,
     ) -> Result<(u32, ComponentCoreTypeEncoder<'_, ComponentBuilder<A>>), Fault>
-        ensures* refused { sem 𝓛 (RestsIfErr (the_row A.row A.Allocator) self.entry
-            (λ e. e.1.lender.ghost_name) result (λ n. n ≡ self.old)) }
+        ensures* refused { sem 𝓛 (unchanged_on_err (the_row A.row A.Allocator)
+            self.entry (λ e. e.1.lender) result) }
         ensures same_reference { IfOk result (λ e. e.1.lender.ghost_name ≡ self.entry.ghost_name) }
         ensures begun { BeginsItem (λ e. e.0) (λ e. e.1.lender.now) self.old result
             (draft_in ids.CoreType Space.CoreTypes (option_copied debug_name.entry) []) }
@@ -59,8 +60,8 @@ impl<A: Allocator> ComponentBuilder<A> {
         &mut self,
         debug_name: Option<&str>,
     ) -> Result<(u32, ComponentTypeEncoder<'_, ComponentBuilder<A>>), Fault>
-        ensures* refused { sem 𝓛 (RestsIfErr (the_row A.row A.Allocator) self.entry
-            (λ e. e.1.lender.ghost_name) result (λ n. n ≡ self.old)) }
+        ensures* refused { sem 𝓛 (unchanged_on_err (the_row A.row A.Allocator)
+            self.entry (λ e. e.1.lender) result) }
         ensures same_reference { IfOk result (λ e. e.1.lender.ghost_name ≡ self.entry.ghost_name) }
         ensures begun { BeginsItem (λ e. e.0) (λ e. e.1.lender.now) self.old result
             (draft_in ids.«Type» Space.Types (option_copied debug_name.entry) []) }
@@ -116,8 +117,8 @@ impl<A: Allocator> ComponentBuilder<A> {
         &mut self,
         debug_name: Option<&str>,
     ) -> Result<(u32, ComponentDefinedTypeEncoder<'_, ComponentBuilder<A>>), Fault>
-        ensures* refused { sem 𝓛 (RestsIfErr (the_row A.row A.Allocator) self.entry
-            (λ e. e.1.lender.ghost_name) result (λ n. n ≡ self.old)) }
+        ensures* refused { sem 𝓛 (unchanged_on_err (the_row A.row A.Allocator)
+            self.entry (λ e. e.1.lender) result) }
         ensures same_reference { IfOk result (λ e. e.1.lender.ghost_name ≡ self.entry.ghost_name) }
         ensures begun { BeginsItem (λ e. e.0) (λ e. e.1.lender.now) self.old result
             (draft_in ids.«Type» Space.Types (option_copied debug_name.entry) []) }
@@ -131,8 +132,8 @@ impl<A: Allocator> ComponentBuilder<A> {
         &mut self,
         debug_name: Option<&str>,
     ) -> Result<(u32, ComponentFuncTypeEncoder<'_, ComponentBuilder<A>>), Fault>
-        ensures* refused { sem 𝓛 (RestsIfErr (the_row A.row A.Allocator) self.entry
-            (λ e. e.1.lender.ghost_name) result (λ n. n ≡ self.old)) }
+        ensures* refused { sem 𝓛 (unchanged_on_err (the_row A.row A.Allocator)
+            self.entry (λ e. e.1.lender) result) }
         ensures same_reference { IfOk result (λ e. e.1.lender.ghost_name ≡ self.entry.ghost_name) }
         ensures begun { BeginsItem (λ e. e.0) (λ e. e.1.lender.now) self.old result
             (draft_in ids.«Type» Space.Types (option_copied debug_name.entry) []) }

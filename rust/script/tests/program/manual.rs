@@ -44,8 +44,8 @@ pub fn run(program: &str, number: usize) {
     for (command, printed) in examples {
         let mut shell = Command::new("sh");
         let shell = shell.args(["-c", &command]).env("PATH", &path).current_dir(&room);
-        let told = shell.output().expect("the shell is there");
-        assert_eq!(String::from_utf8_lossy(&told.stdout), printed, "{command}");
-        assert!(told.status.success() && told.stderr.is_empty(), "{command}");
+        let output = shell.output().expect("the shell is there");
+        assert_eq!(String::from_utf8_lossy(&output.stdout), printed, "{command}");
+        assert!(output.status.success() && output.stderr.is_empty(), "{command}");
     }
 }

@@ -37,11 +37,11 @@ impl ComponentBuilder {
     /// ```
     pub fn command(&mut self, command: &Command) -> Result<Option<u32>, Error> {
         let was_finished = self.is_finished();
-        let answer = self.run(command);
-        if answer.is_err() && was_finished {
+        let result = self.run(command);
+        if result.is_err() && was_finished {
             self.discard_unfinished();
         }
-        answer
+        result
     }
 
     /// Makes the call that a command describes. A type that can't be encoded is left unfinished.

@@ -122,7 +122,7 @@ impl ComponentBuilder {
 
         /// Adds a custom section.
         fn custom_section | try_custom_section(&mut self, section: &CustomSection<'_>) -> ()
-            as (&section.lent());
+            as (&section.borrowed());
 
         /// Adds a custom section as its bytes after the id, with the size and the name. The bytes
         /// aren't checked.

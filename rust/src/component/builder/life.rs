@@ -2,7 +2,7 @@
 
 use crate::Error;
 use crate::component::ComponentBuilder;
-use crate::error::granted;
+use crate::error::or_panic;
 use crate::proved::rt_std::alloc::Global;
 use crate::proved::wasm_encoder as proved;
 use crate::twins::twins;
@@ -80,6 +80,6 @@ impl Default for ComponentBuilder {
     /// Panics if [`try_new`](Self::try_new) fails.
     #[inline]
     fn default() -> Self {
-        granted(Self::try_new())
+        or_panic(Self::try_new())
     }
 }

@@ -72,14 +72,14 @@ impl ComponentFuncTypeEncoder<'_> {
             self.at(|stage| matches!(stage, FuncStage::Start | FuncStage::Tagged))?;
             let mut params = Labelled(params.into_iter());
             self.is_amid = true;
-            let answer = match &mut self.by {
+            let result = match &mut self.by {
                 FuncBy::Builder(encoder) if const { holds_values::<P::IntoIter>() } => {
                     encoder.params(params)
                 }
                 by => by.params(List(&mut params)),
             };
             self.is_amid = false;
-            answer?;
+            result?;
             Ok(self)
         }
 

@@ -3,7 +3,7 @@
 use crate::Error;
 use crate::core::conversions::supported;
 use crate::encode::encode;
-use crate::error::granted;
+use crate::error::or_panic;
 use crate::proved::wasm_encoder as proved;
 
 /// A core value type ([WebAssembly 3.0, binary format, "Value Types"][types]).

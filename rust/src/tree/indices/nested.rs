@@ -90,7 +90,7 @@ fn visit_outer(
 /// The component with these items.
 fn encoded(items: impl Iterator<Item = ItemTree>) -> Result<Inner<u8>, Error> {
     let built = build(&items.map(Command::from).collect::<Inner<_>>())?;
-    built.answers.into_iter().try_for_each(|answer| answer.map(drop))?;
+    built.answers.into_iter().try_for_each(|result| result.map(drop))?;
     Ok(built.bytes)
 }
 
