@@ -18,14 +18,14 @@ use Rattle.wenc_types.specs.declared.defined_tree.DefinedTree.{DefinedTree}
 use Rattle.wenc_types.specs.declared.defined_tree.DefinedTree.TheVariants as trees
 use Rattle.wenc_types.specs.declared.type_tree.TypeTree.{TypeTree, Defined, Func, Component'}
 use Rattle.wenc_types.specs.declared.type_tree.TypeTree.{Instance', Resource}
+use Rattle.wenc_types.specs.declared.type_tree.TypeTree.{Row_of-InstanceDecl, end_of-InstanceDecl}
+use Rattle.wenc_types.specs.declared.type_tree.TypeTree.{more_of-InstanceDecl}
+use Rattle.wenc_types.specs.declared.type_tree.TypeTree.{Row_of-ComponentDecl}
+use Rattle.wenc_types.specs.declared.type_tree.TypeTree.{end_of-ComponentDecl}
+use Rattle.wenc_types.specs.declared.type_tree.TypeTree.{more_of-ComponentDecl}
 use Rattle.wenc_types.specs.declared.type_tree.InstanceDecl.{InstanceDecl, CoreType, «Type», Alias}
-use Rattle.wenc_types.specs.declared.type_tree.InstanceDecl.{Export, Row_of-InstanceDecl}
-use Rattle.wenc_types.specs.declared.type_tree.InstanceDecl.{end_of-InstanceDecl}
-use Rattle.wenc_types.specs.declared.type_tree.InstanceDecl.{more_of-InstanceDecl}
+use Rattle.wenc_types.specs.declared.type_tree.InstanceDecl.{Export}
 use Rattle.wenc_types.specs.declared.type_tree.ComponentDecl.{ComponentDecl, Import, Decl}
-use Rattle.wenc_types.specs.declared.type_tree.ComponentDecl.{Row_of-ComponentDecl}
-use Rattle.wenc_types.specs.declared.type_tree.ComponentDecl.{end_of-ComponentDecl}
-use Rattle.wenc_types.specs.declared.type_tree.ComponentDecl.{more_of-ComponentDecl}
 
 abbrev pub labelled_type_view : {A : Type 0} → String A × ComponentValType → LabelledType
 labelled_type_view f = record { name = string_bytes f.0; ty = f.1 }
