@@ -24,11 +24,6 @@ pub record HolderState : Type 0 where
 abbrev pub is_finished : HolderState → Bool
 is_finished h = is_none h.opening
 
--- where it begins is at most the size of a section
-abbrev pub OpeningFits : Option Opening → Type 0
-OpeningFits None = Unit {0}
-OpeningFits (Some o) = o.member_start < 2 ^ 32
-
 -- finished, with these bytes
 abbrev pub holding : List ℕ → ℕ → List ℕ → HolderState
 holding kept count body = record { kept = kept; count = count; body = body; opening = None }
