@@ -1,6 +1,6 @@
 -- What counted sections and types keep: how many members, and their texts.
 use Rattle.std.specs.Prelude.{◌≡◌, ℕ, ◌+◌, ◌<◌, ◌≤◌, ◌^◌, ◌⊎◌, Bool, true, false, is_none, List, []}
-use Rattle.std.specs.Prelude.{◌++◌, length, take, drop, Option, Some, None, Result, Err, OnOk}
+use Rattle.std.specs.Prelude.{◌++◌, length, take, drop, Option, None, Result, Err, OnOk}
 use Rattle.std.specs.Prelude.{OnErr, IfErr}
 use Rattle.std.specs.Iterator.Runs.{SomeRun, WholeRun}
 use Rattle.std.specs.List.{flat_map, AllByRecursion}
