@@ -1,6 +1,6 @@
 -- What it is that a text tells which value it is: a form, what is seen of a value, and what ties
 -- both to its encoding.
-use Rattle.std.specs.Prelude.{◌≡◌, ℕ, Bool, true, Option, Some, None}
+use Rattle.std.specs.Prelude.{◌≡◌, ℕ, Bool, true}
 use Rattle.wenc_base.specs.Encode.{Serves}
 use Rattle.wenc_base.specs.Piece.{Form, ◌⨾◌}
 use Rattle.wenc_base.specs.Readers.{Reader, LawfulForm}
@@ -16,11 +16,6 @@ IsWritten {A} piece seen form = (v : A) → Serves (piece v) (form (seen v))
 -- values that are seen alike are equal
 abbrev pub AlikeIsEqual : {A S : Type 0} → (A → A → Bool) → (A → S) → Type 0
 AlikeIsEqual {A} eq seen = (a b : A) → seen a ≡ seen b → eq a b ≡ true
-
--- what is seen of a value that may be there
-abbrev pub option_seen : {A S : Type 0} → (A → S) → Option A → Option S
-option_seen seen None = None
-option_seen seen (Some v) = Some (seen v)
 
 -- one value, then another
 abbrev pub pair : {A B : Type 0} → Form A → Form B → Form (A × B)

@@ -1,6 +1,7 @@
 -- Types of what modules import and export (WebAssembly 3.0, binary format, "Limits", "Table Types",
 -- "Memory Types", "Global Types", "Tag Types" and "External Types").
-use Rattle.std.specs.Prelude.{ℕ, ◌+◌, Bool, true, false, Option, Some, None}
+use Rattle.std.specs.Prelude.{ℕ, ◌+◌, Bool, true, false, if◌then◌else◌}
+use Rattle.std.specs.Prelude.{Option, Some, None}
 use Rattle.wenc_base.specs.Piece.{Piece, Form, ◌▸◌, ◌⨾◌}
 use Rattle.wenc_base.specs.Number.{u32, u64}
 use Rattle.wenc_base.specs.Forms.{flag}
@@ -13,14 +14,10 @@ use Rattle.wenc_base.specs.declared.imports.EntityType.{EntityType}
 use Rattle.wenc_base.specs.declared.imports.EntityType.TheVariants.{Function, Table, Memory, Global}
 use Rattle.wenc_base.specs.declared.imports.EntityType.TheVariants.{Tag}
 
--- n where the flag is set, else 0
-abbrev pub bit : ℕ → Bool → ℕ
-bit n false = 0
-bit n true = n
-
 -- whether there is a maximum, whether it is shared, and whether it is of 64 bits
 abbrev pub limit_flags : Bool → Bool → Bool → ℕ
-limit_flags is_bounded is_shared is_long = bit 1 is_bounded + (bit 2 is_shared + bit 4 is_long)
+limit_flags is_bounded is_shared is_long =
+    (if is_bounded then 1 else 0) + ((if is_shared then 2 else 0) + (if is_long then 4 else 0))
 
 -- a byte of flags, the minimum, and the maximum if there is one
 abbrev pub limits : Bool → Bool → ℕ → Option ℕ → Piece

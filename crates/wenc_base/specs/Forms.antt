@@ -1,20 +1,14 @@
 -- Forms made of others (component model, binary format; WebAssembly 3.0, binary format,
 -- "Conventions" and "Values").
-use Rattle.std.specs.Prelude.{◌⊎◌, ℕ, ◌^◌, ◌<◌, List, [], ◌++◌, length, Bool}
-use Rattle.std.specs.Prelude.{true, false}
+use Rattle.std.specs.Prelude.{ℕ, ◌<◌, List, [], ◌++◌, length, Bool, if◌then◌else◌}
 use Rattle.std.specs.Prelude.{Option, Some, None, IsUtf8}
-use Rattle.wenc_base.specs.Fault.{size_cause}
 use Rattle.wenc_base.specs.Piece.{Piece, Form, byte, ◌▸◌, ◌⨾◌, each, raw}
 use Rattle.wenc_base.specs.Number.{u32, count, size}
 use Rattle.std.specs.List.{AllByRecursion}
 
 -- whether it holds
-abbrev pub flag_byte : Bool → ℕ
-flag_byte false = 0x00
-flag_byte true = 0x01
-
 abbrev pub flag : Form Bool
-flag holds = byte (flag_byte holds)
+flag holds = byte (if holds then 0x01 else 0x00)
 
 -- how many, then each
 abbrev pub list : {A : Type 0} → Form A → Form (List A)
@@ -39,10 +33,7 @@ AreBytes = AllByRecursion (λ b. b < 256)
 
 -- how many bytes, then that many, which are all of it
 abbrev pub sized : Piece → Piece
-sized p = record {
-  Fits = (length p.text < 2 ^ 32) × p.Fits;
-  Cause = λ fault. size_cause (length p.text) fault ⊎ p.Cause fault;
-  text = (u32 (length p.text)).text ++ p.text;
+sized p = record (size (length p.text) ⨾ p) {
   Reads = λ mode bytes rest. (content : List ℕ) ×
       (u32 (length content)).Reads mode bytes (content ++ rest) × p.Reads mode content [];
 }

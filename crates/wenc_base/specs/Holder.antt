@@ -1,6 +1,6 @@
 -- What counted sections and types keep: how many members, and their texts.
 use Rattle.std.specs.Prelude.{◌≡◌, ℕ, ◌+◌, ◌<◌, ◌≤◌, ◌^◌, ◌⊎◌, Bool, true, false, is_none, List, []}
-use Rattle.std.specs.Prelude.{◌++◌, length, take, drop, Option, Some, None, Result, Err, OnOk}
+use Rattle.std.specs.Prelude.{◌++◌, length, take, drop, Option, None, Result, Err, OnOk}
 use Rattle.std.specs.Prelude.{OnErr, IfErr}
 use Rattle.std.specs.Iterator.Runs.{SomeRun, WholeRun}
 use Rattle.std.specs.List.{flat_map, AllByRecursion}
@@ -23,11 +23,6 @@ pub record HolderState : Type 0 where
 -- no member is being written
 abbrev pub is_finished : HolderState → Bool
 is_finished h = is_none h.opening
-
--- where it begins is at most the size of a section
-abbrev pub OpeningFits : Option Opening → Type 0
-OpeningFits None = Unit {0}
-OpeningFits (Some o) = o.member_start < 2 ^ 32
 
 -- finished, with these bytes
 abbrev pub holding : List ℕ → ℕ → List ℕ → HolderState

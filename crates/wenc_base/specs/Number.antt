@@ -1,11 +1,11 @@
 -- Numbers in groups of seven bits, the lowest first (LEB128: WebAssembly 3.0, binary format,
 -- "Integers").
-use Rattle.std.specs.Prelude.{◌≡◌, ℕ, ℤ, pos, negsuc, ◌-ℤ◌, zero, suc, ◌+◌, ◌-◌, ◌*◌, ◌/◌, ◌%◌, ◌^◌}
+use Rattle.std.specs.Prelude.{◌≡◌, ◌⊎◌, ℕ, ℤ, pos, negsuc, ◌-ℤ◌, zero, suc, ◌+◌, ◌-◌, ◌*◌, ◌/◌, ◌%◌, ◌^◌}
 use Rattle.std.specs.Prelude.{◌<◌, ◌≤◌, nat_lt, if◌then◌else◌, slice_index, Bool, true, false}
 use Rattle.std.specs.Prelude.{length, List, [], ◌∷◌, ◌++◌, map, FitsSigned}
 use Rattle.std.specs.Int.{w64}
 use Rattle.wenc_base.specs.Fault.{count_cause, size_cause}
-use Rattle.wenc_base.specs.Piece.{Form, Spelling, Strict, Wide, refused_for, verbatim}
+use Rattle.wenc_base.specs.Piece.{Form, IsWide, raw, refused_for, verbatim}
 
 -- A number below top is one byte. Another has its low seven bits first, in a byte from 128 on.
 -- At most `room` bytes come before the last.
@@ -35,26 +35,22 @@ signed_text (negsuc n) = turned true (groups 64 9 n)
 
 -- ---- reading
 
--- Is a byte before the last allowed for n? Strictly it is only where n isn't below top.
-abbrev pub MayGoOn : Spelling → ℕ → ℕ → Type 0
-MayGoOn Strict top n = top ≤ n
-MayGoOn Wide top n = Unit {0}
-
 -- The bytes are n in groups of seven bits, the lowest ones first, and then the rest. The last group
 -- is below top, and at most room others stand before it.
-pub data ReadsGroups (mode : Spelling) (top : ℕ) : ℕ → ℕ → List ℕ → List ℕ → Type 0 where
-  last : {room b : ℕ} {rest : List ℕ} → b < top → ReadsGroups mode top room b (b ∷ rest) rest
-  more : {room n b high : ℕ} {bytes rest : List ℕ} → 128 ≤ b → b < 256 → MayGoOn mode top n
+pub data ReadsGroups (top : ℕ) : ℕ → ℕ → List ℕ → List ℕ → Type 0 where
+  last : {room b : ℕ} {rest : List ℕ} → b < top → ReadsGroups top room b (b ∷ rest) rest
+  more : {room n b high : ℕ} {bytes rest : List ℕ} → 128 ≤ b → b < 256
       → n + 128 ≡ b + 128 * high
-      → ReadsGroups mode top room high bytes rest
-      → ReadsGroups mode top (suc room) n (b ∷ bytes) rest
+      → ReadsGroups top room high bytes rest
+      → ReadsGroups top (suc room) n (b ∷ bytes) rest
 
--- A number below a bound, whose last byte is below top. Its text is the shortest; read are texts
--- that have at most room bytes before the last.
+-- A number below a bound, whose last byte is below top. Its text is the shortest; widely read are
+-- texts that have at most room bytes before the last.
 abbrev pub number : ℕ → ℕ → ℕ → Form ℕ
 number top room bound n = record (verbatim (groups top 9 n)) {
   Fits = n < bound;
-  Reads = λ mode bytes rest. (n < bound) × ReadsGroups mode top room n bytes rest;
+  Reads = λ mode bytes rest. (n < bound) ×
+      ((bytes ≡ groups top 9 n ++ rest) ⊎ (IsWide mode × ReadsGroups top room n bytes rest));
 }
 
 -- a number of 32 bits in at most five bytes
@@ -77,18 +73,9 @@ u64 = number 128 9 (2 ^ 64)
 abbrev pub index : Form ℕ
 index = number 64 4 (2 ^ 32)
 
--- A signed number is read as its groups are, which are turned over below zero.
-abbrev pub ReadsSigned : ℤ → List ℕ → List ℕ → Type 0
-ReadsSigned (pos n) bytes rest = ReadsGroups Strict 64 9 n bytes rest
-ReadsSigned (negsuc n) bytes rest =
-    (front : List ℕ) × (bytes ≡ turned true front ++ rest) × ReadsGroups Strict 64 9 n front []
-
 -- a signed number of 64 bits in at most ten bytes, which has no other spelling
 abbrev pub i64 : Form ℤ
-i64 z = record (verbatim (signed_text z)) {
-  Fits = FitsSigned w64 z;
-  Reads = λ mode bytes rest. FitsSigned w64 z × ReadsSigned z bytes rest;
-}
+i64 z = raw (λ text. FitsSigned w64 z) (signed_text z)
 
 -- how many bytes the text of a number has
 abbrev pub number_size : ℕ → ℕ

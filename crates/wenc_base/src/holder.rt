@@ -65,8 +65,8 @@ pub struct Holder<A: Allocator = Global> {
 }
 
 impl<A: Allocator> Model for Holder<A> {
-    ghost use Rattle.std.specs.Prelude.{◌<◌, ◌≤◌, ◌^◌, length, take, drop};
-    ghost use Rattle.wenc_base.specs.Holder.{HolderState, content_size, OpeningFits};
+    ghost use Rattle.std.specs.Prelude.{◌<◌, ◌≤◌, ◌^◌, length, take, drop, IfSome};
+    ghost use Rattle.wenc_base.specs.Holder.{HolderState, content_size};
 
     ghost Value = { HolderState };
 
@@ -79,7 +79,7 @@ impl<A: Allocator> Model for Holder<A> {
 
     ghost invariant = { λ h. (h.kept ≤ length h.bytes.items) ×
         (content_size h.count (length (drop h.kept h.bytes.items)) < 2 ^ 32) ×
-        OpeningFits h.opening };
+        IfSome h.opening (λ o. o.member_start < 2 ^ 32) };
 }
 
 impl<A: Allocator> Holder<A> {

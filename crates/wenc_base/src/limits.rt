@@ -1,6 +1,6 @@
 //! Limits of tables and memories.
-ghost use Rattle.std.specs.Prelude.{◌≡◌, ◌≤◌};
-ghost use Rattle.wenc_base.specs.Entities.{bit as bit_of, limit_flags};
+ghost use Rattle.std.specs.Prelude.{◌≡◌, ◌≤◌, if◌then◌else◌};
+ghost use Rattle.wenc_base.specs.Entities.{limit_flags};
 
 use crate::encode::{Encode, Tagged};
 use crate::fault::Fault;
@@ -48,7 +48,7 @@ fn flags(is_bounded: bool, is_shared: bool, is_long: bool) -> u8
 
 /// Returns `number` if the bit is set, else 0.
 fn bit(number: u8, is_set: bool) -> u8
-    ensures is { result ≡ bit_of number is_set }
+    ensures is { result ≡ (if is_set then number else 0) }
     ensures most { result ≤ number }
 {
     if is_set { number } else { 0 }

@@ -7,8 +7,7 @@ use Rattle.wenc_parts.specs.declared.exports.ComponentExportKind.{ComponentExpor
 use Rattle.wenc_parts.specs.declared.imports.ComponentTypeRef.{ComponentTypeRef}
 use Rattle.wenc_parts.specs.Imports.{ExternName}
 use Rattle.wenc_parts.specs.Aliases.{AliasOf, InstanceExport, CoreInstanceExport}
-use Rattle.wenc_canon.specs.Canonicals.{row, Values, Builtin, name_of}
-use Rattle.wenc_canon.specs.Canonicals.{Canonical, OfBuiltin}
+use Rattle.wenc_canon.specs.Canonicals.{Canonical, OfBuiltin, name_of}
 use Rattle.wenc_sections.specs.Start.{started}
 use Rattle.wenc_sections.specs.Instances.{CoreInstance, Instance}
 use Rattle.wenc_types.specs.CoreTypes.{CoreType}
@@ -68,10 +67,6 @@ type_entry debug_name ty = entry (TypeItem ty) debug_name
 
 abbrev pub canonical_entry : Option (List ℕ) → Canonical → Entry
 canonical_entry debug_name function = entry (CanonItem function) debug_name
-
--- it has the debug name that is its own
-abbrev pub builtin_entry : (i : Builtin) → Values (row i).fields → Entry
-builtin_entry i values = canonical_entry (Some (name_of i values)) (OfBuiltin i values)
 
 -- the debug name of a canonical function: its own, or where it is lifted or lowered this one
 abbrev pub canonical_name : Option (List ℕ) → Canonical → Option (List ℕ)

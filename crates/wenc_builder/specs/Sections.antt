@@ -5,7 +5,11 @@ use Rattle.std.specs.Prelude.{if◌then◌else◌, length}
 use Rattle.std.specs.List.{list_any, flat_map, AllByRecursion}
 use Rattle.wenc_base.specs.Piece.{Spelling, Piece, Form, ◌▸◌, only_where, nothing, ◌⨾◌}
 use Rattle.wenc_base.specs.Forms.{counted}
-use Rattle.wenc_parts.specs.declared.component.ComponentSectionId.TheVariants as ids
+use Rattle.wenc_parts.specs.declared.component.ComponentSectionId.TheVariants.{CoreInstance}
+use Rattle.wenc_parts.specs.declared.component.ComponentSectionId.TheVariants.{CoreType, Instance}
+use Rattle.wenc_parts.specs.declared.component.ComponentSectionId.TheVariants.{Alias, «Type»}
+use Rattle.wenc_parts.specs.declared.component.ComponentSectionId.TheVariants.{CanonicalFunction}
+use Rattle.wenc_parts.specs.declared.component.ComponentSectionId.TheVariants.{Import, Export}
 use Rattle.wenc_parts.specs.SectionIds.{section_number}
 pub use Rattle.wenc_parts.specs.Component.{preamble}
 use Rattle.wenc_builder.specs.Item.{Item, collected, item, HasNoRaw}
@@ -24,10 +28,9 @@ members (Alone x) = x ∷ []
 -- an item put in front of sections
 abbrev pub joined : Option ℕ → Item → List Section → List Section
 joined None x ss = Alone x ∷ ss
-joined (Some id) x [] = Run id (x ∷ []) ∷ []
-joined (Some id) x (Alone y ∷ ss) = Run id (x ∷ []) ∷ Alone y ∷ ss
 joined (Some id) x (Run other ys ∷ ss) =
     if nat_eq id other then Run other (x ∷ ys) ∷ ss else (Run id (x ∷ []) ∷ Run other ys ∷ ss)
+joined (Some id) x ss = Run id (x ∷ []) ∷ ss
 
 -- items cut into sections: neighbours of one collected kind share one
 abbrev pub runs : List Item → List Section
@@ -58,9 +61,8 @@ open_of (s ∷ t ∷ ss) = open_of (t ∷ ss)
 -- modules, components and starts.
 abbrev pub collects : ℕ → Bool
 collects id =
-    list_any (λ kind. nat_eq id (section_number kind))
-    (ids.CoreInstance ∷ ids.CoreType ∷ ids.Instance ∷ ids.Alias ∷ ids.«Type» ∷
-    ids.CanonicalFunction ∷ ids.Import ∷ ids.Export ∷ [])
+    list_any (λ kind. nat_eq id (section_number kind)) (CoreInstance ∷ CoreType ∷ Instance ∷
+    Alias ∷ «Type» ∷ CanonicalFunction ∷ Import ∷ Export ∷ [])
 
 -- an item of the kind that the section with this id collects
 abbrev pub item_of : ℕ → Form Item

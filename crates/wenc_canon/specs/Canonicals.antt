@@ -33,10 +33,9 @@ canonical_option Gc = byte 0x09
 
 -- ---- fields
 
--- an index, options, a flag, the byte 00, a core value type, a result list, the index of a slot of
--- a task
+-- an index, options, a flag, the byte 00, a core value type, a result list
 pub data Field : Type 0 where
-  Index Options Flag Zero CoreType Results Slot : Field
+  Index Options Flag Zero CoreType Results : Field
 
 -- what a field of this kind holds
 abbrev pub Value : Field → Type 0
@@ -46,7 +45,6 @@ Value Flag = Bool
 Value Zero = Unit {0}
 Value CoreType = ValType
 Value Results = Option ComponentValType
-Value Slot = ℕ
 
 -- how that is written
 abbrev pub field : (f : Field) → Form (Value f)
@@ -56,7 +54,6 @@ field Flag b = flag b
 field Zero v = byte 0x00
 field CoreType t = val_type t
 field Results r = result_list r
-field Slot n = u32 n
 
 -- a value for each field
 abbrev pub Values : List Field → Type 0
@@ -103,8 +100,8 @@ row ResourceRep = codes "resource.rep" is 0x04 takes Index ∷ []
 row TaskCancel = codes "task.cancel" is 0x05 takes []
 row SubtaskCancel = codes "subtask.cancel" is 0x06 takes Flag ∷ []
 row TaskReturn = codes "task.return" is 0x09 takes Results ∷ Options ∷ []
-row ContextGet = codes "context.get" is 0x0a takes CoreType ∷ Slot ∷ []
-row ContextSet = codes "context.set" is 0x0b takes CoreType ∷ Slot ∷ []
+row ContextGet = codes "context.get" is 0x0a takes CoreType ∷ Index ∷ []
+row ContextSet = codes "context.set" is 0x0b takes CoreType ∷ Index ∷ []
 row ThreadYield = codes "thread.yield" is 0x0c takes Zero ∷ []
 row SubtaskDrop = codes "subtask.drop" is 0x0d takes []
 row StreamNew = codes "stream.new" is 0x0e takes Index ∷ []
@@ -161,20 +158,11 @@ builtins =
 
 -- ---- names
 
--- what a field puts after the name: the number of a slot
-abbrev pub slot_text : (f : Field) → Value f → List ℕ
-slot_text Slot n = codes " " ++ decimal n
-slot_text f v = []
-
--- what all fields put after the name
-abbrev pub slots_text : (fs : List Field) → Values fs → List ℕ
-slots_text [] vs = []
-slots_text (f ∷ []) v = slot_text f v
-slots_text (f ∷ g ∷ fs) vs = slot_text f vs.0 ++ slots_text (g ∷ fs) vs.1
-
--- the name of a builtin with these values
+-- the name of a builtin with these values: its row's, and the number of a slot after it
 abbrev pub name_of : (i : Builtin) → Values (row i).fields → List ℕ
-name_of i values = (row i).name ++ slots_text (row i).fields values
+name_of ContextGet v = codes "context.get " ++ decimal v.1
+name_of ContextSet v = codes "context.set " ++ decimal v.1
+name_of i v = (row i).name
 
 -- ---- canonical functions
 

@@ -3,9 +3,9 @@ ghost use Rattle.std.specs.Iterator.{IsFinite};
 ghost use Rattle.std.specs.Prelude.{◌≡◌, ◌∷◌, [], List, Option, Result};
 ghost use Rattle.wenc_base.specs.declared.fault.Fault.{Fault as FaultSpec};
 ghost use Rattle.wenc_canon.specs.Canonicals as canon;
-ghost use Rattle.wenc_canon.specs.Canonicals.{Canonical, OfBuiltin, CoreType, Slot, ◌is◌takes◌, slots_text};
+ghost use Rattle.wenc_canon.specs.Canonicals.{Canonical, OfBuiltin, CoreType, Index, ◌is◌takes◌};
 ghost use Rattle.wenc_canon.specs.declared.canonicals.CanonicalOption.{CanonicalOption as OptionSpec};
-ghost use Rattle.wenc_canon.specs.inside.Rows.{row_with, builtin_by, and_options, builtin_with};
+ghost use Rattle.wenc_canon.specs.inside.Rows.{row_with, HasName, builtin_by, and_options, builtin_with};
 
 use crate::canonicals::CanonicalOption;
 use crate::fields::{Fields, NotCancellable};
@@ -28,14 +28,15 @@ pub trait AddsRow {
     ghost adds_with: { {S : Type 0} → (S → Option OptionSpec → S → Type 0) → S
         → Self → Self → Result Self.Answer FaultSpec → (List OptionSpec → Canonical) → Type 0 };
 
-    /// Adds the builtin of this row, with these fields, none of which is a slot.
+    /// Adds the builtin of this row, with these fields, whose values are no part of its name.
     fn add_row<F: Fields>(&mut self, row: Row, fields: &F) -> Result<Self::Answer, Fault>
         requires row { row_with row.1 ≡ (row.0.now is row.1 takes F.kinds) }
-        requires no_slot { slots_text F.kinds (F.values fields.now) ≡ [] }
+        requires name { HasName row.1 row.0.now }
         ensures { adds self.old self.new result
             (builtin_by row.1 F.kinds (F.values fields.now)) };
 
-    /// Adds the builtin of this row, with options after these fields, none of which is a slot.
+    /// Adds the builtin of this row, with options after these fields, whose values are no part of
+    /// its name.
     fn add_row_with<F: Fields, I: Iterator<Item = CanonicalOption> + Drop>(
         &mut self,
         row: Row,
@@ -44,7 +45,7 @@ pub trait AddsRow {
     ) -> Result<Self::Answer, Fault>
         requires row { row_with row.1
             ≡ (row.0.now is row.1 takes and_options F.kinds) }
-        requires no_slot { slots_text F.kinds (F.values fields.now) ≡ [] }
+        requires name { HasName row.1 row.0.now }
         requires can { I.can_next options }
         requires ends { IsFinite (I.remaining options) }
         ensures { adds_with I.next_gives options self.old self.new result
@@ -56,9 +57,9 @@ pub trait AddsSlotRow: AddsRow {
     /// Adds the builtin of this row, with a slot of this value type.
     fn add_slot_row(&mut self, row: Row, ty: ValType, slot: u32) -> Result<Self::Answer, Fault>
         requires { row_with row.1
-            ≡ (row.0.now is row.1 takes CoreType ∷ Slot ∷ []) }
+            ≡ (row.0.now is row.1 takes CoreType ∷ Index ∷ []) }
         ensures { Self.adds self.old self.new result
-            (builtin_by row.1 (CoreType ∷ Slot ∷ []) (ty, slot)) };
+            (builtin_by row.1 (CoreType ∷ Index ∷ []) (ty, slot)) };
 }
 
 /// The builtins, which are functions that the component model provides: each call adds one

@@ -104,13 +104,13 @@ impl Fields for (u32, bool) {
 
 impl Fields for (ValType, u32) {
     ghost use Rattle.std.specs.Prelude.{◌∷◌, []};
-    ghost use Rattle.wenc_canon.specs.Canonicals.{CoreType, Slot};
+    ghost use Rattle.wenc_canon.specs.Canonicals.{CoreType, Index};
 
-    ghost kinds = { CoreType ∷ Slot ∷ [] };
+    ghost kinds = { CoreType ∷ Index ∷ [] };
 
     ghost values = { λ p. p };
 
-    ghost written = { λ p. two_fields CoreType Slot p.0 p.1 };
+    ghost written = { λ p. two_fields CoreType Index p.0 p.1 };
 }
 
 impl Fields for (NotCancellable, u32) {

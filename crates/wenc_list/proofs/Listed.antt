@@ -4,6 +4,7 @@ use Rattle.std.specs.List.{AllByRecursion}
 use Rattle.wenc_base.specs.Number.{ReadsGroups, last, more}
 use Rattle.wenc_base.specs.Piece.{Wide, each}
 use Rattle.wenc_base.specs.Readers.{Bad}
+use Rattle.wenc_base.specs.laws.Numbers.{u32_groups}
 use Rattle.wenc_builder.specs.Sections.{Section, members, section_piece, sections, preamble}
 use Rattle.wenc_list.specs.inside.Contents.{read_frame}
 use Rattle.wenc_list.specs.inside.Taken.{TakesAll}
@@ -31,14 +32,14 @@ no_frame place bytes e = (
 
 -- ---- sections, one after the other
 
-groups_shorter : (room n : ℕ) (bytes rest : List ℕ) → ReadsGroups Wide 128 room n bytes rest → length rest < length bytes
+groups_shorter : (room n : ℕ) (bytes rest : List ℕ) → ReadsGroups 128 room n bytes rest → length rest < length bytes
 groups_shorter room n bytes rest (last lt) = omega arith
-groups_shorter _ n _ rest (more {room = room} {high = high} {bytes = bytes} low byte on sum r) = omega (arith, groups_shorter room high bytes rest r)
+groups_shorter _ n _ rest (more {room = room} {high = high} {bytes = bytes} low byte sum r) = omega (arith, groups_shorter room high bytes rest r)
 
 pub section_shorter : (s : Section) (bytes rest : List ℕ) → (section_piece s).Reads Wide bytes rest → length rest < length bytes
 section_shorter s bytes rest r =
     let f = (section_framed s bytes rest r).framed in
-    omega (arith, groups_shorter 4 _ f.middle _ f.sized.1, length-append (section_framed s bytes rest r).content rest, ap length f.begins)
+    omega (arith, groups_shorter 4 _ f.middle _ (u32_groups Wide _ f.middle _ f.sized), length-append (section_framed s bytes rest r).content rest, ap length f.begins)
 
 -- each of them takes a byte
 pub from_few : {A : Type 0} (all : ℕ) (ss : List (ListedSection A)) (bytes rest : List ℕ) → AreFrom all ss bytes rest → length ss ≤ length bytes

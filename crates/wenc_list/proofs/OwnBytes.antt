@@ -1,10 +1,11 @@
 -- The bytes of a section are read as it, whatever follows. So they can be cut out.
-use Rattle.std.proofs.Common.{◌≡◌, ℕ, zero, suc, ◌+◌, ◌-◌, ◌<◌, ◌≤◌, List, [], ◌∷◌, ◌++◌, length, take, drop, map, Some, None, refl, sym, ap, subst, ◌∙◌, arith, append_assoc, length-append}
+use Rattle.std.proofs.Common.{◌≡◌, ℕ, zero, suc, ◌+◌, ◌-◌, ◌<◌, ◌≤◌, List, [], ◌∷◌, ◌++◌, length, take, drop, map, Some, None, refl, sym, ap, subst, ◌∙◌, arith, append_assoc, length-append, inr}
 use Rattle.std.proofs.lemmas.List.{take_at}
 use Rattle.std.proofs.lemmas.Option.{same_Some}
 use Rattle.std.specs.Prelude.{remove, slice_get, slice_range}
 use Rattle.wenc_base.specs.Number.{ReadsGroups, last, more}
 use Rattle.wenc_base.specs.Piece.{Wide}
+use Rattle.wenc_base.specs.laws.Numbers.{u32_groups}
 use Rattle.wenc_builder.specs.Sections.{Section, Reading, members, section_piece, sections, preamble}
 use Rattle.wenc_list.specs.Items.{section_view}
 use Rattle.wenc_list.specs.Listing.{AreFrom, ArePlaced, IsFramed}
@@ -16,22 +17,22 @@ use Rattle.wenc_list.proofs.Walked.{header, header_is}
 
 -- ---- a section
 
-groups_own : (room n : ℕ) (bytes rest : List ℕ) → ReadsGroups Wide 128 room n bytes rest → (own : List ℕ) × (bytes ≡ own ++ rest) × ((other : List ℕ) → ReadsGroups Wide 128 room n (own ++ other) other)
+groups_own : (room n : ℕ) (bytes rest : List ℕ) → ReadsGroups 128 room n bytes rest → (own : List ℕ) × (bytes ≡ own ++ rest) × ((other : List ℕ) → ReadsGroups 128 room n (own ++ other) other)
 groups_own room n bytes rest (last lt) = (n ∷ [], refl, λ other. last lt)
-groups_own _ n _ rest (more {room = room} {b = b} {high = high} {bytes = bytes} low byte on sum r) =
+groups_own _ n _ rest (more {room = room} {b = b} {high = high} {bytes = bytes} low byte sum r) =
     let e = groups_own room high bytes rest r in
-    (b ∷ e.0, ap (λ (t : List ℕ). b ∷ t) e.1, λ other. more low byte on sum (e.2 other))
+    (b ∷ e.0, ap (λ (t : List ℕ). b ∷ t) e.1, λ other. more low byte sum (e.2 other))
 
 frame_own : (bytes : List ℕ) (id : ℕ) (content rest : List ℕ) → IsFramed bytes id content rest → (own : List ℕ) × (bytes ≡ own ++ rest) × ((other : List ℕ) → IsFramed (own ++ other) id content other)
 frame_own bytes id content rest f =
-    let e = groups_own 4 (length content) f.middle (content ++ rest) f.sized.1 in (
+    let e = groups_own 4 (length content) f.middle (content ++ rest) (u32_groups Wide (length content) f.middle (content ++ rest) f.sized) in (
       id ∷ (e.0 ++ content),
       f.begins ∙ ap (λ (t : List ℕ). id ∷ t) (e.1 ∙ sym (append_assoc e.0 content rest)),
       (λ other. record {
         middle = (e.0 ++ content) ++ other;
         begins = refl;
         known = f.known;
-        sized = (f.sized.0, rw (append_assoc e.0 content other) (e.2 (content ++ other)));
+        sized = (f.sized.0, inr (tt, rw (append_assoc e.0 content other) (e.2 (content ++ other))));
       }),
     )
 

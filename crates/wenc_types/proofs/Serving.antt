@@ -1,5 +1,5 @@
 -- What the code writes of types serves as their forms.
-use Rattle.std.proofs.Common.{String, Result, ◌≡◌, ℕ, Bool, true, false, List, [], ◌∷◌, Option, Vec, map, refl, ap, subst}
+use Rattle.std.proofs.Common.{String, Result, ◌≡◌, ℕ, Bool, List, [], ◌∷◌, Option, Vec, map, refl, ap, sym, subst}
 use Rattle.std.specs.Borrow.{Bor}
 use Rattle.std.specs.String.{string_bytes}
 use Rattle.wenc_base.specs.Encode.{Serves, in_order, list_in_order}
@@ -16,11 +16,10 @@ use Rattle.wenc_parts.specs.Imports.{ExternName, extern_name, type_reference}
 use Rattle.wenc_parts.specs.Types.{value_type, result_list}
 use Rattle.wenc_parts.specs.declared.imports.ComponentTypeRef.{ComponentTypeRef}
 use Rattle.wenc_parts.specs.declared.types.ComponentValType.{ComponentValType}
-use Rattle.wenc_types.specs.ComponentTypes.{def_type, instance_declaration, component_declaration}
+use Rattle.wenc_types.specs.ComponentTypes.{DefType, def_type, instance_declaration, component_declaration}
 use Rattle.wenc_types.specs.CoreTypes.{ModuleImport, ModuleOuter, module_declaration, module_type}
 use Rattle.wenc_types.specs.CoreTypeTrees.{module_declaration_view}
-use Rattle.wenc_types.specs.DefinedTypes.{labelled_type, Case as PureCase, case, Record, Variant, Tuple, def_val_type, function_type_of, function_type, lent_labelled_type, lent_case}
-use Rattle.wenc_types.specs.FuncStages.{async_byte}
+use Rattle.wenc_types.specs.DefinedTypes.{labelled_type, Case as PureCase, case, Record, Variant, Tuple, def_val_type, async_byte, function_type, lent_labelled_type, lent_case}
 use Rattle.wenc_types.specs.TypeTrees.{labelled_type_view, case_view, function_view, type_view, instance_declaration_view, component_declaration_view}
 use Rattle.wenc_types.specs.declared.core_type_tree.ModuleDecl.{ModuleDecl}
 use Rattle.wenc_types.specs.declared.defined_tree.CaseTree.{CaseTree}
@@ -125,14 +124,8 @@ cases_serve vs = subst (λ (cs : List PureCase). Serves (0x71 ▸ list case_of (
 -- parameters, then what the function answers, after the byte that tells whether it is asynchronous
 pub function_tree_serves : {A : Type 0} (is_async : Bool) (tag : ℕ) (params : List (String A × ComponentValType)) (answer : Option ComponentValType) → tag ≡ async_byte is_async
     → Serves (tag ▸ in_order (list_in_order field_tree params) (result_list answer)) (function_type (function_view is_async params answer))
-function_tree_serves is_async tag params answer e = rw e (at is_async)
-  where
-    both : Serves (in_order (list_in_order field_tree params) (result_list answer)) (list labelled_type (map labelled_type_view params) ⨾ result_list answer)
-    both = order_serves (fields_tree_serve params) (serves_itself {p = result_list answer})
-
-    at : (is_async : Bool) → Serves (async_byte is_async ▸ in_order (list_in_order field_tree params) (result_list answer)) (function_type_of is_async (map labelled_type_view params) answer)
-    at false = tagged_serves 0x40 both
-    at true = tagged_serves 0x43 both
+function_tree_serves is_async tag params answer e =
+    rw e (tagged_serves (async_byte is_async) (order_serves (fields_tree_serve params) (serves_itself {p = result_list answer})))
 
 -- ---- component types and instance types
 
@@ -144,12 +137,12 @@ extern_serves seen name e tag ty = rw e (pair_serves tag (extern_name name) (typ
 -- declarations, in their order
 pub instance_tree_serves : {A : Type 0} (ds : Vec (InstanceDecl A) A)
     → Serves (0x42 ▸ list_in_order (λ d. instance_declaration (instance_declaration_view d)) ds.items) (def_type (type_view (types.Instance ds)))
-instance_tree_serves ds = rw (view_instance ds)
+instance_tree_serves ds = subst (λ (t : DefType). Serves (0x42 ▸ list_in_order (λ d. instance_declaration (instance_declaration_view d)) ds.items) (def_type t)) (sym (view_instance ds))
     (serves_then (tagged_serves 0x42 (list_serves (λ d. instance_declaration (instance_declaration_view d)) instance_declaration_view instance_declaration (λ d. serves_itself) ds.items))
     (instances_serve (map instance_declaration_view ds.items)))
 
 pub component_tree_serves : {A : Type 0} (ds : Vec (ComponentDecl A) A)
     → Serves (0x41 ▸ list_in_order (λ d. component_declaration (component_declaration_view d)) ds.items) (def_type (type_view (types.Component ds)))
-component_tree_serves ds = rw (view_component ds)
+component_tree_serves ds = subst (λ (t : DefType). Serves (0x41 ▸ list_in_order (λ d. component_declaration (component_declaration_view d)) ds.items) (def_type t)) (sym (view_component ds))
     (serves_then (tagged_serves 0x41 (list_serves (λ d. component_declaration (component_declaration_view d)) component_declaration_view component_declaration (λ d. serves_itself) ds.items))
     (components_serve (map component_declaration_view ds.items)))

@@ -1,6 +1,6 @@
 -- Types of values that components define, and types of functions (component model, binary format,
 -- "Type Definitions").
-use Rattle.std.specs.Prelude.{ℕ, Bool, true, false, List, Option}
+use Rattle.std.specs.Prelude.{ℕ, Bool, if◌then◌else◌, List, Option}
 use Rattle.std.specs.Borrow.{Bor}
 use Rattle.wenc_base.specs.Piece.{Form, byte, ◌▸◌, ◌⨾◌}
 use Rattle.wenc_base.specs.Number.{u32}
@@ -65,12 +65,12 @@ pub record Function : Type 0 where
   pub params : List LabelledType
   pub answer : Option ComponentValType
 
-abbrev pub function_type_of : Bool → List LabelledType → Form (Option ComponentValType)
-function_type_of false params answer = 0x40 ▸ (list labelled_type params ⨾ result_list answer)
-function_type_of true params answer = 0x43 ▸ (list labelled_type params ⨾ result_list answer)
+-- the byte that says whether it is asynchronous
+abbrev pub async_byte : Bool → ℕ
+async_byte is_async = if is_async then 0x43 else 0x40
 
 abbrev pub function_type : Form Function
-function_type f = function_type_of f.is_async f.params f.answer
+function_type f = async_byte f.is_async ▸ (list labelled_type f.params ⨾ result_list f.answer)
 
 -- ---- what an iterator gives, as pure values
 

@@ -1,5 +1,5 @@
 -- How far the type of a function is written (component model, binary format, "Type Definitions").
-use Rattle.std.specs.Prelude.{ℕ, Bool, true, false, not, List, [], ◌∷◌, Option}
+use Rattle.std.specs.Prelude.{ℕ, Bool, true, not, List, [], ◌∷◌, Option}
 use Rattle.wenc_base.specs.Forms.{list}
 use Rattle.wenc_base.specs.Piece.{Form, ◌⨾◌, behind_bytes, HasForm}
 use Rattle.wenc_parts.specs.Types.{result_list}
@@ -7,11 +7,6 @@ use Rattle.wenc_parts.specs.declared.types.ComponentValType.{ComponentValType}
 use Rattle.wenc_types.specs.DefinedTypes.{LabelledType, labelled_type, function_type}
 use Rattle.wenc_types.specs.declared.func_type.FuncStage.{FuncStage}
 use Rattle.wenc_types.specs.declared.func_type.FuncStage.TheVariants.{Start, Tagged, Params, Done}
-
--- the byte that says whether the function is asynchronous
-abbrev pub async_byte : Bool → ℕ
-async_byte false = 0x40
-async_byte true = 0x43
 
 -- parameters may come
 abbrev pub BeforeParams : FuncStage → Type 0

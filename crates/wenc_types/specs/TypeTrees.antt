@@ -7,19 +7,25 @@ use Rattle.wenc_parts.specs.declared.types.ComponentValType.{ComponentValType}
 use Rattle.wenc_types.specs.ComponentTypes.{DefType, DefinedType, FunctionType, ComponentType}
 use Rattle.wenc_types.specs.ComponentTypes.{InstanceType, ResourceType, InstanceDeclaration}
 use Rattle.wenc_types.specs.ComponentTypes.{CoreTyped, Typed, Aliased, Exported}
-use Rattle.wenc_types.specs.ComponentTypes.{ComponentDeclaration, Imported, Declared, instances_of}
-use Rattle.wenc_types.specs.ComponentTypes.{components_of}
+use Rattle.wenc_types.specs.ComponentTypes.{ComponentDeclaration, Imported, Declared}
+use Rattle.wenc_types.specs.ComponentTypes.{InstanceDeclarations, no_instance, and_instance}
+use Rattle.wenc_types.specs.ComponentTypes.{ComponentDeclarations, no_component, and_component}
 use Rattle.wenc_types.specs.CoreTypeTrees.{core_type_view}
 use Rattle.wenc_types.specs.DefinedTypes.{LabelledType, Case, DefValType, Function}
 use Rattle.wenc_types.specs.DefinedTypes as pure
 use Rattle.wenc_types.specs.declared.defined_tree.CaseTree.{CaseTree}
 use Rattle.wenc_types.specs.declared.defined_tree.DefinedTree.{DefinedTree}
 use Rattle.wenc_types.specs.declared.defined_tree.DefinedTree.TheVariants as trees
-use Rattle.wenc_types.specs.declared.type_tree.TypeTree.{TypeTree, fold-TypeTree}
-use Rattle.wenc_types.specs.declared.type_tree.InstanceDecl.{InstanceDecl, fold-InstanceDecl}
-use Rattle.wenc_types.specs.declared.type_tree.ComponentDecl.{ComponentDecl, fold-ComponentDecl}
-use Rattle.wenc_types.specs.declared.type_tree.ComponentDecl.TheOpen.{TypeTree-F, InstanceDecl-F}
-use Rattle.wenc_types.specs.declared.type_tree.ComponentDecl.TheOpen.{ComponentDecl-F}
+use Rattle.wenc_types.specs.declared.type_tree.TypeTree.{TypeTree, Defined, Func, Component'}
+use Rattle.wenc_types.specs.declared.type_tree.TypeTree.{Instance', Resource}
+use Rattle.wenc_types.specs.declared.type_tree.TypeTree.{Row_of-InstanceDecl, end_of-InstanceDecl}
+use Rattle.wenc_types.specs.declared.type_tree.TypeTree.{more_of-InstanceDecl}
+use Rattle.wenc_types.specs.declared.type_tree.TypeTree.{Row_of-ComponentDecl}
+use Rattle.wenc_types.specs.declared.type_tree.TypeTree.{end_of-ComponentDecl}
+use Rattle.wenc_types.specs.declared.type_tree.TypeTree.{more_of-ComponentDecl}
+use Rattle.wenc_types.specs.declared.type_tree.InstanceDecl.{InstanceDecl, CoreType, «Type», Alias}
+use Rattle.wenc_types.specs.declared.type_tree.InstanceDecl.{Export}
+use Rattle.wenc_types.specs.declared.type_tree.ComponentDecl.{ComponentDecl, Import, Decl}
 
 abbrev pub labelled_type_view : {A : Type 0} → String A × ComponentValType → LabelledType
 labelled_type_view f = record { name = string_bytes f.0; ty = f.1 }
@@ -49,40 +55,32 @@ abbrev pub function_view : {A : Type 0} → Bool → List (String A × Component
 function_view is_async params answer =
     record { is_async = is_async; params = map labelled_type_view params; answer = answer }
 
--- one level, with each child already seen as a pure one
-abbrev type_step : {A : Type 0} → TypeTree-F A ComponentDeclaration InstanceDeclaration DefType
-    → DefType
-type_step (TypeTree-F.Defined ty) = DefinedType (defined_view ty)
-type_step (TypeTree-F.Func is_async params answer) =
-    FunctionType (function_view is_async params.items answer)
-type_step (TypeTree-F.Component ds) = ComponentType (components_of ds.items)
-type_step (TypeTree-F.Instance ds) = InstanceType (instances_of ds.items)
-type_step (TypeTree-F.Resource rep dtor) = ResourceType rep dtor
+abbrev mutual
+  pub type_view : {A : Type 0} → TypeTree A → DefType
+  type_view (Defined ty) = DefinedType (defined_view ty)
+  type_view (Func is_async params answer) =
+      FunctionType (function_view is_async params.items answer)
+  type_view (Component' shape ds) = ComponentType (component_row_view ds)
+  type_view (Instance' shape ds) = InstanceType (instance_row_view ds)
+  type_view (Resource rep dtor) = ResourceType rep dtor
 
-abbrev instance_step : {A : Type 0}
-    → InstanceDecl-F A ComponentDeclaration InstanceDeclaration DefType → InstanceDeclaration
-instance_step (InstanceDecl-F.CoreType ty) = CoreTyped (core_type_view ty)
-instance_step (InstanceDecl-F.«Type» ty) = Typed ty
-instance_step (InstanceDecl-F.Alias a) = Aliased (alias_tree_view a)
-instance_step (InstanceDecl-F.Export name ty) = Exported (name_tree_view name) ty
+  pub instance_declaration_view : {A : Type 0} → InstanceDecl A → InstanceDeclaration
+  instance_declaration_view (CoreType ty) = CoreTyped (core_type_view ty)
+  instance_declaration_view («Type» ty) = Typed (type_view ty)
+  instance_declaration_view (Alias to) = Aliased (alias_tree_view to)
+  instance_declaration_view (Export name ty) = Exported (name_tree_view name) ty
 
-abbrev component_step : {A : Type 0}
-    → ComponentDecl-F A ComponentDeclaration InstanceDeclaration DefType → ComponentDeclaration
-component_step (ComponentDecl-F.Import name ty) = Imported (name_tree_view name) ty
-component_step (ComponentDecl-F.Decl d) = Declared d
+  pub component_declaration_view : {A : Type 0} → ComponentDecl A → ComponentDeclaration
+  component_declaration_view (Import name ty) = Imported (name_tree_view name) ty
+  component_declaration_view (Decl d) = Declared (instance_declaration_view d)
 
--- all levels of a tree
-abbrev pub type_view : {A : Type 0} → TypeTree A → DefType
-type_view {A} =
-    fold-TypeTree A ComponentDeclaration InstanceDeclaration DefType component_step instance_step
-    type_step
+  -- those of a vector
+  pub instance_row_view : {A : Type 0} {m : _} → Row_of-InstanceDecl A m → InstanceDeclarations
+  instance_row_view end_of-InstanceDecl = no_instance
+  instance_row_view (more_of-InstanceDecl d ds) =
+      and_instance (instance_declaration_view d) (instance_row_view ds)
 
-abbrev pub instance_declaration_view : {A : Type 0} → InstanceDecl A → InstanceDeclaration
-instance_declaration_view {A} =
-    fold-InstanceDecl A ComponentDeclaration InstanceDeclaration DefType component_step
-    instance_step type_step
-
-abbrev pub component_declaration_view : {A : Type 0} → ComponentDecl A → ComponentDeclaration
-component_declaration_view {A} =
-    fold-ComponentDecl A ComponentDeclaration InstanceDeclaration DefType component_step
-    instance_step type_step
+  pub component_row_view : {A : Type 0} {m : _} → Row_of-ComponentDecl A m → ComponentDeclarations
+  component_row_view end_of-ComponentDecl = no_component
+  component_row_view (more_of-ComponentDecl d ds) =
+      and_component (component_declaration_view d) (component_row_view ds)

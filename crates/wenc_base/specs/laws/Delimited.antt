@@ -1,9 +1,9 @@
 -- Options, lists and pairs have their laws from their members.
-use Rattle.std.proofs.Common.{◌≡◌, Bool, true, ◌&&◌, ℕ, ◌++◌, [], ◌∷◌, List, map, Some, None, refl, ap}
+use Rattle.std.proofs.Common.{◌≡◌, Bool, true, ◌&&◌, ℕ, ◌++◌, [], ◌∷◌, List, map, Some, None, option_map, refl, ap}
 use Rattle.std.specs.Option.{option_eq}
 use Rattle.std.specs.Cmp.{IsEquivalence}
 use Rattle.std.specs.Cmp.Lexicographic.{pointwise}
-use Rattle.wenc_base.specs.Delimited.{IsReadable, IsWritten, AlikeIsEqual, option_seen, pair}
+use Rattle.wenc_base.specs.Delimited.{IsReadable, IsWritten, AlikeIsEqual, pair}
 use Rattle.wenc_base.specs.Forms.{option, list}
 use Rattle.wenc_base.specs.laws.Forms.{option_lawful, list_lawful}
 use Rattle.wenc_base.specs.reading.Forms.{read_option, read_list}
@@ -39,7 +39,7 @@ told piece seen form laws is a b r s h k e =
 pub itself : {A : Type 0} (eq : A → A → Bool) → IsEquivalence eq → (a b : A) → a ≡ b → eq a b ≡ true
 itself eq laws a b e = rw e (laws.refl b)
 
-pub option_equal : {A S : Type 0} (eq : A → A → Bool) (seen : A → S) → AlikeIsEqual eq seen → AlikeIsEqual (option_eq eq) (option_seen seen)
+pub option_equal : {A S : Type 0} (eq : A → A → Bool) (seen : A → S) → AlikeIsEqual eq seen → AlikeIsEqual (option_eq eq) (option_map seen)
 option_equal eq seen alike None None e = refl
 option_equal eq seen alike None (Some w) e = absurd cc
 option_equal eq seen alike (Some v) None e = absurd cc

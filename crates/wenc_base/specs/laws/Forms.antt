@@ -1,5 +1,5 @@
 -- The laws of forms made of others.
-use Rattle.std.proofs.Common.{true≢false, ◌≡◌, ℕ, ◌≤◌, ◌^◌, Bool, true, false, cond, List, [], ◌∷◌, ◌++◌, length, take, drop, Option, Some, None, Result, Ok, Err, refl, sym, ◌∙◌, append_assoc, arith, inl, inr}
+use Rattle.std.proofs.Common.{true≢false, ◌≡◌, ℕ, ◌≤◌, Bool, true, false, cond, List, [], ◌∷◌, ◌++◌, length, take, drop, Option, Some, None, Result, Ok, Err, refl, sym, ◌∙◌, append_assoc, arith, inl, inr}
 use Rattle.std.specs.Str.{is_utf8}
 use Rattle.std.proofs.lemmas.Bool.{cases_lt, lt-ltb, le-ltb}
 use Rattle.std.proofs.lemmas.List.{take_at, drop_at, take-append-drop, length-take-le, length-append, append-nil}
@@ -9,7 +9,7 @@ use Rattle.wenc_base.specs.laws.Sound.{Told, Sound, SoundWhole, weaken, behind_v
 use Rattle.wenc_base.specs.Forms.{flag, list, option, utf8, name, AreBytes, sized, byte_list, counted}
 use Rattle.wenc_base.specs.Readers.{Flaw, Bad, Lawful, Reader, times, done}
 use Rattle.wenc_base.specs.laws.Lawful.{LawfulWhole, ends_on, row_lawful, row_byte, then, last, each_lawful, whole_lawful, raw_lawful}
-use Rattle.wenc_base.specs.laws.Numbers.{u32_lawful, count_lawful, size_lawful, size_free, u32_sound, groups_are_read}
+use Rattle.wenc_base.specs.laws.Numbers.{u32_lawful, count_lawful, size_lawful, size_free, u32_sound}
 use Rattle.std.proofs.lemmas.Str.{IsUtf8-from_is_utf8, is_utf8-from_IsUtf8}
 use Rattle.wenc_base.specs.reading.Forms.{are_bytes, read_byte_list, read_bytes, read_flag, read_list, read_name, read_option, read_raw, read_sized, read_text, text_at}
 
@@ -91,7 +91,7 @@ sized_lawful {p = p} a = record {
   never = λ c. elim c [ inl large ↦ large | inr own ↦ a.never own ];
   depth = a.depth;
   finds = λ fuel le mode bytes rest r.
-      rw (groups_are_read mode 128 (2 ^ 32) 4 (length r.0) bytes (r.0 ++ rest) (omega arith) r.1.0 r.1.1, le-ltb (length (r.0 ++ rest)) (length r.0) (omega (arith, length-append r.0 rest)), take_at r.0 rest (length r.0) refl, drop_at r.0 rest (length r.0) refl, a.finds fuel le mode r.0 r.2) refl;
+      rw ((u32_lawful (length r.0)).finds (u32_lawful (length r.0)).depth (omega arith) mode bytes (r.0 ++ rest) r.1, le-ltb (length (r.0 ++ rest)) (length r.0) (omega (arith, length-append r.0 rest)), take_at r.0 rest (length r.0) refl, drop_at r.0 rest (length r.0) refl, a.finds fuel le mode r.0 r.2) refl;
 }
 
 -- ---- lists of bytes

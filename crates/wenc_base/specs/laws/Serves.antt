@@ -1,6 +1,6 @@
 -- One piece for another: what is so of a call that writes the one is so of one that writes the
 -- other.
-use Rattle.std.proofs.Common.{◌≡◌, List, [], ◌∷◌, ◌++◌, map, ℕ, length, Option, Some, None, Result, Ok, Err, OnOk, IfErr, inl, inr, refl, ap, ◌∙◌}
+use Rattle.std.proofs.Common.{◌≡◌, List, [], ◌∷◌, ◌++◌, map, ℕ, length, Option, Some, None, option_map, Result, Ok, Err, OnOk, IfErr, inl, inr, refl, ap, ◌∙◌}
 use Rattle.std.specs.List.{flat_map, AllByRecursion}
 use Rattle.wenc_base.specs.Encode.{Appends, Serves, in_order, list_in_order, drawn_in_order, sized_in_order}
 use Rattle.wenc_base.specs.Fault.{IsWarranted, NoCause, either, first_of, count_cause, size_cause, member_cause}
@@ -9,7 +9,6 @@ use Rattle.wenc_base.specs.Holder.{listed}
 use Rattle.wenc_base.specs.Piece.{Piece, Form, AnyCause, ◌▸◌, ◌⨾◌, nothing, verbatim, behind_bytes}
 use Rattle.wenc_base.specs.declared.fault.Fault.{Fault}
 use Rattle.wenc_base.specs.declared.fault.Fault.TheVariants.{Memory, TooMany, TooLarge, Unfinished}
-use Rattle.wenc_base.specs.Delimited.{option_seen}
 use Rattle.std.proofs.lemmas.List.{length-map, append-nil}
 
 -- ---- causes
@@ -120,7 +119,7 @@ with_nothing {p} = record { text = append-nil p.text; fits = λ h. h.0; among = 
 pub listed_behind : {A : Type 0} (lead : List ℕ) (form : Form A) (vs : List A) → Serves (listed (verbatim lead) form nothing vs) (behind_bytes lead (list form vs))
 listed_behind lead form vs = serves_then (both_serve {p = verbatim lead} {p' = verbatim lead} serves_itself (with_nothing {p = list form vs})) (behind_is lead (list form vs))
 
-pub option_serves : {A S : Type 0} (one : Form A) (seen : A → S) (form : Form S) → ((v : A) → Serves (one v) (form (seen v))) → (o : Option A) → Serves (option one o) (option form (option_seen seen o))
+pub option_serves : {A S : Type 0} (one : Form A) (seen : A → S) (form : Form S) → ((v : A) → Serves (one v) (form (seen v))) → (o : Option A) → Serves (option one o) (option form (option_map seen o))
 option_serves one seen form serves None = serves_itself
 option_serves one seen form serves (Some v) = tagged_serves 0x01 (serves v)
 

@@ -2,7 +2,6 @@
 use Rattle.std.proofs.Common.{◌≡◌, ℕ, ℤ, pos, negsuc, ◌-ℤ◌, zero, suc, ◌+◌, ◌-◌, ◌*◌, ◌/◌, ◌%◌, ◌^◌, ◌<◌, ◌≤◌, List, [], ◌∷◌, length, map, get_or, refl, sym, ap, ◌∙◌, arith, inl, inr, w64, FitsSigned}
 use Rattle.std.proofs.lemmas.Bool.{cases_lt, le-ltb, lt-ltb}
 use Rattle.std.proofs.lemmas.Int.{ints}
-use Rattle.wenc_base.specs.Piece.{Spelling}
 use Rattle.wenc_base.specs.Number.{groups, complement, unsigned_text, signed_text, sum_from, last_of, signed_sum, AreGroups, IsUnsignedText, IsSignedText, ReadsGroups, last, more}
 use Rattle.wenc_base.specs.laws.Groups.{limit, groups_below, groups_from}
 use Rattle.std.proofs.Math.Nat.{pow-suc}
@@ -261,11 +260,11 @@ signed_only (negsuc n) bytes h d =
 -- ---- reading
 
 -- a byte from top on has another after it
-pub word_goes_on : (mode : Spelling) (top room n b : ℕ) (bytes rest : List ℕ) → top ≤ b → ReadsGroups mode top (suc room) n (b ∷ bytes) rest
-    → (high : ℕ) × (n + 128 ≡ b + 128 * high) × ReadsGroups mode top room high bytes rest
-word_goes_on mode top room n b bytes rest h (last lt) = absurd (omega arith)
-word_goes_on mode top room n b bytes rest h (more {high = high} low byte on sum r) = (high, sum, r)
+pub word_goes_on : (top room n b : ℕ) (bytes rest : List ℕ) → top ≤ b → ReadsGroups top (suc room) n (b ∷ bytes) rest
+    → (high : ℕ) × (n + 128 ≡ b + 128 * high) × ReadsGroups top room high bytes rest
+word_goes_on top room n b bytes rest h (last lt) = absurd (omega arith)
+word_goes_on top room n b bytes rest h (more {high = high} low byte sum r) = (high, sum, r)
 
 -- where no more bytes are allowed, the byte is the last
-pub ends_here : (mode : Spelling) (top n b : ℕ) (bytes rest : List ℕ) → ReadsGroups mode top 0 n (b ∷ bytes) rest → (n ≡ b) × (b < top)
-ends_here mode top n b bytes rest (last lt) = (refl, lt)
+pub ends_here : (top n b : ℕ) (bytes rest : List ℕ) → ReadsGroups top 0 n (b ∷ bytes) rest → (n ≡ b) × (b < top)
+ends_here top n b bytes rest (last lt) = (refl, lt)

@@ -1,17 +1,16 @@
 //! `Delimited` for options, lists, pairs and triples of delimited values.
-ghost use Rattle.std.specs.Prelude.{Option as Optional, List, map};
+ghost use Rattle.std.specs.Prelude.{Option as Optional, option_map, List, map};
 ghost use Rattle.wenc_base.specs.laws.Serves.{option_serves, list_serves, order_serves};
 
 use super::{Delimited, DelimitedEq};
 
 impl<T: Delimited> Delimited for Option<T> {
-    ghost use Rattle.wenc_base.specs.Delimited.{option_seen};
     ghost use Rattle.wenc_base.specs.Forms.{option};
     ghost use Rattle.wenc_base.specs.laws.Delimited.{option_readable};
 
     ghost Seen = { Optional T.Seen };
 
-    ghost seen = { option_seen T.seen };
+    ghost seen = { option_map T.seen };
 
     ghost form = { option T.form };
 

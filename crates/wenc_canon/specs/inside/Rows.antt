@@ -1,10 +1,10 @@
 -- The builtin that an opcode and the values of its fields say, for the code that writes them.
-use Rattle.std.specs.Prelude.{ℕ, ◌==◌, false, if◌then◌else◌, List, [], ◌∷◌, ◌++◌, None}
+use Rattle.std.specs.Prelude.{◌≡◌, ℕ, ◌==◌, false, if◌then◌else◌, List, [], ◌∷◌, ◌++◌, None}
 use Rattle.wenc_base.specs.Piece.{Piece, ◌▸◌}
 use Rattle.wenc_base.specs.declared.types.ValType.TheVariants.{I32}
 use Rattle.wenc_canon.specs.declared.canonicals.CanonicalOption.{CanonicalOption}
-use Rattle.wenc_canon.specs.Canonicals.{Field, Index, Options, Flag, Zero, CoreType, Results, Slot}
-use Rattle.wenc_canon.specs.Canonicals.{Value, Values, fields, Builtin, ResourceNew, Row, row}
+use Rattle.wenc_canon.specs.Canonicals.{Field, Index, Options, Flag, Zero, CoreType, Results}
+use Rattle.wenc_canon.specs.Canonicals.{Value, Values, fields, Builtin, ResourceNew, Row, row, name_of}
 use Rattle.wenc_canon.specs.Canonicals.{builtins, Canonical, Lift, Lower, OfBuiltin}
 
 -- the byte that a canonical function begins with
@@ -22,6 +22,11 @@ first_with opcode (i ∷ is) = if (row i).opcode == opcode then i else first_wit
 abbrev pub row_with : ℕ → Row
 row_with opcode = row (first_with opcode builtins)
 
+-- the builtin with this opcode has this name, whatever values it has
+abbrev pub HasName : ℕ → List ℕ → Type 0
+HasName opcode name =
+    (vs : Values (row_with opcode).fields) → name_of (first_with opcode builtins) vs ≡ name
+
 -- some value
 abbrev pub any_value : (f : Field) → Value f
 any_value Index = 0
@@ -30,7 +35,6 @@ any_value Flag = false
 any_value Zero = tt
 any_value CoreType = I32
 any_value Results = None
-any_value Slot = 0
 
 abbrev pub any_values : (fs : List Field) → Values fs
 any_values [] = tt
@@ -45,7 +49,6 @@ as_value Flag Flag b = b
 as_value Zero Zero v = v
 as_value CoreType CoreType t = t
 as_value Results Results r = r
-as_value Slot Slot n = n
 as_value f g v = any_value g
 
 abbrev pub as_values : (fs gs : List Field) → Values fs → Values gs

@@ -10,7 +10,7 @@ use Rattle.wenc_base.specs.laws.Types.{val_type_lawful, val_type_sound}
 use Rattle.wenc_parts.specs.laws.Types.{result_list_lawful, result_list_sound}
 use Rattle.wenc_canon.specs.declared.canonicals.CanonicalOption.{CanonicalOption}
 use Rattle.wenc_canon.specs.declared.canonicals.CanonicalOption.TheVariants.{UTF8, UTF16, CompactUTF16, Memory, Realloc, PostReturn, Async, Callback, CoreType as CoreTypeOption, Gc}
-use Rattle.wenc_canon.specs.Canonicals.{canonical_option, Field, Index, Options, Flag, Zero, CoreType, Results, Slot, Value, field, Values, fields, Builtin, ResourceNew, row, builtins, Canonical, Lift, Lower, OfBuiltin, canonical, Adds}
+use Rattle.wenc_canon.specs.Canonicals.{canonical_option, Field, Index, Options, Flag, Zero, CoreType, Results, Value, field, Values, fields, Builtin, ResourceNew, row, builtins, Canonical, Lift, Lower, OfBuiltin, canonical, Adds}
 use Rattle.wenc_canon.specs.reading.Canonicals.{read_builtin, read_canonical, read_canonical_option, read_field, read_fields, rows}
 
 -- ---- options
@@ -60,7 +60,6 @@ field_lawful Flag b = flag_lawful b
 field_lawful Zero v = row_byte _ _ 0x00 (λ fuel rest. refl)
 field_lawful CoreType t = val_type_lawful t
 field_lawful Results r = result_list_lawful r
-field_lawful Slot n = u32_lawful n
 
 pub field_sound : (f : Field) → Sound (field f) (read_field f)
 field_sound Index = u32_sound
@@ -69,7 +68,6 @@ field_sound Flag = flag_sound
 field_sound Zero = choose_tells _ _ (give_tells tt (λ bytes. refl), tt) nowhere_tells
 field_sound CoreType = val_type_sound
 field_sound Results = result_list_sound
-field_sound Slot = u32_sound
 
 pub fields_lawful : (fs : List Field) (vs : Values fs) → Lawful (fields fs vs) (λ fuel. read_fields fs) vs
 fields_lawful [] vs = nothing_lawful tt

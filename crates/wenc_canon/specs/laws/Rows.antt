@@ -1,14 +1,16 @@
 -- What is written of a row is the builtin that its opcode and values say.
-use Rattle.std.proofs.Common.{◌≡◌, ℕ, List, [], ◌∷◌, refl, ap, ◌∙◌, subst, sym, append_assoc, append-nil, ◌++◌, inl, inr}
+use Rattle.std.proofs.Common.{◌≡◌, ℕ, List, [], ◌∷◌, refl, ap, subst, sym, append_assoc, ◌++◌, inl, inr}
+use Rattle.std.specs.Prelude.{codes, decimal}
 use Rattle.wenc_base.specs.Encode.{Serves, in_order}
 use Rattle.wenc_base.specs.Forms.{list}
 use Rattle.wenc_base.specs.Holder.{listed}
 use Rattle.wenc_base.specs.Number.{u32}
 use Rattle.wenc_base.specs.Piece.{Piece, nothing, ◌▸◌, ◌⨾◌, behind_bytes}
 use Rattle.wenc_base.specs.laws.Serves.{serves_itself, serves_then, order_serves, tagged_serves, both_serve, behind_is, with_nothing, either_free, left_free, right_free}
+use Rattle.wenc_base.specs.declared.types.ValType.{ValType}
 use Rattle.wenc_canon.specs.declared.canonicals.CanonicalOption.{CanonicalOption}
-use Rattle.wenc_canon.specs.Canonicals.{canonical_option, Field, Index, Options, Flag, Zero, CoreType, Results, Slot, Value, field, Values, fields, Row, ◌is◌takes◌, row, builtins, slot_text, slots_text, name_of, Lift, Lower, canonical}
-use Rattle.wenc_canon.specs.inside.Rows.{first_with, row_with, as_value, as_values, builtin_by, and_options, values_then, row_then, builtin_with}
+use Rattle.wenc_canon.specs.Canonicals.{canonical_option, Field, Index, Options, Flag, Zero, CoreType, Results, Value, field, Values, fields, Builtin, ContextGet, ContextSet, Row, ◌is◌takes◌, row, name_of, Lift, Lower, canonical}
+use Rattle.wenc_canon.specs.inside.Rows.{row_with, as_value, as_values, builtin_by, and_options, values_then, row_then, builtin_with}
 
 same_value : (f : Field) (v : Value f) → as_value f f v ≡ v
 same_value Index n = refl
@@ -17,7 +19,6 @@ same_value Flag b = refl
 same_value Zero v = refl
 same_value CoreType t = refl
 same_value Results r = refl
-same_value Slot n = refl
 
 pub same_values : (fs : List Field) (vs : Values fs) → as_values fs fs vs ≡ vs
 same_values [] vs = refl
@@ -30,21 +31,11 @@ builtin_serves {p} name opcode fs vs s e =
     let own : Serves (opcode ▸ p) (opcode ▸ fields fs (as_values fs fs vs)) = rw (same_values fs vs) (tagged_serves opcode s) in
     subst (λ (r : Row). Serves (opcode ▸ p) (r.opcode ▸ fields r.fields (as_values fs r.fields vs))) (sym e) own
 
--- its name is its row's, and the numbers of its slots
-pub builtin_named_with : (name : List ℕ) (opcode : ℕ) (fs : List Field) (vs : Values fs) → row_with opcode ≡ (name is opcode takes fs) → name_of (first_with opcode builtins) (as_values fs (row (first_with opcode builtins)).fields vs) ≡ name ++ slots_text fs vs
-builtin_named_with name opcode fs vs e =
-    let own : name ++ slots_text fs (as_values fs fs vs) ≡ name ++ slots_text fs vs = rw (same_values fs vs) refl in
-    subst (λ (r : Row). r.name ++ slots_text r.fields (as_values fs r.fields vs) ≡ name ++ slots_text fs vs) (sym e) own
-
--- where no field is a slot, it is the row's alone
-pub builtin_named : (name : List ℕ) (opcode : ℕ) (fs : List Field) (vs : Values fs) → row_with opcode ≡ (name is opcode takes fs) → slots_text fs vs ≡ [] → name_of (first_with opcode builtins) (as_values fs (row (first_with opcode builtins)).fields vs) ≡ name
-builtin_named name opcode fs vs e none = builtin_named_with name opcode fs vs e ∙ ap (λ (t : List ℕ). name ++ t) none ∙ append-nil name
-
--- options are no slot
-pub slots_then : (fs : List Field) (vs : Values fs) (os : List CanonicalOption) → slots_text (and_options fs) (values_then fs vs os) ≡ slots_text fs vs
-slots_then [] vs os = refl
-slots_then (f ∷ []) v os = append-nil (slot_text f v)
-slots_then (f ∷ g ∷ fs) vs os = ap (λ (t : List ℕ). slot_text f vs.0 ++ t) (slots_then (g ∷ fs) vs.1 os)
+-- the number of a slot is in the name of the two builtins that take these fields
+pub slot_named : (i : Builtin) (name : List ℕ) (opcode : ℕ) (t : ValType) (n : ℕ) → row i ≡ (name is opcode takes CoreType ∷ Index ∷ []) → name_of i (as_values (CoreType ∷ Index ∷ []) (row i).fields (t, n)) ≡ name ++ (codes " " ++ decimal n)
+slot_named ContextGet name opcode t n e = ap (λ (r : Row). r.name ++ (codes " " ++ decimal n)) e
+slot_named ContextSet name opcode t n e = ap (λ (r : Row). r.name ++ (codes " " ++ decimal n)) e
+slot_named other name opcode t n e = let f : (row other).fields ≡ CoreType ∷ Index ∷ [] = ap (λ (r : Row). r.fields) e in absurd (cc)
 
 -- two fields in their order
 pub two_fields : (f g : Field) (v : Value f) (w : Value g) → Serves (in_order (field f v) (field g w)) (fields (f ∷ g ∷ []) (v, w))

@@ -7,7 +7,7 @@ use Rattle.wenc_base.specs.reading.Types.{read_val_type}
 use Rattle.wenc_parts.specs.reading.Types.{read_result_list}
 use Rattle.wenc_canon.specs.declared.canonicals.CanonicalOption.{CanonicalOption}
 use Rattle.wenc_canon.specs.declared.canonicals.CanonicalOption.TheVariants.{UTF8, UTF16, CompactUTF16, Memory, Realloc, PostReturn, Async, Callback, CoreType as CoreTypeOption, Gc}
-use Rattle.wenc_canon.specs.Canonicals.{Field, Index, Options, Flag, Zero, CoreType, Results, Slot, Value, Values, Builtin, row, builtins, Canonical, Lift, Lower, OfBuiltin}
+use Rattle.wenc_canon.specs.Canonicals.{Field, Index, Options, Flag, Zero, CoreType, Results, Value, Values, Builtin, row, builtins, Canonical, Lift, Lower, OfBuiltin}
 
 -- ---- options
 
@@ -33,7 +33,6 @@ read_field Flag = read_flag
 read_field Zero = choose ((0x00, give tt) ∷ []) nowhere
 read_field CoreType = read_val_type
 read_field Results = read_result_list
-read_field Slot = read_u32
 
 abbrev pub read_fields : (fs : List Field) → Reader (Values fs)
 read_fields [] = give tt

@@ -19,7 +19,7 @@ use Rattle.wenc_parts.specs.laws.Imports.{extern_name_lawful, extern_name_sound,
 use Rattle.wenc_parts.specs.laws.Types.{result_list_lawful, result_list_sound, primitive_rows_sound}
 use Rattle.wenc_parts.specs.reading.Types.{primitive_rows}
 use Rattle.wenc_types.specs.ComponentTypes.{DefType, DefinedType, FunctionType, ComponentType, InstanceType, ResourceType, InstanceDeclaration, CoreTyped, Typed, Aliased, Exported, ComponentDeclaration, Imported, Declared, InstanceDeclarations, no_instance, and_instance, ComponentDeclarations, no_component, and_component, instances_of, components_of, instance_count, component_count, def_type, instance_declaration, component_declaration, each_instance, each_component, depth, instance_depth, component_depth, declared_depth}
-use Rattle.wenc_types.specs.DefinedTypes.{LabelledType, DefValType, Primitive, def_val_type, function_type_of}
+use Rattle.wenc_types.specs.DefinedTypes.{LabelledType, DefValType, Primitive, def_val_type, function_type}
 use Rattle.wenc_types.specs.laws.ComponentTypes.{instances_counted, components_counted, one_level, instance_list, component_list, instances_relisted, components_relisted, no_row_is_shallow, nothing_is_shallow, no_import_is_declared, nothing_is_declared}
 use Rattle.wenc_types.specs.laws.CoreTypes.{core_type_lawful, core_type_sound}
 use Rattle.wenc_types.specs.reading.CoreTypes.{read_core_type}
@@ -163,7 +163,7 @@ defined_finds : (d : ℕ) (ty : DefValType) (D : Type 0) → Finds (def_val_type
 defined_finds d ty D = other_finds _ read_shallow (no_row_is_shallow d) nothing_is_shallow (lawful_finds D (last DefinedType (defined_type_lawful ty)))
 
 function_finds : (d : ℕ) (is_async : Bool) (params : List LabelledType) (answer : Option ComponentValType) (D : Type 0)
-    → Finds (function_type_of is_async params answer) (choose (type_rows (read_component_type d) (read_instance_type d)) read_shallow) (FunctionType (to_function is_async params answer)) D
+    → Finds (function_type (to_function is_async params answer)) (choose (type_rows (read_component_type d) (read_instance_type d)) read_shallow) (FunctionType (to_function is_async params answer)) D
 function_finds d false params answer D = row_finds _ _ 0x40 (read_signature false FunctionType) (λ rest. refl) (lawful_finds D (then _ (list_lawful labelled_type_lawful params) (last (λ a. FunctionType (to_function false params a)) (result_list_lawful answer))))
 function_finds d true params answer D = row_finds _ _ 0x43 (read_signature true FunctionType) (λ rest. refl) (lawful_finds D (then _ (list_lawful labelled_type_lawful params) (last (λ a. FunctionType (to_function true params a)) (result_list_lawful answer))))
 

@@ -19,7 +19,7 @@ use Rattle.wenc_parts.specs.declared.types.ComponentValType.{ComponentValType}
 use Rattle.wenc_parts.specs.contracts.types.ComponentValTypePartialEq.TheImpl.{eq-value as value_eq'}
 use Rattle.wenc_sections.specs.CanonTrees.{canon_view}
 use Rattle.wenc_canon.specs.Canonicals as canon
-use Rattle.wenc_canon.specs.Canonicals.{Field, Index, Options, Flag, Zero, CoreType, Results, Slot, Value, Values, row, Canonical, Lift, Lower, OfBuiltin}
+use Rattle.wenc_canon.specs.Canonicals.{Field, Index, Options, Flag, Zero, CoreType, Results, Value, Values, row, Canonical, Lift, Lower, OfBuiltin}
 use Rattle.wenc_canon.specs.inside.Rows.{row_first_byte}
 use Rattle.wenc_sections.specs.declared.canon_tree.CanonTree.{CanonTree}
 use Rattle.wenc_canon.specs.declared.canonicals.CanonicalOption.{CanonicalOption}
@@ -78,7 +78,6 @@ given_tree Flag b = Told b
 given_tree Zero v = Fixed
 given_tree CoreType t = Core t
 given_tree Results r = Answer r
-given_tree Slot n = Number n
 
 abbrev all_given : (fs : List Field) → Values fs → List GivenTree
 all_given [] vs = []

@@ -9,7 +9,7 @@ use Rattle.wenc_base.specs.laws.Numbers.{u32_lawful, u32_sound}
 use Rattle.wenc_parts.specs.declared.types.ComponentValType.{ComponentValType}
 use Rattle.wenc_parts.specs.laws.Types.{primitive_row, value_type_lawful, value_type_sound, result_list_lawful}
 use Rattle.wenc_parts.specs.reading.Types.{primitive_rows}
-use Rattle.wenc_types.specs.DefinedTypes.{LabelledType, labelled_type, Case, case, DefValType, Primitive, Record, Variant, ListOf, MapOf, FixedLengthList, Tuple, Flags, Enumeration, OptionOf, ResultOf, Own, Borrow, Future, Stream, def_val_type, Function, function_type_of, function_type}
+use Rattle.wenc_types.specs.DefinedTypes.{LabelledType, labelled_type, Case, case, DefValType, Primitive, Record, Variant, ListOf, MapOf, FixedLengthList, Tuple, Flags, Enumeration, OptionOf, ResultOf, Own, Borrow, Future, Stream, def_val_type, Function, function_type}
 use Rattle.wenc_types.specs.reading.DefinedTypes.{defined_rows, function_rows, read_case, read_defined, read_labelled_type, to_case, to_function, to_named}
 
 -- ---- parts
@@ -99,7 +99,7 @@ defined_type_lawful t = defined_row (λ u. u) (λ fuel. []) _ t
 
 -- the type of a function, where other rows may follow in the table
 pub function_row : {A : Type 0} (make : Function → A) (rows : ℕ → List (ℕ × Reader A)) (other : ℕ → Reader A) (is_async : Bool) (params : List LabelledType) (answer : Option ComponentValType)
-    → Lawful (function_type_of is_async params answer) (λ fuel. choose (function_rows make ++ rows fuel) (other fuel)) (make (to_function is_async params answer))
+    → Lawful (function_type (to_function is_async params answer)) (λ fuel. choose (function_rows make ++ rows fuel) (other fuel)) (make (to_function is_async params answer))
 function_row make rows other false params answer =
     row_lawful _ _ 0x40 (then _ (list_lawful labelled_type_lawful params) (last (λ a. make (to_function false params a)) (result_list_lawful answer)))
 function_row make rows other true params answer =

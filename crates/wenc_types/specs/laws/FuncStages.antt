@@ -1,15 +1,14 @@
 -- What remains to be written of the type of a function, from stage to stage.
-use Rattle.std.proofs.Common.{◌≡◌, ℕ, Bool, true, false, List, [], ◌∷◌, ◌++◌, ap}
+use Rattle.std.proofs.Common.{◌≡◌, ℕ, Bool, false, List, [], ◌∷◌, ◌++◌, ap}
 use Rattle.wenc_base.specs.Forms.{list}
-use Rattle.wenc_types.specs.DefinedTypes.{LabelledType, labelled_type}
-use Rattle.wenc_types.specs.FuncStages.{async_byte, BeforeParams, params_from, Remains, RestMakesWhole}
+use Rattle.wenc_types.specs.DefinedTypes.{LabelledType, labelled_type, async_byte}
+use Rattle.wenc_types.specs.FuncStages.{BeforeParams, params_from, Remains, RestMakesWhole}
 use Rattle.wenc_types.specs.declared.func_type.FuncStage.{FuncStage}
 use Rattle.wenc_types.specs.declared.func_type.FuncStage.TheVariants.{Start, Tagged, Params, Done}
 
 -- after the byte that tells whether it is asynchronous
 after_tag : (is_async : Bool) (bytes : List ℕ) → Remains Tagged bytes → Remains Start (async_byte is_async ∷ bytes)
-after_tag true bytes r = record { value = record { is_async = true; params = r.value.0; answer = r.value.1 }; fits = r.fits; is = ap (λ (t : List ℕ). 0x43 ∷ t) r.is }
-after_tag false bytes r = record { value = record { is_async = false; params = r.value.0; answer = r.value.1 }; fits = r.fits; is = ap (λ (t : List ℕ). 0x40 ∷ t) r.is }
+after_tag is_async bytes r = record { value = record { is_async = is_async; params = r.value.0; answer = r.value.1 }; fits = r.fits; is = ap (λ (t : List ℕ). async_byte is_async ∷ t) r.is }
 
 -- after the parameters
 after_params : (stage : FuncStage) (params : List LabelledType) (bytes : List ℕ) → BeforeParams stage → (params_from stage params).Fits → Remains Params bytes → Remains stage ((params_from stage params).text ++ bytes)

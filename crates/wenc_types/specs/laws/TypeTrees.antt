@@ -1,17 +1,20 @@
 -- What follows for types that components define, with all that is in them.
-use Rattle.std.proofs.Common.{String, ◌≡◌, ℕ, Bool, Option, Vec, map, refl, sym, ap, subst, rules}
+use Rattle.std.proofs.Common.{String, ◌≡◌, ℕ, Bool, List, Option, Vec, map, refl, sym, ap, subst, ◌∙◌}
+use mathlib.Core.Former.{Count}
 use Rattle.std.specs.String.{string_bytes}
 use Rattle.wenc_base.specs.declared.types.ValType.{ValType}
 use Rattle.wenc_parts.specs.declared.types.ComponentValType.{ComponentValType}
-use Rattle.wenc_types.specs.ComponentTypes.{DefinedType, ComponentType, InstanceType, ResourceType, instances_of, components_of}
+use Rattle.wenc_types.specs.ComponentTypes.{DefinedType, ComponentType, InstanceType, ResourceType, InstanceDeclarations, and_instance, instances_of, ComponentDeclarations, and_component, components_of}
 use Rattle.wenc_types.specs.DefinedTypes.{LabelledType, Case, DefValType, Primitive, Record, Variant, ListOf, MapOf, FixedLengthList, Tuple, Flags, Enumeration, OptionOf, ResultOf, Own, Borrow, Future, Stream}
-use Rattle.wenc_types.specs.TypeTrees.{labelled_type_view, case_view, defined_view, type_view, instance_declaration_view, component_declaration_view}
+use Rattle.wenc_types.specs.TypeTrees.{labelled_type_view, case_view, defined_view, type_view, instance_declaration_view, component_declaration_view, instance_row_view, component_row_view}
 use Rattle.wenc_types.specs.declared.defined_tree.CaseTree.{CaseTree}
 use Rattle.wenc_types.specs.declared.defined_tree.DefinedTree.{DefinedTree}
 use Rattle.wenc_types.specs.declared.defined_tree.DefinedTree.TheVariants as trees
 use Rattle.wenc_types.specs.declared.type_tree.ComponentDecl.{ComponentDecl}
 use Rattle.wenc_types.specs.declared.type_tree.InstanceDecl.{InstanceDecl}
-use Rattle.wenc_types.specs.declared.type_tree.TypeTree.{the_lemmas}
+use Rattle.wenc_types.specs.declared.type_tree.TypeTree.{TypeTree, Row_of-InstanceDecl, end_of-InstanceDecl, more_of-InstanceDecl, items-the_row-InstanceDecl, items_hidden-the_row-InstanceDecl-1}
+use Rattle.wenc_types.specs.declared.type_tree.TypeTree.{Row_of-ComponentDecl, end_of-ComponentDecl, more_of-ComponentDecl, items-the_row-ComponentDecl, items_hidden-the_row-ComponentDecl-0}
+use Rattle.wenc_types.specs.declared.type_tree.TypeTree as types'
 use Rattle.wenc_types.specs.declared.type_tree.TypeTree.TheVariants as types
 use Rattle.wenc_types.specs.laws.CoreTypes.{SeesAlike}
 
@@ -97,14 +100,34 @@ defined_sees {A} eq records variants tuples flags enums a b e = of a (subst (λ 
 
 -- ---- what the code's trees are seen as, level by level
 
+instances_listed : {A : Type 0} (n : _) (row : Row_of-InstanceDecl A n) → instance_row_view row ≡ instances_of (map instance_declaration_view (items-the_row-InstanceDecl A n row))
+instances_listed n end_of-InstanceDecl = refl
+instances_listed n (more_of-InstanceDecl d ds) = ap (λ (others : InstanceDeclarations). and_instance (instance_declaration_view d) others) (instances_listed _ ds)
+
+components_listed : {A : Type 0} (n : _) (row : Row_of-ComponentDecl A n) → component_row_view row ≡ components_of (map component_declaration_view (items-the_row-ComponentDecl A n row))
+components_listed n end_of-ComponentDecl = refl
+components_listed n (more_of-ComponentDecl d ds) = ap (λ (others : ComponentDeclarations). and_component (component_declaration_view d) others) (components_listed _ ds)
+
+abbrev instance_row_of : {A : Type 0} → TypeTree A → (n : Count) × Row_of-InstanceDecl A n
+instance_row_of (types'.Instance' shape row) = (_, row)
+instance_row_of _ = (_, end_of-InstanceDecl)
+
+abbrev component_row_of : {A : Type 0} → TypeTree A → (n : Count) × Row_of-ComponentDecl A n
+component_row_of (types'.Component' shape row) = (_, row)
+component_row_of _ = (_, end_of-ComponentDecl)
+
 pub view_defined : {A : Type 0} (ty : DefinedTree A) → type_view (types.Defined ty) ≡ DefinedType (defined_view ty)
-view_defined ty = search (rules, the_lemmas)
+view_defined ty = refl
 
 pub view_component : {A : Type 0} (ds : Vec (ComponentDecl A) A) → type_view (types.Component ds) ≡ ComponentType (components_of (map component_declaration_view ds.items))
-view_component ds = search (rules, the_lemmas)
+view_component {A} ds =
+    let row = component_row_of (types.Component ds) in
+    ap (λ (cs : ComponentDeclarations). ComponentType cs) (components_listed row.0 row.1 ∙ ap (λ (cs : List (ComponentDecl A)). components_of (map component_declaration_view cs)) (items_hidden-the_row-ComponentDecl-0 A ds))
 
 pub view_instance : {A : Type 0} (ds : Vec (InstanceDecl A) A) → type_view (types.Instance ds) ≡ InstanceType (instances_of (map instance_declaration_view ds.items))
-view_instance ds = search (rules, the_lemmas)
+view_instance {A} ds =
+    let row = instance_row_of (types.Instance ds) in
+    ap (λ (cs : InstanceDeclarations). InstanceType cs) (instances_listed row.0 row.1 ∙ ap (λ (cs : List (InstanceDecl A)). instances_of (map instance_declaration_view cs)) (items_hidden-the_row-InstanceDecl-1 A ds))
 
 pub view_resource : (A : Type 0) (rep : ValType) (dtor : Option ℕ) → type_view {A = A} (types.Resource rep dtor) ≡ ResourceType rep dtor
-view_resource A rep dtor = search (rules, the_lemmas)
+view_resource A rep dtor = refl

@@ -1,16 +1,16 @@
 use Rattle.std.proofs.Common.{◌∷◌, []}
 use Rattle.wenc_base.specs.laws.Holders.{adds_as}
 use Rattle.wenc_base.specs.laws.Members.{keeps_added}
-use Rattle.wenc_canon.specs.Canonicals.{canonical, CoreType, Slot}
+use Rattle.wenc_canon.specs.Canonicals.{canonical, CoreType, Index}
 use Rattle.wenc_canon.specs.inside.Rows.{builtin_by}
 use Rattle.wenc_canon.specs.laws.Rows.{builtin_serves, two_fields}
 use Rattle.wenc_canon.proofs.canonicals.CanonicalFunctionSectionAddsSlotRow.add_slot_row.Goals as goal
 
 pub returns : goal.returns
 returns g c =
-    rw (← c.self.view_is) (adds_as _ _ _ (builtin_serves c.args.row.0.now c.args.row.1 (CoreType ∷ Slot ∷ []) (c.args.ty, c.args.slot) (two_fields CoreType Slot c.args.ty c.args.slot) c.requires) c.add_encoded.ensures.added)
+    rw (← c.self.view_is) (adds_as _ _ _ (builtin_serves c.args.row.0.now c.args.row.1 (CoreType ∷ Index ∷ []) (c.args.ty, c.args.slot) (two_fields CoreType Index c.args.ty c.args.slot) c.requires) c.add_encoded.ensures.added)
 
 pub invariant_of-self : goal.invariant_of-self
 invariant_of-self g c =
-    keeps_added canonical c.self.inside.functions c.add_encoded.new.self c.add_encoded.result (builtin_by c.args.row.1 (CoreType ∷ Slot ∷ []) (c.args.ty, c.args.slot))
-    (adds_as _ _ _ (builtin_serves c.args.row.0.now c.args.row.1 (CoreType ∷ Slot ∷ []) (c.args.ty, c.args.slot) (two_fields CoreType Slot c.args.ty c.args.slot) c.requires) c.add_encoded.ensures.added) c.self.invariant
+    keeps_added canonical c.self.inside.functions c.add_encoded.new.self c.add_encoded.result (builtin_by c.args.row.1 (CoreType ∷ Index ∷ []) (c.args.ty, c.args.slot))
+    (adds_as _ _ _ (builtin_serves c.args.row.0.now c.args.row.1 (CoreType ∷ Index ∷ []) (c.args.ty, c.args.slot) (two_fields CoreType Index c.args.ty c.args.slot) c.requires) c.add_encoded.ensures.added) c.self.invariant

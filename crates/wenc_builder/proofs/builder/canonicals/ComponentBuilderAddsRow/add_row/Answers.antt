@@ -1,7 +1,7 @@
 use Rattle.std.proofs.Common.{Some, None, refl, ap}
 use Rattle.wenc_canon.specs.Canonicals.{Values}
-use Rattle.wenc_canon.specs.inside.Rows.{builtin_by}
-use Rattle.wenc_canon.specs.laws.Rows.{builtin_serves, builtin_named}
+use Rattle.wenc_canon.specs.inside.Rows.{row_with, as_values, builtin_by}
+use Rattle.wenc_canon.specs.laws.Rows.{builtin_serves}
 use Rattle.wenc_builder.specs.Entry.{canonical_tree_entry}
 use Rattle.wenc_builder.specs.Item.{CanonItem}
 use Rattle.wenc_builder.specs.inside.Layout.{kind_id}
@@ -21,5 +21,5 @@ pub returns : goal.returns
 returns g c =
     let values : Values g.F.Fields.kinds = g.F.Fields.values c.args.fields.now in
     draft_enters c.args.self.now c.add.new.self c.add.result (canonical_tree_entry None (builtin_by c.args.row.1 g.F.Fields.kinds values)) (kind_id kinds.CanonicalFunction) (space_number spaces.CoreFuncs) (Some c.args.row.0.now)
-    (record { section = refl; defined = refl; named = ap Some (builtin_named c.args.row.0.now c.args.row.1 g.F.Fields.kinds values c.requires.row c.requires.no_slot) })
+    (record { section = refl; defined = refl; named = ap Some (c.requires.name (as_values g.F.Fields.kinds (row_with c.args.row.1).fields values)) })
     (builtin_serves c.args.row.0.now c.args.row.1 g.F.Fields.kinds values (g.met.F.Fields.written c.args.fields.now) c.requires.row) c.add.ensures

@@ -1,9 +1,9 @@
-use Rattle.std.proofs.Common.{Some, None, refl, ap, ◌∙◌}
+use Rattle.std.proofs.Common.{Some, None, refl, ap}
 use Rattle.wenc_base.specs.Holder.{listed}
 use Rattle.wenc_base.specs.Piece.{nothing, ◌▸◌}
 use Rattle.wenc_canon.specs.Canonicals.{Values, canonical_option}
-use Rattle.wenc_canon.specs.inside.Rows.{and_options, values_then, builtin_with}
-use Rattle.wenc_canon.specs.laws.Rows.{builtin_with_serves, builtin_named, slots_then}
+use Rattle.wenc_canon.specs.inside.Rows.{row_with, as_values, and_options, values_then, builtin_with}
+use Rattle.wenc_canon.specs.laws.Rows.{builtin_with_serves}
 use Rattle.wenc_builder.specs.Entry.{canonical_tree_entry}
 use Rattle.wenc_builder.specs.Item.{CanonItem}
 use Rattle.wenc_builder.specs.inside.Layout.{kind_id}
@@ -25,5 +25,5 @@ returns g c =
     listed_enters g.I.Iterator.next_gives c.args.options c.args.self.now c.add_listed.new.self c.add_listed.result
     (λ os. canonical_tree_entry None (builtin_with c.args.row.1 g.F.Fields.kinds values os)) (kind_id kinds.CanonicalFunction) (space_number spaces.CoreFuncs) (Some c.args.row.0.now)
     (listed (c.args.row.1 ▸ g.F.Encode.piece c.args.fields.now) canonical_option nothing)
-    (λ os. record { section = refl; defined = refl; named = ap Some (builtin_named c.args.row.0.now c.args.row.1 (and_options g.F.Fields.kinds) (values_then g.F.Fields.kinds values os) c.requires.row (slots_then g.F.Fields.kinds values os ∙ c.requires.no_slot)) })
+    (λ os. record { section = refl; defined = refl; named = ap Some (c.requires.name (as_values (and_options g.F.Fields.kinds) (row_with c.args.row.1).fields (values_then g.F.Fields.kinds values os))) })
     (builtin_with_serves c.args.row.0.now c.args.row.1 g.F.Fields.kinds values (g.met.F.Fields.written c.args.fields.now) c.requires.row) c.add_listed.ensures

@@ -1,7 +1,7 @@
 use Rattle.std.proofs.Common.{[], ◌∷◌, Some, None, refl, ap, sym, ◌∙◌}
-use Rattle.wenc_canon.specs.Canonicals.{CoreType, Slot}
-use Rattle.wenc_canon.specs.inside.Rows.{builtin_by}
-use Rattle.wenc_canon.specs.laws.Rows.{builtin_serves, builtin_named_with, two_fields}
+use Rattle.wenc_canon.specs.Canonicals.{CoreType, Index, builtins}
+use Rattle.wenc_canon.specs.inside.Rows.{builtin_by, first_with}
+use Rattle.wenc_canon.specs.laws.Rows.{builtin_serves, slot_named, two_fields}
 use Rattle.wenc_builder.specs.Entry.{canonical_tree_entry}
 use Rattle.wenc_builder.specs.Item.{CanonItem}
 use Rattle.wenc_builder.specs.inside.Layout.{kind_id}
@@ -14,11 +14,11 @@ use Rattle.wenc_builder.proofs.builder.canonicals.ComponentBuilderAddsSlotRow.ad
 
 pub add-requires : goal.add-requires
 add-requires g c =
-    item_piece (CanonItem (builtin_by c.args.row.1 (CoreType ∷ Slot ∷ []) (c.args.ty, c.args.slot)))
-    (builtin_serves c.args.row.0.now c.args.row.1 (CoreType ∷ Slot ∷ []) (c.args.ty, c.args.slot) (two_fields CoreType Slot c.args.ty c.args.slot) c.requires)
+    item_piece (CanonItem (builtin_by c.args.row.1 (CoreType ∷ Index ∷ []) (c.args.ty, c.args.slot)))
+    (builtin_serves c.args.row.0.now c.args.row.1 (CoreType ∷ Index ∷ []) (c.args.ty, c.args.slot) (two_fields CoreType Index c.args.ty c.args.slot) c.requires)
 
 pub returns : goal.returns
 returns g c =
-    draft_enters c.args.self.now c.add.new.self c.add.result (canonical_tree_entry None (builtin_by c.args.row.1 (CoreType ∷ Slot ∷ []) (c.args.ty, c.args.slot))) (kind_id kinds.CanonicalFunction) (space_number spaces.CoreFuncs) (Some c.as_str.result.now)
-    (record { section = refl; defined = refl; named = ap Some (builtin_named_with c.args.row.0.now c.args.row.1 (CoreType ∷ Slot ∷ []) (c.args.ty, c.args.slot) c.requires ∙ sym (c.as_str.ensures.value ∙ c.in_ok-name.ensures.ok)) })
-    (builtin_serves c.args.row.0.now c.args.row.1 (CoreType ∷ Slot ∷ []) (c.args.ty, c.args.slot) (two_fields CoreType Slot c.args.ty c.args.slot) c.requires) c.add.ensures
+    draft_enters c.args.self.now c.add.new.self c.add.result (canonical_tree_entry None (builtin_by c.args.row.1 (CoreType ∷ Index ∷ []) (c.args.ty, c.args.slot))) (kind_id kinds.CanonicalFunction) (space_number spaces.CoreFuncs) (Some c.as_str.result.now)
+    (record { section = refl; defined = refl; named = ap Some (slot_named (first_with c.args.row.1 builtins) c.args.row.0.now c.args.row.1 c.args.ty c.args.slot c.requires ∙ sym (c.as_str.ensures.value ∙ c.in_ok-name.ensures.ok)) })
+    (builtin_serves c.args.row.0.now c.args.row.1 (CoreType ∷ Index ∷ []) (c.args.ty, c.args.slot) (two_fields CoreType Index c.args.ty c.args.slot) c.requires) c.add.ensures
