@@ -10,6 +10,7 @@ use Rattle.wenc_base.specs.laws.Delimited.{pair_readable}
 use Rattle.wenc_base.specs.laws.Entities.{table_type_lawful, memory_type_lawful, global_type_lawful, tag_type_lawful, entity_type_lawful}
 use Rattle.wenc_base.specs.laws.Exports.{core_export_kind_lawful as core_kind_lawful}
 use Rattle.wenc_base.specs.laws.Forms.{flag_lawful, name_lawful, byte_list_lawful, list_lawful, option_lawful, counted_lawful}
+use Rattle.wenc_sections.specs.laws.Pairs.{pair_lawful, triple_lawful}
 use Rattle.wenc_base.specs.reading.Forms.{read_list}
 use Rattle.wenc_base.specs.laws.Names.{name_association_lawful}
 use Rattle.wenc_base.specs.Readers.{Lawful, Reader, ◌>>=◌, give, nowhere, choose}
@@ -28,7 +29,7 @@ use Rattle.wenc_parts.specs.laws.SectionIds.{section_lawful}
 use Rattle.wenc_parts.specs.laws.Types.{primitive_lawful, value_type_lawful, result_list_lawful}
 use Rattle.wenc_sections.specs.Start.{Start, started, start_content}
 use Rattle.wenc_sections.specs.laws.Names.{sort_lawful, names_section_lawful}
-use Rattle.wenc_sections.specs.laws.Items.{import_lawful, inline_export_lawful, argument_lawful, inline_core_export_lawful, core_instance_lawful, given_lawful, exported_lawful, instance_lawful, start_lawful}
+use Rattle.wenc_sections.specs.laws.Items.{import_lawful, inline_export_lawful, core_instance_lawful, instance_lawful, start_lawful}
 use Rattle.wenc_types.specs.laws.ComponentTypes.{type_lawful, instance_declaration_lawful, component_declaration_lawful}
 use Rattle.wenc_types.specs.laws.CoreTypes.{module_declaration_lawful, module_type_lawful, standing_row, core_type_lawful}
 use Rattle.wenc_types.specs.reading.CoreTypes.{standing_rows}
@@ -127,11 +128,11 @@ lawful_of forms.ComponentDeclarations = (_, component_declaration_lawful)
 lawful_of forms.Aliases = (_, alias_lawful)
 lawful_of forms.Imports = (_, import_lawful)
 lawful_of forms.Exports = (_, inline_export_lawful)
-lawful_of forms.Arguments = (_, argument_lawful)
-lawful_of forms.CoreExports = (_, inline_core_export_lawful)
+lawful_of forms.Arguments = (_, pair_lawful name_lawful module_argument_lawful)
+lawful_of forms.CoreExports = (_, triple_lawful name_lawful core_kind_lawful u32_lawful)
 lawful_of forms.CoreInstances = (_, core_instance_lawful)
-lawful_of forms.ComponentArguments = (_, given_lawful)
-lawful_of forms.InstanceExports = (_, exported_lawful)
+lawful_of forms.ComponentArguments = (_, triple_lawful name_lawful component_export_kind_lawful u32_lawful)
+lawful_of forms.InstanceExports = (_, triple_lawful extern_name_lawful component_export_kind_lawful u32_lawful)
 lawful_of forms.Instances = (_, instance_lawful)
 lawful_of forms.CanonicalOptions = (_, canonical_option_lawful)
 lawful_of (forms.CanonicalField kind) = (_, field_lawful kind)

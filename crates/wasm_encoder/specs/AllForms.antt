@@ -3,10 +3,11 @@ use Rattle.std.specs.Prelude.{true, List}
 use Rattle.wenc_base.specs.Composites.{storage_type, field_type, composite_type}
 use Rattle.wenc_base.specs.Composites.{Single, sub_type, rec_type, standing}
 use Rattle.wenc_base.specs.Custom.{custom}
-use Rattle.wenc_base.specs.Delimited.{pair}
 use Rattle.wenc_base.specs.Entities.{table_type, memory_type, global_type, tag_type, entity_type}
 use Rattle.wenc_base.specs.Exports.{core_export_kind as core_kind}
 use Rattle.wenc_base.specs.Forms.{flag, name, byte_list, list, option, counted}
+use Rattle.wenc_base.specs.Delimited.{pair}
+use Rattle.wenc_sections.specs.Pairs.{triple}
 use Rattle.wenc_base.specs.Number.{u32, u64, i64, index}
 use Rattle.wenc_base.specs.Piece.{Form}
 use Rattle.wenc_base.specs.Producers.{producer, producers_field}
@@ -23,9 +24,7 @@ use Rattle.wenc_parts.specs.SectionIds.{section_id}
 use Rattle.wenc_parts.specs.Types.{primitive, value_type, result_list}
 use Rattle.wenc_sections.specs.Exports.{export_item}
 use Rattle.wenc_sections.specs.Imports.{import_item}
-use Rattle.wenc_sections.specs.Instances.{argument, core_export}
-use Rattle.wenc_sections.specs.Instances.{core_instance, instantiate_arg, inline_export}
-use Rattle.wenc_sections.specs.Instances.{instance}
+use Rattle.wenc_sections.specs.Instances.{core_instance, instance}
 use Rattle.wenc_sections.specs.Names.{item_sort, names_section}
 use Rattle.wenc_sections.specs.Start.{start_content, start}
 use Rattle.wenc_types.specs.ComponentTypes.{def_type}
@@ -203,11 +202,11 @@ form_row ComponentDeclarations = of component_declaration
 form_row Aliases = of alias
 form_row Imports = of import_item
 form_row Exports = of export_item
-form_row Arguments = of argument
-form_row CoreExports = of core_export
+form_row Arguments = of (pair name module_argument)
+form_row CoreExports = of (triple name core_kind u32)
 form_row CoreInstances = of core_instance
-form_row ComponentArguments = of instantiate_arg
-form_row InstanceExports = of inline_export
+form_row ComponentArguments = of (triple name component_export_kind u32)
+form_row InstanceExports = of (triple extern_name component_export_kind u32)
 form_row Instances = of instance
 form_row CanonicalOptions = of canonical_option
 form_row (CanonicalField kind) = of (field kind)

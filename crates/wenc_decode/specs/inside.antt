@@ -2,6 +2,5 @@
 pub mod Canonicals
 pub mod CoreTypes
 pub mod Entities
-pub mod Pairs
 pub mod Tables
 pub mod Types

@@ -1,4 +1,8 @@
 //! Instances of core modules and of components, by arguments or by inline exports.
+ghost use Rattle.std.specs.Prelude.{ℕ, List};
+ghost use Rattle.std.specs.String.{string_bytes};
+ghost use Rattle.wenc_sections.specs.Instances.{named_pair, named_triple};
+
 use crate::decode::Decode;
 use std::alloc::Allocator;
 use wenc_base::ExportKind;
@@ -31,15 +35,16 @@ impl<A: Allocator + Copy> Decode<A> for ModuleArg {
 
 /// A named argument of a core module.
 impl<A: Allocator + Copy> Decode<A> for (String<A>, ModuleArg) {
-    ghost use Rattle.wenc_sections.specs.InstanceTrees.{argument_tree_view};
-    ghost use Rattle.wenc_sections.specs.Instances.{Argument};
-    ghost use Rattle.wenc_sections.specs.reading.Items.{read_argument};
+    ghost use Rattle.wenc_base.specs.reading.Forms.{read_name};
+    ghost use Rattle.wenc_sections.specs.reading.Pairs.{read_pair};
+    ghost use Rattle.wenc_parts.specs.declared.instances.ModuleArg.{ModuleArg as Value'};
+    ghost use Rattle.wenc_parts.specs.reading.Instances.{read_module_argument};
 
-    ghost Value = { Argument };
+    ghost Value = { List ℕ × Value' };
 
-    ghost view = { argument_tree_view };
+    ghost view = { named_pair string_bytes };
 
-    ghost read = { read_argument };
+    ghost read = { read_pair read_name read_module_argument };
 
     #[inline(always)]
     fn decode<'a>(
@@ -54,15 +59,17 @@ impl<A: Allocator + Copy> Decode<A> for (String<A>, ModuleArg) {
 
 /// A named inline export of a core instance.
 impl<A: Allocator + Copy> Decode<A> for (String<A>, ExportKind, u32) {
-    ghost use Rattle.wenc_sections.specs.InstanceTrees.{core_export_tree_view};
-    ghost use Rattle.wenc_sections.specs.Instances.{CoreExport};
-    ghost use Rattle.wenc_sections.specs.reading.Items.{read_inline_core_export};
+    ghost use Rattle.wenc_base.specs.declared.exports.ExportKind.{ExportKind as Kind};
+    ghost use Rattle.wenc_base.specs.reading.Exports.{read_core_export_kind};
+    ghost use Rattle.wenc_base.specs.reading.Forms.{read_name};
+    ghost use Rattle.wenc_sections.specs.reading.Pairs.{read_triple};
+    ghost use Rattle.wenc_base.specs.reading.Numbers.{read_u32};
 
-    ghost Value = { CoreExport };
+    ghost Value = { List ℕ × Kind × ℕ };
 
-    ghost view = { core_export_tree_view };
+    ghost view = { named_triple string_bytes };
 
-    ghost read = { read_inline_core_export };
+    ghost read = { read_triple read_name read_core_export_kind read_u32 };
 
     #[inline(always)]
     fn decode<'a>(
@@ -107,15 +114,17 @@ impl<A: Allocator + Copy> Decode<A> for CoreInstanceTree<A> {
 
 /// A named argument of a component.
 impl<A: Allocator + Copy> Decode<A> for (String<A>, ComponentExportKind, u32) {
-    ghost use Rattle.wenc_sections.specs.InstanceTrees.{instantiate_arg_tree_view};
-    ghost use Rattle.wenc_sections.specs.Instances.{InstantiateArg};
-    ghost use Rattle.wenc_sections.specs.reading.Items.{read_given};
+    ghost use Rattle.wenc_base.specs.reading.Forms.{read_name};
+    ghost use Rattle.wenc_sections.specs.reading.Pairs.{read_triple};
+    ghost use Rattle.wenc_base.specs.reading.Numbers.{read_u32};
+    ghost use Rattle.wenc_parts.specs.declared.exports.ComponentExportKind.{ComponentExportKind as Kind};
+    ghost use Rattle.wenc_parts.specs.reading.Exports.{read_component_export_kind};
 
-    ghost Value = { InstantiateArg };
+    ghost Value = { List ℕ × Kind × ℕ };
 
-    ghost view = { instantiate_arg_tree_view };
+    ghost view = { named_triple string_bytes };
 
-    ghost read = { read_given };
+    ghost read = { read_triple read_name read_component_export_kind read_u32 };
 
     #[inline(always)]
     fn decode<'a>(
@@ -131,15 +140,18 @@ impl<A: Allocator + Copy> Decode<A> for (String<A>, ComponentExportKind, u32) {
 
 /// A named inline export of an instance.
 impl<A: Allocator + Copy> Decode<A> for (NameTree<A>, ComponentExportKind, u32) {
-    ghost use Rattle.wenc_sections.specs.InstanceTrees.{inline_export_tree_view};
-    ghost use Rattle.wenc_sections.specs.Instances.{InlineExport};
-    ghost use Rattle.wenc_sections.specs.reading.Items.{read_inline_exported};
+    ghost use Rattle.wenc_sections.specs.reading.Pairs.{read_triple};
+    ghost use Rattle.wenc_base.specs.reading.Numbers.{read_u32};
+    ghost use Rattle.wenc_parts.specs.Imports.{ExternName, name_tree_view};
+    ghost use Rattle.wenc_parts.specs.declared.exports.ComponentExportKind.{ComponentExportKind as Kind};
+    ghost use Rattle.wenc_parts.specs.reading.Exports.{read_component_export_kind};
+    ghost use Rattle.wenc_parts.specs.reading.Imports.{read_extern_name};
 
-    ghost Value = { InlineExport };
+    ghost Value = { ExternName × Kind × ℕ };
 
-    ghost view = { inline_export_tree_view };
+    ghost view = { named_triple name_tree_view };
 
-    ghost read = { read_inline_exported };
+    ghost read = { read_triple read_extern_name read_component_export_kind read_u32 };
 
     #[inline(always)]
     fn decode<'a>(

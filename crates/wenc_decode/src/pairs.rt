@@ -1,5 +1,5 @@
 //! Two values, one after the other.
-ghost use Rattle.wenc_decode.specs.inside.Pairs.{read_both};
+ghost use Rattle.wenc_sections.specs.reading.Pairs.{read_pair};
 ghost use Rattle.wenc_read.specs.Gives.{Gives};
 
 use crate::decode::Decode;
@@ -13,7 +13,7 @@ pub(crate) fn both<'a, A: Allocator + Copy, T: Decode<A>, U: Decode<A>>(
     bytes: &'a [u8],
 ) -> Result<(T, U, &'a [u8]), Refusal>
     ensures { Gives (λ x. ((T.view x.0, U.view x.1), x.2.now)) result
-        (read_both T.read U.read bytes.now) }
+        (read_pair T.read U.read bytes.now) }
 {
     let (first, rest) = T::decode(alloc, bytes)?;
     let (second, rest) = U::decode(alloc, rest)?;

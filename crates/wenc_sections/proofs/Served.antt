@@ -2,6 +2,7 @@
 use Rattle.std.proofs.Common.{◌≡◌, ℕ, List, Option, subst}
 use Rattle.wenc_base.specs.Encode.{Serves, in_order, list_in_order, sized_in_order}
 use Rattle.wenc_base.specs.Forms.{option}
+use Rattle.wenc_sections.specs.Pairs.{triple}
 use Rattle.wenc_base.specs.Number.{u32}
 use Rattle.wenc_base.specs.Piece.{◌▸◌}
 use Rattle.wenc_base.specs.Types.{val_type}
@@ -13,9 +14,8 @@ use Rattle.wenc_parts.specs.declared.exports.ComponentExportKind.{ComponentExpor
 use Rattle.wenc_parts.specs.declared.imports.ComponentTypeRef.{ComponentTypeRef}
 use Rattle.wenc_sections.specs.Exports.{export_item}
 use Rattle.wenc_sections.specs.Imports.{import_item}
-use Rattle.wenc_sections.specs.Instances.{inline_export}
 use Rattle.wenc_sections.specs.Start.{started, start}
-use Rattle.wenc_sections.specs.reading.Items.{imported, ascribed}
+use Rattle.wenc_sections.specs.inside.Items.{imported, ascribed}
 use Rattle.wenc_types.specs.ComponentTypes.{def_type, ResourceType}
 
 pub import_serves : (name : ExternName) (what : ComponentTypeRef) → Serves (in_order (extern_name name) (type_reference what)) (import_item (imported name what))
@@ -27,9 +27,9 @@ export_serves name kind index what = order_serves (serves_itself {p = extern_nam
 
 -- an export of an instance, by another spelling of its name
 pub exported_serves : (seen name : ExternName) → seen ≡ name → (kind : ComponentExportKind) (index : ℕ)
-    → Serves (in_order (extern_name seen) (in_order (component_export_kind kind) (u32 index))) (inline_export (record { name = name; kind = kind; index = index }))
+    → Serves (in_order (extern_name seen) (in_order (component_export_kind kind) (u32 index))) (triple extern_name component_export_kind u32 (name, kind, index))
 exported_serves seen name e kind index =
-    subst (λ (n : ExternName). Serves (in_order (extern_name seen) (in_order (component_export_kind kind) (u32 index))) (inline_export (record { name = n; kind = kind; index = index }))) e
+    subst (λ (n : ExternName). Serves (in_order (extern_name seen) (in_order (component_export_kind kind) (u32 index))) (triple extern_name component_export_kind u32 (n, kind, index))) e
     (three_serve (extern_name seen) (component_export_kind kind) (u32 index))
 
 pub start_serves : (function : ℕ) (arguments : List ℕ) (results : ℕ)

@@ -5,6 +5,7 @@ pub mod InstanceTrees
 pub mod CanonTrees
 pub mod Start
 pub mod Names
+pub mod Pairs
 pub mod inside
 pub mod reading
 pub mod laws

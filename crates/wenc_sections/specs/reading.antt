@@ -2,3 +2,4 @@
 -- them.
 pub mod Items
 pub mod Names
+pub mod Pairs

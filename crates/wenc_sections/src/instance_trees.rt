@@ -3,7 +3,7 @@ ghost use Rattle.std.specs.Prelude.{◌≡◌, ◌++◌, ℕ, List, OnOk, OnErr,
 ghost use Rattle.wenc_base.specs.Encode.{Appends, Written, list_in_order};
 ghost use Rattle.wenc_base.specs.Fault.{IsWarranted, member_cause};
 ghost use Rattle.wenc_base.specs.laws.Serves.{serves_itself};
-ghost use Rattle.wenc_sections.specs.InstanceTrees.{inline_export_tree};
+ghost use Rattle.wenc_sections.specs.inside.InstanceTrees.{inline_export_tree};
 
 use crate::instances::{CORE_EXPORTS, CORE_INSTANTIATE, EXPORTS, INSTANTIATE};
 use std::alloc::{Allocator, Global};

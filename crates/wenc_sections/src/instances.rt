@@ -2,9 +2,10 @@
 ghost use Rattle.std.specs.Prelude.{map};
 ghost use Rattle.std.specs.Iterator.{IsFinite};
 ghost use Rattle.wenc_base.specs.Holder.{AddsListed};
+ghost use Rattle.wenc_parts.specs.Imports.{extern_name_view};
 ghost use Rattle.wenc_sections.specs.Instances.{CoreInstantiate, CoreExports, core_instance};
-ghost use Rattle.wenc_sections.specs.Instances.{argument_of, core_export_of};
-ghost use Rattle.wenc_sections.specs.Instances.{Instantiate, Exports, instance, instantiate_arg_of, inline_export_view};
+ghost use Rattle.wenc_sections.specs.Instances.{Instantiate, Exports, instance};
+ghost use Rattle.wenc_sections.specs.Instances.{named_pair, named_triple};
 
 use crate::counted::{Counted, CountedKind};
 use std::alloc::{Allocator, Global};
@@ -73,7 +74,7 @@ impl<A: Allocator> Counted<CoreInstances, A> {
         requires can { I.can_next args }
         requires ends { IsFinite (I.remaining args) }
         ensures { AddsListed I.next_gives args
-            (λ vs. core_instance (CoreInstantiate module_index (map (argument_of S.named) vs)))
+            (λ vs. core_instance (CoreInstantiate module_index (map (named_pair S.named) vs)))
             self.old self.new result }
     {
         let lead = Tagged(CORE_INSTANTIATE, &module_index);
@@ -93,7 +94,7 @@ impl<A: Allocator> Counted<CoreInstances, A> {
         requires can { I.can_next exports }
         requires ends { IsFinite (I.remaining exports) }
         ensures { AddsListed I.next_gives exports
-            (λ vs. core_instance (CoreExports (map (core_export_of S.named) vs)))
+            (λ vs. core_instance (CoreExports (map (named_triple S.named) vs)))
             self.old self.new result }
     {
         let lead = Tagged(CORE_EXPORTS, &());
@@ -151,7 +152,7 @@ impl<A: Allocator> Counted<Instances, A> {
         requires can { I.can_next args }
         requires ends { IsFinite (I.remaining args) }
         ensures { AddsListed I.next_gives args
-            (λ vs. instance (Instantiate component_index (map (instantiate_arg_of S.named) vs)))
+            (λ vs. instance (Instantiate component_index (map (named_triple S.named) vs)))
             self.old self.new result }
     {
         let lead = Tagged(INSTANTIATE, &component_index);
@@ -171,7 +172,8 @@ impl<A: Allocator> Counted<Instances, A> {
         requires can { I.can_next exports }
         requires ends { IsFinite (I.remaining exports) }
         ensures { AddsListed I.next_gives exports
-            (λ vs. instance (Exports (map inline_export_view vs))) self.old self.new result }
+            (λ vs. instance (Exports (map (named_triple extern_name_view) vs)))
+            self.old self.new result }
     {
         let lead = Tagged(EXPORTS, &());
         self.items.add_listed(&lead, exports, &())

@@ -25,7 +25,8 @@ use Rattle.wenc_canon.specs.reading.Canonicals.{read_canonical}
 use Rattle.wenc_parts.specs.laws.Aliases.{alias_lawful}
 use Rattle.wenc_parts.specs.reading.Aliases.{read_alias}
 use Rattle.wenc_sections.specs.laws.Items.{import_lawful, inline_export_lawful, core_instance_lawful, instance_lawful, start_lawful}
-use Rattle.wenc_sections.specs.reading.Items.{read_import, read_inline_export, read_core_instance, read_instance, read_start}
+use Rattle.wenc_sections.specs.inside.Items.{read_import, read_inline_export}
+use Rattle.wenc_sections.specs.reading.Items.{read_core_instance, read_instance, read_start}
 use Rattle.wenc_types.specs.laws.ComponentTypes.{type_lawful}
 use Rattle.wenc_types.specs.reading.ComponentTypes.{read_type}
 use Rattle.wenc_types.specs.laws.CoreTypes.{core_type_lawful}

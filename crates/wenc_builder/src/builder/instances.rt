@@ -4,8 +4,9 @@ ghost use Rattle.std.specs.Option.{option_copied};
 ghost use Rattle.std.specs.Prelude.{map};
 ghost use Rattle.wenc_builder.specs.Enters.{EntersListed};
 ghost use Rattle.wenc_builder.specs.Entry.{core_instance_entry, instance_entry};
-ghost use Rattle.wenc_sections.specs.Instances.{CoreInstantiate, CoreExports, argument_view, core_export_view};
-ghost use Rattle.wenc_sections.specs.Instances.{Instantiate, Exports, instantiate_arg_of, inline_export_view};
+ghost use Rattle.wenc_parts.specs.Imports.{extern_name_view};
+ghost use Rattle.wenc_sections.specs.Instances.{CoreInstantiate, CoreExports, named_pair};
+ghost use Rattle.wenc_sections.specs.Instances.{Instantiate, Exports, named_triple};
 
 use super::ComponentBuilder;
 use super::kind::Kind;
@@ -30,7 +31,7 @@ impl<A: Allocator> ComponentBuilder<A> {
         requires ends { IsFinite (I.remaining args) }
         ensures { EntersListed I.next_gives args self.old self.new result
             (λ items. core_instance_entry (option_copied debug_name.entry)
-            (CoreInstantiate module_index (map argument_view items))) }
+            (CoreInstantiate module_index (map (named_pair (λ s. s.now)) items))) }
     {
         let lead = Tagged(CORE_INSTANTIATE, &module_index);
         self.add_listed(
@@ -53,7 +54,7 @@ impl<A: Allocator> ComponentBuilder<A> {
         requires ends { IsFinite (I.remaining exports) }
         ensures { EntersListed I.next_gives exports self.old self.new result
             (λ items. core_instance_entry (option_copied debug_name.entry)
-            (CoreExports (map core_export_view items))) }
+            (CoreExports (map (named_triple (λ s. s.now)) items))) }
     {
         let lead = Tagged(CORE_EXPORTS, &());
         self.add_listed(
@@ -78,7 +79,7 @@ impl<A: Allocator> ComponentBuilder<A> {
         requires ends { IsFinite (I.remaining args) }
         ensures { EntersListed I.next_gives args self.old self.new result
             (λ items. instance_entry (option_copied debug_name.entry)
-            (Instantiate component_index (map (instantiate_arg_of S.named) items))) }
+            (Instantiate component_index (map (named_triple S.named) items))) }
     {
         let lead = Tagged(INSTANTIATE, &component_index);
         self.add_listed(
@@ -101,7 +102,7 @@ impl<A: Allocator> ComponentBuilder<A> {
         requires ends { IsFinite (I.remaining exports) }
         ensures { EntersListed I.next_gives exports self.old self.new result
             (λ items. instance_entry (option_copied debug_name.entry)
-            (Exports (map inline_export_view items))) }
+            (Exports (map (named_triple extern_name_view) items))) }
     {
         let lead = Tagged(EXPORTS, &());
         self.add_listed(

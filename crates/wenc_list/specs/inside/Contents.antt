@@ -16,8 +16,9 @@ use Rattle.wenc_read.specs.declared.refusal.NestedRefusal.{NestedRefusal}
 use Rattle.wenc_read.specs.declared.refusal.NestedRefusal.TheVariants.{Flat, TooDeep}
 use Rattle.wenc_read.specs.declared.refusal.Refusal.{Refusal}
 use Rattle.wenc_read.specs.declared.refusal.Refusal.TheVariants as refusals
-use Rattle.wenc_sections.specs.reading.Items.{read_import, read_inline_export, read_core_instance}
-use Rattle.wenc_sections.specs.reading.Items.{read_instance, read_start_content}
+use Rattle.wenc_sections.specs.inside.Items.{read_import, read_inline_export}
+use Rattle.wenc_sections.specs.reading.Items.{read_core_instance, read_instance}
+use Rattle.wenc_sections.specs.reading.Items.{read_start_content}
 use Rattle.wenc_types.specs.reading.CoreTypes.{read_core_type}
 use Rattle.wenc_list.specs.declared.fault.ListFault.{ListFault}
 use Rattle.wenc_list.specs.declared.fault.ListFault.TheVariants as faults

@@ -5,15 +5,17 @@ use Rattle.wenc_base.specs.laws.Lawful.{row_lawful, then, last, whole_lawful}
 use Rattle.wenc_base.specs.laws.Sound.{Sound, last_tells, then_tells, nowhere_tells, choose_tells}
 use Rattle.wenc_base.specs.laws.Numbers.{u32_lawful, u32_sound}
 use Rattle.wenc_base.specs.laws.Forms.{name_lawful, name_sound, list_lawful, list_sound, option_lawful, option_sound, sized_lawful}
+use Rattle.wenc_sections.specs.laws.Pairs.{pair_lawful, pair_sound, triple_lawful, triple_sound}
 use Rattle.wenc_base.specs.laws.Exports.{core_export_kind_lawful as core_kind_lawful, core_export_kind_sound as core_kind_sound}
 use Rattle.wenc_parts.specs.laws.Exports.{component_export_kind_lawful, component_export_kind_sound}
 use Rattle.wenc_parts.specs.laws.Imports.{type_reference_lawful, type_reference_sound, extern_name_lawful, extern_name_sound}
 use Rattle.wenc_parts.specs.laws.Instances.{module_argument_lawful, module_argument_sound}
 use Rattle.wenc_sections.specs.Imports.{Import, import_item}
 use Rattle.wenc_sections.specs.Exports.{Export, export_item}
-use Rattle.wenc_sections.specs.Instances.{Argument, argument, CoreExport, core_export, CoreInstance, CoreInstantiate, CoreExports, core_instance, InstantiateArg, instantiate_arg, InlineExport, inline_export, Instance, Instantiate, Exports, instance}
+use Rattle.wenc_sections.specs.Instances.{CoreInstance, CoreInstantiate, CoreExports, core_instance, Instance, Instantiate, Exports, instance}
 use Rattle.wenc_sections.specs.Start.{Start, started, start_content, start}
-use Rattle.wenc_sections.specs.reading.Items.{ascribed, core_exported, imported, item_named, out, passed, read_argument, read_core_instance, read_given, read_import, read_inline_core_export, read_inline_export, read_inline_exported, read_instance, read_start, read_start_content}
+use Rattle.wenc_sections.specs.inside.Items.{ascribed, imported, read_import, read_inline_export}
+use Rattle.wenc_sections.specs.reading.Items.{read_core_instance, read_instance, read_start, read_start_content}
 
 -- ---- imports and exports
 
@@ -33,50 +35,26 @@ inline_export_sound =
 
 -- ---- instances of core modules
 
-pub argument_lawful : (a : Argument) → Lawful (argument a) (λ fuel. read_argument) a
-argument_lawful a = then _ (name_lawful a.name) (last (passed a.name) (module_argument_lawful a.value))
-
-pub argument_sound : Sound argument read_argument
-argument_sound = then_tells _ name_sound (λ name. last_tells (passed name) module_argument_sound (λ value middle rest r bytes p. (middle, p, r)))
-
-pub inline_core_export_lawful : (e : CoreExport) → Lawful (core_export e) (λ fuel. read_inline_core_export) e
-inline_core_export_lawful e = then _ (name_lawful e.name) (then _ (core_kind_lawful e.kind) (last (core_exported e.name e.kind) (u32_lawful e.index)))
-
-pub core_export_sound : Sound core_export read_inline_core_export
-core_export_sound = then_tells _ name_sound (λ name. then_tells _ core_kind_sound (λ kind. last_tells (core_exported name kind) u32_sound (λ index b rest r a q bytes p. (a, p, (b, q, r)))))
-
 pub core_instance_lawful : (i : CoreInstance) → Lawful (core_instance i) (λ fuel. read_core_instance) i
-core_instance_lawful (CoreInstantiate module_index arguments) = row_lawful _ _ 0x00 (then _ (u32_lawful module_index) (last (CoreInstantiate module_index) (list_lawful argument_lawful arguments)))
-core_instance_lawful (CoreExports exports) = row_lawful _ _ 0x01 (last CoreExports (list_lawful inline_core_export_lawful exports))
+core_instance_lawful (CoreInstantiate module_index arguments) = row_lawful _ _ 0x00 (then _ (u32_lawful module_index) (last (CoreInstantiate module_index) (list_lawful (pair_lawful name_lawful module_argument_lawful) arguments)))
+core_instance_lawful (CoreExports exports) = row_lawful _ _ 0x01 (last CoreExports (list_lawful (triple_lawful name_lawful core_kind_lawful u32_lawful) exports))
 
 pub core_instance_sound : Sound core_instance read_core_instance
 core_instance_sound = choose_tells _ _ (
-  then_tells _ u32_sound (λ module_index. last_tells (CoreInstantiate module_index) (list_sound argument_sound) (λ arguments middle rest r bytes p. (bytes, refl, (middle, p, r)))),
-  (last_tells CoreExports (list_sound core_export_sound) (λ exports bytes rest r. (bytes, refl, r)), tt),
+  then_tells _ u32_sound (λ module_index. last_tells (CoreInstantiate module_index) (list_sound (pair_sound name_sound module_argument_sound)) (λ arguments middle rest r bytes p. (bytes, refl, (middle, p, r)))),
+  (last_tells CoreExports (list_sound (triple_sound name_sound core_kind_sound u32_sound)) (λ exports bytes rest r. (bytes, refl, r)), tt),
 ) nowhere_tells
 
 -- ---- instances of components
 
-pub given_lawful : (g : InstantiateArg) → Lawful (instantiate_arg g) (λ fuel. read_given) g
-given_lawful g = then _ (name_lawful g.name) (then _ (component_export_kind_lawful g.kind) (last (item_named g.name g.kind) (u32_lawful g.index)))
-
-pub given_sound : Sound instantiate_arg read_given
-given_sound = then_tells _ name_sound (λ name. then_tells _ component_export_kind_sound (λ kind. last_tells (item_named name kind) u32_sound (λ index b rest r a q bytes p. (a, p, (b, q, r)))))
-
-pub exported_lawful : (e : InlineExport) → Lawful (inline_export e) (λ fuel. read_inline_exported) e
-exported_lawful e = then _ (extern_name_lawful e.name) (then _ (component_export_kind_lawful e.kind) (last (out e.name e.kind) (u32_lawful e.index)))
-
-pub exported_sound : Sound inline_export read_inline_exported
-exported_sound = then_tells _ extern_name_sound (λ name. then_tells _ component_export_kind_sound (λ kind. last_tells (out name kind) u32_sound (λ index b rest r a q bytes p. (a, p, (b, q, r)))))
-
 pub instance_lawful : (i : Instance) → Lawful (instance i) (λ fuel. read_instance) i
-instance_lawful (Instantiate component_index arguments) = row_lawful _ _ 0x00 (then _ (u32_lawful component_index) (last (Instantiate component_index) (list_lawful given_lawful arguments)))
-instance_lawful (Exports exports) = row_lawful _ _ 0x01 (last Exports (list_lawful exported_lawful exports))
+instance_lawful (Instantiate component_index arguments) = row_lawful _ _ 0x00 (then _ (u32_lawful component_index) (last (Instantiate component_index) (list_lawful (triple_lawful name_lawful component_export_kind_lawful u32_lawful) arguments)))
+instance_lawful (Exports exports) = row_lawful _ _ 0x01 (last Exports (list_lawful (triple_lawful extern_name_lawful component_export_kind_lawful u32_lawful) exports))
 
 pub instance_sound : Sound instance read_instance
 instance_sound = choose_tells _ _ (
-  then_tells _ u32_sound (λ component_index. last_tells (Instantiate component_index) (list_sound given_sound) (λ arguments middle rest r bytes p. (bytes, refl, (middle, p, r)))),
-  (last_tells Exports (list_sound exported_sound) (λ exports bytes rest r. (bytes, refl, r)), tt),
+  then_tells _ u32_sound (λ component_index. last_tells (Instantiate component_index) (list_sound (triple_sound name_sound component_export_kind_sound u32_sound)) (λ arguments middle rest r bytes p. (bytes, refl, (middle, p, r)))),
+  (last_tells Exports (list_sound (triple_sound extern_name_sound component_export_kind_sound u32_sound)) (λ exports bytes rest r. (bytes, refl, r)), tt),
 ) nowhere_tells
 
 -- ---- sections

@@ -1,6 +1,7 @@
 use Rattle.std.proofs.Common.{refl, map}
 use Rattle.std.specs.Option.{option_copied}
-use Rattle.wenc_sections.specs.Instances.{Exports, inline_export_view}
+use Rattle.wenc_parts.specs.Imports.{extern_name_view}
+use Rattle.wenc_sections.specs.Instances.{Exports, named_triple}
 use Rattle.wenc_sections.specs.laws.Instances.{exports_listed}
 use Rattle.wenc_builder.specs.Entry.{instance_entry}
 use Rattle.wenc_builder.specs.Item.{InstanceItem}
@@ -14,8 +15,8 @@ use Rattle.wenc_builder.proofs.builder.ComponentBuilder.instantiate_exports.Goal
 
 pub returns : goal.returns
 returns g c =
-    listed_enters g.I.Iterator.next_gives c.args.exports c.args.self.now c.add_listed.new.self c.add_listed.result (λ vs. instance_entry (option_copied c.args.debug_name) (Exports (map inline_export_view vs)))
-    (kind_id kinds.Instance) (space_number spaces.Instances) (option_copied c.args.debug_name) _ (λ vs. record { section = refl; defined = refl; named = refl }) (exports_listed inline_export_view) c.add_listed.ensures
+    listed_enters g.I.Iterator.next_gives c.args.exports c.args.self.now c.add_listed.new.self c.add_listed.result (λ vs. instance_entry (option_copied c.args.debug_name) (Exports (map (named_triple extern_name_view) vs)))
+    (kind_id kinds.Instance) (space_number spaces.Instances) (option_copied c.args.debug_name) _ (λ vs. record { section = refl; defined = refl; named = refl }) (exports_listed extern_name_view) c.add_listed.ensures
 
 pub add_listed-requires-clause-whole : goal.add_listed-requires-clause-whole
-add_listed-requires-clause-whole g c vs = item_piece (InstanceItem (Exports (map inline_export_view vs))) (exports_listed inline_export_view vs)
+add_listed-requires-clause-whole g c vs = item_piece (InstanceItem (Exports (map (named_triple extern_name_view) vs))) (exports_listed extern_name_view vs)

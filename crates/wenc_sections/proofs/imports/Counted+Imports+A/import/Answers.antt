@@ -3,7 +3,7 @@ use Rattle.wenc_base.specs.laws.Holders.{adds_as}
 use Rattle.wenc_base.specs.laws.Members.{keeps_took, serves_form}
 use Rattle.wenc_parts.specs.Imports.{extern_name_view}
 use Rattle.wenc_sections.specs.Imports.{import_item}
-use Rattle.wenc_sections.specs.reading.Items.{imported}
+use Rattle.wenc_sections.specs.inside.Items.{imported}
 use Rattle.wenc_sections.proofs.Served.{import_serves}
 use Rattle.wenc_sections.proofs.imports.Counted+Imports+A.import.Goals as goal
 

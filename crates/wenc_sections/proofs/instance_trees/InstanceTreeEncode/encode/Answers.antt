@@ -1,20 +1,27 @@
-use Rattle.wenc_base.specs.laws.Serves.{appends_as, fits_as}
-use Rattle.wenc_sections.specs.InstanceTrees.{instantiate_arg_tree_view, inline_export_tree_view}
+use Rattle.std.specs.Prelude.{String}
+use Rattle.std.specs.String.{string_bytes}
+use Rattle.wenc_base.specs.Forms.{name}
+use Rattle.wenc_base.specs.Piece.{Form}
+use Rattle.wenc_base.specs.laws.Serves.{appends_as, fits_as, serves_itself}
+use Rattle.wenc_parts.specs.Imports.{name_tree_view}
 use Rattle.wenc_sections.specs.laws.Instances.{instantiate_serves, exports_serve}
 use Rattle.wenc_sections.proofs.instance_trees.InstanceTreeEncode.encode.Goals as goal
 
+abbrev text : {A : Type 0} → Form (String A)
+text s = name (string_bytes s)
+
 pub returns-in-Instantiate-clause-appended : goal.returns-in-Instantiate-clause-appended
 returns-in-Instantiate-clause-appended g c =
-    rw c.in-Instantiate.is (appends_as _ _ _ _ (instantiate_serves instantiate_arg_tree_view c.in-Instantiate.component c.in-Instantiate.args.items) (rw c.as_slice.ensures.value at c.encode.ensures.appended))
+    rw c.in-Instantiate.is (appends_as _ _ _ _ (instantiate_serves text string_bytes (λ s. serves_itself) c.in-Instantiate.component c.in-Instantiate.args.items) (rw c.as_slice.ensures.value at c.encode.ensures.appended))
 
 pub returns-in-Instantiate-clause-fits : goal.returns-in-Instantiate-clause-fits
 returns-in-Instantiate-clause-fits g c =
-    rw c.in-Instantiate.is (fits_as _ (instantiate_serves instantiate_arg_tree_view c.in-Instantiate.component c.in-Instantiate.args.items) (rw c.as_slice.ensures.value at c.encode.ensures.fits))
+    rw c.in-Instantiate.is (fits_as _ (instantiate_serves text string_bytes (λ s. serves_itself) c.in-Instantiate.component c.in-Instantiate.args.items) (rw c.as_slice.ensures.value at c.encode.ensures.fits))
 
 pub returns-in-Exports-clause-appended : goal.returns-in-Exports-clause-appended
 returns-in-Exports-clause-appended g c =
-    rw c.in-Exports.is (appends_as _ _ _ _ (exports_serve inline_export_tree_view c.in-Exports.exports.items) (rw c.as_slice-in-Exports.ensures.value at c.encode-in-Exports.ensures.appended))
+    rw c.in-Exports.is (appends_as _ _ _ _ (exports_serve name_tree_view c.in-Exports.exports.items) (rw c.as_slice-in-Exports.ensures.value at c.encode-in-Exports.ensures.appended))
 
 pub returns-in-Exports-clause-fits : goal.returns-in-Exports-clause-fits
 returns-in-Exports-clause-fits g c =
-    rw c.in-Exports.is (fits_as _ (exports_serve inline_export_tree_view c.in-Exports.exports.items) (rw c.as_slice-in-Exports.ensures.value at c.encode-in-Exports.ensures.fits))
+    rw c.in-Exports.is (fits_as _ (exports_serve name_tree_view c.in-Exports.exports.items) (rw c.as_slice-in-Exports.ensures.value at c.encode-in-Exports.ensures.fits))
