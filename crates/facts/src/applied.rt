@@ -163,7 +163,7 @@ pub fn told_of_a_run<A: Allocator + Copy, B: Allocator>(
         → Reading mode b.bytes.items (front ++ Run id xs ∷ Run id ys ∷ behind) → ⊥) }
     ensures ascending { IfOk result (λ b. (es : List Entry)
         → Ran (map command_view commands.now) b.answers.items es
-        → (k : ℕ) → IsStrictlyIncreasing (map (λ n. n.index) (names es k))) }
+        → (k : Space) → IsStrictlyIncreasing (map (λ n. n.index) (names es k))) }
     ensures nested { IfOk result (λ b. (inner : Commands)
         → commands_listed inner ≡ map command_view commands.now
         → AllByRecursion IsOk b.answers.items → b.bytes.items ≡ whole (items_of (led [] inner))) }

@@ -2,7 +2,7 @@
 ghost use Rattle.std.specs.Prelude.{◌≡◌, ◌++◌, ◌∷◌, [], List, OnOk, IfOk, None, Ok, true};
 ghost use Rattle.wenc_builder.specs.Entry.{Entry, items, type_entry};
 ghost use Rattle.wenc_builder.specs.Holds.{Holds};
-ghost use Rattle.wenc_builder.specs.Space.{next_index, space_number};
+ghost use Rattle.wenc_builder.specs.Space.{next_index};
 ghost use Rattle.wenc_builder.specs.declared.builder.space.Space.TheVariants as spaces;
 ghost use Rattle.wenc_types.specs.ComponentTypes.{DefinedType};
 ghost use Rattle.wenc_types.specs.DefinedTypes.{OptionOf};
@@ -22,7 +22,7 @@ pub fn option_built<A: Allocator>(
     ensures held { (es : List Entry) → Holds builder.old es → OnOk result
         (Holds builder.new (es ++ type_entry None (DefinedType (OptionOf ty)) ∷ [])) }
     ensures indexed { (es : List Entry) → Holds builder.old es → IfOk result
-        (λ i. i ≡ next_index (items es) (space_number spaces.Types)) }
+        (λ i. i ≡ next_index (items es) spaces.Types) }
 {
     encoded_types_are_entries();
     match builder.type_defined(None) {

@@ -1,6 +1,5 @@
 -- The indices in a list of names.
 use Rattle.std.proofs.Common.{◌≡◌, ℕ, zero, suc, ◌+◌, ◌<◌, ◌≤◌, List, [], ◌∷◌, ◌++◌, map, Option, Some, None, option_to_list, Result, Ok, Err, refl, subst, ◌⊎◌, inl, inr, arith}
-use Rattle.std.proofs.lemmas.Bool.Decides.{eqb_tells}
 use Rattle.std.proofs.lemmas.Option.{same_Some}
 use Rattle.std.specs.List.{AllByRecursion}
 use Rattle.std.specs.List.Sorted.{IsStrictlyIncreasing}
@@ -10,6 +9,8 @@ use Rattle.wenc_builder.specs.Entry.{Entry, items, named_in, names_from, names}
 use Rattle.wenc_builder.specs.Item.{Item, StartItem, CustomItem, RawItem}
 use Rattle.wenc_builder.specs.Names.{named_entry}
 use Rattle.wenc_builder.specs.Space.{Indices, defines, number_in, defined_in, next_index}
+use Rattle.wenc_builder.specs.declared.builder.space.Space.{Space}
+use Rattle.wenc_builder.specs.laws.Space.{space_tells}
 use Rattle.wenc_sections.specs.Names.{Subsection}
 use Rattle.wenc_sections.specs.Start.{Start}
 use Rattle.wasm_encoder.specs.Cause.{added}
@@ -53,15 +54,15 @@ item_takes other name nameless d e = inr (subst (λ (d : Indices). 0 < d.number)
 abbrev indices : List NameAssociation → List ℕ
 indices ns = map (λ n. n.index) ns
 
-ascends_more : (k n : ℕ) (o : Option Indices) (name : Option (List ℕ)) (rest : List NameAssociation) → TakesNamed o name → AscendFrom (n + number_in k o) (indices rest) → AscendFrom n (indices (named_in k o n name ++ rest))
+ascends_more : (k : Space) (n : ℕ) (o : Option Indices) (name : Option (List ℕ)) (rest : List NameAssociation) → TakesNamed o name → AscendFrom (n + number_in k o) (indices rest) → AscendFrom n (indices (named_in k o n name ++ rest))
 ascends_more k n None name rest takes h = from_less (n + 0) n (indices rest) (omega arith) h
 ascends_more k n (Some d) None rest takes h =
-    elim (eqb_tells d.space k) [
+    elim (space_tells d.space k) [
       | inl t ↦ let g = rw t.0 at h in rw t.0 (from_less (n + d.number) n (indices rest) (omega arith) g)
       | inr t ↦ let g = rw t.0 at h in rw t.0 (from_less (n + 0) n (indices rest) (omega arith) g)
     ]
 ascends_more k n (Some d) (Some name) rest takes h =
-    elim (eqb_tells d.space k) [
+    elim (space_tells d.space k) [
       | inl t ↦ let g = rw t.0 at h in rw t.0 (omega arith, from_less (n + d.number) (n + 1) (indices rest) (omega (arith, taken (takes d refl))) g)
       | inr t ↦ let g = rw t.0 at h in rw t.0 (from_less (n + 0) n (indices rest) (omega arith) g)
     ]
@@ -70,11 +71,11 @@ ascends_more k n (Some d) (Some name) rest takes h =
     taken (inl e) = absurd cc
     taken (inr lt) = lt
 
-ascend : (k n : ℕ) (es : List Entry) → AllByRecursion StartIsNameless es → AscendFrom n (indices (names_from k n es))
+ascend : (k : Space) (n : ℕ) (es : List Entry) → AllByRecursion StartIsNameless es → AscendFrom n (indices (names_from k n es))
 ascend k n [] h = tt
 ascend k n (e ∷ es) h = ascends_more k n (defines e.item) e.name (names_from k (n + defined_in k e.item) es) (item_takes e.item e.name h.0) (ascend k (n + defined_in k e.item) es h.1)
 
-pub ascending : (es : List Entry) (k : ℕ) → AllByRecursion StartIsNameless es → IsStrictlyIncreasing (indices (names es k))
+pub ascending : (es : List Entry) (k : Space) → AllByRecursion StartIsNameless es → IsStrictlyIncreasing (indices (names es k))
 ascending es k h = increasing 0 (indices (names es k)) (ascend k 0 es h)
 
 -- ---- and they are below the count
@@ -82,11 +83,11 @@ ascending es k h = increasing 0 (indices (names es k)) (ascend k 0 es h)
 abbrev AreBelow : ℕ → List NameAssociation → Type 0
 AreBelow bound = AllByRecursion (λ n. n.index < bound)
 
-below_more : (k n bound : ℕ) (o : Option Indices) (name : Option (List ℕ)) (rest : List NameAssociation) → TakesNamed o name → n + number_in k o ≤ bound → AreBelow bound rest → AreBelow bound (named_in k o n name ++ rest)
+below_more : (k : Space) (n bound : ℕ) (o : Option Indices) (name : Option (List ℕ)) (rest : List NameAssociation) → TakesNamed o name → n + number_in k o ≤ bound → AreBelow bound rest → AreBelow bound (named_in k o n name ++ rest)
 below_more k n bound None name rest takes le h = h
-below_more k n bound (Some d) None rest takes le h = elim (eqb_tells d.space k) [ inl t ↦ rw t.0 h | inr t ↦ rw t.0 h ]
+below_more k n bound (Some d) None rest takes le h = elim (space_tells d.space k) [ inl t ↦ rw t.0 h | inr t ↦ rw t.0 h ]
 below_more k n bound (Some d) (Some name) rest takes le h =
-    elim (eqb_tells d.space k) [
+    elim (space_tells d.space k) [
       | inl t ↦ let l = rw t.0 at le in rw t.0 (omega (arith, taken (takes d refl), l), h)
       | inr t ↦ rw t.0 h
     ]
@@ -95,12 +96,12 @@ below_more k n bound (Some d) (Some name) rest takes le h =
     taken (inl e) = absurd cc
     taken (inr lt) = lt
 
-below_from : (k n bound : ℕ) (es : List Entry) → n + next_index (items es) k ≤ bound → AllByRecursion StartIsNameless es → AreBelow bound (names_from k n es)
+below_from : (k : Space) (n bound : ℕ) (es : List Entry) → n + next_index (items es) k ≤ bound → AllByRecursion StartIsNameless es → AreBelow bound (names_from k n es)
 below_from k n bound [] le h = tt
 below_from k n bound (e ∷ es) le h =
     below_more k n bound (defines e.item) e.name (names_from k (n + defined_in k e.item) es) (item_takes e.item e.name h.0) (omega (arith, le)) (below_from k (n + defined_in k e.item) bound es (omega (arith, le)) h.1)
 
-pub below : (es : List Entry) (k : ℕ) → AllByRecursion StartIsNameless es → AreBelow (next_index (items es) k) (names es k)
+pub below : (es : List Entry) (k : Space) → AllByRecursion StartIsNameless es → AreBelow (next_index (items es) k) (names es k)
 below es k h = below_from k 0 (next_index (items es) k) es (omega arith) h
 
 -- ---- what commands lead to

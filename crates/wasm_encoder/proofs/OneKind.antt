@@ -4,8 +4,9 @@ use Rattle.std.specs.List.{AllByRecursion}
 use Rattle.std.proofs.lemmas.Bool.Decides.{eqb_tells}
 use Rattle.wenc_builder.specs.Item.{Item, RawItem, collected, HasNoRaw, IsNoRaw}
 use Rattle.wenc_builder.specs.Sections.{Run, joined, runs}
-use Rattle.wenc_builder.specs.Space.{defines, defined_in, number_in, some_in, next_index, space_number}
+use Rattle.wenc_builder.specs.Space.{defines, defined_in, number_in, some_in, next_index}
 use Rattle.wenc_builder.specs.declared.builder.space.Space.{Space}
+use Rattle.wenc_builder.specs.laws.Space.{space_decides}
 
 joined_to_run : (id : ℕ) (x : Item) (xs : List Item) → joined (Some id) x (Run id xs ∷ []) ≡ Run id (x ∷ xs) ∷ []
 joined_to_run id x xs = elim (eqb_tells id id) [ inl t ↦ rw t.0 refl | inr t ↦ absurd (t.1 refl) ]
@@ -22,11 +23,11 @@ pub none_raw : (id : ℕ) (xs : List Item) → AllByRecursion (λ y. collected y
 none_raw id [] cs = tt
 none_raw id (x ∷ xs) (c, cs) = (not_raw id x c, none_raw id xs cs)
 
-one_in : (space : Space) → number_in (space_number space) (some_in space 1) ≡ 1
-one_in space = elim (eqb_tells (space_number space) (space_number space)) [ inl t ↦ rw t.0 refl | inr t ↦ absurd (t.1 refl) ]
+one_in : (space : Space) → number_in space (some_in space 1) ≡ 1
+one_in space = rw ((space_decides space space).1 refl) refl
 
-pub as_many : (space : Space) (xs : List Item) → AllByRecursion (λ y. defines y ≡ some_in space 1) xs → next_index xs (space_number space) ≡ length xs
+pub as_many : (space : Space) (xs : List Item) → AllByRecursion (λ y. defines y ≡ some_in space 1) xs → next_index xs space ≡ length xs
 as_many space [] ds = refl
 as_many space (x ∷ xs) (d, ds) =
-    let one : defined_in (space_number space) x ≡ 1 = ap (number_in (space_number space)) d ∙ one_in space in
+    let one : defined_in space x ≡ 1 = ap (number_in space) d ∙ one_in space in
     omega (arith, one, as_many space xs ds)

@@ -3,6 +3,8 @@ use Rattle.std.specs.Prelude.{◌≡◌, ℕ, List, [], ◌++◌, ◌⊎◌, map
 use Rattle.std.specs.Io.KnownBytes.{Appends, Keeps}
 use Rattle.wenc_base.specs.Piece.{Wide}
 use Rattle.wenc_builder.specs.Sections.{Reading}
+use Rattle.wenc_builder.specs.Space.{space_number}
+use Rattle.wenc_builder.specs.declared.builder.space.Space.{Space}
 use Rattle.wenc_list.specs.declared.fault.ListFault.{ListFault}
 use Rattle.wenc_list.specs.declared.fault.ListFault.TheVariants.{Memory}
 use Rattle.wenc_list.specs.declared.listing.Listing.{Listing}
@@ -18,8 +20,8 @@ pub record IsListingOf {A : Type 0} (text : List ℕ) (listing : Listing A) : Ty
   pub reading : Reading Wide bytes (map section_view listing.sections.items)
   pub within : AreWithin 100 (map section_view listing.sections.items)
   pub placed : ArePlaced bytes listing.sections.items
-  pub counted : (k : ℕ)
-      → slice_index listing.counts k ≡ count_of_sections k (map section_view listing.sections.items)
+  pub counted : (k : Space) → slice_index listing.counts (space_number k)
+      ≡ count_of_sections k (map section_view listing.sections.items)
 
 -- the text says bytes that have this fault
 abbrev pub IsFaultIn : List ℕ → ListFault → Type 0

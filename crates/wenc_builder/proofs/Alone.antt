@@ -1,5 +1,5 @@
 -- Something that stands alone, with indices in a space.
-use Rattle.std.proofs.Common.{◌≡◌, ℕ, ◌<◌, true, is_none, List, length, Option, Some, None, Result, Ok, Err, refl, sym, inl, inr, arith, subst}
+use Rattle.std.proofs.Common.{◌≡◌, ℕ, true, is_none, List, length, Option, Some, None, Result, Ok, Err, refl, sym, inl, inr, arith, subst}
 use Rattle.std.proofs.lemmas.List.{get_or-set_same}
 use Rattle.wenc_base.specs.Encode.{Serves}
 use Rattle.wenc_base.specs.Fault.{IsWarranted}
@@ -11,7 +11,8 @@ use Rattle.wenc_builder.specs.Entry.{Namespace}
 use Rattle.wenc_builder.specs.Cause.{SpaceCause, CallCause}
 use Rattle.wenc_builder.specs.inside.Takes.{TakesAlone, TakesNoIndex, with_alone}
 use Rattle.wenc_builder.specs.inside.Layout.{Buffered, buffer_with, StandsAlone}
-use Rattle.wenc_builder.specs.Space.{Indices}
+use Rattle.wenc_builder.specs.Space.{Indices, space_number}
+use Rattle.wenc_builder.specs.laws.Space.{space_within}
 use Rattle.wenc_builder.specs.inside.Spaces.{Spaced}
 use Rattle.wenc_builder.specs.inside.View.{Agree, builder_view}
 use Rattle.wenc_builder.proofs.Taken.{settled_before}
@@ -20,14 +21,14 @@ use Rattle.wenc_builder.proofs.Taken.{settled_before}
 abbrev pub space_after : State → Indices → Option (List ℕ) → Namespace
 space_after s d name = namespace_with (namespace_at s.settled.spaces d.space) d.number name
 
-there : (old : State) (d : Indices) (name : Option (List ℕ)) (text : List ℕ) → length old.settled.spaces ≡ 13 → d.space < 13
+there : (old : State) (d : Indices) (name : Option (List ℕ)) (text : List ℕ) → length old.settled.spaces ≡ 13
     → namespace_at (with_alone old.settled (Some d) name text).spaces d.space ≡ space_after old d name
-there old d name text h l = get_or-set_same old.settled.spaces d.space (space_after old d name) no_names (omega arith)
+there old d name text h = get_or-set_same old.settled.spaces (space_number d.space) (space_after old d name) no_names (omega (arith, h, space_within d.space))
 
 pub alone_without_indices : (b : Buffered) (s : Spaced) (old new : State) (fault : Fault) (d : Indices) (name : Option (List ℕ)) (p : Piece) → Agree b.writing s.taking → builder_view b s ≡ old
-    → is_none b.writing ≡ true → new ≡ old → length old.settled.spaces ≡ 13 → d.space < 13 → IsWarranted (SpaceCause (space_after old d name)) fault
+    → is_none b.writing ≡ true → new ≡ old → length old.settled.spaces ≡ 13 → IsWarranted (SpaceCause (space_after old d name)) fault
     → TakesAlone old new (Err fault) d name p
-alone_without_indices b s old new fault d name p a view w same all within refused = record {
+alone_without_indices b s old new fault d name p a view w same all refused = record {
   told = tt;
   ok = tt;
   fits = tt;
@@ -38,7 +39,7 @@ alone_without_indices b s old new fault d name p a view w same all within refuse
 }
   where
     refuses : (f : Fault) → SpaceCause (space_after old d name) f → CallCause old p.Cause (with_alone old.settled (Some d) name p.text) (Some d) f
-    refuses f c = inl (inr (inl (subst (λ (n : Namespace). SpaceCause n f) (sym (there old d name p.text all within)) c)))
+    refuses f c = inl (inr (inl (subst (λ (n : Namespace). SpaceCause n f) (sym (there old d name p.text all)) c)))
 
 -- ---- without an index
 

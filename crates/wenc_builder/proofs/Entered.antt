@@ -9,6 +9,7 @@ use Rattle.wenc_base.specs.declared.fault.Fault.TheVariants.{Memory, TooMany, To
 use Rattle.wenc_base.specs.laws.Serves.{still_warranted}
 use Rattle.wenc_builder.specs.Item.{collected, item}
 use Rattle.wenc_builder.specs.Space.{IsIndexOf, Indices, defines}
+use Rattle.wenc_builder.specs.declared.builder.space.Space.{Space}
 use Rattle.wenc_builder.specs.Entry.{Entry, items}
 use Rattle.wenc_builder.specs.Builder.{Content, with_entry, State, builder_is_finished, step, settled_in, content_of, namespace_at, Draft, draft, draft_indices, item_begun, item_ended}
 use Rattle.wenc_builder.specs.Holds.{Holds}
@@ -18,7 +19,7 @@ use Rattle.wenc_builder.specs.inside.Takes.{TakesAlone, TakesNoIndex, with_alone
 use Rattle.wenc_builder.specs.laws.Caused.{adding_never_unfinished}
 use Rattle.wenc_builder.specs.laws.Fits.{HasRoom}
 use Rattle.wenc_builder.specs.laws.Never.{never_unfinished}
-use Rattle.wenc_builder.specs.laws.Step.{holds_step, holds_index, indices_within}
+use Rattle.wenc_builder.specs.laws.Step.{holds_step, holds_index}
 use Rattle.wenc_builder.specs.laws.Typed.{drafted}
 
 -- This content is the one with this entry, which takes these indices.
@@ -27,7 +28,7 @@ pub record IsEntry (old : State) (x : Entry) (after : Content) (indices : Option
   pub defined : defines x.item ≡ indices
 
 -- This entry's item is collected in the section with this id, takes one index in this space, and has this name or none.
-pub record IsDraftOf (x : Entry) (id space : ℕ) (name : Option (List ℕ)) : Type 0 where
+pub record IsDraftOf (x : Entry) (id : ℕ) (space : Space) (name : Option (List ℕ)) : Type 0 where
   pub section : collected x.item ≡ Some id
   pub defined : defines x.item ≡ Some (record { space = space; number = 1 })
   pub named : x.name ≡ name
@@ -38,7 +39,7 @@ pub record IsAloneOf (x : Entry) (indices : Option Indices) (name : Option (List
   pub defined : defines x.item ≡ indices
   pub named : x.name ≡ name
 
-draft_is : {p : Piece} (old : State) (x : Entry) (id space : ℕ) (name : Option (List ℕ)) → IsDraftOf x id space name → Serves p (item x.item)
+draft_is : {p : Piece} (old : State) (x : Entry) (id : ℕ) (space : Space) (name : Option (List ℕ)) → IsDraftOf x id space name → Serves p (item x.item)
     → IsEntry old x (content_of (item_begun old (draft id space name p.text))) (Some (record { space = space; number = 1 }))
 draft_is {p} old x id space name w s = record { content = drafted old x (draft id space name p.text) w.section w.defined w.named (sym s.text); defined = w.defined }
 
@@ -131,9 +132,9 @@ enters {R} {p} old new next result x after indices Told Tells Counts w s done te
 
 -- the number of items in a space is the index of what comes next
 index_told : (old : State) (x : Entry) (d : Indices) → defines x.item ≡ Some d → (es : List Entry) → Holds old es → (i : ℕ) → i ≡ (namespace_at old.settled.spaces d.space).count → IsIndexOf (items es) x.item i
-index_told old x d e es h i f = rw e (holds_index old es d.space i h (indices_within x.item d e) f)
+index_told old x d e es h i f = rw e (holds_index old es d.space i h f)
 
-pub draft_enters : {p : Piece} (old new : State) (result : Result ℕ Fault) (x : Entry) (id space : ℕ) (name : Option (List ℕ)) → IsDraftOf x id space name → Serves p (item x.item)
+pub draft_enters : {p : Piece} (old new : State) (result : Result ℕ Fault) (x : Entry) (id : ℕ) (space : Space) (name : Option (List ℕ)) → IsDraftOf x id space name → Serves p (item x.item)
     → TakesDraft old new result (draft id space name) p → Enters old new result x
 draft_enters {p} old new result x id space name w s t =
     let d : Draft = draft id space name p.text in
@@ -178,7 +179,7 @@ takes_as {p} {q} old new next (Err fault) after indices Told fits among lawful t
   unfinished_first = t.unfinished_first;
 }
 
-pub draft_as : {p q : Piece} (old new : State) (result : Result ℕ Fault) (id space : ℕ) (name : Option (List ℕ)) → p.text ≡ q.text → (p.Fits → q.Fits) → ((fault : Fault) → p.Cause fault → q.Cause fault)
+pub draft_as : {p q : Piece} (old new : State) (result : Result ℕ Fault) (id : ℕ) (space : Space) (name : Option (List ℕ)) → p.text ≡ q.text → (p.Fits → q.Fits) → ((fault : Fault) → p.Cause fault → q.Cause fault)
     → (q.Fits → NoCause q.Cause) → TakesDraft old new result (draft id space name) p → TakesDraft old new result (draft id space name) q
 draft_as {p} {q} old new result id space name e fits among lawful t =
     let d : Draft = draft id space name p.text in

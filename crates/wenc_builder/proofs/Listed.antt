@@ -13,7 +13,7 @@ use Rattle.wenc_base.proofs.Runs.{no_run}
 use Rattle.wenc_canon.specs.Canonicals.{Canonical, canonical}
 use Rattle.wenc_canon.specs.declared.canonicals.CanonicalOption.{CanonicalOption}
 use Rattle.wenc_builder.specs.Item.{item}
-use Rattle.wenc_builder.specs.Space.{canonical_space, space_number}
+use Rattle.wenc_builder.specs.Space.{canonical_space}
 use Rattle.wenc_builder.specs.Entry.{Entry, canonical_entry}
 use Rattle.wenc_builder.specs.Builder.{BegunItem, State, builder_is_finished, content_of, draft, item_begun, item_appended, item_ended, item_given_up}
 use Rattle.wenc_builder.specs.Cause.{SectionCause}
@@ -120,7 +120,7 @@ module _ {S B : Type 0} (steps : S → Option B → S → Type 0) (values : S) (
 
 -- ---- an item that is begun, written so, and ended or given up
 
-module _ {S B : Type 0} (steps : S → Option B → S → Type 0) (values : S) (old : State) (id space : ℕ) (name : Option (List ℕ)) (piece : List B → Piece) where
+module _ {S B : Type 0} (steps : S → Option B → S → Type 0) (values : S) (old : State) (id : ℕ) (space : Space) (name : Option (List ℕ)) (piece : List B → Piece) where
   abbrev TakesIt : State → Result ℕ Fault → Type 0
   TakesIt new result = TakesListed steps values old new result (draft id space name) piece
 
@@ -143,7 +143,7 @@ module _ {S B : Type 0} (steps : S → Option B → S → Type 0) (values : S) (
     }
 
 -- what an iterator's values make is entered, where each list of values makes an entry
-pub listed_enters : {S B : Type 0} (steps : S → Option B → S → Type 0) (values : S) (old new : State) (result : Result ℕ Fault) (x : List B → Entry) (id space : ℕ) (name : Option (List ℕ)) (piece : List B → Piece)
+pub listed_enters : {S B : Type 0} (steps : S → Option B → S → Type 0) (values : S) (old new : State) (result : Result ℕ Fault) (x : List B → Entry) (id : ℕ) (space : Space) (name : Option (List ℕ)) (piece : List B → Piece)
     → ((vs : List B) → IsDraftOf (x vs) id space name) → ((vs : List B) → Serves (piece vs) (item (x vs).item)) → TakesListed steps values old new result (draft id space name) piece → EntersListed steps values old new result x
 listed_enters steps values old new (Ok i) x id space name piece w s t = record {
   ok = let h = t.ok in (h.0, h.1, h.2, draft_enters old new (Ok i) (x h.0.items) id space name (w h.0.items) (s h.0.items) h.3);
@@ -160,5 +160,5 @@ pub options_enter : {S : Type 0} (steps : S → Option CanonicalOption → S →
     (piece : List CanonicalOption → Piece) → ((os : List CanonicalOption) → canonical_space (function os) ≡ space) → ((os : List CanonicalOption) → Serves (piece os) (canonical (function os)))
     → TakesListed steps options old new result (draft_of kinds.CanonicalFunction space name) piece → EntersListed steps options old new result (λ os. canonical_entry name (function os))
 options_enter steps options old new result function space name piece defined serves t =
-    listed_enters steps options old new result (λ os. canonical_entry name (function os)) (kind_id kinds.CanonicalFunction) (space_number space) name piece
+    listed_enters steps options old new result (λ os. canonical_entry name (function os)) (kind_id kinds.CanonicalFunction) space name piece
     (λ os. record { section = refl; defined = rw (defined os) refl; named = refl }) serves t

@@ -26,9 +26,7 @@ use Rattle.wenc_builder.specs.inside.Alone.{with_bytes}
 use Rattle.wenc_builder.specs.inside.Takes.{TakesNoIndex}
 use Rattle.wenc_builder.specs.Holds.{Holds}
 use Rattle.wenc_builder.specs.Names.{named_sorts, by_sort, named_entry, AddsNames, names_held, space_names, none_named, kept_names}
-use Rattle.wenc_builder.specs.Space.{space_number}
 use Rattle.wenc_builder.specs.declared.builder.space.Space.{Space}
-use Rattle.wenc_builder.specs.laws.Step.{space_within}
 use Rattle.wenc_builder.specs.Item.{CustomItem, item}
 use Rattle.wenc_builder.specs.inside.Layout.{Buffered, StandsAlone}
 use Rattle.wenc_builder.specs.LenderState.{IsItemText}
@@ -90,12 +88,12 @@ some_text [] h e = cc
 some_text (p ∷ ps) h e = elim (eqb_tells p.1.count 0) [ inl t ↦ some_text ps (rw t.0 at h) (rw t.0 at e) | inr t ↦ let f = rw t.0 at e in cc ]
 
 -- what a builder keeps is what it holds
-same_by_sort : {A : Type 0} (f g : ℕ → A) → ((s : Space) → f (space_number s) ≡ g (space_number s)) → (ps : List (Sort × Space)) → map {B = Sort × A} (λ p. (p.0, f (space_number p.1))) ps ≡ map {B = Sort × A} (λ p. (p.0, g (space_number p.1))) ps
+same_by_sort : {A : Type 0} (f g : Space → A) → ((s : Space) → f s ≡ g s) → (ps : List (Sort × Space)) → map {B = Sort × A} (λ p. (p.0, f p.1)) ps ≡ map {B = Sort × A} (λ p. (p.0, g p.1)) ps
 same_by_sort f g same [] = refl
 same_by_sort f g same (p ∷ ps) = rw (same p.1, same_by_sort f g same ps) refl
 
 kept_is : (old : State) (es : List Entry) → Holds old es → by_sort (λ k. names_held (namespace_at old.settled.spaces k)) ≡ map kept_at (by_sort (names es))
-kept_is old es h = same_by_sort (λ k. names_held (namespace_at old.settled.spaces k)) (λ k. kept (names es k)) (λ s. ap names_held (h.spaces.each (space_number s) (space_within s))) named_sorts
+kept_is old es h = same_by_sort (λ k. names_held (namespace_at old.settled.spaces k)) (λ k. kept (names es k)) (λ s. ap names_held (h.spaces.each s)) named_sorts
 
 -- ---- the section
 

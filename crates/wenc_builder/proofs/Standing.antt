@@ -10,6 +10,7 @@ use Rattle.wenc_builder.specs.Cause.{SectionCause, NoRoom}
 use Rattle.wenc_builder.specs.inside.HoldsSome.{HoldsSome}
 use Rattle.wenc_builder.specs.inside.Layout.{Buffered, section_begun, section_appended, buffer_begun, buffer_appended, buffer_ended, buffer_given_up, buffer_with}
 use Rattle.wenc_builder.specs.LenderState.{IsItemText, is_whole}
+use Rattle.wenc_builder.specs.declared.builder.space.Space.{Space}
 use Rattle.wenc_builder.specs.inside.Spaces.{Spaced, spaces_begun, spaces_ended, spaces_given_up}
 use Rattle.wenc_builder.specs.inside.View.{builder_view, IsBuilder}
 use Rattle.wenc_builder.specs.laws.Held.{some_begun, some_appended, some_ended, some_given_up, some_alone}
@@ -62,18 +63,18 @@ module _ (b : Buffered) (s : Spaced) (i : IsBuilder b s) where
     begun_back id = rw (← writing_none b finished) refl
 
     -- an index that was given up at once
-    pub indexed_back : (space number : ℕ) (name : Option (List ℕ)) → IsBuilder b (spaces_given_up (spaces_begun s space number name))
+    pub indexed_back : (space : Space) (number : ℕ) (name : Option (List ℕ)) → IsBuilder b (spaces_given_up (spaces_begun s space number name))
     indexed_back space number name =
         let same : spaces_given_up (spaces_begun s space number name) ≡ s = rw (← not_taken) refl in
         subst (IsBuilder b) (sym same) i
 
-    pub begun_stands : (id space : ℕ) (name : Option (List ℕ)) → NoCause (SectionCause (section_begun b id)) → IsBuilder (buffer_begun b id) (spaces_begun s space 1 name)
+    pub begun_stands : (id : ℕ) (space : Space) (name : Option (List ℕ)) → NoCause (SectionCause (section_begun b id)) → IsBuilder (buffer_begun b id) (spaces_begun s space 1 name)
     begun_stands id space name room = record {
       agree = tt;
       holds = some_begun (builder_view b s) (record { id = id; space = space; name = name; text = [] }) room i.holds;
     }
 
-    pub alone_stands : (space number : ℕ) (name : Option (List ℕ)) (text : List ℕ) → ∥ IsItemText None (Some (record { space = space; number = number })) text ∥₁
+    pub alone_stands : (space : Space) (number : ℕ) (name : Option (List ℕ)) (text : List ℕ) → ∥ IsItemText None (Some (record { space = space; number = number })) text ∥₁
         → IsBuilder (buffer_with b text) (spaces_ended (spaces_begun s space number name))
     alone_stands space number name text whole = record {
       agree = tt;

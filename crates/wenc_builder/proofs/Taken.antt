@@ -1,5 +1,5 @@
 -- An item that is begun, written and ended, or given up.
-use Rattle.std.proofs.Common.{◌≡◌, ℕ, ◌<◌, true, false, is_none, List, [], length, Option, Some, None, Ok, Err, refl, sym, ◌∙◌}
+use Rattle.std.proofs.Common.{◌≡◌, ℕ, true, false, is_none, List, [], length, Option, Some, None, Ok, Err, refl, sym, ◌∙◌}
 use Rattle.wenc_base.specs.Fault.{IsWarranted, NoCause, either}
 use Rattle.wenc_base.specs.Piece.{Piece, nothing}
 use Rattle.wenc_base.specs.declared.fault.Fault.{Fault}
@@ -10,6 +10,7 @@ use Rattle.wenc_builder.specs.Cause.{SectionCause, SpaceCause}
 use Rattle.wenc_builder.specs.Enters.{Takes, TakesDraft}
 use Rattle.wenc_builder.specs.inside.Layout.{Buffered}
 use Rattle.wenc_builder.specs.LenderState.{no_room_in_section}
+use Rattle.wenc_builder.specs.declared.builder.space.Space.{Space}
 use Rattle.wenc_builder.specs.inside.Spaces.{Spaced}
 use Rattle.wenc_builder.specs.inside.View.{Agree, builder_view}
 use Rattle.wenc_builder.specs.laws.Caused.{space_refuses, begun_free, beginning_refuses, text_refuses, whole_free}
@@ -30,27 +31,27 @@ pub settled_before : (b : Buffered) (s : Spaced) (old : State) → Agree b.writi
 settled_before b s old a view w = none_is old.begun (sym (finished_is b s old a view) ∙ w)
 
 pub space_refused : (b : Buffered) (s : Spaced) (old new next : State) (fault : Fault) (d : Draft) → Agree b.writing s.taking → builder_view b s ≡ old → is_none b.writing ≡ true → new ≡ old
-    → length old.settled.spaces ≡ 13 → d.space < 13 → IsWarranted (SpaceCause (space_with old d)) fault
+    → length old.settled.spaces ≡ 13 → IsWarranted (SpaceCause (space_with old d)) fault
     → Takes old new next (Err fault) d nothing
-space_refused b s old new next fault d a view w same all within refused = record {
+space_refused b s old new next fault d a view w same all refused = record {
   told = tt;
   ok = tt;
   fits = tt;
   free = tt;
   err = same;
-  warranted = still_warranted _ _ (space_refuses old d (λ _. ⊥) all within) fault refused;
+  warranted = still_warranted _ _ (space_refuses old d (λ _. ⊥) all) fault refused;
   unfinished_first = λ e. let none = settled_before b s old a view w in cc;
 }
 
 pub begins : (b : Buffered) (s : Spaced) (old new next : State) (index : ℕ) (d : Draft) → Agree b.writing s.taking → builder_view b s ≡ old → is_none b.writing ≡ true → new ≡ next
-    → index ≡ (namespace_at old.settled.spaces d.space).count → length old.settled.spaces ≡ 13 → d.space < 13
+    → index ≡ (namespace_at old.settled.spaces d.space).count → length old.settled.spaces ≡ 13
     → NoCause (SpaceCause (space_with old d)) → NoCause (SectionCause (entered old.settled.sections d.id d.text).current)
     → Takes old new next (Ok index) d nothing
-begins b s old new next index d a view w is counted all within space section = record {
+begins b s old new next index d a view w is counted all space section = record {
   told = counted;
   ok = is;
   fits = tt;
-  free = begun_free old d all within (settled_before b s old a view w) space section;
+  free = begun_free old d all (settled_before b s old a view w) space section;
   err = tt;
   warranted = tt;
   unfinished_first = λ e. let none = settled_before b s old a view w in cc;
@@ -58,7 +59,7 @@ begins b s old new next index d a view w is counted all within space section = r
 
 -- ---- an item is written
 
-pub not_begun : (old new next whole : State) (fault : Fault) (id space : ℕ) (name : Option (List ℕ)) (p : Piece)
+pub not_begun : (old new next whole : State) (fault : Fault) (id : ℕ) (space : Space) (name : Option (List ℕ)) (p : Piece)
     → Takes old new next (Err fault) (draft id space name []) nothing → Takes old new whole (Err fault) (draft id space name p.text) p
 not_begun old new next whole fault id space name p t = record {
   told = tt;
@@ -70,7 +71,7 @@ not_begun old new next whole fault id space name p t = record {
   unfinished_first = t.unfinished_first;
 }
 
-pub added : (old begun written new : State) (index id space : ℕ) (name : Option (List ℕ)) (p : Piece)
+pub added : (old begun written new : State) (index id : ℕ) (space : Space) (name : Option (List ℕ)) (p : Piece)
     → Takes old begun (item_begun old (draft id space name [])) (Ok index) (draft id space name []) nothing
     → written ≡ item_appended begun p.text → p.Fits → NoCause (either p.Cause (no_room_in_section begun p.text)) → new ≡ item_ended written
     → TakesDraft old new (Ok index) (draft id space name) p
@@ -87,7 +88,7 @@ added old begun written new index id space name p t w fits free e = record {
     never : (i : ℕ) → Ok i ≡ Err Unfinished → ⊥
     never i e = cc
 
-pub partly_written : (old begun written new whole : State) (fault : Fault) (index id space : ℕ) (name : Option (List ℕ)) (p : Piece)
+pub partly_written : (old begun written new whole : State) (fault : Fault) (index id : ℕ) (space : Space) (name : Option (List ℕ)) (p : Piece)
     → Takes old begun (item_begun old (draft id space name [])) (Ok index) (draft id space name []) nothing
     → IsWarranted (either p.Cause (no_room_in_section begun p.text)) fault → written.settled ≡ begun.settled → new ≡ item_given_up written
     → Takes old new whole (Err fault) (draft id space name p.text) p

@@ -79,9 +79,13 @@ namespace_with s number (Some name) = record {
   names = s.names ++ (name_association (record { index = s.count; name = name })).text;
 }
 
--- the space with this number
-abbrev pub namespace_at : List Namespace → ℕ → Namespace
-namespace_at spaces k = slice_index_or spaces k no_names
+-- what is kept of a space
+abbrev pub namespace_at : List Namespace → Space → Namespace
+namespace_at spaces k = slice_index_or spaces (space_number k) no_names
+
+-- this is kept of a space instead
+abbrev pub namespace_set : List Namespace → Space → Namespace → List Namespace
+namespace_set spaces k new = slice_set spaces (space_number k) new
 
 -- ---- a builder
 
@@ -94,7 +98,7 @@ pub record Content : Type 0 where
 abbrev pub spaces_with : List Namespace → Option Indices → Option (List ℕ) → List Namespace
 spaces_with spaces None name = spaces
 spaces_with spaces (Some d) name =
-    slice_set spaces d.space (namespace_with (namespace_at spaces d.space) d.number name)
+    namespace_set spaces d.space (namespace_with (namespace_at spaces d.space) d.number name)
 
 -- one more entry
 abbrev pub with_entry : Content → Entry → Content
@@ -109,7 +113,7 @@ with_entry c e =
 pub record BegunItem : Type 0 where
   pub id : ℕ
   pub text : List ℕ
-  pub space : ℕ
+  pub space : Space
   pub after : Namespace
 
 -- a builder: settled content, and the item that is being written, if there is one
@@ -136,7 +140,7 @@ abbrev pub content_with : Content → Option BegunItem → Content
 content_with c None = c
 content_with c (Some b) = record {
   sections = entered c.sections b.id b.text;
-  spaces = slice_set c.spaces b.space b.after;
+  spaces = namespace_set c.spaces b.space b.after;
 }
 
 -- the content, as it is with that item
@@ -145,21 +149,21 @@ content_of s = content_with s.settled s.begun
 
 -- how many items a space has, the one that is being written with them
 abbrev pub count_in : State → Space → ℕ
-count_in s space = (namespace_at (content_of s).spaces (space_number space)).count
+count_in s space = (namespace_at (content_of s).spaces space).count
 
 -- what is to be written: an item of the section with this id, which takes one index in this space
 pub record Draft : Type 0 where
   pub id : ℕ
-  pub space : ℕ
+  pub space : Space
   pub name : Option (List ℕ)
   pub text : List ℕ
 
-abbrev pub draft : ℕ → ℕ → Option (List ℕ) → List ℕ → Draft
+abbrev pub draft : ℕ → Space → Option (List ℕ) → List ℕ → Draft
 draft id space name text = record { id = id; space = space; name = name; text = text }
 
--- what is to be written, by the section and the space themselves
+-- what is to be written, by the section itself
 abbrev pub draft_in : ComponentSectionId → Space → Option (List ℕ) → List ℕ → Draft
-draft_in section space name text = draft (section_number section) (space_number space) name text
+draft_in section space name text = draft (section_number section) space name text
 
 -- its index
 abbrev pub draft_indices : Draft → Indices

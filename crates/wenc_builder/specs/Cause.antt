@@ -7,6 +7,7 @@ use Rattle.wenc_base.specs.declared.fault.Fault.TheVariants.{TooMany, TooLarge, 
 use Rattle.wenc_builder.specs.Item.{item}
 use Rattle.wenc_builder.specs.Sections.{runs, OpenSection, open_of}
 use Rattle.wenc_builder.specs.Space.{Indices, defines}
+use Rattle.wenc_builder.specs.declared.builder.space.Space.{Space}
 use Rattle.wenc_builder.specs.Entry.{Entry, items, Namespace, namespace_of}
 use Rattle.wenc_builder.specs.Builder.{namespace_at, Content, with_entry, content_of}
 use Rattle.wenc_builder.specs.Builder.{State, builder_is_finished, Draft, draft_indices, item_begun}
@@ -30,13 +31,13 @@ SpaceCause s TooLarge = 2 ^ 32 ≤ number_size s.named + length s.names
 SpaceCause s other = ⊥
 
 -- too much of what the space of these indices is
-abbrev pub IndexCause : (ℕ → Namespace) → Option Indices → Fault → Type 0
+abbrev pub IndexCause : (Space → Namespace) → Option Indices → Fault → Type 0
 IndexCause space None fault = ⊥
 IndexCause space (Some d) fault = SpaceCause (space d.space) fault
 
 -- Adding an item makes too much: of what keeps it from being encoded, of what its space is then, or
 -- of what the open section is then.
-abbrev pub AddingCause : (Fault → Type 0) → (ℕ → Namespace) → Option Indices → Option OpenSection
+abbrev pub AddingCause : (Fault → Type 0) → (Space → Namespace) → Option Indices → Option OpenSection
     → Fault → Type 0
 AddingCause cause space indices current fault =
     cause fault ⊎ (IndexCause space indices fault ⊎ SectionCause current fault)

@@ -1,5 +1,5 @@
 -- Items with their debug names.
-use Rattle.std.specs.Prelude.{ℕ, List, [], ◌∷◌, ◌++◌, ◌+◌, map, Option, Some, None, nat_eq}
+use Rattle.std.specs.Prelude.{ℕ, List, [], ◌∷◌, ◌++◌, ◌+◌, map, Option, Some, None}
 use Rattle.std.specs.Prelude.{if◌then◌else◌, length}
 use Rattle.wenc_base.specs.Names.{NameAssociation, names_text}
 use Rattle.wenc_base.specs.declared.exports.ExportKind.{ExportKind}
@@ -15,7 +15,8 @@ use Rattle.wenc_types.specs.ComponentTypes.{DefType}
 use Rattle.wenc_builder.specs.Item.{Item, ModuleItem, CoreInstanceItem, CoreTypeItem, ComponentItem}
 use Rattle.wenc_builder.specs.Item.{InstanceItem, AliasItem, TypeItem, CanonItem, StartItem}
 use Rattle.wenc_builder.specs.Item.{ImportItem, ExportItem, CustomItem, RawItem}
-use Rattle.wenc_builder.specs.Space.{Indices, defines, defined_in, next_index}
+use Rattle.wenc_builder.specs.Space.{space_eq, Indices, defines, defined_in, next_index}
+use Rattle.wenc_builder.specs.declared.builder.space.Space.{Space}
 
 -- an item, with a debug name or none
 pub record Entry : Type 0 where
@@ -100,18 +101,18 @@ named_as n None = []
 named_as n (Some name) = record { index = n; name = name } ∷ []
 
 -- the name of what takes these indices, if they are in space k
-abbrev pub named_in : ℕ → Option Indices → ℕ → Option (List ℕ) → List NameAssociation
+abbrev pub named_in : Space → Option Indices → ℕ → Option (List ℕ) → List NameAssociation
 named_in k None n name = []
-named_in k (Some d) n name = if nat_eq d.space k then named_as n name else []
+named_in k (Some d) n name = if space_eq d.space k then named_as n name else []
 
 -- the indices and names of the named entries in space k, of which the first has index n
-abbrev pub names_from : ℕ → ℕ → List Entry → List NameAssociation
+abbrev pub names_from : Space → ℕ → List Entry → List NameAssociation
 names_from k n [] = []
 names_from k n (e ∷ es) =
     named_in k (defines e.item) n e.name ++ names_from k (n + defined_in k e.item) es
 
 -- the indices and names of all named entries in space k
-abbrev pub names : List Entry → ℕ → List NameAssociation
+abbrev pub names : List Entry → Space → List NameAssociation
 names es k = names_from k 0 es
 
 -- how many items a space has, how many of them have names, and the text of those names
@@ -121,7 +122,7 @@ pub record Namespace : Type 0 where
   pub names : List ℕ
 
 -- what these entries make of space k
-abbrev pub namespace_of : List Entry → ℕ → Namespace
+abbrev pub namespace_of : List Entry → Space → Namespace
 namespace_of es k =
     record {
       count = next_index (items es) k;

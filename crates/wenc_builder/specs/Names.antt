@@ -9,35 +9,34 @@ use Rattle.wenc_base.specs.declared.fault.Fault.TheVariants.{Unfinished}
 use Rattle.wenc_sections.specs.Names.{Subsection, subsections_text, name_subsections}
 use Rattle.wenc_sections.specs.Names.{names_label, held_subsection}
 use Rattle.wenc_sections.specs.declared.names.Sort.{Sort}
-use Rattle.wenc_sections.specs.declared.names.Sort.TheVariants as sorts
+use Rattle.wenc_sections.specs.declared.names.Sort.TheVariants.{CoreFunc, CoreTable, CoreMemory}
+use Rattle.wenc_sections.specs.declared.names.Sort.TheVariants.{CoreGlobal, CoreTag, CoreType}
+use Rattle.wenc_sections.specs.declared.names.Sort.TheVariants.{CoreModule, CoreInstance, Func}
+use Rattle.wenc_sections.specs.declared.names.Sort.TheVariants.{Value, «Type» as TypeSort}
+use Rattle.wenc_sections.specs.declared.names.Sort.TheVariants.{Component, Instance}
 use Rattle.wenc_builder.specs.Entry.{Entry, custom_entry, names, Namespace}
 use Rattle.wenc_builder.specs.Builder.{namespace_at, State, builder_is_finished}
 use Rattle.wenc_builder.specs.Enters.{EntersWithoutIndex}
 use Rattle.wenc_builder.specs.Holds.{Holds}
-use Rattle.wenc_builder.specs.Space.{space_number}
 use Rattle.wenc_builder.specs.declared.builder.space.Space.{Space}
-use Rattle.wenc_builder.specs.declared.builder.space.Space.TheVariants as spaces
+use Rattle.wenc_builder.specs.declared.builder.space.Space.TheVariants.{CoreModules, CoreFuncs}
+use Rattle.wenc_builder.specs.declared.builder.space.Space.TheVariants.{CoreTypes, CoreMemories}
+use Rattle.wenc_builder.specs.declared.builder.space.Space.TheVariants.{CoreTables, CoreInstances}
+use Rattle.wenc_builder.specs.declared.builder.space.Space.TheVariants.{CoreTags, CoreGlobals}
+use Rattle.wenc_builder.specs.declared.builder.space.Space.TheVariants.{Funcs, Instances, Values}
+use Rattle.wenc_builder.specs.declared.builder.space.Space.TheVariants.{Components, Types}
 
 -- the sorts of the items in each space, in the order in which their names are written
 abbrev pub named_sorts : List (Sort × Space)
 named_sorts =
-    (sorts.CoreFunc, spaces.CoreFuncs) ∷
-    (sorts.CoreTable, spaces.CoreTables) ∷
-    (sorts.CoreMemory, spaces.CoreMemories) ∷
-    (sorts.CoreGlobal, spaces.CoreGlobals) ∷
-    (sorts.CoreTag, spaces.CoreTags) ∷
-    (sorts.CoreType, spaces.CoreTypes) ∷
-    (sorts.CoreModule, spaces.CoreModules) ∷
-    (sorts.CoreInstance, spaces.CoreInstances) ∷
-    (sorts.Instance, spaces.Instances) ∷
-    (sorts.Func, spaces.Funcs) ∷
-    (sorts.«Type», spaces.Types) ∷
-    (sorts.Component, spaces.Components) ∷
-    (sorts.Value, spaces.Values) ∷ []
+    (CoreFunc, CoreFuncs) ∷ (CoreTable, CoreTables) ∷ (CoreMemory, CoreMemories) ∷
+    (CoreGlobal, CoreGlobals) ∷ (CoreTag, CoreTags) ∷ (CoreType, CoreTypes) ∷
+    (CoreModule, CoreModules) ∷ (CoreInstance, CoreInstances) ∷ (Instance, Instances) ∷
+    (Func, Funcs) ∷ (TypeSort, Types) ∷ (Component, Components) ∷ (Value, Values) ∷ []
 
 -- what each space has, by its sort
-abbrev pub by_sort : {A : Type 0} → (ℕ → A) → List (Sort × A)
-by_sort at = map (λ p. (p.0, at (space_number p.1))) named_sorts
+abbrev pub by_sort : {A : Type 0} → (Space → A) → List (Sort × A)
+by_sort at = map (λ p. (p.0, at p.1)) named_sorts
 
 -- the entry of these subsections, where there are any
 abbrev pub named_entry : List Subsection → Option Entry

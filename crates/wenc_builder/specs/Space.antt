@@ -1,7 +1,7 @@
 -- Index spaces: which one an item defines in, and the index that it gets (component model,
 -- explainer, "Index Spaces").
 use Rattle.std.specs.Option.{option_map}
-use Rattle.std.specs.Prelude.{◌≡◌, ℕ, ◌+◌, List, [], ◌∷◌, Option, Some, None, nat_eq, if◌then◌else◌}
+use Rattle.std.specs.Prelude.{◌≡◌, ℕ, ◌+◌, List, [], ◌∷◌, Option, Some, None, Bool, if◌then◌else◌}
 use Rattle.wenc_parts.specs.declared.exports.ComponentExportKind.{ComponentExportKind}
 use Rattle.wenc_parts.specs.declared.exports.ComponentExportKind.TheVariants.{Module, Func, Value}
 use Rattle.wenc_parts.specs.declared.exports.ComponentExportKind.TheVariants.{«Type» as TypeKind}
@@ -17,6 +17,7 @@ use Rattle.wenc_builder.specs.declared.builder.space.Space.TheVariants.{CoreTabl
 use Rattle.wenc_builder.specs.declared.builder.space.Space.TheVariants.{CoreTags, CoreGlobals}
 use Rattle.wenc_builder.specs.declared.builder.space.Space.TheVariants.{Funcs, Instances, Values}
 use Rattle.wenc_builder.specs.declared.builder.space.Space.TheVariants.{Components, Types}
+use Rattle.wenc_builder.specs.contracts.builder.space.SpacePartialEq.TheImpl as equality
 use Rattle.wenc_parts.specs.Imports.{kind_of}
 use Rattle.wenc_parts.specs.Aliases.{AliasOf, InstanceExport, CoreInstanceExport, Outer}
 use Rattle.wenc_canon.specs.Canonicals.{Canonical, Lift}
@@ -39,6 +40,10 @@ space_number Instances = 9
 space_number Values = 10
 space_number Components = 11
 space_number Types = 12
+
+-- whether two spaces are the same
+abbrev pub space_eq : Space → Space → Bool
+space_eq = equality.ghosts.eq
 
 -- the space in which an item of this kind has its index
 abbrev pub kind_space : ComponentExportKind → Space
@@ -77,14 +82,14 @@ canonical_space other = CoreFuncs
 
 -- so many indices in this space
 pub record Indices : Type 0 where
-  pub space : ℕ
+  pub space : Space
   pub number : ℕ
 
 abbrev pub indices_in : Space → ℕ → Indices
-indices_in s number = record { space = space_number s; number = number }
+indices_in s number = record { space = s; number = number }
 
 abbrev pub some_in : Space → ℕ → Option Indices
-some_in s number = Some (indices_in s number)
+some_in s number = Some (record { space = s; number = number })
 
 -- the indices that an item takes, where it takes any
 abbrev pub defines : Item → Option Indices
@@ -102,16 +107,16 @@ defines (ExportItem export) = some_in (kind_space export.kind) 1
 defines other = None
 
 -- how many of these indices are in space k
-abbrev pub number_in : ℕ → Option Indices → ℕ
+abbrev pub number_in : Space → Option Indices → ℕ
 number_in k None = 0
-number_in k (Some d) = if nat_eq d.space k then d.number else 0
+number_in k (Some d) = if space_eq d.space k then d.number else 0
 
 -- how many an item takes in space k
-abbrev pub defined_in : ℕ → Item → ℕ
+abbrev pub defined_in : Space → Item → ℕ
 defined_in k x = number_in k (defines x)
 
 -- how many the items take in space k: the index there of what comes next
-abbrev pub next_index : List Item → ℕ → ℕ
+abbrev pub next_index : List Item → Space → ℕ
 next_index [] k = 0
 next_index (x ∷ xs) k = defined_in k x + next_index xs k
 

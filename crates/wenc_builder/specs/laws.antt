@@ -1,4 +1,5 @@
 pub mod Runs
+pub mod Space
 pub mod Step
 pub mod Never
 pub mod Caused

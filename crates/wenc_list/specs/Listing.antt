@@ -8,6 +8,7 @@ use Rattle.wenc_base.specs.Piece.{Wide, each}
 use Rattle.wenc_builder.specs.Item.{Item, TypeItem}
 use Rattle.wenc_builder.specs.Sections.{Section, members, item_of, section_piece, preamble}
 use Rattle.wenc_builder.specs.Space.{next_index}
+use Rattle.wenc_builder.specs.declared.builder.space.Space.{Space}
 use Rattle.wenc_decode.specs.Depth.{Front, OpensTypes}
 use Rattle.wenc_types.specs.ComponentTypes.{depth}
 use Rattle.wenc_list.specs.declared.fault.ListFault.{ListFault}
@@ -78,7 +79,7 @@ AreFrom all (s ∷ ss) bytes rest =
     AreFrom all ss middle rest
 
 -- how many indices in space k the items of these sections take
-abbrev pub count_of_sections : ℕ → List Section → ℕ
+abbrev pub count_of_sections : Space → List Section → ℕ
 count_of_sections k ss = next_index (flat_map members ss) k
 
 -- so it is of all of a component, after its header

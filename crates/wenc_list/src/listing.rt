@@ -2,6 +2,8 @@
 ghost use Rattle.std.specs.Prelude.{◌≡◌, ◌≤◌, ℕ, List, [], map, length, slice_index, IfOk, IfErr, Err, MatchResult};
 ghost use Rattle.wenc_base.specs.Piece.{Wide};
 ghost use Rattle.wenc_builder.specs.Sections.{Section, Reading};
+ghost use Rattle.wenc_builder.specs.Space.{space_number};
+ghost use Rattle.wenc_builder.specs.declared.builder.space.Space.{Space};
 ghost use Rattle.wenc_list.specs.Items.{item_view, section_view};
 ghost use Rattle.wenc_list.specs.Listing.{AreWithin, AreFrom, ArePlaced, count_of_sections, IsFaultOf, IsMemoryOrTooDeep, HasNoHeader, IsFaultBehind};
 ghost use Rattle.wenc_list.specs.inside.Taken.{TakesAll, FaultsIn};
@@ -71,8 +73,8 @@ fn sections<A: Allocator + Copy>(
     requires { length from.rest.now ≤ from.ends }
     ensures listed { IfOk result (λ x. AreFrom from.entry.ends x.0.items from.entry.rest.now []) }
     ensures within { IfOk result (λ x. AreWithin 100 (map section_view x.0.items)) }
-    ensures counted { IfOk result (λ x. (k : ℕ)
-        → slice_index x.1 k ≡ count_of_sections k (map section_view x.0.items)) }
+    ensures counted { IfOk result (λ x. (k : Space) → slice_index x.1 (space_number k)
+        ≡ count_of_sections k (map section_view x.0.items)) }
     ensures fault { IfErr result (IsFaultBehind from.entry.ends from.entry.rest.now) }
 {
     let mut left = from;
@@ -115,8 +117,8 @@ pub fn list<A: Allocator + Copy>(alloc: A, bytes: &[u8]) -> Result<Listing<A>, L
     // Each section is read at its byte offset, up to its end, and its id is the byte there.
     ensures placed { IfOk result (λ l. ArePlaced bytes.now l.sections.items) }
     // The counts are the sums of the indices that the items take.
-    ensures counted { IfOk result (λ l. (k : ℕ)
-        → slice_index l.counts k ≡ count_of_sections k (map section_view l.sections.items)) }
+    ensures counted { IfOk result (λ l. (k : Space) → slice_index l.counts (space_number k)
+        ≡ count_of_sections k (map section_view l.sections.items)) }
     // Sections that are read within that depth are listed, unless memory runs out.
     ensures listed { (ss : List Section) → Reading Wide bytes.now ss → AreWithin 100 ss
         → MatchResult result (λ l. map section_view l.sections.items ≡ ss) (λ e. e ≡ Memory) }

@@ -10,7 +10,7 @@ ghost use Rattle.wenc_builder.specs.Entry.{Entry, items as items_of, names};
 ghost use Rattle.wenc_builder.specs.Holds.{Holds};
 ghost use Rattle.wenc_builder.specs.Item.{Item, collected, HasNoRaw};
 ghost use Rattle.wenc_builder.specs.Sections.{Section, Run, runs, whole};
-ghost use Rattle.wenc_builder.specs.Space.{defines, some_in, next_index, space_number};
+ghost use Rattle.wenc_builder.specs.Space.{defines, some_in, next_index};
 ghost use Rattle.wenc_builder.specs.declared.builder.space.Space.{Space};
 ghost use Rattle.wenc_parts.specs.Types.{value_type, primitive};
 ghost use Rattle.wenc_parts.specs.declared.types.ComponentValType.TheVariants as value_types;
@@ -40,7 +40,7 @@ pub fn one_kind_is_one_section()
         → AllByRecursion (λ y. collected y ≡ Some id) xs → HasNoRaw xs }
     ensures indices { (space : Space) (xs : List Item)
         → AllByRecursion (λ y. defines y ≡ some_in space 1) xs
-        → next_index xs (space_number space) ≡ length xs }
+        → next_index xs space ≡ length xs }
 {}
 
 /// The bytes of two builders without raw items are equal if and only if their items are.
@@ -83,9 +83,9 @@ pub fn counts_never_fall()
 /// function has a name. This holds for all entries that commands lead to, if none adds a start
 /// function with a name, and no command of the code does.
 pub fn named_indices_ascend<A: Allocator>()
-    ensures ascending { (es : List Entry) (k : ℕ) → AllByRecursion StartIsNameless es
+    ensures ascending { (es : List Entry) (k : Space) → AllByRecursion StartIsNameless es
         → IsStrictlyIncreasing (map (λ n. n.index) (names es k)) }
-    ensures below { (es : List Entry) (k : ℕ) → AllByRecursion StartIsNameless es
+    ensures below { (es : List Entry) (k : Space) → AllByRecursion StartIsNameless es
         → AllByRecursion (λ n. n.index < next_index (items_of es) k) (names es k) }
     ensures led_to { (commands : List CommandTree) (answers : List (Result (Option ℕ) Fault))
         (es : List Entry) → AllByRecursion AddsNameless commands → Ran commands answers es

@@ -13,7 +13,6 @@ use Rattle.wenc_base.specs.declared.fault.Fault.{Fault}
 use Rattle.wenc_parts.specs.declared.component.ComponentSectionId.TheVariants as ids
 use Rattle.wenc_parts.specs.SectionIds.{section_number}
 use Rattle.wenc_parts.specs.Component.{preamble}
-use Rattle.wenc_builder.specs.Space.{space_number}
 use Rattle.wenc_builder.specs.Sections.{OpenSection}
 use Rattle.wenc_builder.specs.Builder.{SectionsState, entered, stood_alone}
 use Rattle.wenc_builder.specs.Builder.{open_text, Draft, draft}
@@ -39,7 +38,7 @@ kind_id Export = section_number ids.Export
 
 -- an item of this kind, which takes one index in this space
 abbrev pub draft_of : Kind → Space → Option (List ℕ) → List ℕ → Draft
-draft_of kind space name text = draft (kind_id kind) (space_number space) name text
+draft_of kind space name text = draft (kind_id kind) space name text
 
 -- a section's id, the size of what follows the size, and its count
 abbrev pub section_head : ℕ → ℕ → ℕ → List ℕ

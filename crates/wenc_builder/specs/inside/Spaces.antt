@@ -1,14 +1,15 @@
 -- The index spaces with the item that is being written in one of them, and what that was before.
 use Rattle.std.specs.Prelude.{◌≡◌, ℕ, List, [], ◌<◌, ◌≤◌, ◌^◌, length, take, replicate, Option}
-use Rattle.std.specs.Prelude.{Some, None, slice_set}
+use Rattle.std.specs.Prelude.{Some, None}
 use Rattle.wenc_base.specs.Holder.{HolderState, holding, content_size}
-use Rattle.wenc_builder.specs.Builder.{no_names, namespace_at, namespace_with}
+use Rattle.wenc_builder.specs.Builder.{no_names, namespace_at, namespace_set, namespace_with}
 use Rattle.wenc_builder.specs.Entry.{Namespace}
+use Rattle.wenc_builder.specs.declared.builder.space.Space.{Space}
 use Rattle.wenc_builder.specs.declared.builder.spaces.Undo.{Undo}
 
 -- the space that an item is taking an index in, as it is with that item
 pub record Taking : Type 0 where
-  pub space : ℕ
+  pub space : Space
   pub after : Namespace
 
 -- settled spaces, and the one that an item is taking an index in
@@ -20,10 +21,10 @@ abbrev pub empty_spaces : Spaced
 empty_spaces = record { settled = replicate 13 no_names; taking = None }
 
 -- a space with so many more items, the first of them with this name or none
-abbrev pub space_begun : Spaced → ℕ → ℕ → Option (List ℕ) → Namespace
+abbrev pub space_begun : Spaced → Space → ℕ → Option (List ℕ) → Namespace
 space_begun s space number name = namespace_with (namespace_at s.settled space) number name
 
-abbrev pub spaces_begun : Spaced → ℕ → ℕ → Option (List ℕ) → Spaced
+abbrev pub spaces_begun : Spaced → Space → ℕ → Option (List ℕ) → Spaced
 spaces_begun s space number name = record {
   settled = s.settled;
   taking = Some (record { space = space; after = space_begun s space number name });
@@ -31,10 +32,10 @@ spaces_begun s space number name = record {
 
 abbrev pub taken : List Namespace → Option Taking → List Namespace
 taken spaces None = spaces
-taken spaces (Some t) = slice_set spaces t.space t.after
+taken spaces (Some t) = namespace_set spaces t.space t.after
 
 -- how many items a space has, the one that is being written with them
-abbrev pub count_at : Spaced → ℕ → ℕ
+abbrev pub count_at : Spaced → Space → ℕ
 count_at s space = (namespace_at (taken s.settled s.taking) space).count
 
 abbrev pub spaces_ended : Spaced → Spaced
@@ -58,12 +59,12 @@ spaces_before u names = record { count = u.count; named = u.named; names = take 
 abbrev pub spaced_view : List Namespace → Option Undo → Spaced
 spaced_view spaces None = record { settled = spaces; taking = None }
 spaced_view spaces (Some u) = record {
-  settled = slice_set spaces u.space (spaces_before u (namespace_at spaces u.space).names);
+  settled = namespace_set spaces u.space (spaces_before u (namespace_at spaces u.space).names);
   taking = Some (record { space = u.space; after = namespace_at spaces u.space });
 }
 
 abbrev pub CanUndo : List Namespace → Option Undo → Type 0
 CanUndo spaces None = length spaces ≡ 13
 CanUndo spaces (Some u) =
-    (length spaces ≡ 13) × (u.space < 13) × (u.named ≤ (namespace_at spaces u.space).named) ×
+    (length spaces ≡ 13) × (u.named ≤ (namespace_at spaces u.space).named) ×
     (u.len ≤ length (namespace_at spaces u.space).names)

@@ -12,35 +12,36 @@ use Rattle.wenc_builder.specs.Space.{Indices, defines, IsIndexAt, IsIndexOf, nex
 use Rattle.wenc_builder.specs.Entry.{Entry, items, Namespace, namespace_of}
 use Rattle.wenc_builder.specs.Builder.{namespace_at, with_entry, State}
 use Rattle.wenc_builder.specs.Holds.{Holds}
+use Rattle.wenc_builder.specs.declared.builder.space.Space.{Space}
 use Rattle.wenc_builder.specs.Cause.{SectionCause, SpaceCause, IndexCause, AddingCause, EnterCause, EntryCause}
 use Rattle.wenc_builder.specs.Enters.{IsCountAt, EntersWith, Enters}
 use Rattle.wenc_builder.specs.laws.Caused.{adding_never_unfinished}
 use Rattle.wenc_builder.specs.laws.Never.{never_unfinished}
-use Rattle.wenc_builder.specs.laws.Step.{sections_step, spaces_hold_more, indices_within}
+use Rattle.wenc_builder.specs.laws.Step.{sections_step, spaces_hold_more}
 
 -- what the content with one more entry is, by the list that is held then
 current_is : (old : State) (es : List Entry) (x : Entry) → Holds old es → (with_entry old.settled x).sections.current ≡ open_of (runs (items (es ++ x ∷ [])))
 current_is old es x h = (sections_step old es x h).last
 
 -- the spaces agree at these indices
-abbrev SpacesAgree : (ℕ → Namespace) → (ℕ → Namespace) → Option Indices → Type 0
+abbrev SpacesAgree : (Space → Namespace) → (Space → Namespace) → Option Indices → Type 0
 SpacesAgree one other None = Unit {0}
 SpacesAgree one other (Some d) = one d.space ≡ other d.space
 
 space_is : (old : State) (es : List Entry) (x : Entry) (o : Option Indices) → defines x.item ≡ o → Holds old es
     → SpacesAgree (namespace_at (with_entry old.settled x).spaces) (namespace_of (es ++ x ∷ [])) o
 space_is old es x None e h = tt
-space_is old es x (Some d) e h = (spaces_hold_more old.settled.spaces es x h.spaces).each d.space (indices_within x.item d e)
+space_is old es x (Some d) e h = (spaces_hold_more old.settled.spaces es x h.spaces).each d.space
 
-backwards : (one other : ℕ → Namespace) (d : Option Indices) → SpacesAgree one other d → SpacesAgree other one d
+backwards : (one other : Space → Namespace) (d : Option Indices) → SpacesAgree one other d → SpacesAgree other one d
 backwards one other None e = tt
 backwards one other (Some d) e = sym e
 
-index_moved : (one other : ℕ → Namespace) (d : Option Indices) (f : Fault) → SpacesAgree one other d → IndexCause one d f → IndexCause other d f
+index_moved : (one other : Space → Namespace) (d : Option Indices) (f : Fault) → SpacesAgree one other d → IndexCause one d f → IndexCause other d f
 index_moved one other None f e c = c
 index_moved one other (Some d) f e c = subst (λ (n : Namespace). SpaceCause n f) e c
 
-moved : (cause : Fault → Type 0) (s t : ℕ → Namespace) (d : Option Indices) (o p : Option OpenSection) (f : Fault) → SpacesAgree s t d → o ≡ p → AddingCause cause s d o f → AddingCause cause t d p f
+moved : (cause : Fault → Type 0) (s t : Space → Namespace) (d : Option Indices) (o p : Option OpenSection) (f : Fault) → SpacesAgree s t d → o ≡ p → AddingCause cause s d o f → AddingCause cause t d p f
 moved cause s t d o p f e q (inl c) = inl c
 moved cause s t d o p f e q (inr (inl c)) = inr (inl (index_moved s t d f e c))
 moved cause s t d o p f e q (inr (inr c)) = inr (inr (subst (λ (n : Option OpenSection). SectionCause n f) q c))

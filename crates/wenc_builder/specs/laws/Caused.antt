@@ -12,7 +12,9 @@ use Rattle.wenc_builder.specs.Builder.{item_begun}
 use Rattle.wenc_builder.specs.Sections.{OpenSection}
 use Rattle.wenc_builder.specs.Cause.{SectionCause, SpaceCause, IndexCause, AddingCause, CallCause, NoRoom}
 use Rattle.wenc_base.specs.Fault.{either}
-use Rattle.wenc_builder.specs.Space.{Indices}
+use Rattle.wenc_builder.specs.Space.{Indices, space_number}
+use Rattle.wenc_builder.specs.declared.builder.space.Space.{Space}
+use Rattle.wenc_builder.specs.laws.Space.{space_within}
 
 -- ---- a section, a space
 
@@ -25,11 +27,11 @@ cause_is (Some o) TooLarge c = inr refl
 cause_is (Some o) Unfinished c = absurd c
 
 -- nothing is unfinished in what an item makes too much of
-index_never_unfinished : (space : ℕ → Namespace) (d : Option Indices) → IndexCause space d Unfinished → ⊥
+index_never_unfinished : (space : Space → Namespace) (d : Option Indices) → IndexCause space d Unfinished → ⊥
 index_never_unfinished space None c = c
 index_never_unfinished space (Some d) c = c
 
-pub adding_never_unfinished : (cause : Fault → Type 0) (space : ℕ → Namespace) (indices : Option Indices) (current : Option OpenSection) → (cause Unfinished → ⊥) → AddingCause cause space indices current Unfinished → ⊥
+pub adding_never_unfinished : (cause : Fault → Type 0) (space : Space → Namespace) (indices : Option Indices) (current : Option OpenSection) → (cause Unfinished → ⊥) → AddingCause cause space indices current Unfinished → ⊥
 adding_never_unfinished cause space indices current own (inl c) = own c
 adding_never_unfinished cause space indices current own (inr (inl c)) = index_never_unfinished space indices c
 adding_never_unfinished cause space indices current own (inr (inr c)) = elim (cause_is current Unfinished c) [ inl e ↦ cc | inr e ↦ cc ]
@@ -44,21 +46,21 @@ space_free s count named size Unfinished c = c
 
 -- ---- an item that is begun
 
-there : (old : State) (d : Draft) → length old.settled.spaces ≡ 13 → d.space < 13 → namespace_at (content_of (item_begun old d)).spaces d.space ≡ space_with old d
-there old d h l = get_or-set_same old.settled.spaces d.space (space_with old d) no_names (omega arith)
+there : (old : State) (d : Draft) → length old.settled.spaces ≡ 13 → namespace_at (content_of (item_begun old d)).spaces d.space ≡ space_with old d
+there old d h = get_or-set_same old.settled.spaces (space_number d.space) (space_with old d) no_names (omega (arith, h, space_within d.space))
 
-pub space_refuses : (old : State) (d : Draft) (cause : Fault → Type 0) → length old.settled.spaces ≡ 13 → d.space < 13
+pub space_refuses : (old : State) (d : Draft) (cause : Fault → Type 0) → length old.settled.spaces ≡ 13
     → (fault : Fault) → SpaceCause (space_with old d) fault → CallCause old cause (content_of (item_begun old d)) (Some (draft_indices d)) fault
-space_refuses old d cause h l fault c = inl (inr (inl (subst (λ (s : Namespace). SpaceCause s fault) (sym (there old d h l)) c)))
+space_refuses old d cause h fault c = inl (inr (inl (subst (λ (s : Namespace). SpaceCause s fault) (sym (there old d h)) c)))
 
 -- where nothing is against its space nor its section, nothing is against it
-pub begun_free : (old : State) (d : Draft) → length old.settled.spaces ≡ 13 → d.space < 13 → old.begun ≡ None
+pub begun_free : (old : State) (d : Draft) → length old.settled.spaces ≡ 13 → old.begun ≡ None
     → ((fault : Fault) → SpaceCause (space_with old d) fault → ⊥) → ((fault : Fault) → SectionCause (entered old.settled.sections d.id d.text).current fault → ⊥)
     → (fault : Fault) → CallCause old (λ _. ⊥) (content_of (item_begun old d)) (Some (draft_indices d)) fault → ⊥
-begun_free old d h l none space section fault (inl (inl c)) = c
-begun_free old d h l none space section fault (inl (inr (inl c))) = space fault (subst (λ (s : Namespace). SpaceCause s fault) (there old d h l) c)
-begun_free old d h l none space section fault (inl (inr (inr c))) = section fault c
-begun_free old d h l none space section fault (inr c) = let unfinished = c.1 in cc
+begun_free old d h none space section fault (inl (inl c)) = c
+begun_free old d h none space section fault (inl (inr (inl c))) = space fault (subst (λ (s : Namespace). SpaceCause s fault) (there old d h) c)
+begun_free old d h none space section fault (inl (inr (inr c))) = section fault c
+begun_free old d h none space section fault (inr c) = let unfinished = c.1 in cc
 
 -- ---- its text
 
@@ -85,7 +87,7 @@ many_shrinks closed (Some o) id text c =
       | inr t ↦ let d = rw t.0 at c in rw t.0 d
     ]
 
-pub beginning_refuses : (old : State) (id space : ℕ) (name : Option (List ℕ)) (text : List ℕ) (cause : Fault → Type 0) (fault : Fault)
+pub beginning_refuses : (old : State) (id : ℕ) (space : Space) (name : Option (List ℕ)) (text : List ℕ) (cause : Fault → Type 0) (fault : Fault)
     → CallCause old (λ _. ⊥) (content_of (item_begun old (draft id space name []))) (Some (draft_indices (draft id space name []))) fault → CallCause old cause (content_of (item_begun old (draft id space name text))) (Some (draft_indices (draft id space name text))) fault
 beginning_refuses old id space name text cause fault (inl (inl c)) = absurd c
 beginning_refuses old id space name text cause fault (inl (inr (inl c))) = inl (inr (inl c))
@@ -97,7 +99,7 @@ text_refuses old d cause fault (inl c) = inl (inl c)
 text_refuses old d cause fault (inr c) = subst (λ (f : Fault). CallCause old cause (content_of (item_begun old d)) (Some (draft_indices d)) f) (sym c.0) (inl (inr (inr c.1)))
 
 -- where nothing is against its beginning nor its text, nothing is against it
-pub whole_free : (old : State) (id space : ℕ) (name : Option (List ℕ)) (text : List ℕ) (cause : Fault → Type 0)
+pub whole_free : (old : State) (id : ℕ) (space : Space) (name : Option (List ℕ)) (text : List ℕ) (cause : Fault → Type 0)
     → ((fault : Fault) → CallCause old (λ _. ⊥) (content_of (item_begun old (draft id space name []))) (Some (draft_indices (draft id space name []))) fault → ⊥)
     → ((fault : Fault) → either cause (NoRoom (entered old.settled.sections id text).current) fault → ⊥)
     → (fault : Fault) → CallCause old cause (content_of (item_begun old (draft id space name text))) (Some (draft_indices (draft id space name text))) fault → ⊥

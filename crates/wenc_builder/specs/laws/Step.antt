@@ -1,16 +1,12 @@
 -- One more entry.
-use Rattle.std.proofs.Common.{◌≡◌, ℕ, zero, suc, ◌+◌, ◌<◌, List, [], ◌∷◌, ◌++◌, length, Option, Some, None, refl, ap, sym, ◌∙◌, inl, inr, subst, append_assoc, append-nil, arith, length-append, add_assoc, zero-add, add-zero, replicate, lit<}
-use Rattle.std.proofs.lemmas.Bool.Decides.{eqb_tells}
+use Rattle.std.proofs.Common.{◌≡◌, ℕ, zero, suc, ◌+◌, ◌<◌, List, [], ◌∷◌, ◌++◌, length, Option, Some, None, refl, ap, sym, ◌∙◌, inl, inr, subst, append_assoc, append-nil, arith, length-append, add_assoc, zero-add, add-zero, replicate, get_or}
 use Rattle.std.proofs.lemmas.List.{get_or-set_same, get_or-set_other, length-set}
-use Rattle.std.proofs.lemmas.Bool.{eq-eqb, ne_eqb}
-use Rattle.std.proofs.lemmas.Option.{same_Some}
-use Rattle.wenc_parts.specs.Imports.{kind_of}
-use Rattle.wenc_builder.specs.Item.{Item, ModuleItem, CoreInstanceItem, CoreTypeItem, ComponentItem, InstanceItem, AliasItem, TypeItem, CanonItem, StartItem, ImportItem, ExportItem, CustomItem, RawItem, item}
+use Rattle.wenc_builder.specs.Item.{Item, item}
 use Rattle.wenc_builder.specs.Sections.{preamble, runs, open_of}
+use Rattle.wenc_builder.specs.laws.Space.{space_within, same_number, space_decides, space_tells, space_ne}
 use Rattle.wenc_builder.specs.laws.Fits.{SectionsFit, HasRoom, sections_fit_more}
-use Rattle.wenc_builder.specs.Space.{space_number, canonical_space, alias_space, kind_space, some_in, Indices, defines, defined_in, next_index}
+use Rattle.wenc_builder.specs.Space.{space_number, Indices, defines, defined_in, next_index}
 use Rattle.wenc_builder.specs.declared.builder.space.Space.{Space}
-use Rattle.wenc_builder.specs.declared.builder.space.Space.TheVariants.{CoreModules, CoreFuncs, CoreTypes, CoreMemories, CoreTables, CoreInstances, CoreTags, CoreGlobals, Funcs, Instances, Values, Components, Types}
 use Rattle.wenc_base.specs.Names.{NameAssociation, name_association, names_text}
 use Rattle.wenc_builder.specs.Entry.{Entry, items, named_as, named_in, names_from, names, Namespace}
 use Rattle.wenc_builder.specs.Entry.{namespace_of}
@@ -23,11 +19,11 @@ pub items_push : (es : List Entry) (x : Entry) → items (es ++ x ∷ []) ≡ it
 items_push [] x = refl
 items_push (e ∷ es) x = ap (λ (r : List Item). e.item ∷ r) (items_push es x)
 
-index_push : (k : ℕ) (es : List Entry) (x : Entry) → next_index (items (es ++ x ∷ [])) k ≡ next_index (items es) k + defined_in k x.item
+index_push : (k : Space) (es : List Entry) (x : Entry) → next_index (items (es ++ x ∷ [])) k ≡ next_index (items es) k + defined_in k x.item
 index_push k [] x = omega arith
 index_push k (e ∷ es) x = omega (arith, index_push k es x)
 
-names_push : (k n : ℕ) (es : List Entry) (x : Entry) → names_from k n (es ++ x ∷ []) ≡ names_from k n es ++ named_in k (defines x.item) (n + next_index (items es) k) x.name
+names_push : (k : Space) (n : ℕ) (es : List Entry) (x : Entry) → names_from k n (es ++ x ∷ []) ≡ names_from k n es ++ named_in k (defines x.item) (n + next_index (items es) k) x.name
 names_push k n [] x = rw (add-zero n) (append-nil (named_in k (defines x.item) n x.name))
 names_push k n (e ∷ es) x =
     rw (names_push k (n + defined_in k e.item) es x, add_assoc n (defined_in k e.item) (next_index (items es) k))
@@ -43,30 +39,30 @@ with_its_name : (ns : List NameAssociation) (n number : ℕ) (name : Option (Lis
 with_its_name ns n number None = rw (append-nil ns) refl
 with_its_name ns n number (Some name) = rw (length-append ns (record { index = n; name = name } ∷ []), texts_push ns (record { index = n; name = name })) refl
 
-in_its_space : (k : ℕ) (es : List Entry) (x : Entry) (d : Indices) → defines x.item ≡ Some d → d.space ≡ k → namespace_of (es ++ x ∷ []) k ≡ namespace_with (namespace_of es k) d.number x.name
+in_its_space : (k : Space) (es : List Entry) (x : Entry) (d : Indices) → defines x.item ≡ Some d → d.space ≡ k → namespace_of (es ++ x ∷ []) k ≡ namespace_with (namespace_of es k) d.number x.name
 in_its_space k es x d w e =
-    rw (index_push k es x, names_push k 0 es x, w, eq-eqb d.space k e, zero-add (next_index (items es) k)) (with_its_name (names es k) (next_index (items es) k) d.number x.name)
+    rw (index_push k es x, names_push k 0 es x, w, (space_decides d.space k).1 e, zero-add (next_index (items es) k)) (with_its_name (names es k) (next_index (items es) k) d.number x.name)
 
-nothing_more : (k : ℕ) (es : List Entry) (x : Entry) → defined_in k x.item ≡ 0 → ((n : ℕ) → named_in k (defines x.item) n x.name ≡ []) → namespace_of (es ++ x ∷ []) k ≡ namespace_of es k
+nothing_more : (k : Space) (es : List Entry) (x : Entry) → defined_in k x.item ≡ 0 → ((n : ℕ) → named_in k (defines x.item) n x.name ≡ []) → namespace_of (es ++ x ∷ []) k ≡ namespace_of es k
 nothing_more k es x d e =
     rw (index_push k es x, names_push k 0 es x, d, e (0 + next_index (items es) k), add-zero (next_index (items es) k), append-nil (names_from k 0 es)) refl
 
-in_another : (k : ℕ) (es : List Entry) (x : Entry) (d : Indices) → defines x.item ≡ Some d → (d.space ≡ k → ⊥) → namespace_of (es ++ x ∷ []) k ≡ namespace_of es k
-in_another k es x d w apart = nothing_more k es x (rw (w, ne_eqb d.space k apart) refl) (λ n. rw (w, ne_eqb d.space k apart) refl)
+in_another : (k : Space) (es : List Entry) (x : Entry) (d : Indices) → defines x.item ≡ Some d → (d.space ≡ k → ⊥) → namespace_of (es ++ x ∷ []) k ≡ namespace_of es k
+in_another k es x d w apart = nothing_more k es x (rw (w, space_ne d.space k apart) refl) (λ n. rw (w, space_ne d.space k apart) refl)
 
-not_in_space : (k : ℕ) (es : List Entry) (x : Entry) → defines x.item ≡ None → namespace_of (es ++ x ∷ []) k ≡ namespace_of es k
+not_in_space : (k : Space) (es : List Entry) (x : Entry) → defines x.item ≡ None → namespace_of (es ++ x ∷ []) k ≡ namespace_of es k
 not_in_space k es x w = nothing_more k es x (rw w refl) (λ n. rw w refl)
 
 spaces_hold_at : (spaces : List Namespace) (es : List Entry) (x : Entry) (o : Option Indices) → defines x.item ≡ o → SpacesHold spaces es → SpacesHold (spaces_with spaces o x.name) (es ++ x ∷ [])
-spaces_hold_at spaces es x None w h = record { all = h.all; each = λ k l. h.each k l ∙ sym (not_in_space k es x w) }
+spaces_hold_at spaces es x None w h = record { all = h.all; each = λ k. h.each k ∙ sym (not_in_space k es x w) }
 spaces_hold_at spaces es x (Some d) w h = record {
-  all = length-set spaces d.space (namespace_with (namespace_at spaces d.space) d.number x.name) ∙ h.all;
-  each = λ k l. elim (eqb_tells d.space k) [
+  all = length-set spaces (space_number d.space) (namespace_with (namespace_at spaces d.space) d.number x.name) ∙ h.all;
+  each = λ k. elim (space_tells d.space k) [
     | inl t ↦
-        let inside : k < length spaces = omega (arith, h.all) in
-        rw (t.1, get_or-set_same spaces k (namespace_with (namespace_at spaces k) d.number x.name) no_names inside, h.each k l) (sym (in_its_space k es x d w t.1))
+        let inside : space_number k < length spaces = omega (arith, h.all, space_within k) in
+        rw (t.1, get_or-set_same spaces (space_number k) (namespace_with (namespace_at spaces k) d.number x.name) no_names inside, h.each k) (sym (in_its_space k es x d w t.1))
     | inr t ↦
-        rw (get_or-set_other spaces d.space k (namespace_with (namespace_at spaces d.space) d.number x.name) no_names (λ q. t.1 (sym q)), h.each k l) (sym (in_another k es x d w t.1))
+        rw (get_or-set_other spaces (space_number d.space) (space_number k) (namespace_with (namespace_at spaces d.space) d.number x.name) no_names (λ q. t.1 (sym (same_number k d.space q))), h.each k) (sym (in_another k es x d w t.1))
   ];
 }
 
@@ -88,10 +84,10 @@ holds_step s es x one room h = record {
     room' : HasRoom (open_of (runs (items es ++ x.item ∷ [])))
     room' = subst HasRoom ((sections_step s es x h).last ∙ ap (λ (xs : List Item). open_of (runs xs)) (items_push es x)) room
 
-pub holds_index : (s : State) (es : List Entry) (k n : ℕ) → Holds s es → k < 13 → n ≡ (namespace_at s.settled.spaces k).count → n ≡ next_index (items es) k
-holds_index s es k n h l e = e ∙ ap (λ (x : Namespace). x.count) (h.spaces.each k l)
+pub holds_index : (s : State) (es : List Entry) (k : Space) (n : ℕ) → Holds s es → n ≡ (namespace_at s.settled.spaces k).count → n ≡ next_index (items es) k
+holds_index s es k n h e = e ∙ ap (λ (x : Namespace). x.count) (h.spaces.each k)
 
-none_of_many : (n k : ℕ) → namespace_at (replicate n no_names) k ≡ no_names
+none_of_many : (n k : ℕ) → get_or (replicate n no_names) k no_names ≡ no_names
 none_of_many zero k = refl
 none_of_many (suc n) zero = refl
 none_of_many (suc n) (suc k) = none_of_many n k
@@ -100,39 +96,6 @@ pub holds_nothing : Holds (settled_in (record { sections = record { closed = pre
 holds_nothing = record {
   finished = refl;
   sections = record { bytes = refl; last = refl };
-  spaces = record { all = refl; each = λ k l. none_of_many 13 k };
+  spaces = record { all = refl; each = λ k. none_of_many 13 (space_number k) };
   fits = (tt, tt);
 }
-
-pub space_within : (s : Space) → space_number s < 13
-space_within CoreModules = lit< tt
-space_within CoreFuncs = lit< tt
-space_within CoreTypes = lit< tt
-space_within CoreMemories = lit< tt
-space_within CoreTables = lit< tt
-space_within CoreInstances = lit< tt
-space_within CoreTags = lit< tt
-space_within CoreGlobals = lit< tt
-space_within Funcs = lit< tt
-space_within Instances = lit< tt
-space_within Values = lit< tt
-space_within Components = lit< tt
-space_within Types = lit< tt
-
-within_at : (s : Space) (number : ℕ) (d : Indices) → some_in s number ≡ Some d → d.space < 13
-within_at s number d e = subst (λ (k : Indices). k.space < 13) (same_Some _ d e) (space_within s)
-
-pub indices_within : (x : Item) (d : Indices) → defines x ≡ Some d → d.space < 13
-indices_within (ModuleItem bytes) d e = within_at CoreModules 1 d e
-indices_within (CoreInstanceItem instance) d e = within_at CoreInstances 1 d e
-indices_within (CoreTypeItem ty) d e = within_at CoreTypes 1 d e
-indices_within (ComponentItem bytes) d e = within_at Components 1 d e
-indices_within (InstanceItem instance) d e = within_at Instances 1 d e
-indices_within (AliasItem to) d e = within_at (alias_space to) 1 d e
-indices_within (TypeItem ty) d e = within_at Types 1 d e
-indices_within (CanonItem function) d e = within_at (canonical_space function) 1 d e
-indices_within (StartItem start) d e = within_at Values start.results d e
-indices_within (ImportItem import) d e = within_at (kind_space (kind_of import.ty)) 1 d e
-indices_within (ExportItem export) d e = within_at (kind_space export.kind) 1 d e
-indices_within (CustomItem custom) d e = cc
-indices_within (RawItem bytes) d e = cc

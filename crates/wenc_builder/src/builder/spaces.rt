@@ -3,7 +3,6 @@ ghost use Rattle.std.specs.Prelude.{◌≡◌, ◌<◌, length, map, OnOk, OnErr
 ghost use Rattle.std.specs.Option.{option_copied};
 ghost use Rattle.wenc_base.specs.Fault.{IsMemory, IsWarranted};
 ghost use Rattle.wenc_base.specs.declared.fault.Fault.{Fault as FaultSpec};
-ghost use Rattle.wenc_builder.specs.Space.{space_number};
 ghost use Rattle.wenc_builder.specs.Builder.{namespace_at};
 ghost use Rattle.wenc_builder.specs.Cause.{SpaceCause};
 ghost use Rattle.wenc_builder.specs.Names.{by_sort, names_held};
@@ -23,8 +22,8 @@ pub const SPACES: usize = 13;
 /// The state of a space before an item took an index in it.
 #[derive(Clone, Copy)]
 pub struct Undo {
-    /// The number of the space.
-    pub space: usize,
+    /// The space.
+    pub space: Space,
     /// The number of its items.
     pub count: u32,
     /// The number of items with a name.
@@ -74,7 +73,7 @@ impl<A: Allocator> Spaces<A> {
 
     /// Returns the number of items in a space, including the one being written.
     pub fn count(&self, space: Space) -> u32
-        ensures { result ≡ count_at self.now (space_number space) }
+        ensures { result ≡ count_at self.now space }
     {
         self.spaces[space.number()].count()
     }
@@ -82,7 +81,7 @@ impl<A: Allocator> Spaces<A> {
     /// Returns the names in a space.
     pub fn names(&self, space: Space) -> &NameMap<A>
         requires { self.now.taking ≡ None }
-        ensures { result.now ≡ names_held (namespace_at self.now.settled (space_number space)) }
+        ensures { result.now ≡ names_held (namespace_at self.now.settled space) }
     {
         self.spaces[space.number()].names()
     }
@@ -115,20 +114,19 @@ impl<A: Allocator> Spaces<A> {
     pub fn begin(&mut self, space: Space, number: u32, name: Option<&str>) -> Result<u32, Fault>
         requires { self.old.taking ≡ None }
         ensures index { IfOk result (λ i.
-            i ≡ (namespace_at self.old.settled (space_number space)).count) }
+            i ≡ (namespace_at self.old.settled space).count) }
         ensures ok { OnOk result (self.new
-            ≡ spaces_begun self.old (space_number space) number (option_copied name.entry)) }
+            ≡ spaces_begun self.old space number (option_copied name.entry)) }
         ensures free { OnOk result ((fault : FaultSpec) → SpaceCause
-            (space_begun self.old (space_number space) number
+            (space_begun self.old space number
             (option_copied name.entry)) fault → ⊥) }
         ensures err { OnErr result (self.new ≡ self.old) }
         ensures warranted { IfErr result (IsWarranted
             (SpaceCause
-            (space_begun self.old (space_number space) number (option_copied name.entry)))) }
+            (space_begun self.old space number (option_copied name.entry)))) }
         ensures all { length self.old.settled ≡ 13 }
     {
-        let space = space.number();
-        let one = &mut self.spaces[space];
+        let one = &mut self.spaces[space.number()];
         let index = one.count();
         self.undo = Some(Undo {
             space,
@@ -157,7 +155,7 @@ impl<A: Allocator> Spaces<A> {
         ensures { self.new ≡ spaces_given_up self.old }
     {
         if let Some(undo) = self.undo {
-            self.spaces[undo.space].cut_back(undo.count, undo.named, undo.len);
+            self.spaces[undo.space.number()].cut_back(undo.count, undo.named, undo.len);
             self.undo = None;
         }
     }

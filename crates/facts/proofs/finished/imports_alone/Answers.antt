@@ -1,4 +1,4 @@
-use Rattle.std.proofs.Common.{◌≡◌, ◌↔◌, List, ◌∷◌, Option, subst, ap, arith, ◌∙◌}
+use Rattle.std.proofs.Common.{◌≡◌, ◌↔◌, List, ◌∷◌, Option, subst, ap, ◌∙◌}
 use Rattle.wenc_builder.specs.Builder.{BegunItem, Content, namespace_at, content_of, content_with}
 use Rattle.wenc_builder.specs.Entry.{items, Namespace}
 use Rattle.wenc_builder.specs.Sections.{Reading, Section}
@@ -14,4 +14,4 @@ returns-in-Ok-clause-one_section g c x es h alike mode ss =
 pub returns-in-Ok-clause-counted : goal.returns-in-Ok-clause-counted
 returns-in-Ok-clause-counted g c es h each =
     let settled : content_of c.args.builder ≡ c.args.builder.settled = ap (λ (b : Option BegunItem). content_with c.args.builder.settled b) h.finished in
-    c.func_count-count.ensures ∙ (ap (λ (content : Content). (namespace_at content.spaces 8).count) settled ∙ (ap (λ (n : Namespace). n.count) (h.spaces.each 8 (omega arith)) ∙ c.one_kind_is_one_section.ensures.indices spaces.Funcs (items es) each))
+    c.func_count-count.ensures ∙ (ap (λ (content : Content). (namespace_at content.spaces spaces.Funcs).count) settled ∙ (ap (λ (n : Namespace). n.count) (h.spaces.each spaces.Funcs) ∙ c.one_kind_is_one_section.ensures.indices spaces.Funcs (items es) each))

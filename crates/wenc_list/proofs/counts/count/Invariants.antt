@@ -1,7 +1,8 @@
-use Rattle.std.proofs.Common.{◌≡◌, ℕ, ◌+◌, map, take, get_or}
-use Rattle.wenc_builder.specs.Space.{next_index}
+use Rattle.std.proofs.Common.{◌≡◌, ◌+◌, map, take, get_or}
+use Rattle.wenc_builder.specs.Space.{next_index, space_number}
+use Rattle.wenc_builder.specs.declared.builder.space.Space.{Space}
 use Rattle.wenc_list.specs.Items.{item_view}
 use Rattle.wenc_list.proofs.counts.count.Given as goal
 
 abbrev pub invariant-loop-item : goal.invariant-loop-item
-invariant-loop-item g l = (k : ℕ) → get_or l.counts k 0 ≡ get_or l.initial.counts k 0 + next_index (map item_view (take l.item-index l.items)) k
+invariant-loop-item g l = (k : Space) → get_or l.counts (space_number k) 0 ≡ get_or l.initial.counts (space_number k) 0 + next_index (map item_view (take l.item-index l.items)) k

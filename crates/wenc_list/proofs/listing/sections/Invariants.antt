@@ -1,4 +1,6 @@
-use Rattle.std.proofs.Common.{◌≡◌, ◌≤◌, ◌*◌, ◌^◌, ℕ, length, map, get_or}
+use Rattle.std.proofs.Common.{◌≡◌, ◌≤◌, ◌*◌, ◌^◌, length, map, get_or}
+use Rattle.wenc_builder.specs.Space.{space_number}
+use Rattle.wenc_builder.specs.declared.builder.space.Space.{Space}
 use Rattle.wenc_list.specs.Items.{section_view}
 use Rattle.wenc_list.specs.Listing.{AreWithin, AreFrom, count_of_sections}
 use Rattle.wenc_list.proofs.listing.sections.Given as goal
@@ -12,6 +14,6 @@ invariant-loop-sections g l = record {
   within : AreWithin 100 (map section_view l.sections.items);
   shorter : length l.left.rest.now ≤ l.from.ends;
   same_end : l.left.ends ≡ l.from.ends;
-  counted : (k : ℕ) → get_or l.counts k 0 ≡ count_of_sections k (map section_view l.sections.items);
-  few : (k : ℕ) → get_or l.counts k 0 ≤ length l.sections.items * 2 ^ 64;
+  counted : (k : Space) → get_or l.counts (space_number k) 0 ≡ count_of_sections k (map section_view l.sections.items);
+  few : (k : Space) → get_or l.counts (space_number k) 0 ≤ length l.sections.items * 2 ^ 64;
 }

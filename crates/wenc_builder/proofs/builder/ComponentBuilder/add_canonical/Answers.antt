@@ -1,7 +1,6 @@
 use Rattle.std.proofs.Common.{refl}
 use Rattle.wenc_base.specs.laws.Serves.{serves_itself}
 use Rattle.wenc_builder.specs.inside.Layout.{kind_id}
-use Rattle.wenc_builder.specs.Space.{space_number}
 use Rattle.std.specs.Option.{option_copied}
 use Rattle.wenc_builder.specs.Entry.{canonical_entry}
 use Rattle.wenc_builder.specs.Item.{CanonItem}
@@ -13,7 +12,7 @@ use Rattle.wenc_builder.proofs.builder.ComponentBuilder.add_canonical.Goals as g
 
 pub returns : goal.returns
 returns g c =
-    draft_enters c.args.self.now c.add.new.self c.add.result (canonical_entry (option_copied c.args.name) (canon_view c.args.function.now)) (kind_id kinds.CanonicalFunction) (space_number c.args.space) (option_copied c.args.name)
+    draft_enters c.args.self.now c.add.new.self c.add.result (canonical_entry (option_copied c.args.name) (canon_view c.args.function.now)) (kind_id kinds.CanonicalFunction) c.args.space (option_copied c.args.name)
     (record { section = refl; defined = rw c.requires refl; named = refl }) serves_itself c.add.ensures
 
 pub add-requires : goal.add-requires

@@ -1,25 +1,24 @@
 use Rattle.std.specs.Option.{option_copied}
 use Rattle.wenc_base.specs.Holder.{listed}
-use Rattle.wenc_builder.specs.Space.{space_number}
 use Rattle.wenc_builder.specs.inside.Layout.{kind_id}
 use Rattle.wenc_builder.proofs.Listed.{list_not_begun, list_added, list_not_written}
 use Rattle.wenc_builder.proofs.builder.ComponentBuilder.add_listed.Goals as goal
 
 pub returns-in-Err : goal.returns-in-Err
 returns-in-Err g c =
-    list_not_begun g.I.Iterator.next_gives c.args.values c.args.self.now (kind_id c.args.kind) (space_number c.args.space) (option_copied c.args.name)
+    list_not_begun g.I.Iterator.next_gives c.args.values c.args.self.now (kind_id c.args.kind) c.args.space (option_copied c.args.name)
     (listed (g.E.Encode.piece c.args.lead.now) g.T.Encode.piece (g.F.Encode.piece c.args.tail.now))
     c.begin.new.self _ c.in-Err.fault c.in-Err.ensures
 
 pub returns-in-Ok-append_between : goal.returns-in-Ok-append_between
 returns-in-Ok-append_between g c =
-    list_added g.I.Iterator.next_gives c.args.values c.args.self.now (kind_id c.args.kind) (space_number c.args.space) (option_copied c.args.name)
+    list_added g.I.Iterator.next_gives c.args.values c.args.self.now (kind_id c.args.kind) c.args.space (option_copied c.args.name)
     (listed (g.E.Encode.piece c.args.lead.now) g.T.Encode.piece (g.F.Encode.piece c.args.tail.now))
     c.begin.new.self c.in-Ok.index c.in-Ok.ensures c.append_between.new.self c.end.new.self c.in-Ok-append_between.ensures c.end.ensures
 
 pub returns-in-Err-append_between : goal.returns-in-Err-append_between
 returns-in-Err-append_between g c =
-    list_not_written g.I.Iterator.next_gives c.args.values c.args.self.now (kind_id c.args.kind) (space_number c.args.space) (option_copied c.args.name)
+    list_not_written g.I.Iterator.next_gives c.args.values c.args.self.now (kind_id c.args.kind) c.args.space (option_copied c.args.name)
     (listed (g.E.Encode.piece c.args.lead.now) g.T.Encode.piece (g.F.Encode.piece c.args.tail.now))
     c.begin.new.self c.in-Ok.index c.in-Ok.ensures c.append_between.new.self c.give_up.new.self c.in-Err-append_between.fault c.in-Err-append_between.ensures c.give_up.ensures
 

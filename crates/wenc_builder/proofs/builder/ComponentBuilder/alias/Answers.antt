@@ -1,7 +1,6 @@
 use Rattle.std.proofs.Common.{refl}
 use Rattle.wenc_base.specs.laws.Serves.{serves_itself}
 use Rattle.wenc_builder.specs.inside.Layout.{kind_id}
-use Rattle.wenc_builder.specs.Space.{space_number}
 use Rattle.std.specs.Option.{option_copied}
 use Rattle.wenc_builder.specs.Entry.{alias_entry}
 use Rattle.wenc_builder.specs.Item.{AliasItem}
@@ -13,7 +12,7 @@ use Rattle.wenc_builder.proofs.builder.ComponentBuilder.alias.Goals as goal
 
 pub returns : goal.returns
 returns g c =
-    draft_enters c.args.self.now c.add.new.self c.add.result (alias_entry (option_copied c.args.debug_name) (alias_view c.args.alias)) (kind_id kinds.Alias) (space_number c.of_alias.result) (option_copied c.args.debug_name)
+    draft_enters c.args.self.now c.add.new.self c.add.result (alias_entry (option_copied c.args.debug_name) (alias_view c.args.alias)) (kind_id kinds.Alias) c.of_alias.result (option_copied c.args.debug_name)
     (record { section = refl; defined = rw c.of_alias.ensures refl; named = refl }) serves_itself c.add.ensures
 
 pub add-requires : goal.add-requires

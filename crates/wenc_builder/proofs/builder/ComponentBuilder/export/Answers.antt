@@ -1,6 +1,5 @@
 use Rattle.std.proofs.Common.{refl}
 use Rattle.wenc_builder.specs.inside.Layout.{kind_id}
-use Rattle.wenc_builder.specs.Space.{space_number}
 use Rattle.std.proofs.Common.{Some}
 use Rattle.wenc_parts.specs.Imports.{extern_name_view}
 use Rattle.wenc_builder.specs.Entry.{export_entry}
@@ -13,7 +12,7 @@ use Rattle.wenc_builder.proofs.builder.ComponentBuilder.export.Goals as goal
 
 pub returns : goal.returns
 returns g c =
-    draft_enters c.args.self.now c.add.new.self c.add.result (export_entry (extern_name_view c.args.name) c.args.kind c.args.index c.args.ty) (kind_id kinds.Export) (space_number c.from.result) (Some _)
+    draft_enters c.args.self.now c.add.new.self c.add.result (export_entry (extern_name_view c.args.name) c.args.kind c.args.index c.args.ty) (kind_id kinds.Export) c.from.result (Some _)
     (record { section = refl; defined = rw c.from.ensures refl; named = rw c.as_str-name.ensures.value refl }) (export_serves (extern_name_view c.args.name) c.args.kind c.args.index c.args.ty) c.add.ensures
 
 pub add-requires : goal.add-requires

@@ -1,6 +1,5 @@
 use Rattle.std.proofs.Common.{refl}
 use Rattle.wenc_builder.specs.inside.Layout.{kind_id}
-use Rattle.wenc_builder.specs.Space.{space_number}
 use Rattle.std.proofs.Common.{Some}
 use Rattle.wenc_parts.specs.Imports.{extern_name, extern_name_view, type_reference}
 use Rattle.wenc_base.specs.laws.Serves.{two_serve}
@@ -13,7 +12,7 @@ use Rattle.wenc_builder.proofs.builder.ComponentBuilder.import.Goals as goal
 
 pub returns : goal.returns
 returns g c =
-    draft_enters c.args.self.now c.add.new.self c.add.result (import_entry (extern_name_view c.args.name) c.args.ty) (kind_id kinds.Import) (space_number c.from.result) (Some _)
+    draft_enters c.args.self.now c.add.new.self c.add.result (import_entry (extern_name_view c.args.name) c.args.ty) (kind_id kinds.Import) c.from.result (Some _)
     (record { section = refl; defined = rw (c.from.ensures, c.kind.ensures.is) refl; named = rw c.as_str-name.ensures.value refl }) (two_serve (extern_name (extern_name_view c.args.name)) (type_reference c.args.ty)) c.add.ensures
 
 pub add-requires : goal.add-requires

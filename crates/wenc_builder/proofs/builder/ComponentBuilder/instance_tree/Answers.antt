@@ -1,7 +1,6 @@
 use Rattle.std.proofs.Common.{refl}
 use Rattle.wenc_base.specs.laws.Serves.{serves_itself}
 use Rattle.wenc_builder.specs.inside.Layout.{kind_id}
-use Rattle.wenc_builder.specs.Space.{space_number}
 use Rattle.std.specs.Option.{option_copied}
 use Rattle.wenc_builder.specs.Entry.{instance_entry}
 use Rattle.wenc_builder.specs.Item.{InstanceItem}
@@ -14,7 +13,7 @@ use Rattle.wenc_builder.proofs.builder.ComponentBuilder.instance_tree.Goals as g
 
 pub returns : goal.returns
 returns g c =
-    draft_enters c.args.self.now c.add.new.self c.add.result (instance_entry (option_copied c.args.debug_name) (instance_tree_view c.args.instance.now)) (kind_id kinds.Instance) (space_number spaces.Instances) (option_copied c.args.debug_name)
+    draft_enters c.args.self.now c.add.new.self c.add.result (instance_entry (option_copied c.args.debug_name) (instance_tree_view c.args.instance.now)) (kind_id kinds.Instance) spaces.Instances (option_copied c.args.debug_name)
     (record { section = refl; defined = refl; named = refl }) serves_itself c.add.ensures
 
 pub add-requires : goal.add-requires

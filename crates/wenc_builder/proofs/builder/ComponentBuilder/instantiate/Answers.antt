@@ -5,7 +5,6 @@ use Rattle.wenc_sections.specs.laws.Instances.{instantiate_listed}
 use Rattle.wenc_builder.specs.Entry.{instance_entry}
 use Rattle.wenc_builder.specs.Item.{InstanceItem}
 use Rattle.wenc_builder.specs.inside.Layout.{kind_id}
-use Rattle.wenc_builder.specs.Space.{space_number}
 use Rattle.wenc_builder.specs.declared.builder.kind.Kind.TheVariants as kinds
 use Rattle.wenc_builder.specs.declared.builder.space.Space.TheVariants as spaces
 use Rattle.wenc_builder.proofs.Listed.{listed_enters}
@@ -15,7 +14,7 @@ use Rattle.wenc_builder.proofs.builder.ComponentBuilder.instantiate.Goals as goa
 pub returns : goal.returns
 returns g c =
     listed_enters g.I.Iterator.next_gives c.args.args c.args.self.now c.add_listed.new.self c.add_listed.result (λ vs. instance_entry (option_copied c.args.debug_name) (Instantiate c.args.component_index (map (named_triple g.S.Named.named) vs)))
-    (kind_id kinds.Instance) (space_number spaces.Instances) (option_copied c.args.debug_name) _ (λ vs. record { section = refl; defined = refl; named = refl }) (instantiate_listed g.S.Encode.piece g.S.Named.named g.met.S.Named.as_name c.args.component_index) c.add_listed.ensures
+    (kind_id kinds.Instance) spaces.Instances (option_copied c.args.debug_name) _ (λ vs. record { section = refl; defined = refl; named = refl }) (instantiate_listed g.S.Encode.piece g.S.Named.named g.met.S.Named.as_name c.args.component_index) c.add_listed.ensures
 
 pub add_listed-requires-clause-whole : goal.add_listed-requires-clause-whole
 add_listed-requires-clause-whole g c vs = item_piece (InstanceItem (Instantiate c.args.component_index (map (named_triple g.S.Named.named) vs))) (instantiate_listed g.S.Encode.piece g.S.Named.named g.met.S.Named.as_name c.args.component_index vs)

@@ -6,7 +6,6 @@ use Rattle.wenc_sections.specs.laws.Instances.{exports_listed}
 use Rattle.wenc_builder.specs.Entry.{instance_entry}
 use Rattle.wenc_builder.specs.Item.{InstanceItem}
 use Rattle.wenc_builder.specs.inside.Layout.{kind_id}
-use Rattle.wenc_builder.specs.Space.{space_number}
 use Rattle.wenc_builder.specs.declared.builder.kind.Kind.TheVariants as kinds
 use Rattle.wenc_builder.specs.declared.builder.space.Space.TheVariants as spaces
 use Rattle.wenc_builder.proofs.Listed.{listed_enters}
@@ -16,7 +15,7 @@ use Rattle.wenc_builder.proofs.builder.ComponentBuilder.instantiate_exports.Goal
 pub returns : goal.returns
 returns g c =
     listed_enters g.I.Iterator.next_gives c.args.exports c.args.self.now c.add_listed.new.self c.add_listed.result (λ vs. instance_entry (option_copied c.args.debug_name) (Exports (map (named_triple extern_name_view) vs)))
-    (kind_id kinds.Instance) (space_number spaces.Instances) (option_copied c.args.debug_name) _ (λ vs. record { section = refl; defined = refl; named = refl }) (exports_listed extern_name_view) c.add_listed.ensures
+    (kind_id kinds.Instance) spaces.Instances (option_copied c.args.debug_name) _ (λ vs. record { section = refl; defined = refl; named = refl }) (exports_listed extern_name_view) c.add_listed.ensures
 
 pub add_listed-requires-clause-whole : goal.add_listed-requires-clause-whole
 add_listed-requires-clause-whole g c vs = item_piece (InstanceItem (Exports (map (named_triple extern_name_view) vs))) (exports_listed extern_name_view vs)

@@ -9,7 +9,6 @@ use Rattle.wenc_types.specs.laws.TypeState.{component_has_form}
 use Rattle.wenc_builder.specs.Entry.{type_entry}
 use Rattle.wenc_builder.specs.Item.{TypeItem}
 use Rattle.wenc_builder.specs.inside.Layout.{kind_id}
-use Rattle.wenc_builder.specs.Space.{space_number}
 use Rattle.wenc_builder.specs.declared.builder.kind.Kind.TheVariants as kinds
 use Rattle.wenc_builder.specs.declared.builder.space.Space.TheVariants as spaces
 use Rattle.wenc_builder.proofs.Entered.{draft_as, draft_enters}
@@ -20,9 +19,9 @@ returns-clause-entered g c ds h =
     let t = c.args.ty.now in
     let s = component_serves t ds h in
     let finished = c.if-not-is_finished.ensures.finished in
-    draft_enters c.args.self.now c.add.new.self c.add.result (type_entry (option_copied c.args.debug_name) (ComponentType (components_of ds))) (kind_id kinds.«Type») (space_number spaces.Types) (option_copied c.args.debug_name)
+    draft_enters c.args.self.now c.add.new.self c.add.result (type_entry (option_copied c.args.debug_name) (ComponentType (components_of ds))) (kind_id kinds.«Type») spaces.Types (option_copied c.args.debug_name)
     (record { section = refl; defined = refl; named = refl }) serves_itself
-    (draft_as c.args.self.now c.add.new.self c.add.result (kind_id kinds.«Type») (space_number spaces.Types) (option_copied c.args.debug_name) s.text s.fits (λ fault own. (let unfinished = own.1 in cc)) (type_lawful (ComponentType (components_of ds))).free c.add.ensures)
+    (draft_as c.args.self.now c.add.new.self c.add.result (kind_id kinds.«Type») spaces.Types (option_copied c.args.debug_name) s.text s.fits (λ fault own. (let unfinished = own.1 in cc)) (type_lawful (ComponentType (components_of ds))).free c.add.ensures)
 
 pub add-requires : goal.add-requires
 add-requires g c fits =

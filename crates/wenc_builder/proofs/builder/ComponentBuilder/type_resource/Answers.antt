@@ -9,7 +9,6 @@ use Rattle.wenc_builder.specs.Enters.{Enters}
 use Rattle.wenc_builder.specs.Entry.{type_entry}
 use Rattle.wenc_builder.specs.Item.{TypeItem}
 use Rattle.wenc_builder.specs.inside.Layout.{kind_id}
-use Rattle.wenc_builder.specs.Space.{space_number}
 use Rattle.wenc_builder.specs.declared.builder.kind.Kind.TheVariants as kinds
 use Rattle.wenc_builder.specs.declared.builder.space.Space.TheVariants as spaces
 use Rattle.wenc_builder.proofs.Entered.{draft_enters}
@@ -21,7 +20,7 @@ returns g c =
     let t : DefType = type_view {A = Global} (trees.Resource c.args.rep c.args.dtor) in
     let P : DefType → Type 0 = λ ty. Enters c.args.self.now c.add.new.self c.add.result (type_entry (option_copied c.args.debug_name) ty) in
     subst P (view_resource Global c.args.rep c.args.dtor)
-    (draft_enters c.args.self.now c.add.new.self c.add.result (type_entry (option_copied c.args.debug_name) t) (kind_id kinds.«Type») (space_number spaces.Types) (option_copied c.args.debug_name)
+    (draft_enters c.args.self.now c.add.new.self c.add.result (type_entry (option_copied c.args.debug_name) t) (kind_id kinds.«Type») spaces.Types (option_copied c.args.debug_name)
     (record { section = refl; defined = refl; named = refl }) serves_itself c.add.ensures)
 
 pub add-requires : goal.add-requires
