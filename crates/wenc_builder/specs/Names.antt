@@ -10,8 +10,8 @@ use Rattle.wenc_sections.specs.Names.{Subsection, subsections_text, name_subsect
 use Rattle.wenc_sections.specs.Names.{names_label, held_subsection}
 use Rattle.wenc_sections.specs.declared.names.Sort.{Sort}
 use Rattle.wenc_sections.specs.declared.names.Sort.TheVariants as sorts
-use Rattle.wenc_builder.specs.Entry.{Entry, custom_entry, names, Namespace}
-use Rattle.wenc_builder.specs.Builder.{namespace_at, State, builder_is_finished}
+use Rattle.wenc_builder.specs.Entry.{Entry, custom_entry, names}
+use Rattle.wenc_builder.specs.Builder.{Namespace, namespace_at, State, builder_is_finished}
 use Rattle.wenc_builder.specs.Enters.{EntersWithoutIndex}
 use Rattle.wenc_builder.specs.Holds.{Holds}
 use Rattle.wenc_builder.specs.Space.{space_number}

@@ -2,6 +2,7 @@ pub mod Runs
 pub mod Step
 pub mod Never
 pub mod Caused
+pub mod EntryCause
 pub mod Answered
 pub mod Held
 pub mod LenderState
