@@ -8,15 +8,15 @@ use Rattle.wenc_base.specs.declared.fault.Fault.{Fault}
 use Rattle.wenc_base.specs.declared.fault.Fault.TheVariants.{Memory, TooMany, TooLarge, Unfinished}
 use Rattle.wenc_base.specs.laws.Serves.{still_warranted, IsAmong, itself_among}
 use Rattle.wenc_builder.specs.Builder.{State}
-use Rattle.wenc_builder.specs.Cause.{EntryCause}
-use Rattle.wenc_builder.specs.Entry.{Entry, items}
+use Rattle.wenc_builder.specs.Entry.{Entry, items, EntryCause}
 use Rattle.wenc_builder.specs.Enters.{Enters, EntersWithoutIndex}
 use Rattle.wenc_builder.specs.Holds.{Holds}
 use Rattle.wenc_builder.specs.Item.{Item}
 use Rattle.wenc_builder.specs.Names.{named_entry, names_entry, AddsNames}
 use Rattle.wenc_builder.specs.Space.{index_of}
 use Rattle.wenc_sections.specs.Names.{Subsection}
-use Rattle.wenc_builder.specs.laws.Answered.{answered, answered_with, entry_never_unfinished}
+use Rattle.wenc_builder.specs.laws.Answered.{answered, answered_with}
+use Rattle.wenc_builder.specs.laws.EntryCause.{entry_never_unfinished}
 use Rattle.wasm_encoder.specs.Command.{CommandTree, Add, AppendNames}
 use Rattle.wasm_encoder.specs.Cause.{added, index_added, added_cause, cause}
 use Rattle.wasm_encoder.specs.Ran.{IsRefusal}

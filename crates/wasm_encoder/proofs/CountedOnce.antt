@@ -1,10 +1,10 @@
 -- What an accepted call does to the counts.
 use Rattle.std.proofs.Common.{◌≡◌, ◌≢◌, ◌≤◌, ℕ, ◌+◌, List, [], ◌∷◌, ◌++◌, Option, Result, Ok, Err, refl, sym, ap, subst, ◌∙◌, arith}
 use Rattle.wenc_builder.specs.Builder.{Content, State, namespace_at, content_with, content_of}
-use Rattle.wenc_builder.specs.Builder.{count_in, BegunItem}
+use Rattle.wenc_builder.specs.Builder.{count_in, BegunItem, Namespace}
 use Rattle.wenc_builder.specs.Enters.{EntersWith, Enters}
 use Rattle.wenc_base.specs.declared.fault.Fault.{Fault}
-use Rattle.wenc_builder.specs.Entry.{Entry, items, Namespace}
+use Rattle.wenc_builder.specs.Entry.{Entry, items}
 use Rattle.wenc_builder.specs.Holds.{Holds}
 use Rattle.wenc_builder.specs.Space.{Indices, defines, some_in, number_in, defined_in, IsIndexAt, next_index}
 use Rattle.wenc_builder.specs.declared.builder.space.Space.{Space}

@@ -5,8 +5,7 @@ use Rattle.wenc_base.specs.Fault.{NoCause}
 use Rattle.wenc_base.specs.declared.fault.Fault.{Fault}
 use Rattle.wenc_base.specs.laws.Serves.{IsAmong}
 use Rattle.wenc_builder.specs.Builder.{State}
-use Rattle.wenc_builder.specs.Cause.{EntryCause}
-use Rattle.wenc_builder.specs.Entry.{Entry, items, component_entry}
+use Rattle.wenc_builder.specs.Entry.{Entry, items, EntryCause, component_entry}
 use Rattle.wenc_builder.specs.Enters.{Enters}
 use Rattle.wenc_builder.specs.Holds.{Holds}
 use Rattle.wenc_builder.specs.Sections.{whole}

@@ -5,8 +5,8 @@ use Rattle.wenc_base.specs.Fault.{IsWarranted, either, NoCause}
 use Rattle.wenc_base.specs.declared.fault.Fault.{Fault}
 use Rattle.wenc_base.specs.laws.Serves.{still_warranted, itself_among}
 use Rattle.wenc_builder.specs.Builder.{State, Draft, item_begun, item_appended, item_ended, item_given_up}
-use Rattle.wenc_builder.specs.Cause.{EntryCause, BeginCause}
-use Rattle.wenc_builder.specs.Entry.{Entry, items}
+use Rattle.wenc_builder.specs.Cause.{BeginCause}
+use Rattle.wenc_builder.specs.Entry.{Entry, items, EntryCause}
 use Rattle.wenc_builder.specs.Holds.{Holds}
 use Rattle.wenc_builder.specs.Item.{item}
 use Rattle.wenc_builder.specs.LenderState.{no_room_in_section}

@@ -2,8 +2,7 @@
 use Rattle.std.specs.Prelude.{ℕ, List, [], ◌∷◌, ◌++◌, Option, None, option_to_list}
 use Rattle.wenc_base.specs.Fault.{first_of}
 use Rattle.wenc_base.specs.declared.fault.Fault.{Fault}
-use Rattle.wenc_builder.specs.Cause.{EntryCause}
-use Rattle.wenc_builder.specs.Entry.{Entry, entry, items}
+use Rattle.wenc_builder.specs.Entry.{Entry, entry, items, EntryCause}
 use Rattle.wenc_builder.specs.Item.{ComponentItem}
 use Rattle.wenc_builder.specs.Names.{names_entry}
 use Rattle.wenc_builder.specs.Sections.{whole}

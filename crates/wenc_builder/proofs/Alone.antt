@@ -6,8 +6,7 @@ use Rattle.wenc_base.specs.Fault.{IsWarranted}
 use Rattle.wenc_base.specs.Piece.{Piece}
 use Rattle.wenc_base.specs.declared.fault.Fault.{Fault}
 use Rattle.wenc_base.specs.laws.Serves.{still_warranted}
-use Rattle.wenc_builder.specs.Builder.{State, no_names, namespace_at, namespace_with}
-use Rattle.wenc_builder.specs.Entry.{Namespace}
+use Rattle.wenc_builder.specs.Builder.{State, Namespace, no_names, namespace_at, namespace_with}
 use Rattle.wenc_builder.specs.Cause.{SpaceCause, CallCause}
 use Rattle.wenc_builder.specs.inside.Takes.{TakesAlone, TakesNoIndex, with_alone}
 use Rattle.wenc_builder.specs.inside.Layout.{Buffered, buffer_with, StandsAlone}

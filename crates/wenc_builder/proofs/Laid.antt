@@ -14,8 +14,7 @@ use Rattle.wenc_base.specs.declared.holder.openings.Opening.{Opening}
 use Rattle.wenc_base.specs.declared.fault.Fault.{Fault}
 use Rattle.wenc_base.specs.declared.fault.Fault.TheVariants.{Memory, TooMany, TooLarge, Unfinished}
 use Rattle.wenc_base.proofs.Groups.{size_1}
-use Rattle.wenc_builder.specs.Builder.{SectionsState, sections_text, open_text_of, entered, entered_at}
-use Rattle.wenc_builder.specs.Sections.{OpenSection}
+use Rattle.wenc_builder.specs.Builder.{OpenSection, SectionsState, sections_text, open_text_of, entered, entered_at}
 use Rattle.wenc_builder.specs.Cause.{SectionCause, NoRoom}
 use Rattle.wenc_builder.specs.laws.Caused.{cause_is}
 use Rattle.wenc_builder.specs.inside.Layout.{kind_id, open_head, OpensAnother, Buffered, buffered_content, buffer_appended, section_appended, buffer_with, SectionFits, open_view, buffer_view, kept_before, SectionIsIn, MembersAreIn, BegunIsIn, EarlierIsIn, IsApart, IsLaidOut}

@@ -6,10 +6,9 @@ use Rattle.wenc_base.specs.Names.{NameAssociation, name_association}
 use Rattle.wenc_base.specs.declared.fault.Fault.{Fault}
 use Rattle.wenc_base.specs.declared.fault.Fault.TheVariants.{TooMany, TooLarge}
 use Rattle.wenc_base.proofs.Groups.{size_monotone}
-use Rattle.wenc_builder.specs.Builder.{space_view, namespace_with}
-use Rattle.wenc_builder.specs.Entry.{Namespace}
+use Rattle.wenc_builder.specs.Builder.{Namespace, namespace_with}
 use Rattle.wenc_builder.specs.Cause.{SpaceCause}
-use Rattle.wenc_builder.specs.inside.Spaces.{NamesFit}
+use Rattle.wenc_builder.specs.inside.Spaces.{NamesFit, space_view}
 use Rattle.wenc_builder.specs.laws.Caused.{space_free}
 
 -- one name more that was accepted

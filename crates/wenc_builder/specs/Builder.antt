@@ -8,10 +8,15 @@ use Rattle.wenc_builder.specs.declared.builder.space.Space.{Space}
 use Rattle.wenc_base.specs.Names.{name_association}
 use Rattle.wenc_parts.specs.SectionIds.{section_number}
 use Rattle.wenc_parts.specs.declared.component.ComponentSectionId.{ComponentSectionId}
-use Rattle.wenc_builder.specs.Entry.{Entry, Namespace}
-use Rattle.wenc_builder.specs.Sections.{OpenSection}
+use Rattle.wenc_builder.specs.Entry.{Entry}
 
 -- ---- sections
+
+-- the section that takes more items: its id, how many items it has, and their bytes
+pub record OpenSection : Type 0 where
+  pub id : ℕ
+  pub count : ℕ
+  pub body : List ℕ
 
 -- the bytes of an open section: its id and its size, and its items with their number
 abbrev pub open_text_of : OpenSection → List ℕ
@@ -64,8 +69,11 @@ with_item s x = with_item_at (collected x) s (item x).text
 
 -- ---- index spaces
 
-abbrev pub space_view : ℕ → ℕ → List ℕ → Namespace
-space_view count named names = record { count = count; named = named; names = names }
+-- how many items a space has, how many of them have names, and the text of those names
+pub record Namespace : Type 0 where
+  pub count : ℕ
+  pub named : ℕ
+  pub names : List ℕ
 
 abbrev pub no_names : Namespace
 no_names = record { count = 0; named = 0; names = [] }

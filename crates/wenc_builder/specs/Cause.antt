@@ -1,16 +1,15 @@
 -- Why a builder's call is refused.
-use Rattle.std.specs.Prelude.{◌≡◌, ℕ, List, [], ◌∷◌, ◌++◌, ◌+◌, ◌≤◌, ◌^◌, ◌⊎◌, length, Option, Some}
-use Rattle.std.specs.Prelude.{None, false}
+use Rattle.std.specs.Prelude.{◌≡◌, ℕ, ◌+◌, ◌≤◌, ◌^◌, ◌⊎◌, length, Option, Some, None, false}
 use Rattle.wenc_base.specs.Number.{number_size}
 use Rattle.wenc_base.specs.declared.fault.Fault.{Fault}
 use Rattle.wenc_base.specs.declared.fault.Fault.TheVariants.{TooMany, TooLarge, Unfinished}
 use Rattle.wenc_builder.specs.Item.{item}
-use Rattle.wenc_builder.specs.Sections.{runs, OpenSection, open_of}
 use Rattle.wenc_builder.specs.Space.{Indices, defines}
 use Rattle.wenc_builder.specs.declared.builder.space.Space.{Space}
-use Rattle.wenc_builder.specs.Entry.{Entry, items, Namespace, namespace_of}
-use Rattle.wenc_builder.specs.Builder.{namespace_at, Content, with_entry, content_of}
-use Rattle.wenc_builder.specs.Builder.{State, builder_is_finished, Draft, draft_indices, item_begun}
+use Rattle.wenc_builder.specs.Entry.{Entry}
+use Rattle.wenc_builder.specs.Builder.{OpenSection, Namespace, namespace_at, Content, with_entry}
+use Rattle.wenc_builder.specs.Builder.{State, builder_is_finished, content_of}
+use Rattle.wenc_builder.specs.Builder.{Draft, draft_indices, item_begun}
 
 -- ---- too much of something
 
@@ -59,9 +58,3 @@ BeginCause old d =
 -- why a call that adds this entry is refused
 abbrev pub EnterCause : State → Entry → Fault → Type 0
 EnterCause old x = CallCause old (item x.item).Cause (with_entry old.settled x) (defines x.item)
-
--- the cause that x has after these entries
-abbrev pub EntryCause : List Entry → Entry → Fault → Type 0
-EntryCause es x =
-    AddingCause (item x.item).Cause (namespace_of (es ++ x ∷ [])) (defines x.item)
-    (open_of (runs (items (es ++ x ∷ []))))

@@ -1,7 +1,10 @@
 -- Items with their debug names.
-use Rattle.std.specs.Prelude.{ℕ, List, [], ◌∷◌, ◌++◌, ◌+◌, map, Option, Some, None}
-use Rattle.std.specs.Prelude.{if◌then◌else◌, length}
-use Rattle.wenc_base.specs.Names.{NameAssociation, names_text}
+use Rattle.std.specs.Prelude.{ℕ, List, [], ◌∷◌, ◌++◌, ◌+◌, ◌⊎◌, map, Option, Some, None}
+use Rattle.std.specs.Prelude.{if◌then◌else◌}
+use Rattle.wenc_base.specs.Fault.{count_cause}
+use Rattle.wenc_base.specs.Forms.{sized}
+use Rattle.wenc_base.specs.Names.{NameAssociation, name_map}
+use Rattle.wenc_base.specs.declared.fault.Fault.{Fault}
 use Rattle.wenc_base.specs.declared.exports.ExportKind.{ExportKind}
 use Rattle.wenc_parts.specs.declared.exports.ComponentExportKind.{ComponentExportKind}
 use Rattle.wenc_parts.specs.declared.imports.ComponentTypeRef.{ComponentTypeRef}
@@ -15,6 +18,7 @@ use Rattle.wenc_types.specs.ComponentTypes.{DefType}
 use Rattle.wenc_builder.specs.Item.{Item, ModuleItem, CoreInstanceItem, CoreTypeItem, ComponentItem}
 use Rattle.wenc_builder.specs.Item.{InstanceItem, AliasItem, TypeItem, CanonItem, StartItem}
 use Rattle.wenc_builder.specs.Item.{ImportItem, ExportItem, CustomItem, RawItem}
+use Rattle.wenc_builder.specs.Sections.{component, runs}
 use Rattle.wenc_builder.specs.Space.{space_eq, Indices, defines, defined_in, next_index}
 use Rattle.wenc_builder.specs.declared.builder.space.Space.{Space}
 
@@ -115,17 +119,17 @@ names_from k n (e ∷ es) =
 abbrev pub names : List Entry → Space → List NameAssociation
 names es k = names_from k 0 es
 
--- how many items a space has, how many of them have names, and the text of those names
-pub record Namespace : Type 0 where
-  pub count : ℕ
-  pub named : ℕ
-  pub names : List ℕ
+-- ---- why an entry is refused
 
--- what these entries make of space k
-abbrev pub namespace_of : List Entry → Space → Namespace
-namespace_of es k =
-    record {
-      count = next_index (items es) k;
-      named = length (names es k);
-      names = names_text (names es k);
-    }
+-- the space of these indices has too many items, or names that are too many or too long for a map
+abbrev pub IndicesCause : List Entry → Option Indices → Fault → Type 0
+IndicesCause es None fault = ⊥
+IndicesCause es (Some d) fault =
+    count_cause (next_index (items es) d.space) fault
+    ⊎ (sized (name_map (names es d.space))).Cause fault
+
+-- why x is refused after these: the component with it can't be encoded, or its space is too much
+abbrev pub EntryCause : List Entry → Entry → Fault → Type 0
+EntryCause es x fault =
+    (component (runs (items (es ++ x ∷ [])))).Cause fault
+    ⊎ IndicesCause (es ++ x ∷ []) (defines x.item) fault

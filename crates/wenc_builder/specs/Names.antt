@@ -14,8 +14,8 @@ use Rattle.wenc_sections.specs.declared.names.Sort.TheVariants.{CoreGlobal, Core
 use Rattle.wenc_sections.specs.declared.names.Sort.TheVariants.{CoreModule, CoreInstance, Func}
 use Rattle.wenc_sections.specs.declared.names.Sort.TheVariants.{Value, «Type» as TypeSort}
 use Rattle.wenc_sections.specs.declared.names.Sort.TheVariants.{Component, Instance}
-use Rattle.wenc_builder.specs.Entry.{Entry, custom_entry, names, Namespace}
-use Rattle.wenc_builder.specs.Builder.{namespace_at, State, builder_is_finished}
+use Rattle.wenc_builder.specs.Entry.{Entry, custom_entry, names}
+use Rattle.wenc_builder.specs.Builder.{Namespace, namespace_at, State, builder_is_finished}
 use Rattle.wenc_builder.specs.Enters.{EntersWithoutIndex}
 use Rattle.wenc_builder.specs.Holds.{Holds}
 use Rattle.wenc_builder.specs.declared.builder.space.Space.{Space}

@@ -1,8 +1,8 @@
 -- Components: items cut into sections, and the sections' texts (component model, binary format,
 -- "Component Definitions").
 use Rattle.std.specs.Prelude.{◌≡◌, ℕ, ◌∷◌, [], List, Option, Some, None, Bool, IsTrue, nat_eq}
-use Rattle.std.specs.Prelude.{if◌then◌else◌, length}
-use Rattle.std.specs.List.{list_any, flat_map, AllByRecursion}
+use Rattle.std.specs.Prelude.{if◌then◌else◌}
+use Rattle.std.specs.List.{list_any, AllByRecursion}
 use Rattle.wenc_base.specs.Piece.{Spelling, Piece, Form, ◌▸◌, only_where, nothing, ◌⨾◌}
 use Rattle.wenc_base.specs.Forms.{counted}
 use Rattle.wenc_parts.specs.declared.component.ComponentSectionId.TheVariants.{CoreInstance}
@@ -40,20 +40,6 @@ runs (x ∷ xs) = joined (collected x) x (runs xs)
 -- no item of the sections is raw
 abbrev pub SectionsHaveNoRaw : List Section → Type 0
 SectionsHaveNoRaw = AllByRecursion (λ s. HasNoRaw (members s))
-
--- the section that takes more items: its id, how many items it has, and their bytes
-pub record OpenSection : Type 0 where
-  pub id : ℕ
-  pub count : ℕ
-  pub body : List ℕ
-
--- it is the last section, where that collects items
-abbrev pub open_of : List Section → Option OpenSection
-open_of [] = None
-open_of (Run id xs ∷ []) =
-    Some (record { id = id; count = length xs; body = flat_map (λ x. (item x).text) xs })
-open_of (Alone x ∷ []) = None
-open_of (s ∷ t ∷ ss) = open_of (t ∷ ss)
 
 -- ---- texts
 

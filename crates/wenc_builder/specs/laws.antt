@@ -3,6 +3,7 @@ pub mod Space
 pub mod Step
 pub mod Never
 pub mod Caused
+pub mod EntryCause
 pub mod Answered
 pub mod Held
 pub mod LenderState

@@ -13,8 +13,7 @@ use Rattle.wenc_base.specs.declared.fault.Fault.{Fault}
 use Rattle.wenc_parts.specs.declared.component.ComponentSectionId.TheVariants as ids
 use Rattle.wenc_parts.specs.SectionIds.{section_number}
 use Rattle.wenc_parts.specs.Component.{preamble}
-use Rattle.wenc_builder.specs.Sections.{OpenSection}
-use Rattle.wenc_builder.specs.Builder.{SectionsState, entered, stood_alone}
+use Rattle.wenc_builder.specs.Builder.{OpenSection, SectionsState, entered, stood_alone}
 use Rattle.wenc_builder.specs.Builder.{open_text, Draft, draft}
 use Rattle.wenc_builder.specs.declared.builder.space.Space.{Space}
 use Rattle.wenc_builder.specs.declared.builder.kind.Kind.{Kind}

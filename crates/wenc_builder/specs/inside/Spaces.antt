@@ -2,10 +2,14 @@
 use Rattle.std.specs.Prelude.{◌≡◌, ℕ, List, [], ◌<◌, ◌≤◌, ◌^◌, length, take, replicate, Option}
 use Rattle.std.specs.Prelude.{Some, None}
 use Rattle.wenc_base.specs.Holder.{HolderState, holding, content_size}
-use Rattle.wenc_builder.specs.Builder.{no_names, namespace_at, namespace_set, namespace_with}
-use Rattle.wenc_builder.specs.Entry.{Namespace}
+use Rattle.wenc_builder.specs.Builder.{Namespace, no_names, namespace_at, namespace_set}
+use Rattle.wenc_builder.specs.Builder.{namespace_with}
 use Rattle.wenc_builder.specs.declared.builder.space.Space.{Space}
 use Rattle.wenc_builder.specs.declared.builder.spaces.Undo.{Undo}
+
+-- what a space is seen as
+abbrev pub space_view : ℕ → ℕ → List ℕ → Namespace
+space_view count named names = record { count = count; named = named; names = names }
 
 -- the space that an item is taking an index in, as it is with that item
 pub record Taking : Type 0 where

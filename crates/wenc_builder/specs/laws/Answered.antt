@@ -4,19 +4,17 @@ use Rattle.std.proofs.Common.{◌≡◌, ℕ, inl, inr, List, [], ◌∷◌, ◌
 use Rattle.std.specs.Result.{MatchResult}
 use Rattle.wenc_base.specs.Fault.{IsWarranted}
 use Rattle.wenc_base.specs.declared.fault.Fault.{Fault}
-use Rattle.wenc_base.specs.declared.fault.Fault.TheVariants.{Unfinished}
 use Rattle.wenc_base.specs.laws.Serves.{still_warranted}
 use Rattle.wenc_builder.specs.Item.{Item, item}
-use Rattle.wenc_builder.specs.Sections.{runs, OpenSection, open_of}
+use Rattle.wenc_builder.specs.Sections.{runs}
 use Rattle.wenc_builder.specs.Space.{Indices, defines, IsIndexAt, IsIndexOf, next_index, index_of}
-use Rattle.wenc_builder.specs.Entry.{Entry, items, Namespace, namespace_of}
-use Rattle.wenc_builder.specs.Builder.{namespace_at, with_entry, State}
-use Rattle.wenc_builder.specs.Holds.{Holds}
+use Rattle.wenc_builder.specs.Entry.{Entry, items, EntryCause}
+use Rattle.wenc_builder.specs.Builder.{OpenSection, Namespace, namespace_at, with_entry, State}
+use Rattle.wenc_builder.specs.Holds.{Holds, open_of, namespace_of}
 use Rattle.wenc_builder.specs.declared.builder.space.Space.{Space}
-use Rattle.wenc_builder.specs.Cause.{SectionCause, SpaceCause, IndexCause, AddingCause, EnterCause, EntryCause}
+use Rattle.wenc_builder.specs.Cause.{SectionCause, SpaceCause, IndexCause, AddingCause, EnterCause}
 use Rattle.wenc_builder.specs.Enters.{IsCountAt, EntersWith, Enters}
-use Rattle.wenc_builder.specs.laws.Caused.{adding_never_unfinished}
-use Rattle.wenc_builder.specs.laws.Never.{never_unfinished}
+use Rattle.wenc_builder.specs.laws.EntryCause.{from_counts, to_counts, encodable_free}
 use Rattle.wenc_builder.specs.laws.Step.{sections_step, spaces_hold_more}
 
 -- what the content with one more entry is, by the list that is held then
@@ -48,17 +46,13 @@ moved cause s t d o p f e q (inr (inr c)) = inr (inr (subst (λ (n : Option Open
 
 -- the call's cause is the entry's
 pub to_entry : (old : State) (es : List Entry) (x : Entry) → Holds old es → (f : Fault) → EnterCause old x f → EntryCause es x f
-to_entry old es x h f (inl c) = moved (item x.item).Cause _ _ _ _ _ f (space_is old es x _ refl h) (current_is old es x h) c
+to_entry old es x h f (inl c) = from_counts es x f (moved (item x.item).Cause _ _ _ _ _ f (space_is old es x _ refl h) (current_is old es x h) c)
 to_entry old es x h f (inr c) = let none : old.begun ≡ None = h.finished in let some = c.1 in cc
 
 pub from_entry : (old : State) (es : List Entry) (x : Entry) → Holds old es → (f : Fault) → EntryCause es x f → EnterCause old x f
-from_entry old es x h f c = inl (moved (item x.item).Cause _ _ _ _ _ f (backwards _ _ _ (space_is old es x _ refl h)) (sym (current_is old es x h)) c)
-
--- an entry's cause is never that something is unfinished
-pub entry_never_unfinished : (es : List Entry) (x : Entry) → EntryCause es x Unfinished → ⊥
-entry_never_unfinished es x c =
-    let after = es ++ x ∷ [] in
-    adding_never_unfinished (item x.item).Cause (namespace_of after) (defines x.item) (open_of (runs (items after))) (never_unfinished x.item) c
+from_entry old es x h f c =
+    let counted = to_counts es x (encodable_free (items es) h.fits) f c in
+    inl (moved (item x.item).Cause _ _ _ _ _ f (backwards _ _ _ (space_is old es x _ refl h)) (sym (current_is old es x h)) counted)
 
 pub answered_with : {R : Type 0} (old new : State) (result : Result R Fault) (x : Entry) (Told : List Entry → R → Type 0) (Counted : Option Indices → R → Type 0) (es : List Entry) → EntersWith old new result x Told Counted → Holds old es
     → MatchResult result (λ r. Holds new (es ++ x ∷ []) × Told es r × ((fault : Fault) → EntryCause es x fault → ⊥)) (λ fault. Holds new es × IsWarranted (EntryCause es x) fault)

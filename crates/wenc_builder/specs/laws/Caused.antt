@@ -5,11 +5,9 @@ use Rattle.std.proofs.lemmas.Bool.Decides.{eqb_tells}
 use Rattle.wenc_base.specs.Number.{number_size}
 use Rattle.wenc_base.specs.declared.fault.Fault.{Fault}
 use Rattle.wenc_base.specs.declared.fault.Fault.TheVariants.{Memory, TooMany, TooLarge, Unfinished}
-use Rattle.wenc_builder.specs.Builder.{entered, entered_at, no_names, namespace_at}
-use Rattle.wenc_builder.specs.Entry.{Namespace}
+use Rattle.wenc_builder.specs.Builder.{OpenSection, entered, entered_at, Namespace, no_names, namespace_at}
 use Rattle.wenc_builder.specs.Builder.{State, content_of, Draft, draft, draft_indices, space_with}
 use Rattle.wenc_builder.specs.Builder.{item_begun}
-use Rattle.wenc_builder.specs.Sections.{OpenSection}
 use Rattle.wenc_builder.specs.Cause.{SectionCause, SpaceCause, IndexCause, AddingCause, CallCause, NoRoom}
 use Rattle.wenc_base.specs.Fault.{either}
 use Rattle.wenc_builder.specs.Space.{Indices, space_number}

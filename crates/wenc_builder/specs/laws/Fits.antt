@@ -11,7 +11,9 @@ use Rattle.wenc_base.specs.Fault.{NoCause}
 use Rattle.wenc_builder.specs.Cause.{SectionCause}
 use Rattle.wenc_builder.specs.Item.{Item, ModuleItem, CoreInstanceItem, CoreTypeItem, ComponentItem, InstanceItem, AliasItem, TypeItem, CanonItem, StartItem, ImportItem, ExportItem, CustomItem, RawItem, collected, item}
 use Rattle.wenc_builder.specs.Sections.{Section, Run, Alone, runs, collects, item_of, section_piece}
-use Rattle.wenc_builder.specs.Sections.{sections, OpenSection, open_of}
+use Rattle.wenc_builder.specs.Sections.{sections}
+use Rattle.wenc_builder.specs.Builder.{OpenSection}
+use Rattle.wenc_builder.specs.Holds.{open_of}
 use Rattle.wenc_builder.specs.laws.Runs.{runs_extended, pushed, pushed_some, open_skip, runs_push}
 
 -- these sections can be encoded

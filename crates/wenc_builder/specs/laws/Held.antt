@@ -7,8 +7,7 @@ use Rattle.wenc_base.specs.declared.fault.Fault.TheVariants.{Memory, TooMany, To
 use Rattle.wenc_builder.specs.Builder.{entered, entered_at, BegunItem, Content, State, settled_in}
 use Rattle.wenc_builder.specs.Builder.{builder_is_finished, with_entry, content_with, content_of}
 use Rattle.wenc_builder.specs.Builder.{Draft, item_begun, begun_appended, item_appended, item_ended}
-use Rattle.wenc_builder.specs.Builder.{item_given_up}
-use Rattle.wenc_builder.specs.Sections.{OpenSection}
+use Rattle.wenc_builder.specs.Builder.{item_given_up, OpenSection}
 use Rattle.wenc_builder.specs.inside.Takes.{with_alone}
 use Rattle.wenc_builder.specs.Entry.{Entry, entry}
 use Rattle.wenc_builder.specs.Holds.{Holds}

@@ -1,4 +1,8 @@
--- No item is unfinished.
+-- What can be encoded has no cause, and no item is unfinished.
+use Rattle.std.specs.Prelude.{ℕ}
+use Rattle.wenc_base.specs.Fault.{NoCause}
+use Rattle.wenc_base.specs.Piece.{Piece}
+use Rattle.wenc_base.specs.Readers.{Reader, Lawful}
 use Rattle.wenc_base.specs.declared.fault.Fault.TheVariants.{Unfinished}
 use Rattle.wenc_base.specs.laws.Forms.{byte_list_lawful}
 use Rattle.wenc_base.specs.laws.Sections.{custom_lawful}
@@ -9,17 +13,30 @@ use Rattle.wenc_sections.specs.laws.Items.{import_lawful, inline_export_lawful, 
 use Rattle.wenc_types.specs.laws.ComponentTypes.{type_lawful}
 use Rattle.wenc_types.specs.laws.CoreTypes.{core_type_lawful}
 
+-- what the laws of a piece say of its cause
+abbrev OfCause : Piece → Type 0
+OfCause p = (p.Fits → NoCause p.Cause) × (p.Cause Unfinished → ⊥)
+
+of : {A : Type 0} {p : Piece} {read : ℕ → Reader A} {v : A} → Lawful p read v → OfCause p
+of l = (l.free, l.never)
+
+of_item : (x : Item) → OfCause (item x)
+of_item (ModuleItem bytes) = of (byte_list_lawful bytes)
+of_item (CoreInstanceItem i) = of (core_instance_lawful i)
+of_item (CoreTypeItem t) = of (core_type_lawful t)
+of_item (ComponentItem bytes) = of (byte_list_lawful bytes)
+of_item (InstanceItem i) = of (instance_lawful i)
+of_item (AliasItem to) = of (alias_lawful to)
+of_item (TypeItem t) = of (type_lawful t)
+of_item (CanonItem f) = of (canonical_lawful f)
+of_item (StartItem s) = of (start_lawful s)
+of_item (ImportItem i) = of (import_lawful i)
+of_item (ExportItem e) = of (inline_export_lawful e)
+of_item (CustomItem c) = of (custom_lawful c)
+of_item (RawItem bytes) = (λ fits fault c. c, λ c. c)
+
+pub fits_is_free : (x : Item) → (item x).Fits → NoCause (item x).Cause
+fits_is_free x = (of_item x).0
+
 pub never_unfinished : (x : Item) → (item x).Cause Unfinished → ⊥
-never_unfinished (ModuleItem bytes) = (byte_list_lawful bytes).never
-never_unfinished (CoreInstanceItem i) = (core_instance_lawful i).never
-never_unfinished (CoreTypeItem t) = (core_type_lawful t).never
-never_unfinished (ComponentItem bytes) = (byte_list_lawful bytes).never
-never_unfinished (InstanceItem i) = (instance_lawful i).never
-never_unfinished (AliasItem to) = (alias_lawful to).never
-never_unfinished (TypeItem t) = (type_lawful t).never
-never_unfinished (CanonItem f) = (canonical_lawful f).never
-never_unfinished (StartItem s) = (start_lawful s).never
-never_unfinished (ImportItem i) = (import_lawful i).never
-never_unfinished (ExportItem e) = (inline_export_lawful e).never
-never_unfinished (CustomItem c) = (custom_lawful c).never
-never_unfinished (RawItem bytes) = λ c. c
+never_unfinished x = (of_item x).1

@@ -6,9 +6,9 @@ use Rattle.std.specs.List.{flat_map}
 use Rattle.wenc_base.specs.Number.{unsigned_text}
 use Rattle.wenc_builder.specs.Item.{Item, collected, item}
 use Rattle.wenc_builder.specs.Sections.{Section, Run, Alone, joined, runs, section_piece, sections}
-use Rattle.wenc_builder.specs.Sections.{preamble, open_of}
+use Rattle.wenc_builder.specs.Sections.{preamble}
 use Rattle.wenc_builder.specs.Builder.{SectionsState, sections_text, open_text, open_text_of, with_item, with_item_at}
-use Rattle.wenc_builder.specs.Holds.{SectionsHold}
+use Rattle.wenc_builder.specs.Holds.{open_of, SectionsHold}
 
 abbrev item_text : Item → List ℕ
 item_text x = (item x).text

@@ -2,17 +2,16 @@
 use Rattle.std.proofs.Common.{◌≡◌, ℕ, zero, suc, ◌+◌, ◌<◌, List, [], ◌∷◌, ◌++◌, length, Option, Some, None, refl, ap, sym, ◌∙◌, inl, inr, subst, append_assoc, append-nil, arith, length-append, add_assoc, zero-add, add-zero, replicate, get_or}
 use Rattle.std.proofs.lemmas.List.{get_or-set_same, get_or-set_other, length-set}
 use Rattle.wenc_builder.specs.Item.{Item, item}
-use Rattle.wenc_builder.specs.Sections.{preamble, runs, open_of}
+use Rattle.wenc_builder.specs.Sections.{preamble, runs}
 use Rattle.wenc_builder.specs.laws.Space.{space_within, same_number, space_decides, space_tells, space_ne}
 use Rattle.wenc_builder.specs.laws.Fits.{SectionsFit, HasRoom, sections_fit_more}
 use Rattle.wenc_builder.specs.Space.{space_number, Indices, defines, defined_in, next_index}
 use Rattle.wenc_builder.specs.declared.builder.space.Space.{Space}
 use Rattle.wenc_base.specs.Names.{NameAssociation, name_association, names_text}
-use Rattle.wenc_builder.specs.Entry.{Entry, items, named_as, named_in, names_from, names, Namespace}
-use Rattle.wenc_builder.specs.Entry.{namespace_of}
-use Rattle.wenc_builder.specs.Builder.{no_names, namespace_at, namespace_with, spaces_with}
+use Rattle.wenc_builder.specs.Entry.{Entry, items, named_as, named_in, names_from, names}
+use Rattle.wenc_builder.specs.Builder.{Namespace, no_names, namespace_at, namespace_with, spaces_with}
 use Rattle.wenc_builder.specs.Builder.{with_entry, State, step, settled_in}
-use Rattle.wenc_builder.specs.Holds.{SectionsHold, SpacesHold, Holds}
+use Rattle.wenc_builder.specs.Holds.{open_of, namespace_of, SectionsHold, SpacesHold, Holds}
 use Rattle.wenc_builder.specs.laws.Runs.{sections_hold_more}
 
 pub items_push : (es : List Entry) (x : Entry) → items (es ++ x ∷ []) ≡ items es ++ x.item ∷ []

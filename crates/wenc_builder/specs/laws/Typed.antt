@@ -6,9 +6,9 @@ use Rattle.wenc_types.specs.ComponentTypes.{DefType}
 use Rattle.wenc_types.specs.CoreTypes.{CoreType}
 use Rattle.wenc_builder.specs.Item.{collected, item}
 use Rattle.wenc_builder.specs.Space.{Indices, defines}
-use Rattle.wenc_builder.specs.Entry.{Entry, type_entry, core_type_entry}
+use Rattle.wenc_builder.specs.Entry.{Entry, EntryCause, type_entry, core_type_entry}
 use Rattle.wenc_builder.specs.Builder.{Content, with_entry, State, step, content_of, Draft, draft, draft_in, draft_indices, item_begun, item_appended, item_ended}
-use Rattle.wenc_builder.specs.Cause.{CallCause, BeginCause, EntryCause}
+use Rattle.wenc_builder.specs.Cause.{CallCause, BeginCause}
 use Rattle.wenc_builder.specs.Holds.{Holds}
 use Rattle.wenc_builder.specs.LenderState.{no_room_in_section}
 use Rattle.wenc_parts.specs.declared.component.ComponentSectionId.TheVariants as ids

@@ -4,8 +4,9 @@ ghost use Rattle.std.specs.Prelude.{◌≡◌, ◌≤◌, [], length, take, OnOk
 ghost use Rattle.wenc_base.specs.Fault.{IsWarranted};
 ghost use Rattle.wenc_base.specs.Holder.{holding};
 ghost use Rattle.wenc_base.specs.declared.fault.Fault.{Fault as FaultSpec};
-ghost use Rattle.wenc_builder.specs.Builder.{no_names, namespace_with, space_view};
+ghost use Rattle.wenc_builder.specs.Builder.{no_names, namespace_with};
 ghost use Rattle.wenc_builder.specs.Cause.{SpaceCause};
+ghost use Rattle.wenc_builder.specs.inside.Spaces.{space_view};
 
 use std::alloc::{Allocator, Global};
 use std::marker::Model;
@@ -19,9 +20,8 @@ pub struct Namespace<A: Allocator = Global> {
 }
 
 impl<A: Allocator> Model for Namespace<A> {
-    ghost use Rattle.wenc_builder.specs.Builder.{space_view};
-    ghost use Rattle.wenc_builder.specs.Entry.{Namespace};
-    ghost use Rattle.wenc_builder.specs.inside.Spaces.{NamesFit};
+    ghost use Rattle.wenc_builder.specs.Builder.{Namespace};
+    ghost use Rattle.wenc_builder.specs.inside.Spaces.{NamesFit, space_view};
 
     ghost Value = { Namespace };
 

@@ -1,6 +1,6 @@
 use Rattle.std.proofs.Common.{◌≡◌, ◌↔◌, List, ◌∷◌, Option, subst, ap, ◌∙◌}
-use Rattle.wenc_builder.specs.Builder.{BegunItem, Content, namespace_at, content_of, content_with}
-use Rattle.wenc_builder.specs.Entry.{items, Namespace}
+use Rattle.wenc_builder.specs.Builder.{BegunItem, Content, Namespace, namespace_at, content_of, content_with}
+use Rattle.wenc_builder.specs.Entry.{items}
 use Rattle.wenc_builder.specs.Sections.{Reading, Section}
 use Rattle.wenc_builder.specs.declared.builder.space.Space.TheVariants as spaces
 use Rattle.facts.proofs.finished.imports_alone.Goals as goal

@@ -1,5 +1,5 @@
 use Rattle.std.proofs.Common.{◌∙◌, ap}
-use Rattle.wenc_builder.specs.Entry.{Namespace}
+use Rattle.wenc_builder.specs.Builder.{Namespace}
 use Rattle.wenc_builder.proofs.Undone.{count_is}
 use Rattle.wenc_builder.proofs.builder.spaces.Spaces.count.Goals as goal
 
