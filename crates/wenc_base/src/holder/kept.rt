@@ -47,6 +47,7 @@ impl<A: Allocator> Holder<A> {
         ensures warranted { IfErr result (IsWarranted
             (either (E.piece more.now).Cause (EncodeCause self.old))) }
         ensures unfinished_first { is_finished self.old ≡ false → result ≡ Err Unfinished }
+        ensures unfinished_value { E.unfinished more.now → result ≡ Err Unfinished }
     {
         if !self.is_finished() {
             return Err(Fault::Unfinished);
