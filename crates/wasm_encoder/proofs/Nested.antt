@@ -11,7 +11,8 @@ use Rattle.wenc_builder.specs.Holds.{Holds}
 use Rattle.wenc_builder.specs.Sections.{whole}
 use Rattle.std.specs.Option.{option_map}
 use Rattle.std.specs.String.{string_bytes}
-use Rattle.wasm_encoder.specs.Command.{CommandTree, Nest, Commands, no_more, then, command_view, row_view, commands_view}
+use Rattle.wasm_encoder.specs.Command.{CommandTree, Nest, Commands, no_more, then, command_view, row_view}
+use Rattle.wasm_encoder.specs.inside.Steps.{commands_view}
 use Rattle.wasm_encoder.specs.Cause.{added, led, cause, first_cause}
 use Rattle.wasm_encoder.specs.Ran.{IsRefusal}
 use Rattle.wasm_encoder.specs.inside.Steps.{Answers, StepsLeft, indexed}

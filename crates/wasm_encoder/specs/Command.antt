@@ -1,5 +1,5 @@
 -- Commands as pure data.
-use Rattle.std.specs.Prelude.{ℕ, List, [], ◌∷◌, None, Option, String}
+use Rattle.std.specs.Prelude.{ℕ, List, None, Option, String}
 use Rattle.std.specs.Option.{option_map}
 use Rattle.std.specs.String.{string_bytes}
 use Rattle.wenc_builder.specs.Entry.{Entry, entry, canonical_tree_entry, custom_entry}
@@ -68,7 +68,3 @@ abbrev mutual
   pub row_view : {A : Type 0} {m : _} → Row_of-Command A m → Commands
   row_view end_of-Command = no_more
   row_view (more_of-Command c rest) = then (command_view c) (row_view rest)
-
-abbrev pub commands_view : {A : Type 0} → List (Command A) → Commands
-commands_view [] = no_more
-commands_view (c ∷ cs) = then (command_view c) (commands_view cs)

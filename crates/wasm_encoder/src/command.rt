@@ -12,7 +12,8 @@ ghost use Rattle.wenc_builder.specs.Holds.{Holds};
 ghost use Rattle.wenc_types.specs.CoreTypeTrees.{core_type_view};
 ghost use Rattle.wenc_types.specs.TypeTrees.{type_view};
 ghost use Rattle.wasm_encoder.specs.Cause.{led, first_cause};
-ghost use Rattle.wasm_encoder.specs.Command.{Add, command_view, commands_view};
+ghost use Rattle.wasm_encoder.specs.Command.{Add, command_view};
+ghost use Rattle.wasm_encoder.specs.inside.Steps.{commands_view};
 ghost use Rattle.wasm_encoder.specs.Ran.{Ran, IsRefusal, IsStopped, HasRun, RunsNext};
 ghost use Rattle.wasm_encoder.specs.inside.Steps.{StepsRun, StepsBack, indexed as indexed_of, without_index as without_index_of};
 

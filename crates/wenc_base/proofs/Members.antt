@@ -11,7 +11,7 @@ use Rattle.wenc_base.specs.Fault.{IsWarranted, NoCause, member_cause}
 use Rattle.wenc_base.specs.Piece.{Form}
 use Rattle.wenc_base.specs.Number.{unsigned_text}
 use Rattle.wenc_base.specs.Forms.{list}
-use Rattle.wenc_base.specs.Encode.{Written}
+use Rattle.wenc_base.specs.inside.Written.{Written}
 use Rattle.wenc_base.specs.declared.fault.Fault.{Fault}
 
 -- nothing of the rest has a cause, since nothing of the whole has one

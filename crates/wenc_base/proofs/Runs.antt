@@ -2,7 +2,8 @@
 use Rattle.std.proofs.Common.{◌≡◌, ℕ, ◌+◌, ◌^◌, ◌<◌, List, [], ◌∷◌, ◌++◌, length, length-append, take, drop, Option, Result, Ok, Err, OnOk, IfErr, IsErrAnd, false, refl, ap, append_assoc, ◌∙◌, inl, inr, arith}
 use Rattle.std.proofs.iter.runs.Made.{run}
 use Rattle.std.specs.Iterator.Runs.{Run, SomeRun, WholeRun}
-use Rattle.wenc_base.specs.Encode.{Appended, Written, drawn_in_order}
+use Rattle.wenc_base.specs.Encode.{Appended, drawn_in_order}
+use Rattle.wenc_base.specs.inside.Written.{Written}
 use Rattle.wenc_base.specs.Fault.{IsWarranted, IsMemory, NoCause, member_cause, drawn_cause}
 use Rattle.wenc_base.specs.Forms.{list}
 use Rattle.wenc_base.specs.Holder.{listed}

@@ -1,7 +1,6 @@
 -- What it is to append a text.
-use Rattle.std.specs.List.{flat_map, AllByRecursion}
 use Rattle.std.specs.Prelude.{◌≡◌, ℕ, List, length, ◌++◌, Result, Err, OnOk, OnErr, IfErr}
-use Rattle.wenc_base.specs.Fault.{IsWarranted, NoCause, size_cause, first_of, member_cause}
+use Rattle.wenc_base.specs.Fault.{IsWarranted, NoCause, size_cause, first_of}
 use Rattle.wenc_base.specs.Fault.{list_cause, drawn_cause}
 use Rattle.wenc_base.specs.Forms.{list, sized}
 use Rattle.wenc_base.specs.Piece.{Piece, Form, ◌⨾◌, refused_for}
@@ -52,12 +51,3 @@ pub record Serves (p q : Piece) : Type 0 where
   pub fits : p.Fits → q.Fits
   pub among : (fault : Fault) → p.Cause fault → q.Cause fault
   pub free : NoCause p.Cause → NoCause q.Cause
-
--- ---- one value after the other
-
--- After what stood there at the start come the texts of these values, which fit and have no cause.
-pub record Written {A : Type 0} (form : Form A) (start : List ℕ) (vs : List A)
-    (now : List ℕ) : Type 0 where
-  pub items : now ≡ start ++ flat_map (λ v. (form v).text) vs
-  pub fit : AllByRecursion (λ v. (form v).Fits) vs
-  pub no_cause : NoCause (member_cause (λ v. (form v).Cause) vs)

@@ -17,5 +17,6 @@ pub mod Lender
 pub mod Openings
 pub mod FormLaws
 pub mod Readers
+pub mod inside
 pub mod reading
 pub mod laws

@@ -6,4 +6,3 @@ pub mod Exports
 pub mod Types
 pub mod Composites
 pub mod Entities
-pub mod Sections

@@ -16,7 +16,7 @@ use Rattle.wenc_base.specs.laws.Sections.{custom_content_lawful, custom_content_
 use Rattle.wenc_base.specs.laws.Sound.{Told, weaken, told_on, tested, Agrees}
 use Rattle.wenc_base.specs.reading.Forms.{read_raw}
 use Rattle.wenc_base.specs.reading.Numbers.{read_u32}
-use Rattle.wenc_base.specs.reading.Sections.{read_custom_content, labelled_section}
+use Rattle.wenc_base.specs.inside.Sections.{read_custom_content, labelled_section}
 use Rattle.wenc_builder.specs.Item.{Item, ModuleItem, CoreInstanceItem, CoreTypeItem, ComponentItem, InstanceItem, AliasItem, TypeItem, CanonItem, StartItem, ImportItem, ExportItem, CustomItem, RawItem}
 use Rattle.wenc_builder.specs.Sections.{Section, members, collects, item_of, section_piece}
 use Rattle.wenc_builder.specs.laws.Reading.{item_of_lawful}

@@ -8,7 +8,8 @@ use Rattle.wenc_base.specs.Number.{u32, count}
 use Rattle.wenc_base.specs.Piece.{Piece, ◌▸◌, ◌⨾◌, each}
 use Rattle.wenc_base.specs.declared.fault.Fault.TheVariants.{Memory, TooMany, TooLarge, Unfinished}
 use Rattle.wenc_base.specs.laws.Serves.{serves_itself, serves_then, tagged_serves, order_serves, either_free}
-use Rattle.wenc_parts.specs.Imports.{ExternName, NameOption, Implements, VersionSuffix, ExternalId, name_option, name_options, name_with, present, extern_name, option_entry}
+use Rattle.wenc_parts.specs.Imports.{ExternName, NameOption, Implements, VersionSuffix, ExternalId, name_option, name_options, name_with, present, extern_name}
+use Rattle.wenc_parts.specs.inside.NameOptions.{option_entry}
 
 -- ---- options
 

@@ -1,7 +1,7 @@
 -- What an import or an export refers to, and its name (component model, binary format, "Import and
 -- Export Definitions").
 use Rattle.std.specs.Prelude.{ℕ, List, [], ◌∷◌, ◌++◌, Option, Some, None, Box}
-use Rattle.wenc_base.specs.Piece.{Piece, Form, nothing, byte, ◌▸◌, ◌⨾◌, or_widely}
+use Rattle.wenc_base.specs.Piece.{Piece, Form, byte, ◌▸◌, ◌⨾◌, or_widely}
 use Rattle.wenc_base.specs.Number.{u32}
 use Rattle.wenc_base.specs.Forms.{name, list}
 use Rattle.wenc_parts.specs.Types.{value_type}
@@ -109,8 +109,3 @@ boxed_view name (Some options) = options_view name options.value
 
 abbrev pub name_tree_view : {A : Type 0} → NameTree A → ExternName
 name_tree_view n = boxed_view (string_bytes n.name) n.options
-
--- an option after the number that it begins with, or nothing where it isn't there
-abbrev pub option_entry : ℕ → Form (Option (List ℕ))
-option_entry number None = nothing
-option_entry number (Some text) = number ▸ name text

@@ -5,5 +5,6 @@ pub mod Exports
 pub mod Imports
 pub mod Instances
 pub mod Aliases
+pub mod inside
 pub mod reading
 pub mod laws

@@ -246,7 +246,7 @@ impl<'a, A: Allocator> Delimited for ComponentExternName<'a, A> {
 struct OptionEntry<'a, 'b, A: Allocator>(u8, &'b Option<CowStr<'a, A>>);
 
 impl<'a, 'b, A: Allocator> Encode for OptionEntry<'a, 'b, A> {
-    ghost use Rattle.wenc_parts.specs.Imports.{option_entry};
+    ghost use Rattle.wenc_parts.specs.inside.NameOptions.{option_entry};
 
     ghost piece = { λ o. option_entry o.0 (option_map cow_str_bytes o.1.now) };
 

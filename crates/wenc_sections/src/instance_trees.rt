@@ -1,6 +1,7 @@
 //! Instances with owned names, for commands.
 ghost use Rattle.std.specs.Prelude.{◌≡◌, ◌++◌, ℕ, List, OnOk, OnErr, IfErr};
-ghost use Rattle.wenc_base.specs.Encode.{Appends, Written, list_in_order};
+ghost use Rattle.wenc_base.specs.Encode.{Appends, list_in_order};
+ghost use Rattle.wenc_base.specs.inside.Written.{Written};
 ghost use Rattle.wenc_base.specs.Fault.{IsWarranted, member_cause};
 ghost use Rattle.wenc_base.specs.laws.Serves.{serves_itself};
 ghost use Rattle.wenc_sections.specs.inside.InstanceTrees.{inline_export_tree};

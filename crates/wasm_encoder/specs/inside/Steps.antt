@@ -1,12 +1,19 @@
 -- What running one command does to a builder.
-use Rattle.std.specs.Prelude.{◌≡◌, ℕ, List, Result, Ok, Err, MatchResult, Option, Some, None}
+use Rattle.std.specs.Prelude.{◌≡◌, ℕ, List, [], ◌∷◌, Result, Ok, Err, MatchResult, Option, Some}
+use Rattle.std.specs.Prelude.{None}
 use Rattle.wenc_base.specs.declared.fault.Fault.{Fault}
 use Rattle.wenc_builder.specs.Builder.{State, item_given_up}
 use Rattle.wenc_builder.specs.Entry.{Entry}
 use Rattle.wenc_builder.specs.Holds.{Holds}
-use Rattle.wasm_encoder.specs.Command.{CommandTree, Add}
+use Rattle.wasm_encoder.specs.Command.{CommandTree, Add, Commands, no_more, then, command_view}
+use Rattle.wasm_encoder.specs.declared.command.Command.{Command}
 use Rattle.wasm_encoder.specs.Cause.{cause}
 use Rattle.wasm_encoder.specs.Ran.{IsRefusal, IsDue, entries_after, IsTyped, HasRun}
+
+-- the code's commands as pure data
+abbrev pub commands_view : {A : Type 0} → List (Command A) → Commands
+commands_view [] = no_more
+commands_view (c ∷ cs) = then (command_view c) (commands_view cs)
 
 -- A command got an answer, for every list of entries that was held.
 pub record Answers (old new : State) (answer : Result (Option ℕ) Fault)

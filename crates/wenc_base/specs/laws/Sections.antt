@@ -10,7 +10,7 @@ use Rattle.wenc_base.specs.reading.Forms.{read_name, read_list, read_sized, read
 use Rattle.wenc_base.specs.laws.Sound.{SoundWhole, then_whole_sound}
 use Rattle.wenc_base.specs.Custom.{Custom, custom}
 use Rattle.wenc_base.specs.Producers.{Producer, producer, Producers, producers_field, producers_label, producers_section}
-use Rattle.wenc_base.specs.reading.Sections.{labelled_section, read_custom_content}
+use Rattle.wenc_base.specs.inside.Sections.{labelled_section, read_custom_content}
 
 pub custom_content_lawful : (c : Custom) → LawfulWhole (name c.label ⨾ raw AreBytes c.bytes) (λ fuel. read_custom_content) c
 custom_content_lawful c = then_whole _ (name_lawful c.label) (bytes_lawful (labelled_section c.label) c.bytes)

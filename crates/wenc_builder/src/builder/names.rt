@@ -1,6 +1,6 @@
 //! The subsections of debug names.
 ghost use Rattle.std.specs.Prelude.{◌≡◌, ◌++◌, ℕ, List, map, OnOk, OnErr, IfErr};
-ghost use Rattle.wenc_base.specs.Encode.{Written};
+ghost use Rattle.wenc_base.specs.inside.Written.{Written};
 ghost use Rattle.wenc_base.specs.Fault.{IsWarranted, member_cause};
 ghost use Rattle.wenc_base.specs.Piece.{each};
 ghost use Rattle.wenc_builder.specs.Names.{space_names, none_named};

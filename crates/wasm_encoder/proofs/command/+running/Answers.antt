@@ -12,7 +12,8 @@ use Rattle.wenc_parts.specs.Imports.{name_tree_view}
 use Rattle.std.specs.Option.{option_map}
 use Rattle.std.specs.String.{string_bytes}
 use Rattle.wenc_sections.specs.InstanceTrees.{core_instance_tree_view, instance_tree_view}
-use Rattle.wasm_encoder.specs.Command.{CommandTree, command_view, commands_view}
+use Rattle.wasm_encoder.specs.Command.{CommandTree, command_view}
+use Rattle.wasm_encoder.specs.inside.Steps.{commands_view}
 use Rattle.wasm_encoder.specs.Cause.{led, first_cause}
 use Rattle.wasm_encoder.specs.Ran.{IsRefusal}
 use Rattle.wasm_encoder.specs.inside.Steps.{Answers, indexed}

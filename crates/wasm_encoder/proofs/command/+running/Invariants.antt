@@ -1,5 +1,5 @@
 use Rattle.std.proofs.Common.{drop}
-use Rattle.wasm_encoder.specs.Command.{commands_view}
+use Rattle.wasm_encoder.specs.inside.Steps.{commands_view}
 use Rattle.wasm_encoder.proofs.Nested.{InnerSo}
 use Rattle.wasm_encoder.proofs.command.+running.Given as goal
 

@@ -1,5 +1,5 @@
 use Rattle.std.proofs.Common.{take}
-use Rattle.wenc_base.specs.Encode.{Written}
+use Rattle.wenc_base.specs.inside.Written.{Written}
 use Rattle.wenc_sections.specs.inside.InstanceTrees.{inline_export_tree}
 use Rattle.wenc_sections.proofs.instance_trees.encode_exports.Given as goal
 

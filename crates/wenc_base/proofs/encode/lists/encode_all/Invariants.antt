@@ -1,5 +1,5 @@
 use Rattle.std.proofs.Common.{◌≡◌, length}
-use Rattle.wenc_base.specs.Encode.{Written}
+use Rattle.wenc_base.specs.inside.Written.{Written}
 use Rattle.wenc_base.proofs.encode.lists.encode_all.Given as goal
 
 abbrev pub invariant-loop-value : goal.invariant-loop-value

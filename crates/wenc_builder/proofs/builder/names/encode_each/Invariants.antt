@@ -1,5 +1,5 @@
 use Rattle.std.proofs.Common.{take}
-use Rattle.wenc_base.specs.Encode.{Written}
+use Rattle.wenc_base.specs.inside.Written.{Written}
 use Rattle.wenc_builder.specs.Names.{space_names}
 use Rattle.wenc_builder.proofs.builder.names.encode_each.Given as goal
 

@@ -1,0 +1,2 @@
+-- What private functions and proofs need alone: no contract of a public call reaches it.
+pub mod NameOptions
