@@ -1,5 +1,5 @@
 -- Commands as pure data.
-use Rattle.std.specs.Prelude.{ℕ, List, None, Option, String}
+use Rattle.std.specs.Prelude.{ℕ, List, [], ◌∷◌, None, Option, String}
 use Rattle.std.specs.Option.{option_map}
 use Rattle.std.specs.String.{string_bytes}
 use Rattle.wenc_builder.specs.Entry.{Entry, entry, canonical_tree_entry, custom_entry}
