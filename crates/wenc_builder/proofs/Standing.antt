@@ -13,7 +13,8 @@ use Rattle.wenc_builder.specs.LenderState.{IsItemText, is_whole}
 use Rattle.wenc_builder.specs.declared.builder.space.Space.{Space}
 use Rattle.wenc_builder.specs.inside.Spaces.{Spaced, spaces_begun, spaces_ended, spaces_given_up}
 use Rattle.wenc_builder.specs.inside.View.{builder_view, IsBuilder}
-use Rattle.wenc_builder.specs.laws.Held.{some_begun, some_appended, some_ended, some_given_up, some_alone}
+use Rattle.wenc_builder.specs.laws.Held.{some_begun, some_appended, some_ended, some_given_up, some_alone, start_takes_values}
+use Rattle.wenc_builder.specs.declared.builder.space.Space.TheVariants.{Values}
 use Rattle.wenc_builder.proofs.Viewed.{appended_is, appended_section, still_agree, ended_is, not_taking}
 
 pub writing_none : (b : Buffered) → is_none b.writing ≡ true → b.writing ≡ None
@@ -74,17 +75,17 @@ module _ (b : Buffered) (s : Spaced) (i : IsBuilder b s) where
       holds = some_begun (builder_view b s) (record { id = id; space = space; name = name; text = [] }) room i.holds;
     }
 
-    pub alone_stands : (space : Space) (number : ℕ) (name : Option (List ℕ)) (text : List ℕ) → ∥ IsItemText None (Some (record { space = space; number = number })) text ∥₁
+    pub alone_stands : (space : Space) (number : ℕ) (name : Option (List ℕ)) (text : List ℕ) → (space ≡ Values → name ≡ None) → ∥ IsItemText None (Some (record { space = space; number = number })) text ∥₁
         → IsBuilder (buffer_with b text) (spaces_ended (spaces_begun s space number name))
-    alone_stands space number name text whole = record {
+    alone_stands space number name text nameless whole = record {
       agree = tt;
-      holds = some_alone (builder_view b s) (Some (record { space = space; number = number })) name text whole i.holds;
+      holds = some_alone (builder_view b s) (Some (record { space = space; number = number })) name text (λ v takes start e. nameless (start_takes_values v (record { space = space; number = number }) start takes e)) whole i.holds;
     }
 
     pub without_index_stands : (text : List ℕ) → ∥ IsItemText None None text ∥₁ → IsBuilder (buffer_with b text) s
     without_index_stands text whole = record {
       agree = rw not_taken tt;
-      holds = some_alone (builder_view b s) None None text whole i.holds;
+      holds = some_alone (builder_view b s) None None text (λ v takes start e. refl) whole i.holds;
     }
 
     pub without_index_outcome : (new : Buffered) (outcome : Result (Unit {0}) Fault) (p : Piece) → (p.Fits → ∥ IsItemText None None p.text ∥₁) → OnOk outcome p.Fits

@@ -1,5 +1,5 @@
 -- Items with their debug names.
-use Rattle.std.specs.Prelude.{ℕ, List, [], ◌∷◌, ◌++◌, ◌+◌, ◌⊎◌, map, Option, Some, None}
+use Rattle.std.specs.Prelude.{◌≡◌, ℕ, List, [], ◌∷◌, ◌++◌, ◌+◌, ◌⊎◌, map, Option, Some, None}
 use Rattle.std.specs.Prelude.{if◌then◌else◌}
 use Rattle.wenc_base.specs.Fault.{count_cause}
 use Rattle.wenc_base.specs.Forms.{sized}
@@ -11,7 +11,7 @@ use Rattle.wenc_parts.specs.declared.imports.ComponentTypeRef.{ComponentTypeRef}
 use Rattle.wenc_parts.specs.Imports.{ExternName}
 use Rattle.wenc_parts.specs.Aliases.{AliasOf, InstanceExport, CoreInstanceExport}
 use Rattle.wenc_canon.specs.Canonicals.{Canonical, OfBuiltin, name_of}
-use Rattle.wenc_sections.specs.Start.{started}
+use Rattle.wenc_sections.specs.Start.{Start, started}
 use Rattle.wenc_sections.specs.Instances.{CoreInstance, Instance}
 use Rattle.wenc_types.specs.CoreTypes.{CoreType}
 use Rattle.wenc_types.specs.ComponentTypes.{DefType}
@@ -92,6 +92,10 @@ custom_entry name bytes = entry (CustomItem (record { label = name; bytes = byte
 
 abbrev pub raw_entry : List ℕ → Entry
 raw_entry bytes = entry (RawItem bytes) None
+
+-- it has no name, if it is a start
+abbrev pub StartIsNameless : Entry → Type 0
+StartIsNameless e = (start : Start) → e.item ≡ StartItem start → e.name ≡ None
 
 -- ---- lists of entries
 

@@ -1,6 +1,7 @@
 //! The component builder: its methods for modules, components, aliases, imports and exports.
 ghost use Rattle.std.specs.Prelude.{◌≡◌, ◌↔◌, [], ◌∷◌, ◌++◌, List, IfOk, IfErr, OnErr, IsOk, IsTrue, Some, None, Err, true, false};
 ghost use Rattle.std.specs.Iterator.{IsFinite};
+ghost use Rattle.std.specs.List.{AllByRecursion};
 ghost use Rattle.std.specs.Option.{option_copied};
 ghost use Rattle.wenc_base.specs.Fault.{IsMemory};
 ghost use Rattle.wenc_base.specs.Holder.{listed};
@@ -11,13 +12,14 @@ ghost use Rattle.wenc_parts.specs.Imports.{extern_name_view};
 ghost use Rattle.wenc_parts.specs.Aliases.{alias_view};
 ghost use Rattle.wenc_sections.specs.CanonTrees.{canon_view};
 ghost use Rattle.wenc_builder.specs.Sections.{Section, runs, Reading, whole};
-ghost use Rattle.wenc_builder.specs.Entry.{Entry, items, module_entry, component_entry, canonical_entry, start_entry, custom_entry, raw_entry};
+ghost use Rattle.wenc_builder.specs.Entry.{Entry, items, module_entry, component_entry, canonical_entry, start_entry, custom_entry, raw_entry, StartIsNameless};
 ghost use Rattle.wenc_builder.specs.Entry.{import_entry, export_entry, alias_entry, alias_export_entry, core_alias_export_entry};
 ghost use Rattle.wenc_builder.specs.Builder.{builder_is_finished, sections_text, count_in, item_begun, item_ended, item_given_up};
 ghost use Rattle.wenc_builder.specs.Holds.{Holds};
 ghost use Rattle.wenc_builder.specs.Enters.{Enters, EntersListed, EntersWithoutIndex, Takes, TakesDraft};
 ghost use Rattle.wenc_builder.specs.inside.Takes.{TakesAlone, TakesNoIndex, AppendsListed, TakesListed, IsItemPiece};
 ghost use Rattle.wenc_builder.specs.Space.{indices_in, some_in, canonical_space};
+ghost use Rattle.wenc_builder.specs.declared.builder.space.Space.TheVariants as spaces;
 ghost use Rattle.wenc_builder.specs.LenderState.{is_whole};
 ghost use Rattle.wenc_builder.specs.Item.{HasNoRaw};
 ghost use Rattle.wenc_builder.specs.inside.Alone.{with_bytes};
@@ -334,8 +336,9 @@ impl<A: Allocator> ComponentBuilder<A> {
         lead: &E,
         bytes: &Ready<'_>,
     ) -> Result<u32, Fault>
-        requires { IsItemPiece None (some_in space number)
+        requires whole { IsItemPiece None (some_in space number)
             (with_bytes (E.piece lead.now) bytes.now) }
+        requires nameless { space ≡ spaces.Values → option_copied name ≡ None }
         ensures { TakesAlone self.old self.new result (indices_in space number)
             (option_copied name.entry) (with_bytes (E.piece lead.now) bytes.now) }
     {
@@ -628,12 +631,12 @@ impl<A: Allocator> ComponentBuilder<A> {
         self.add_alone(&lead, &Ready::whole(section))
     }
 
-    /// Returns whether no item is being written. If so, the builder holds a list of entries,
-    /// whichever calls were made.
+    /// Returns whether no item is being written. If so, the builder holds a list of entries, of
+    /// which no start function has a name, whichever calls were made.
     pub fn is_finished(&self) -> bool
         ensures finished { result ≡ builder_is_finished self.now }
         ensures holds { builder_is_finished self.now ≡ true
-            → ∥ ((es : List Entry) × Holds self.now es) ∥₁ }
+            → ∥ ((es : List Entry) × Holds self.now es × AllByRecursion StartIsNameless es) ∥₁ }
     {
         self.buffer.is_finished()
     }
@@ -657,7 +660,8 @@ impl<A: Allocator> ComponentBuilder<A> {
         ensures held { (es : List Entry) → Holds self es
             → IfOk result (λ v. v.items ≡ whole (items es)) }
         ensures some { IfOk result (λ v.
-            ∥ ((es : List Entry) × Holds self es × (v.items ≡ whole (items es))) ∥₁) }
+            ∥ ((es : List Entry) × Holds self es × (v.items ≡ whole (items es))
+            × AllByRecursion StartIsNameless es) ∥₁) }
         ensures bytes { IfOk result (λ v. v.items ≡ sections_text self.settled.sections) }
         // If no item is raw, the bytes have one reading, strictly and widely: the sections into
         // which the items are cut.

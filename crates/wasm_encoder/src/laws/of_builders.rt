@@ -1,10 +1,10 @@
 //! Laws about the results of a builder's calls.
 ghost use Rattle.std.specs.List.{AllByRecursion};
 ghost use Rattle.std.specs.List.Sorted.{IsStrictlyIncreasing};
-ghost use Rattle.std.specs.Prelude.{◌≡◌, ◌↔◌, ◌+◌, ◌<◌, ◌≤◌, ◌^◌, ◌++◌, ◌∷◌, [], ℕ, List, length, map, IsOk, Ok, Option, Result, Some};
+ghost use Rattle.std.specs.Prelude.{◌≡◌, ◌↔◌, ◌+◌, ◌<◌, ◌≤◌, ◌^◌, ◌++◌, ◌∷◌, [], ℕ, List, length, map, true, IsOk, Ok, Option, Result, Some};
 ghost use Rattle.wenc_base.specs.Fault.{NoCause};
 ghost use Rattle.wenc_base.specs.declared.fault.Fault.{Fault};
-ghost use Rattle.wenc_builder.specs.Builder.{State, Draft, item_begun, item_appended, item_given_up, count_in};
+ghost use Rattle.wenc_builder.specs.Builder.{State, Draft, draft_in, builder_is_finished, item_begun, item_appended, item_ended, item_given_up, count_in};
 ghost use Rattle.wenc_builder.specs.Enters.{Enters, EntersWithoutIndex};
 ghost use Rattle.wenc_builder.specs.Entry.{Entry, items as items_of, names};
 ghost use Rattle.wenc_builder.specs.Holds.{Holds};
@@ -13,6 +13,7 @@ ghost use Rattle.wenc_builder.specs.Sections.{Section, Run, runs, whole};
 ghost use Rattle.wenc_builder.specs.Space.{defines, some_in, next_index};
 ghost use Rattle.wenc_builder.specs.declared.builder.space.Space.{Space};
 ghost use Rattle.wenc_parts.specs.Types.{value_type, primitive};
+ghost use Rattle.wenc_parts.specs.declared.component.ComponentSectionId.{ComponentSectionId};
 ghost use Rattle.wenc_parts.specs.declared.types.ComponentValType.TheVariants as value_types;
 ghost use Rattle.wenc_parts.specs.declared.types.PrimitiveValType.{PrimitiveValType};
 ghost use Rattle.wasm_encoder.specs.Cause.{added, led, first_cause};
@@ -51,7 +52,8 @@ pub fn held_items_tell_bytes()
 {}
 
 /// An accepted call that defines one item returns the previous count of the item's space, and
-/// raises that count alone, by one.
+/// raises that count alone, by one. So does one that begins a type: the next index of a space is
+/// its count.
 pub fn one_item_counts_once()
     ensures answered { (old new : State) (i : ℕ) (x : Entry) (space : Space) (es : List Entry)
         → Holds old es → Enters old new (Ok i) x → defines x.item ≡ some_in space 1
@@ -62,6 +64,16 @@ pub fn one_item_counts_once()
     ensures alone { (old new : State) (i : ℕ) (x : Entry) (space other : Space) (es : List Entry)
         → Holds old es → Enters old new (Ok i) x → defines x.item ≡ some_in space 1
         → (other ≡ space → ⊥) → count_in new other ≡ count_in old other }
+    ensures next { (s : State) (es : List Entry) (space : Space) → Holds s es
+        → next_index (items_of es) space ≡ count_in s space }
+    ensures begun_raised { (old lent : State) (id : ComponentSectionId) (space : Space)
+        (name : Option (List ℕ)) (text : List ℕ) (es : List Entry) → Holds old es
+        → lent ≡ item_begun old (draft_in id space name text)
+        → count_in lent space ≡ count_in old space + 1 }
+    ensures begun_alone { (old lent : State) (id : ComponentSectionId) (space other : Space)
+        (name : Option (List ℕ)) (text : List ℕ) (es : List Entry) → Holds old es
+        → lent ≡ item_begun old (draft_in id space name text) → (other ≡ space → ⊥)
+        → count_in lent other ≡ count_in old other }
 {}
 
 /// The command made of an item adds that item alone, whatever was added before.
@@ -69,7 +81,9 @@ pub fn an_item_becomes_its_command()
     ensures { (es : List Entry) (x : Item) → items_of (added es (command_of x)) ≡ x ∷ [] }
 {}
 
-/// No call that adds an entry lowers the count of a space, whether it succeeds or fails.
+/// No call lowers the count of a space, whether it succeeds or fails: none that adds an entry or
+/// begins a type, and an encoder's leave the counts as they are. Discarding a type restores those
+/// before it was begun, where what was settled then still is.
 pub fn counts_never_fall()
     ensures indexed { (old new : State) (result : Result ℕ Fault) (x : Entry) (space : Space)
         (es : List Entry) → Holds old es → Enters old new result x
@@ -77,16 +91,28 @@ pub fn counts_never_fall()
     ensures without_index { (old new : State) (result : Result (Unit {0}) Fault) (x : Entry)
         (space : Space) (es : List Entry) → Holds old es → EntersWithoutIndex old new result x
         → count_in old space ≤ count_in new space }
+    ensures begun { (old lent : State) (d : Draft) (space : Space) (es : List Entry) → Holds old es
+        → lent ≡ item_begun old d → count_in old space ≤ count_in lent space }
+    ensures written { (old new : State) (text : List ℕ) (space : Space)
+        → new ≡ item_appended old text → count_in new space ≡ count_in old space }
+    ensures ended { (old new : State) (space : Space) → new ≡ item_ended old
+        → count_in new space ≡ count_in old space }
+    ensures given_up { (old lent new : State) (space : Space) → builder_is_finished old ≡ true
+        → lent.settled ≡ old.settled → new ≡ item_given_up lent
+        → count_in new space ≡ count_in old space }
 {}
 
 /// The indices in a space's list of names ascend, and each is below the space's count, if no start
-/// function has a name. This holds for all entries that commands lead to, if none adds a start
-/// function with a name, and no command of the code does.
+/// function has a name. None has in all entries that commands lead to, if no command adds a start
+/// function with a name, and none of the code does.
 pub fn named_indices_ascend<A: Allocator>()
     ensures ascending { (es : List Entry) (k : Space) → AllByRecursion StartIsNameless es
         → IsStrictlyIncreasing (map (λ n. n.index) (names es k)) }
     ensures below { (es : List Entry) (k : Space) → AllByRecursion StartIsNameless es
         → AllByRecursion (λ n. n.index < next_index (items_of es) k) (names es k) }
+    ensures below_count { (s : State) (es : List Entry) (space : Space) → Holds s es
+        → AllByRecursion StartIsNameless es
+        → AllByRecursion (λ n. n.index < count_in s space) (names es space) }
     ensures led_to { (commands : List CommandTree) (answers : List (Result (Option ℕ) Fault))
         (es : List Entry) → AllByRecursion AddsNameless commands → Ran commands answers es
         → AllByRecursion StartIsNameless es }

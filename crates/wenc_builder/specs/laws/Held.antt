@@ -1,7 +1,9 @@
 -- A builder holds some entries, whoever made which calls.
 use Rattle.std.proofs.Common.{◌≡◌, ℕ, ◌+◌, List, [], ◌∷◌, ◌++◌, true, false, is_none, Option, Some, None, refl, subst, sym, inl, inr}
+use Rattle.std.specs.List.{AllByRecursion}
 use Rattle.std.proofs.Math.Logic.{∥∥₁_map, ∥∥₁_elim, ∥∥₁_prop}
 use Rattle.std.proofs.lemmas.Bool.Decides.{eqb_tells}
+use Rattle.std.proofs.lemmas.Option.{same_Some}
 use Rattle.wenc_base.specs.Fault.{NoCause}
 use Rattle.wenc_base.specs.declared.fault.Fault.TheVariants.{Memory, TooMany, TooLarge, Unfinished}
 use Rattle.wenc_builder.specs.Builder.{entered, entered_at, BegunItem, Content, State, settled_in}
@@ -9,32 +11,52 @@ use Rattle.wenc_builder.specs.Builder.{builder_is_finished, with_entry, content_
 use Rattle.wenc_builder.specs.Builder.{Draft, item_begun, begun_appended, item_appended, item_ended}
 use Rattle.wenc_builder.specs.Builder.{item_given_up, OpenSection}
 use Rattle.wenc_builder.specs.inside.Takes.{with_alone}
-use Rattle.wenc_builder.specs.Entry.{Entry, entry}
+use Rattle.wenc_builder.specs.Entry.{Entry, entry, StartIsNameless}
 use Rattle.wenc_builder.specs.Holds.{Holds}
-use Rattle.wenc_builder.specs.Item.{item}
+use Rattle.wenc_builder.specs.Item.{Item, StartItem, collected, item}
 use Rattle.wenc_builder.specs.Cause.{NoRoom}
 use Rattle.wenc_builder.specs.LenderState.{IsItemText, IsWhole, is_whole}
-use Rattle.wenc_builder.specs.Space.{Indices}
+use Rattle.wenc_builder.specs.Space.{Indices, defines, some_in}
+use Rattle.wenc_builder.specs.declared.builder.space.Space.TheVariants.{Values}
+use Rattle.wenc_sections.specs.Start.{Start}
 use Rattle.wenc_builder.specs.inside.HoldsSome.{IsIndexed, HasRoomFor, HoldsSome}
 use Rattle.wenc_builder.specs.laws.Fits.{HasRoom}
 use Rattle.wenc_builder.specs.laws.Step.{holds_step}
 
 abbrev SettledIs : Content → Type 0
-SettledIs c = ∥ ((es : List Entry) × Holds (settled_in c) es) ∥₁
+SettledIs c = ∥ ((es : List Entry) × Holds (settled_in c) es × AllByRecursion StartIsNameless es) ∥₁
 
 -- what holds a list holds some
-pub some_of : (c : Content) (es : List Entry) → Holds (settled_in c) es → HoldsSome (settled_in c)
-some_of c es h = record { settled = ∣ (es, h) ∣₁; indexed = tt; room = tt }
+pub some_of : (c : Content) (es : List Entry) → Holds (settled_in c) es → AllByRecursion StartIsNameless es → HoldsSome (settled_in c)
+some_of c es h nameless = record { settled = ∣ (es, h, nameless) ∣₁; indexed = tt; room = tt }
 
-some_more : (c : Content) (x : Entry) → (item x.item).Fits → HasRoom (with_entry c x).sections.current → SettledIs c → SettledIs (with_entry c x)
-some_more c x fits room s = ∥∥₁_map s (λ h. (h.0 ++ x ∷ [], holds_step (settled_in c) h.0 x fits room h.1))
+-- ---- starts have no name
 
-finished_at : (c : Content) (b : Option BegunItem) → is_none b ≡ true → SettledIs c → ∥ ((es : List Entry) × Holds (record { settled = c; begun = b }) es) ∥₁
+one_more : (es : List Entry) (x : Entry) → AllByRecursion StartIsNameless es → StartIsNameless x → AllByRecursion StartIsNameless (es ++ x ∷ [])
+one_more [] x front last = (last, tt)
+one_more (e ∷ es) x front last = (front.0, one_more es x front.1 last)
+
+-- what a section collects is no start
+collected_nameless : (v : Item) (id : ℕ) (name : Option (List ℕ)) → collected v ≡ Some id → StartIsNameless (entry v name)
+collected_nameless v id name collects start e = let never : collected (StartItem start) ≡ Some id = subst (λ (x : Item). collected x ≡ Some id) e collects in cc
+
+-- a start takes indices of values
+pub start_takes_values : (v : Item) (d : Indices) (start : Start) → defines v ≡ Some d → v ≡ StartItem start → d.space ≡ Values
+start_takes_values v d start takes e =
+    let same : some_in Values start.results ≡ Some d = subst (λ (x : Item). defines x ≡ Some d) e takes in
+    subst (λ (k : Indices). k.space ≡ Values) (same_Some _ d same) refl
+
+-- ---- what is held through the calls
+
+some_more : (c : Content) (x : Entry) → StartIsNameless x → (item x.item).Fits → HasRoom (with_entry c x).sections.current → SettledIs c → SettledIs (with_entry c x)
+some_more c x nameless fits room s = ∥∥₁_map s (λ h. (h.0 ++ x ∷ [], holds_step (settled_in c) h.0 x fits room h.1, one_more h.0 x h.2 nameless))
+
+finished_at : (c : Content) (b : Option BegunItem) → is_none b ≡ true → SettledIs c → ∥ ((es : List Entry) × Holds (record { settled = c; begun = b }) es × AllByRecursion StartIsNameless es) ∥₁
 finished_at c None e s = s
 finished_at c (Some b) e s = cc
 
 -- what is finished holds some
-pub holds_some : (s : State) → builder_is_finished s ≡ true → HoldsSome s → ∥ ((es : List Entry) × Holds s es) ∥₁
+pub holds_some : (s : State) → builder_is_finished s ≡ true → HoldsSome s → ∥ ((es : List Entry) × Holds s es × AllByRecursion StartIsNameless es) ∥₁
 holds_some s finished h = finished_at s.settled s.begun finished h.settled
 
 -- an item is begun, in a section that isn't too much
@@ -79,7 +101,7 @@ ended_at c None s p room whole = s
 ended_at c (Some b) s p room whole = ∥∥₁_elim whole ∥∥₁_prop (λ w. ∥∥₁_elim p ∥∥₁_prop (λ n.
     let one : with_entry c (entry w.value n.0) ≡ content_with c (Some b) = rw (w.collects, w.takes, ← w.is, ← n.1) refl in
     let room' = subst (λ (k : Content). HasRoom k.sections.current) (sym one) room in
-    subst SettledIs one (some_more c (entry w.value n.0) w.fits room' s)))
+    subst SettledIs one (some_more c (entry w.value n.0) (collected_nameless w.value b.id n.0 w.collects) w.fits room' s)))
 
 -- what is whole is being written
 pub whole_is_begun : (s : State) → ∥ is_whole s ∥₁ → builder_is_finished s ≡ false
@@ -98,12 +120,13 @@ pub some_given_up : (s : State) → HoldsSome s → HoldsSome (item_given_up s)
 some_given_up s h = record { settled = h.settled; indexed = tt; room = tt }
 
 -- what stands alone is added
-pub some_alone : (s : State) (indices : Option Indices) (name : Option (List ℕ)) (text : List ℕ) → ∥ IsItemText None indices text ∥₁ → HoldsSome s → HoldsSome (settled_in (with_alone s.settled indices name text))
-some_alone s indices name text whole h = record {
+pub some_alone : (s : State) (indices : Option Indices) (name : Option (List ℕ)) (text : List ℕ) → ((v : Item) → defines v ≡ indices → StartIsNameless (entry v name)) → ∥ IsItemText None indices text ∥₁ → HoldsSome s
+    → HoldsSome (settled_in (with_alone s.settled indices name text))
+some_alone s indices name text nameless whole h = record {
   settled = ∥∥₁_elim whole ∥∥₁_prop (λ w.
       let one : with_entry s.settled (entry w.value name) ≡ with_alone s.settled indices name text = rw (w.collects, w.takes, ← w.is) refl in
       let room = subst (λ (k : Content). HasRoom k.sections.current) (sym one) (λ fault c. c) in
-      subst SettledIs one (some_more s.settled (entry w.value name) w.fits room h.settled));
+      subst SettledIs one (some_more s.settled (entry w.value name) (nameless w.value w.takes) w.fits room h.settled));
   indexed = tt;
   room = tt;
 }

@@ -15,5 +15,5 @@ returns g c =
     alone_enters c.args.self.now c.stand_alone.new.self c.stand_alone.result (component_entry (option_copied c.args.debug_name) c.args.component.now) (indices_in spaces.Components 1) (option_copied c.args.debug_name)
     (record { alone = refl; defined = refl; named = refl }) (rw (c.into.ensures, c.whole-bytes.ensures) (bytes_serve (section_number ids.Component) c.args.component.now)) c.stand_alone.ensures
 
-pub stand_alone-requires : goal.stand_alone-requires
-stand_alone-requires g c = rw (c.into.ensures, c.whole-bytes.ensures) (item_piece (ComponentItem c.args.component.now) (bytes_serve (section_number ids.Component) c.args.component.now))
+pub stand_alone-requires-clause-whole : goal.stand_alone-requires-clause-whole
+stand_alone-requires-clause-whole g c = rw (c.into.ensures, c.whole-bytes.ensures) (item_piece (ComponentItem c.args.component.now) (bytes_serve (section_number ids.Component) c.args.component.now))

@@ -26,8 +26,8 @@ ready-bytes-requires g c =
     let n = c.component in
     writing_none n.inside.buffer (finished_is n.inside.buffer n.inside.spaces c.args.component.now n.invariant.agree n.view_is ∙ sym c.if-not-is_finished.ensures.finished)
 
-pub stand_alone-requires : goal.stand_alone-requires
-stand_alone-requires g c =
+pub stand_alone-requires-clause-whole : goal.stand_alone-requires-clause-whole
+stand_alone-requires-clause-whole g c =
     let bytes = sections_text c.component.inside.buffer.settled in
     rw (c.into.ensures, c.len.ensures, c.ready-bytes.ensures) (item_piece (ComponentItem bytes) (bytes_serve (section_number ids.Component) bytes))
 

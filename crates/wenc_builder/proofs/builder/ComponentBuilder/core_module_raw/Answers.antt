@@ -15,5 +15,5 @@ returns g c =
     alone_enters c.args.self.now c.stand_alone.new.self c.stand_alone.result (module_entry (option_copied c.args.debug_name) c.args.bytes.now) (indices_in spaces.CoreModules 1) (option_copied c.args.debug_name)
     (record { alone = refl; defined = refl; named = refl }) (rw (c.into.ensures, c.whole-bytes.ensures) (bytes_serve (section_number ids.CoreModule) c.args.bytes.now)) c.stand_alone.ensures
 
-pub stand_alone-requires : goal.stand_alone-requires
-stand_alone-requires g c = rw (c.into.ensures, c.whole-bytes.ensures) (item_piece (ModuleItem c.args.bytes.now) (bytes_serve (section_number ids.CoreModule) c.args.bytes.now))
+pub stand_alone-requires-clause-whole : goal.stand_alone-requires-clause-whole
+stand_alone-requires-clause-whole g c = rw (c.into.ensures, c.whole-bytes.ensures) (item_piece (ModuleItem c.args.bytes.now) (bytes_serve (section_number ids.CoreModule) c.args.bytes.now))

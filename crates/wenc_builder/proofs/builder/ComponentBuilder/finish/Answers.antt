@@ -16,7 +16,7 @@ returns-clause-some g c =
     let kept = c.self.invariant in
     rw (← c.self.view_is)
     (∥∥₁_map (holds_some (builder_view b s) (sym (finished_is b s _ kept.agree refl) ∙ sym c.if-not-is_finished.ensures) kept.holds)
-    (λ h. (h.0, h.1, c.finish.ensures ∙ h.1.sections.bytes)))
+    (λ h. (h.0, h.1, c.finish.ensures ∙ h.1.sections.bytes, h.2)))
 
 pub returns-clause-one_reading : goal.returns-clause-one_reading
 returns-clause-one_reading g c es h raw mode ss =

@@ -14,5 +14,5 @@ returns g c =
     alone_enters c.args.self.now c.stand_alone.new.self c.stand_alone.result (entry (StartItem (started c.args.function_index (g.V.AsSlice.items c.args.args) c.args.results)) None) (indices_in spaces.Values c.args.results) None
     (record { alone = refl; defined = refl; named = refl }) (rw (c.into.ensures, c.as_slice.ensures, c.whole.ensures) plain_serves) c.stand_alone.ensures
 
-pub stand_alone-requires : goal.stand_alone-requires
-stand_alone-requires g c = rw (c.into.ensures, c.as_slice.ensures, c.whole.ensures) (item_piece (StartItem (started c.args.function_index (g.V.AsSlice.items c.args.args) c.args.results)) plain_serves)
+pub stand_alone-requires-clause-whole : goal.stand_alone-requires-clause-whole
+stand_alone-requires-clause-whole g c = rw (c.into.ensures, c.as_slice.ensures, c.whole.ensures) (item_piece (StartItem (started c.args.function_index (g.V.AsSlice.items c.args.args) c.args.results)) plain_serves)
