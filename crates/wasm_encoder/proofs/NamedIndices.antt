@@ -15,7 +15,8 @@ use Rattle.wenc_sections.specs.Names.{Subsection}
 use Rattle.wenc_sections.specs.Start.{Start}
 use Rattle.wasm_encoder.specs.Cause.{added}
 use Rattle.wasm_encoder.specs.Command.{CommandTree, Add, Nest, AppendNames, command_view}
-use Rattle.wasm_encoder.specs.Nameless.{StartIsNameless, AddsNameless}
+use Rattle.wenc_builder.specs.Entry.{StartIsNameless}
+use Rattle.wasm_encoder.specs.Nameless.{AddsNameless}
 use Rattle.wasm_encoder.specs.Ran.{RanFrom, Ran}
 use Rattle.wasm_encoder.specs.declared.command.Command.{Command}
 use Rattle.wasm_encoder.specs.declared.command.Command as commands

@@ -6,7 +6,7 @@ ghost use Rattle.wenc_base.specs.Fault.{NoCause};
 ghost use Rattle.wenc_base.specs.declared.fault.Fault.{Fault};
 ghost use Rattle.wenc_builder.specs.Builder.{State, Draft, draft_in, builder_is_finished, item_begun, item_appended, item_ended, item_given_up, count_in};
 ghost use Rattle.wenc_builder.specs.Enters.{Enters, EntersWithoutIndex};
-ghost use Rattle.wenc_builder.specs.Entry.{Entry, items as items_of, names};
+ghost use Rattle.wenc_builder.specs.Entry.{Entry, items as items_of, names, StartIsNameless};
 ghost use Rattle.wenc_builder.specs.Holds.{Holds};
 ghost use Rattle.wenc_builder.specs.Item.{Item, collected, HasNoRaw};
 ghost use Rattle.wenc_builder.specs.Sections.{Section, Run, runs, whole};
@@ -19,7 +19,7 @@ ghost use Rattle.wenc_parts.specs.declared.types.PrimitiveValType.{PrimitiveValT
 ghost use Rattle.wasm_encoder.specs.Cause.{added, led, first_cause};
 ghost use Rattle.wasm_encoder.specs.Command.{CommandTree, Commands, command_view, commands_listed};
 ghost use Rattle.wasm_encoder.specs.ItemCommands.{command_of};
-ghost use Rattle.wasm_encoder.specs.Nameless.{StartIsNameless, AddsNameless};
+ghost use Rattle.wasm_encoder.specs.Nameless.{AddsNameless};
 ghost use Rattle.wasm_encoder.specs.Ran.{Ran};
 ghost use Rattle.wasm_encoder.specs.WrittenTypes.{AreEntered};
 ghost use Rattle.wasm_encoder.specs.declared.command.Command.{Command};
