@@ -1,5 +1,5 @@
 -- A producers section that is held, as the item that it is.
-use Rattle.std.proofs.Common.{◌≡◌, Bool, true, false, is_none, ℕ, List, ◌++◌, length, Result, Ok, Err, [], refl}
+use Rattle.std.proofs.Common.{◌≡◌, true, is_none, ℕ, List, ◌++◌, length, Result, Ok, Err, [], refl}
 use Rattle.std.specs.Result.{IfErr, OnOk}
 use Rattle.wenc_base.specs.Fault.{IsWarranted, NoCause}
 use Rattle.wenc_base.specs.Forms.{AreBytes, name as name_form}
@@ -8,7 +8,6 @@ use Rattle.wenc_base.specs.Number.{unsigned_text}
 use Rattle.wenc_base.specs.Piece.{Piece, ◌▸◌}
 use Rattle.wenc_base.specs.Producers.{Producers, producers_field, producers_label, producers_held}
 use Rattle.wenc_base.specs.declared.fault.Fault.{Fault}
-use Rattle.wenc_base.specs.declared.fault.Fault.TheVariants.{Unfinished}
 use Rattle.wenc_base.specs.laws.Sections.{custom_lawful}
 use Rattle.wenc_base.specs.laws.Serves.{serves_itself, still_warranted}
 use Rattle.wenc_builder.specs.Builder.{State}
@@ -50,23 +49,12 @@ module _ (h : HolderState) where
   item_warranted finished (Ok u) w = tt
   item_warranted finished (Err f) w = still_warranted (written h).Cause (item (held_item h)).Cause (λ fault c. let unfinished = c.1 in cc) f w
 
-  free_finished : (r : Result (Unit {0}) Fault) → OnOk r (NoCause (written h).Cause) → OnOk r (is_finished h ≡ true)
-  free_finished (Ok u) none = either (is_finished h) refl
-    where
-      either : (b : Bool) → is_finished h ≡ b → b ≡ true
-      either true e = refl
-      either false e = absurd (none Unfinished (refl, e))
-  free_finished (Err f) none = tt
-
   module _ (b : Buffered) (s : Spaced) (next : Buffered) (result : Result (Unit {0}) Fault) (settled : is_none b.writing ≡ true) (lead : StandsAlone b next result (with_bytes (written h) [])) (bytes : OnOk result (AreBytes (written h).text)) where
     stood : StandsAlone b next result (written h)
     stood = stands_as b next result plain_serves lead
 
     fits : OnOk result (item (held_item h)).Fits
     fits = item_fits result stood.fits bytes
-
-    pub only_finished : OnOk result (is_finished h ≡ true)
-    only_finished = free_finished result stood.free
 
     pub still_builder : IsBuilder b s → IsBuilder next s
     still_builder i = without_index_outcome b s i settled next result (item (held_item h)) (item_piece (held_item h) serves_itself) fits stood.ok stood.err

@@ -178,6 +178,7 @@ impl<A: Allocator> Buffer<A> {
         ensures stood { StandsAlone self.old self.new result
             (with_bytes (E.piece lead.now) bytes.now) }
         ensures bytes { OnOk result (AreBytes (E.piece lead.now).text) }
+        ensures unfinished_value { E.unfinished lead.now → result ≡ Err Unfinished }
     {
         let head = bytes.head.as_slice();
         self.write_alone(lead, bytes.first, bytes.gap, head, bytes.more)
@@ -200,6 +201,7 @@ impl<A: Allocator> Buffer<A> {
         ensures stood { StandsAlone self.old self.new result (with_bytes (E.piece lead.now)
             (take (length first.now - gap) first.now ++ (head.now ++ more.now))) }
         ensures bytes { OnOk result (AreBytes (E.piece lead.now).text) }
+        ensures unfinished_value { E.unfinished lead.now → result ≡ Err Unfinished }
     {
         let count = self.holder.len();
         let kept = self.holder.kept_len();

@@ -1,9 +1,8 @@
 //! The method that adds a producers section.
-ghost use Rattle.std.specs.Prelude.{◌≡◌, List, OnOk, OnErr, Err, true, false};
+ghost use Rattle.std.specs.Prelude.{◌≡◌, List, OnErr, Err, true, false};
 ghost use Rattle.wenc_base.specs.Holder.{Contains, held_text, is_finished};
 ghost use Rattle.wenc_base.specs.Producers.{Producers, producers_field, producers_label};
 ghost use Rattle.wenc_base.specs.declared.fault.Fault.TheVariants.{Unfinished};
-ghost use Rattle.wenc_builder.specs.Builder.{builder_is_finished};
 ghost use Rattle.wenc_builder.specs.Enters.{EntersWithoutIndex};
 ghost use Rattle.wenc_builder.specs.Entry.{custom_entry};
 ghost use Rattle.wenc_builder.specs.Producers.{producers_entry};
@@ -28,8 +27,7 @@ impl<A: Allocator> ComponentBuilder<A> {
         ensures bytes { is_finished producers.now ≡ true
             → EntersWithoutIndex self.old self.new result
             (custom_entry producers_label (held_text producers.now)) }
-        ensures finished { OnOk result (is_finished producers.now ≡ true) }
-        ensures unfinished { builder_is_finished self.old ≡ false → result ≡ Err Unfinished }
+        ensures unfinished { is_finished producers.now ≡ false → result ≡ Err Unfinished }
         ensures err { OnErr result (self.new ≡ self.old) }
     {
         if !self.buffer.is_finished() {

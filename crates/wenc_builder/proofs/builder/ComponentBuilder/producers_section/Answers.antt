@@ -1,5 +1,5 @@
 use Rattle.std.proofs.Common.{sym}
-use Rattle.wenc_builder.proofs.Producing.{only_finished, section_enters, fields_enter, still_builder}
+use Rattle.wenc_builder.proofs.Producing.{section_enters, fields_enter, still_builder}
 use Rattle.wenc_builder.proofs.builder.ComponentBuilder.producers_section.Goals as goal
 
 pub returns-clause-entered : goal.returns-clause-entered
@@ -11,11 +11,6 @@ pub returns-clause-bytes : goal.returns-clause-bytes
 returns-clause-bytes g c done =
     let call = rw (c.into.ensures, c.whole.ensures) at c.stand_alone.ensures in
     section_enters c.args.producers.now c.self.inside.buffer c.self.inside.spaces c.stand_alone.new.self c.stand_alone.result (sym c.if-not-is_finished.ensures) call.stood call.bytes c.args.self.now c.self.invariant.agree c.self.view_is done
-
-pub returns-clause-finished : goal.returns-clause-finished
-returns-clause-finished g c =
-    let call = rw (c.into.ensures, c.whole.ensures) at c.stand_alone.ensures in
-    only_finished c.args.producers.now c.self.inside.buffer c.self.inside.spaces c.stand_alone.new.self c.stand_alone.result (sym c.if-not-is_finished.ensures) call.stood call.bytes
 
 pub invariant_of-self : goal.invariant_of-self
 invariant_of-self g c =
