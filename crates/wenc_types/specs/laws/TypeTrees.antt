@@ -1,10 +1,9 @@
 -- What follows for types that components define, with all that is in them.
-use Rattle.std.proofs.Common.{String, ◌≡◌, ℕ, Bool, List, Option, Vec, map, refl, sym, ap, subst, ◌∙◌}
+use Rattle.std.proofs.Common.{String, ◌≡◌, Bool, List, Option, Vec, map, refl, sym, ap, subst, ◌∙◌}
 use mathlib.Core.Former.{Count}
 use Rattle.std.specs.String.{string_bytes}
-use Rattle.wenc_base.specs.declared.types.ValType.{ValType}
 use Rattle.wenc_parts.specs.declared.types.ComponentValType.{ComponentValType}
-use Rattle.wenc_types.specs.ComponentTypes.{DefinedType, ComponentType, InstanceType, ResourceType, InstanceDeclarations, and_instance, instances_of, ComponentDeclarations, and_component, components_of}
+use Rattle.wenc_types.specs.ComponentTypes.{ComponentType, InstanceType, InstanceDeclarations, and_instance, instances_of, ComponentDeclarations, and_component, components_of}
 use Rattle.wenc_types.specs.DefinedTypes.{LabelledType, Case, DefValType, Primitive, Record, Variant, ListOf, MapOf, FixedLengthList, Tuple, Flags, Enumeration, OptionOf, ResultOf, Own, Borrow, Future, Stream}
 use Rattle.wenc_types.specs.TypeTrees.{labelled_type_view, case_view, defined_view, type_view, instance_declaration_view, component_declaration_view, instance_row_view, component_row_view}
 use Rattle.wenc_types.specs.declared.defined_tree.CaseTree.{CaseTree}
@@ -116,9 +115,6 @@ abbrev component_row_of : {A : Type 0} → TypeTree A → (n : Count) × Row_of-
 component_row_of (types'.Component' shape row) = (_, row)
 component_row_of _ = (_, end_of-ComponentDecl)
 
-pub view_defined : {A : Type 0} (ty : DefinedTree A) → type_view (types.Defined ty) ≡ DefinedType (defined_view ty)
-view_defined ty = refl
-
 pub view_component : {A : Type 0} (ds : Vec (ComponentDecl A) A) → type_view (types.Component ds) ≡ ComponentType (components_of (map component_declaration_view ds.items))
 view_component {A} ds =
     let row = component_row_of (types.Component ds) in
@@ -128,6 +124,3 @@ pub view_instance : {A : Type 0} (ds : Vec (InstanceDecl A) A) → type_view (ty
 view_instance {A} ds =
     let row = instance_row_of (types.Instance ds) in
     ap (λ (cs : InstanceDeclarations). InstanceType cs) (instances_listed row.0 row.1 ∙ ap (λ (cs : List (InstanceDecl A)). instances_of (map instance_declaration_view cs)) (items_hidden-the_row-InstanceDecl-1 A ds))
-
-pub view_resource : (A : Type 0) (rep : ValType) (dtor : Option ℕ) → type_view {A = A} (types.Resource rep dtor) ≡ ResourceType rep dtor
-view_resource A rep dtor = refl

@@ -1,11 +1,11 @@
-use Rattle.std.proofs.Common.{◌≡◌, ◌++◌, ◌∷◌, [], map, arith, rules}
+use Rattle.std.proofs.Common.{◌≡◌, ◌++◌, ◌∷◌, [], map, Ok, ap, sym, ◌∙◌, arith, rules}
 use Rattle.std.proofs.lemmas.Result.{err_from_is_err_and}
 use Rattle.std.proofs.lemmas.List.{map_push}
-use Rattle.wenc_types.specs.laws.TypeTrees.{view_defined, view_component, view_instance}
+use Rattle.wenc_types.specs.laws.TypeTrees.{view_component, view_instance}
 use Rattle.wenc_types.specs.TypeTrees.{instance_declaration_view, component_declaration_view}
 use Rattle.wenc_base.specs.Readers.{give, times}
 use Rattle.wenc_read.specs.laws.Tables.{past_rows, fails_on}
-use Rattle.wenc_types.specs.ComponentTypes.{DefinedType}
+use Rattle.wenc_types.specs.ComponentTypes.{DefType, DefinedType}
 use Rattle.wenc_types.specs.reading.DefinedTypes.{read_defined}
 use Rattle.wenc_types.specs.reading.ComponentTypes.{read_type, read_instance_declaration, read_component_declaration, type_rows, read_component_type, read_instance_type, read_shallow}
 use Rattle.wenc_decode.specs.laws.Repeats.{at_start, times_go_on, stops, is_done}
@@ -62,7 +62,9 @@ component_type-returns-in_err-decls g t c =
     rw (p.1, p.2) (component_fails c.args.depth_left c.in_ok-count.count c.args.bytes.now c.in_ok-count.rest.now c.in_err-decls.field-0.0 (omega arith) c.in_ok-count.ensures c.in_err-decls.ensures)
 
 pub component_type-returns : goal.component_type-returns
-component_type-returns g t c = rw (view_component c.in_ok-decls.decls) (component_found c.args.depth_left c.in_ok-count.count c.args.bytes.now c.in_ok-count.rest.now c.in_ok-decls.rest.now _ (omega arith) c.in_ok-count.ensures c.in_ok-decls.ensures)
+component_type-returns g t c =
+    component_found c.args.depth_left c.in_ok-count.count c.args.bytes.now c.in_ok-count.rest.now c.in_ok-decls.rest.now _ (omega arith) c.in_ok-count.ensures c.in_ok-decls.ensures
+    ∙ ap (λ (ty : DefType). Ok (ty, c.in_ok-decls.rest.now)) (sym (view_component c.in_ok-decls.decls))
 
 pub instance_type-returns-in_err-decls : goal.instance_type-returns-in_err-decls
 instance_type-returns-in_err-decls g t c =
@@ -70,10 +72,12 @@ instance_type-returns-in_err-decls g t c =
     rw (p.1, p.2) (instance_fails c.args.depth_left c.in_ok-count.count c.args.bytes.now c.in_ok-count.rest.now c.in_err-decls.field-0.0 (omega arith) c.in_ok-count.ensures c.in_err-decls.ensures)
 
 pub instance_type-returns : goal.instance_type-returns
-instance_type-returns g t c = rw (view_instance c.in_ok-decls.decls) (instance_found c.args.depth_left c.in_ok-count.count c.args.bytes.now c.in_ok-count.rest.now c.in_ok-decls.rest.now _ (omega arith) c.in_ok-count.ensures c.in_ok-decls.ensures)
+instance_type-returns g t c =
+    instance_found c.args.depth_left c.in_ok-count.count c.args.bytes.now c.in_ok-count.rest.now c.in_ok-decls.rest.now _ (omega arith) c.in_ok-count.ensures c.in_ok-decls.ensures
+    ∙ ap (λ (ty : DefType). Ok (ty, c.in_ok-decls.rest.now)) (sym (view_instance c.in_ok-decls.decls))
 
 pub type_of-returns-in_ok-ty-in_default : goal.type_of-returns-in_ok-ty-in_default
-type_of-returns-in_ok-ty-in_default g t c = rw (view_defined c.in_ok-ty-in_default.ty) (shallow_found c.args.depth_left _ c.args.bytes.now c.in_ok-ty-in_default.rest.now c.in_ok-ty-in_default.ensures)
+type_of-returns-in_ok-ty-in_default g t c = shallow_found c.args.depth_left _ c.args.bytes.now c.in_ok-ty-in_default.rest.now c.in_ok-ty-in_default.ensures
 
 pub type_of-returns-in_err-ty-in_default : goal.type_of-returns-in_err-ty-in_default
 type_of-returns-in_err-ty-in_default g t c =

@@ -1,11 +1,9 @@
-use Rattle.std.proofs.Common.{Global, refl, subst}
+use Rattle.std.proofs.Common.{Global, refl}
 use Rattle.std.specs.Option.{option_copied}
 use Rattle.wenc_base.specs.laws.Serves.{serves_itself}
 use Rattle.wenc_types.specs.ComponentTypes.{DefType}
 use Rattle.wenc_types.specs.TypeTrees.{type_view}
 use Rattle.wenc_types.specs.declared.type_tree.TypeTree.TheVariants as trees
-use Rattle.wenc_types.specs.laws.TypeTrees.{view_resource}
-use Rattle.wenc_builder.specs.Enters.{Enters}
 use Rattle.wenc_builder.specs.Entry.{type_entry}
 use Rattle.wenc_builder.specs.Item.{TypeItem}
 use Rattle.wenc_builder.specs.inside.Layout.{kind_id}
@@ -18,10 +16,8 @@ use Rattle.wenc_builder.proofs.builder.ComponentBuilder.type_resource.Goals as g
 pub returns : goal.returns
 returns g c =
     let t : DefType = type_view {A = Global} (trees.Resource c.args.rep c.args.dtor) in
-    let P : DefType → Type 0 = λ ty. Enters c.args.self.now c.add.new.self c.add.result (type_entry (option_copied c.args.debug_name) ty) in
-    subst P (view_resource Global c.args.rep c.args.dtor)
-    (draft_enters c.args.self.now c.add.new.self c.add.result (type_entry (option_copied c.args.debug_name) t) (kind_id kinds.«Type») spaces.Types (option_copied c.args.debug_name)
-    (record { section = refl; defined = refl; named = refl }) serves_itself c.add.ensures)
+    draft_enters c.args.self.now c.add.new.self c.add.result (type_entry (option_copied c.args.debug_name) t) (kind_id kinds.«Type») spaces.Types (option_copied c.args.debug_name)
+    (record { section = refl; defined = refl; named = refl }) serves_itself c.add.ensures
 
 pub add-requires : goal.add-requires
 add-requires g c = item_piece (TypeItem (type_view {A = Global} (trees.Resource c.args.rep c.args.dtor))) serves_itself
