@@ -70,6 +70,15 @@ entered old new r c x adds caused e = due old new (indexed r) c (λ es h. (x ∷
 pub entered_alone : (old new : State) (r : Result ℕ Fault) (x : Entry) → Enters old new r x → Answers old new (indexed r) (Add x)
 entered_alone old new r x e = entered old new r (Add x) x (λ es. refl) (λ es. itself_among) e
 
+-- what is due to a call that adds this entry, which has no index
+nowhere_due : (old new : State) (r : Result (Unit {0}) Fault) (es : List Entry) (x : Entry) → Holds old es → index_of (items es) x.item ≡ None → EntersWithoutIndex old new r x → IsDueTo es (x ∷ []) (EntryCause es x) new (without_index r)
+nowhere_due old new (Ok u) es x h none e = let k = answered_with old new (Ok u) x (λ _ _. Unit {0}) (λ _ _. Unit {0}) es e h in (k.0, sym none, k.2)
+nowhere_due old new (Err fault) es x h none e = let k = answered_with old new (Err fault) x (λ _ _. Unit {0}) (λ _ _. Unit {0}) es e h in (k.0, refusal es x fault k.1)
+
+-- and that call
+pub entered_nowhere : (old new : State) (r : Result (Unit {0}) Fault) (x : Entry) → ((es : List Entry) → index_of (items es) x.item ≡ None) → EntersWithoutIndex old new r x → Answers old new (without_index r) (Add x)
+entered_nowhere old new r x none e = due old new (without_index r) (Add x) (λ es h. (x ∷ [], EntryCause es x, refl, itself_among, nowhere_due old new r es x h (none es) e))
+
 -- the section of names has no index
 names_nowhere : (xs : List Item) (names : List Subsection) (x : Entry) → named_entry names ≡ Some x → index_of xs x.item ≡ None
 names_nowhere xs [] x e = absurd cc
@@ -83,5 +92,4 @@ names_entered old new r a = due old new (without_index r) AppendNames (λ es h. 
         → MatchOption o ((r ≡ Ok tt) × (new ≡ old)) (λ x. EntersWithoutIndex old new r x) → IsDueTo es (option_to_list o) (added_cause es (option_to_list o)) new (without_index r)
     is_due (Ok u) es None h none m = (rw (m.1, append-nil es) h, refl, λ fault c. c)
     is_due (Err fault) es None h none m = absurd cc
-    is_due (Ok u) es (Some x) h none m = let k = answered_with old new (Ok u) x (λ _ _. Unit {0}) (λ _ _. Unit {0}) es m h in (k.0, sym (none x refl), k.2)
-    is_due (Err fault) es (Some x) h none m = let k = answered_with old new (Err fault) x (λ _ _. Unit {0}) (λ _ _. Unit {0}) es m h in (k.0, refusal es x fault k.1)
+    is_due r es (Some x) h none m = nowhere_due old new r es x h (none x refl) m

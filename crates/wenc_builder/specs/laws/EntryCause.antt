@@ -8,7 +8,7 @@ use Rattle.wenc_base.specs.Names.{NameAssociation, name_association, name_map, n
 use Rattle.wenc_base.specs.Number.{unsigned_text}
 use Rattle.wenc_base.specs.Piece.{AnyCause}
 use Rattle.wenc_base.specs.declared.fault.Fault.{Fault}
-use Rattle.wenc_base.specs.declared.fault.Fault.TheVariants.{Memory, TooMany, TooLarge, Unfinished}
+use Rattle.wenc_base.specs.declared.fault.Fault.TheVariants.{TooMany, TooLarge, Unfinished}
 use Rattle.wenc_base.specs.laws.Numbers.{count_free, size_free}
 use Rattle.wenc_builder.specs.Builder.{OpenSection}
 use Rattle.wenc_builder.specs.Cause.{SectionCause, SpaceCause, IndexCause, AddingCause}
@@ -45,25 +45,20 @@ abbrev open_run : ℕ → List Item → Option OpenSection
 open_run id xs = open_of (Run id xs ∷ [])
 
 size_is : (id : ℕ) (xs : List Item) (fault : Fault) → size_cause (length (unsigned_text (length xs) ++ body_of xs)) fault → SectionCause (open_run id xs) fault
-size_is id xs (Memory e) c = c
-size_is id xs TooMany c = absurd c
 size_is id xs TooLarge c = omega (arith, c, length-append (unsigned_text (length xs)) (body_of xs))
-size_is id xs Unfinished c = c
+size_is id xs other c = absurd c
 
 -- a section's cause is that it is too much, or one of its items'
 from_run : (id : ℕ) (xs : List Item) (fault : Fault) → (section_piece (Run id xs)).Cause fault → SectionCause (open_run id xs) fault ⊎ AnyCause item_cause xs fault
 from_run id xs fault (inl c) = inl (size_is id xs fault c)
-from_run id xs (Memory e) (inr (inl c)) = absurd c
 from_run id xs TooMany (inr (inl c)) = inl c
-from_run id xs TooLarge (inr (inl c)) = absurd c
-from_run id xs Unfinished (inr (inl c)) = absurd c
+from_run id xs other (inr (inl c)) = absurd c
 from_run id xs fault (inr (inr c)) = inr c
 
 to_run : (id : ℕ) (xs : List Item) (fault : Fault) → SectionCause (open_run id xs) fault → (section_piece (Run id xs)).Cause fault
-to_run id xs (Memory e) c = absurd c
 to_run id xs TooMany c = inr (inl c)
 to_run id xs TooLarge c = inl (omega (arith, c, length-append (unsigned_text (length xs)) (body_of xs)))
-to_run id xs Unfinished c = absurd c
+to_run id xs other c = absurd c
 
 -- ---- one item more
 
@@ -146,41 +141,32 @@ name_large : (ns : List NameAssociation) (fault : Fault) → AnyCause (λ n. (na
 name_large [] fault c = absurd c
 name_large (n ∷ ns) fault (inl (inl c)) = absurd c
 name_large (n ∷ ns) fault (inl (inr (inr c))) = absurd c
-name_large (n ∷ ns) (Memory e) (inl (inr (inl c))) = absurd c
-name_large (n ∷ ns) TooMany (inl (inr (inl c))) = absurd c
 name_large (n ∷ ns) TooLarge (inl (inr (inl c))) =
     (refl, omega (arith, c, length-append (name_association n).text (names_text ns), length-append (unsigned_text n.index) (unsigned_text (length n.name) ++ n.name), length-append (unsigned_text (length n.name)) n.name))
-name_large (n ∷ ns) Unfinished (inl (inr (inl c))) = absurd c
+name_large (n ∷ ns) other (inl (inr (inl c))) = absurd c
 name_large (n ∷ ns) fault (inr c) = let r = name_large ns fault c in (r.0, omega (arith, r.1, length-append (name_association n).text (names_text ns)))
 
 from_map : (ns : List NameAssociation) (count : ℕ) (fault : Fault) → (sized (name_map ns)).Cause fault → SpaceCause (record { count = count; named = length ns; names = names_text ns }) fault
-from_map ns count (Memory e) (inl c) = absurd c
-from_map ns count TooMany (inl c) = absurd c
 from_map ns count TooLarge (inl c) = omega (arith, c, length-append (unsigned_text (length ns)) (names_text ns))
-from_map ns count Unfinished (inl c) = absurd c
-from_map ns count (Memory e) (inr (inl c)) = absurd c
 from_map ns count TooMany (inr (inl c)) = inr c
-from_map ns count TooLarge (inr (inl c)) = absurd c
-from_map ns count Unfinished (inr (inl c)) = absurd c
+from_map ns count other (inl c) = absurd c
+from_map ns count other (inr (inl c)) = absurd c
 from_map ns count fault (inr (inr c)) =
     let r = name_large ns fault c in
     subst (λ (f : Fault). SpaceCause (record { count = count; named = length ns; names = names_text ns }) f) (sym r.0) (omega (arith, r.1))
 
 from_indices : (es : List Entry) (d : Option Indices) (fault : Fault) → IndicesCause es d fault → IndexCause (namespace_of es) d fault
 from_indices es None fault c = c
-from_indices es (Some d) (Memory e) (inl c) = absurd c
 from_indices es (Some d) TooMany (inl c) = inl c
-from_indices es (Some d) TooLarge (inl c) = absurd c
-from_indices es (Some d) Unfinished (inl c) = absurd c
+from_indices es (Some d) other (inl c) = absurd c
 from_indices es (Some d) fault (inr c) = from_map (names es d.space) (next_index (items es) d.space) fault c
 
 to_indices : (es : List Entry) (d : Option Indices) (fault : Fault) → IndexCause (namespace_of es) d fault → IndicesCause es d fault
 to_indices es None fault c = c
-to_indices es (Some d) (Memory e) c = absurd c
 to_indices es (Some d) TooMany (inl c) = inl c
 to_indices es (Some d) TooMany (inr c) = inr (inr (inl c))
 to_indices es (Some d) TooLarge c = inr (inl (omega (arith, c, length-append (unsigned_text (length (names es d.space))) (names_text (names es d.space)))))
-to_indices es (Some d) Unfinished c = absurd c
+to_indices es (Some d) other c = absurd c
 
 -- ---- the entry
 

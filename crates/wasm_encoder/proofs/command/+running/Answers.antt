@@ -1,9 +1,9 @@
 use denote.Param.Weighed.{at_most}
-use Rattle.std.proofs.Common.{◌≡◌, ◌+◌, ◌<◌, length, get_or, [], ◌∷◌, Err, drop, arith, rules, sym, subst}
+use Rattle.std.proofs.Common.{◌≡◌, ◌+◌, ◌<◌, length, get_or, [], ◌∷◌, Err, drop, arith, rules, refl, sym, subst}
 use Rattle.std.proofs.lemmas.List.{drop_all}
 use Rattle.wenc_base.specs.Fault.{NoCause}
-use Rattle.wenc_builder.specs.Entry.{items, module_entry, core_instance_entry, component_entry, instance_entry, alias_entry, canonical_tree_entry, start_entry, import_entry, export_entry}
-use Rattle.wenc_builder.specs.Enters.{Enters}
+use Rattle.wenc_builder.specs.Entry.{items, module_entry, core_instance_entry, component_entry, instance_entry, alias_entry, canonical_tree_entry, start_entry, import_entry, export_entry, custom_entry, raw_entry}
+use Rattle.wenc_builder.specs.Enters.{Enters, EntersWithoutIndex}
 use Rattle.wenc_builder.specs.Holds.{Holds}
 use Rattle.wenc_builder.specs.Sections.{whole}
 use Rattle.wenc_sections.specs.CanonTrees.{canon_view}
@@ -17,7 +17,7 @@ use Rattle.wasm_encoder.specs.inside.Steps.{commands_view}
 use Rattle.wasm_encoder.specs.Cause.{led, first_cause}
 use Rattle.wasm_encoder.specs.Ran.{IsRefusal}
 use Rattle.wasm_encoder.specs.inside.Steps.{Answers, indexed}
-use Rattle.wasm_encoder.proofs.Called.{memory_alone, entered_alone, names_entered}
+use Rattle.wasm_encoder.proofs.Called.{memory_alone, entered_alone, entered_nowhere, names_entered}
 use Rattle.wasm_encoder.proofs.command.Command.TheLaws.{the_size}
 use Rattle.wasm_encoder.proofs.Nested.{component_view, inner_more, inner_refused, inner_stopped, inner_all, refused_inside, entered_inside}
 use Rattle.wasm_encoder.proofs.Run.{next_is}
@@ -150,5 +150,14 @@ run_all-returns-clause-accepted g t c =
 pub run-returns-in-Type : goal.run-returns-in-Type
 run-returns-in-Type g t c = search rules
 
+pub run-returns-in-Custom : goal.run-returns-in-Custom
+run-returns-in-Custom g t c =
+    let x = custom_entry (string_bytes c.in-Custom.name) c.in-Custom.data.items in
+    let e : EntersWithoutIndex c.args.builder.now c.custom.new.builder c.custom.result x = search rules in
+    rw (c.without_index-in-Custom.ensures, c.in-Custom.is) (entered_nowhere c.args.builder.now c.custom.new.builder c.custom.result x (λ es. refl) e)
+
 pub run-returns-in-RawCustom : goal.run-returns-in-RawCustom
-run-returns-in-RawCustom g t c = search rules
+run-returns-in-RawCustom g t c =
+    let x = raw_entry c.in-RawCustom.bytes.items in
+    let e : EntersWithoutIndex c.args.builder.now c.raw_custom_section.new.self c.raw_custom_section.result x = search rules in
+    rw (c.without_index-in-RawCustom.ensures, c.in-RawCustom.is) (entered_nowhere c.args.builder.now c.raw_custom_section.new.self c.raw_custom_section.result x (λ es. refl) e)
