@@ -6,5 +6,6 @@ pub mod Kept
 pub mod PassedOn
 mod Anew
 mod Left
+pub mod ReadSo
 pub mod DefinedEqualities
 pub mod Equalities
