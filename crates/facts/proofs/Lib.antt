@@ -1,6 +1,5 @@
 pub mod Functions
 pub mod NeverUnfinished
-pub mod Options
 pub mod IndexedRuns
 pub mod Kept
 pub mod PassedOn
@@ -8,4 +7,5 @@ mod Anew
 mod Left
 pub mod ReadSo
 pub mod DefinedEqualities
+pub mod EqualTrees
 pub mod Equalities
