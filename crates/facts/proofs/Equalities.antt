@@ -12,7 +12,6 @@ use Rattle.std.specs.String.{string_bytes}
 use denote.RattleType.{RattleType}
 use mir.Syntax.{Dict}
 use Rattle.wenc_base.specs.Composites.{Composite, Sub, params_of, results_of, func_type_view, structure_view, composite_view, sub_view, rec_type_view}
-use Rattle.wenc_base.specs.laws.Composites.{same_params, same_results, same_fields, same_element}
 use Rattle.wenc_base.specs.declared.types.composite.FuncType.{FuncType}
 use Rattle.wenc_base.specs.declared.types.composite.StructType.{StructType}
 use Rattle.wenc_base.specs.declared.types.composite.CompositeType.{CompositeType}
@@ -168,17 +167,17 @@ same_lists eq each (x ∷ xs) (y ∷ ys) = both _ _ (each x y) (same_lists eq ea
 
 pub functions : (A : RattleType) (al : Ghosts A.Denot) (d e : Dict) (f g : FuncType A.Denot) → Decides ((function_eq' A al d e).it f g) (func_type_view f ≡ func_type_view g)
 functions A al d e f g =
-    both _ _ (same_lists value_eq'.it values (params_of f) (params_of g)) (same_lists value_eq'.it values (results_of f) (results_of g)) (λ p q. cc) (same_params f g) (same_results f g)
+    both _ _ (same_lists value_eq'.it values (params_of f) (params_of g)) (same_lists value_eq'.it values (results_of f) (results_of g)) (λ p q. cc) (λ e. cc) (λ e. cc)
 
 pub structures : (A : RattleType) (al : Ghosts A.Denot) (d e : Dict) (s t : StructType A.Denot) → Decides ((structure_eq' A al d e).it s t) (structure_view s ≡ structure_view t)
-structures A al d e s t = Decides-like _ (λ p. cc) (same_fields s t) (same_lists field_eq'.it fields s.fields.items t.fields.items)
+structures A al d e s t = Decides-like _ (λ p. cc) (λ e. cc) (same_lists field_eq'.it fields s.fields.items t.fields.items)
 
 pub composites : (A : RattleType) (al : Ghosts A.Denot) (d e : Dict) (c k : CompositeType A.Denot) → Decides ((composite_eq' A al d e).it c k) (composite_view c ≡ composite_view k)
 composites A al d e (kinds.Func x) (kinds.Func y) = functions A al d e x y
 composites A al d e (kinds.Func x) (kinds.Array y) = (λ e. absurd cc, λ e. absurd cc)
 composites A al d e (kinds.Func x) (kinds.Struct y) = (λ e. absurd cc, λ e. absurd cc)
 composites A al d e (kinds.Array x) (kinds.Func y) = (λ e. absurd cc, λ e. absurd cc)
-composites A al d e (kinds.Array x) (kinds.Array y) = Decides-like _ (λ e. cc) (same_element x y) (fields x.0 y.0)
+composites A al d e (kinds.Array x) (kinds.Array y) = Decides-like _ (λ e. cc) (λ e. cc) (fields x.0 y.0)
 composites A al d e (kinds.Array x) (kinds.Struct y) = (λ e. absurd cc, λ e. absurd cc)
 composites A al d e (kinds.Struct x) (kinds.Func y) = (λ e. absurd cc, λ e. absurd cc)
 composites A al d e (kinds.Struct x) (kinds.Array y) = (λ e. absurd cc, λ e. absurd cc)

@@ -1,10 +1,11 @@
 pub mod Functions
 pub mod NeverUnfinished
-pub mod Options
 pub mod IndexedRuns
 pub mod Kept
 pub mod PassedOn
 mod Anew
 mod Left
+pub mod ReadSo
 pub mod DefinedEqualities
+pub mod EqualTrees
 pub mod Equalities

@@ -49,7 +49,6 @@ pub fn refused_meanwhile<A: Allocator>(section: &mut CoreTypeSection<A>) -> Resu
 }
 
 /// Declares a type in a module type.
-#[tactic(auto, using(wenc_types::specs::laws::Declarations::declares_written))]
 pub fn declared<A: Allocator, B: Allocator>(
     types: &mut ModuleType<A>,
     ty: &SubType<B>,
@@ -57,6 +56,7 @@ pub fn declared<A: Allocator, B: Allocator>(
     ensures { OnOk result ((ds : List ModuleDeclaration) → ModuleDeclares types.old ds
         → ModuleDeclares types.new (ds ++ ModuleRecType (Single (sub_view ty.now)) ∷ [])) }
 {
+    openings_are_members();
     types.ty()?.subtype(ty)
 }
 
@@ -78,6 +78,7 @@ where
           answer = answer;
         }) ∷ []))) }
 {
+    openings_are_members();
     let mut function = section.function()?;
     function.params(params)?;
     function.result(answer)
@@ -91,5 +92,6 @@ pub fn option_declared<A: Allocator>(
     ensures { OnOk result ((ds : List ComponentDeclaration) → ComponentDeclares types.old ds
         → ComponentDeclares types.new (ds ++ Declared (Typed (DefinedType (OptionOf ty))) ∷ [])) }
 {
+    openings_are_members();
     types.ty()?.defined_type().option(ty)
 }

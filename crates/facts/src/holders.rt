@@ -18,7 +18,7 @@ const ALIAS: [u8; 7] = [0xaa, 0xbb, 0x01, 0x00, 0x00, 0x01, 0x66];
 const FUNCTION: [u8; 3] = [0xaa, 0xbb, 0x05];
 
 /// Returns a holder of that alias.
-#[tactic(auto, using(wenc_base::proofs::Groups::size_1))]
+#[tactic(auto, using(crate::proofs::Kept::one_byte_long))]
 fn alias_kept<A: Allocator>(alloc: A) -> Result<Holder<A>, AllocError>
     ensures { IfOk result (HasMembers (HasForm alias)) }
 {
@@ -45,7 +45,7 @@ pub fn unfinished_aliases<A: Allocator>(alloc: A) -> Result<ComponentAliasSectio
 }
 
 /// Returns a holder of that function.
-#[tactic(auto, using(wenc_base::proofs::Groups::size_1))]
+#[tactic(auto, using(crate::proofs::Kept::one_byte_long))]
 fn function_kept<A: Allocator>(alloc: A) -> Result<Holder<A>, AllocError>
     ensures { IfOk result (HasMembers (HasForm canonical)) }
 {
@@ -58,7 +58,7 @@ pub fn functions<A: Allocator>(alloc: A) -> Result<CanonicalFunctionSection<A>, 
 }
 
 /// Returns a holder of two bytes, and one member after them.
-#[tactic(auto, using(wenc_base::proofs::Groups::size_1))]
+#[tactic(auto, using(crate::proofs::Kept::one_byte_long))]
 pub fn over_four_bytes<A: Allocator>(alloc: A) -> Result<Holder<A>, AllocError>
     ensures { IfOk result (λ h. h ≡ holding (0xaa ∷ 0xbb ∷ []) 1 (0x03 ∷ 0x00 ∷ [])) }
 {
@@ -66,7 +66,7 @@ pub fn over_four_bytes<A: Allocator>(alloc: A) -> Result<Holder<A>, AllocError>
 }
 
 /// Keeps all bytes and two more, and then restores the holder.
-#[tactic(auto, using(wenc_base::proofs::Groups::size_1))]
+#[tactic(auto, using(crate::proofs::Kept::one_byte_long))]
 pub fn gone_back<A: Allocator>(alloc: A) -> Result<Holder<A>, Fault> {
     let mut holder = over_four_bytes(alloc)?;
     holder.keep_all(&Verbatim(&[0x10, 0x11]))?;
@@ -75,7 +75,7 @@ pub fn gone_back<A: Allocator>(alloc: A) -> Result<Holder<A>, Fault> {
 }
 
 /// Replaces the two kept bytes by one. The members stay.
-#[tactic(auto, using(wenc_base::proofs::Groups::size_1))]
+#[tactic(auto, using(crate::proofs::Kept::one_byte_long))]
 pub fn filled<A: Allocator>(alloc: A) -> Result<Holder<A>, AllocError> {
     let mut holder = over_four_bytes(alloc)?;
     holder.fill_kept(0, 2, &[0xcc]);

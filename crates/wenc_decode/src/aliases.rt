@@ -2,6 +2,7 @@
 ghost use Rattle.wenc_parts.specs.Aliases.{alias_tree_view};
 ghost use Rattle.wenc_parts.specs.reading.Aliases.{read_alias, read_export, read_core_export, read_outer, read_either, read_exported_alias, read_core_alias};
 ghost use Rattle.wenc_read.specs.Gives.{Gives};
+ghost use Rattle.wenc_read.specs.laws.Exact.{exact_by};
 
 use crate::decode::Decode;
 use std::alloc::Allocator;
@@ -126,13 +127,18 @@ fn core<A: Allocator + Copy>(alloc: A, bytes: &[u8]) -> Result<(AliasTree<A>, &[
 }
 
 impl<A: Allocator + Copy> Decode<A> for AliasTree<A> {
-    ghost use Rattle.wenc_parts.specs.Aliases.{AliasOf};
+    ghost use Rattle.wenc_parts.specs.Aliases.{AliasOf, alias};
+    ghost use Rattle.wenc_parts.specs.laws.Aliases.{alias_sound, alias_lawful};
 
     ghost Value = { AliasOf };
 
     ghost view = { alias_tree_view };
 
     ghost read = { read_alias };
+
+    ghost form = { alias };
+
+    ghost exact = { exact_by alias_sound alias_lawful };
 
     #[tactic(auto, unfolding(wenc_base::specs::Readers::choose))]
     #[inline(always)]

@@ -5,6 +5,7 @@ ghost use Rattle.wenc_canon.specs.reading.Canonicals.{read_lifted, read_lowered,
 ghost use Rattle.wenc_decode.specs.inside.Canonicals.{read_zero, stream_rows, future_rows, error_context_rows, thread_rows, forward_rows};
 ghost use Rattle.wenc_decode.specs.inside.Canonicals.{read_ty_and_options, read_waited_memory};
 ghost use Rattle.wenc_read.specs.Gives.{Gives};
+ghost use Rattle.wenc_read.specs.laws.Exact.{exact_by};
 
 use crate::decode::Decode;
 use crate::pairs::both;
@@ -18,12 +19,18 @@ use wenc_sections::CanonTree;
 impl<A: Allocator + Copy> Decode<A> for CanonicalOption {
     ghost use Rattle.wenc_canon.specs.declared.canonicals.CanonicalOption.{CanonicalOption as Value'};
     ghost use Rattle.wenc_canon.specs.reading.Canonicals.{read_canonical_option};
+    ghost use Rattle.wenc_canon.specs.Canonicals.{canonical_option};
+    ghost use Rattle.wenc_canon.specs.laws.Canonicals.{canonical_option_sound, canonical_option_lawful};
 
     ghost Value = { Value' };
 
     ghost view = { λ o. o };
 
     ghost read = { read_canonical_option };
+
+    ghost form = { canonical_option };
+
+    ghost exact = { exact_by canonical_option_sound canonical_option_lawful };
 
     #[tactic(auto, unfolding(wenc_base::specs::Readers::choose))]
     fn decode<'a>(alloc: A, bytes: &'a [u8]) -> Result<(CanonicalOption, &'a [u8]), Refusal> {
@@ -342,14 +349,19 @@ fn of_forward<A: Allocator + Copy>(
 }
 
 impl<A: Allocator + Copy> Decode<A> for CanonTree<A> {
-    ghost use Rattle.wenc_canon.specs.Canonicals.{Canonical};
+    ghost use Rattle.wenc_canon.specs.Canonicals.{Canonical, canonical};
     ghost use Rattle.wenc_canon.specs.reading.Canonicals.{read_canonical};
+    ghost use Rattle.wenc_canon.specs.laws.Canonicals.{canonical_sound, canonical_lawful};
 
     ghost Value = { Canonical };
 
     ghost view = { canon_view };
 
     ghost read = { read_canonical };
+
+    ghost form = { canonical };
+
+    ghost exact = { exact_by canonical_sound canonical_lawful };
 
     #[tactic(auto, unfolding(wenc_base::specs::Readers::choose))]
     fn decode<'a>(alloc: A, bytes: &'a [u8]) -> Result<(CanonTree<A>, &'a [u8]), Refusal> {

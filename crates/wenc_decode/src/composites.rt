@@ -3,6 +3,7 @@ ghost use Rattle.std.specs.Prelude.{Some, false, true};
 ghost use Rattle.wenc_base.specs.Composites.{composite_view, sub_view, rec_type_view};
 ghost use Rattle.wenc_base.specs.reading.Composites.{read_composite, read_sub_type, read_group, read_closed, read_extension, sub_of};
 ghost use Rattle.wenc_read.specs.Gives.{Gives};
+ghost use Rattle.wenc_read.specs.laws.Exact.{exact_by};
 
 use crate::decode::Decode;
 use std::alloc::Allocator;
@@ -15,12 +16,18 @@ use wenc_read::{Refusal, byte};
 impl<A: Allocator + Copy> Decode<A> for StorageType {
     ghost use Rattle.wenc_base.specs.declared.types.storage.StorageType.{StorageType as Value'};
     ghost use Rattle.wenc_base.specs.reading.Composites.{read_storage_type};
+    ghost use Rattle.wenc_base.specs.Composites.{storage_type};
+    ghost use Rattle.wenc_base.specs.laws.Composites.{storage_type_sound, storage_type_lawful};
 
     ghost Value = { Value' };
 
     ghost view = { λ t. t };
 
     ghost read = { read_storage_type };
+
+    ghost form = { storage_type };
+
+    ghost exact = { exact_by storage_type_sound storage_type_lawful };
 
     #[tactic(auto, unfolding(wenc_base::specs::Readers::choose))]
     fn decode<'a>(alloc: A, bytes: &'a [u8]) -> Result<(StorageType, &'a [u8]), Refusal> {
@@ -38,12 +45,18 @@ impl<A: Allocator + Copy> Decode<A> for StorageType {
 impl<A: Allocator + Copy> Decode<A> for FieldType {
     ghost use Rattle.wenc_base.specs.declared.types.storage.FieldType.{FieldType as Value'};
     ghost use Rattle.wenc_base.specs.reading.Composites.{read_field_type};
+    ghost use Rattle.wenc_base.specs.Composites.{field_type};
+    ghost use Rattle.wenc_base.specs.laws.Composites.{field_type_sound, field_type_lawful};
 
     ghost Value = { Value' };
 
     ghost view = { λ f. f };
 
     ghost read = { read_field_type };
+
+    ghost form = { field_type };
+
+    ghost exact = { exact_by field_type_sound field_type_lawful };
 
     fn decode<'a>(alloc: A, bytes: &'a [u8]) -> Result<(FieldType, &'a [u8]), Refusal> {
         let (element_type, rest) = StorageType::decode(alloc, bytes)?;
@@ -57,13 +70,18 @@ impl<A: Allocator + Copy> Decode<A> for FieldType {
 }
 
 impl<A: Allocator + Copy> Decode<A> for CompositeType<A> {
-    ghost use Rattle.wenc_base.specs.Composites.{Composite};
+    ghost use Rattle.wenc_base.specs.Composites.{Composite, composite_type};
+    ghost use Rattle.wenc_base.specs.laws.Composites.{composite_type_sound, composite_type_lawful};
 
     ghost Value = { Composite };
 
     ghost view = { composite_view };
 
     ghost read = { read_composite };
+
+    ghost form = { composite_type };
+
+    ghost exact = { exact_by composite_type_sound composite_type_lawful };
 
     #[tactic(auto, unfolding(wenc_base::specs::Readers::choose))]
     fn decode<'a>(alloc: A, bytes: &'a [u8]) -> Result<(CompositeType<A>, &'a [u8]), Refusal> {
@@ -88,13 +106,18 @@ impl<A: Allocator + Copy> Decode<A> for CompositeType<A> {
 }
 
 impl<A: Allocator + Copy> Decode<A> for SubType<A> {
-    ghost use Rattle.wenc_base.specs.Composites.{Sub};
+    ghost use Rattle.wenc_base.specs.Composites.{Sub, sub_type};
+    ghost use Rattle.wenc_base.specs.laws.Composites.{sub_type_sound, sub_type_lawful};
 
     ghost Value = { Sub };
 
     ghost view = { sub_view };
 
     ghost read = { read_sub_type };
+
+    ghost form = { sub_type };
+
+    ghost exact = { exact_by sub_type_sound sub_type_lawful };
 
     #[tactic(auto, unfolding(wenc_base::specs::Readers::choose))]
     fn decode<'a>(alloc: A, bytes: &'a [u8]) -> Result<(SubType<A>, &'a [u8]), Refusal> {
@@ -154,13 +177,18 @@ fn closed<A: Allocator + Copy>(alloc: A, bytes: &[u8]) -> Result<(SubType<A>, &[
 }
 
 impl<A: Allocator + Copy> Decode<A> for GroupTree<A> {
-    ghost use Rattle.wenc_base.specs.Composites.{RecType};
+    ghost use Rattle.wenc_base.specs.Composites.{RecType, rec_type};
+    ghost use Rattle.wenc_base.specs.laws.Composites.{group_sound, group_lawful};
 
     ghost Value = { RecType };
 
     ghost view = { rec_type_view };
 
     ghost read = { read_group };
+
+    ghost form = { rec_type };
+
+    ghost exact = { exact_by group_sound group_lawful };
 
     #[tactic(auto, unfolding(wenc_base::specs::Readers::choose))]
     fn decode<'a>(alloc: A, bytes: &'a [u8]) -> Result<(GroupTree<A>, &'a [u8]), Refusal> {

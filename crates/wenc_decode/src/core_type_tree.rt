@@ -3,6 +3,7 @@ ghost use Rattle.wenc_decode.specs.inside.CoreTypes.{read_guarded};
 ghost use Rattle.wenc_types.specs.reading.CoreTypes.{read_outer_type};
 ghost use Rattle.wenc_read.specs.Gives.{Gives};
 ghost use Rattle.wenc_types.specs.CoreTypeTrees.{module_declaration_view, core_type_view};
+ghost use Rattle.wenc_read.specs.laws.Exact.{exact_by};
 
 use crate::composites::open;
 use crate::decode::Decode;
@@ -34,14 +35,19 @@ fn outer_type<A: Allocator + Copy>(
 }
 
 impl<A: Allocator + Copy> Decode<A> for ModuleDecl<A> {
-    ghost use Rattle.wenc_types.specs.CoreTypes.{ModuleDeclaration};
+    ghost use Rattle.wenc_types.specs.CoreTypes.{ModuleDeclaration, module_declaration};
     ghost use Rattle.wenc_types.specs.reading.CoreTypes.{read_module_declaration};
+    ghost use Rattle.wenc_types.specs.laws.CoreTypes.{module_declaration_sound, module_declaration_lawful};
 
     ghost Value = { ModuleDeclaration };
 
     ghost view = { module_declaration_view };
 
     ghost read = { read_module_declaration };
+
+    ghost form = { module_declaration };
+
+    ghost exact = { exact_by module_declaration_sound module_declaration_lawful };
 
     #[tactic(auto, unfolding(wenc_base::specs::Readers::choose))]
     fn decode<'a>(alloc: A, bytes: &'a [u8]) -> Result<(ModuleDecl<A>, &'a [u8]), Refusal> {
@@ -82,14 +88,19 @@ fn guarded<A: Allocator + Copy>(alloc: A, bytes: &[u8]) -> Result<(CoreTypeTree<
 }
 
 impl<A: Allocator + Copy> Decode<A> for CoreTypeTree<A> {
-    ghost use Rattle.wenc_types.specs.CoreTypes.{CoreType};
+    ghost use Rattle.wenc_types.specs.CoreTypes.{CoreType, core_type};
     ghost use Rattle.wenc_types.specs.reading.CoreTypes.{read_core_type};
+    ghost use Rattle.wenc_types.specs.laws.CoreTypes.{core_type_sound, core_type_lawful};
 
     ghost Value = { CoreType };
 
     ghost view = { core_type_view };
 
     ghost read = { read_core_type };
+
+    ghost form = { core_type };
+
+    ghost exact = { exact_by core_type_sound core_type_lawful };
 
     #[tactic(auto, unfolding(wenc_base::specs::Readers::choose))]
     fn decode<'a>(alloc: A, bytes: &'a [u8]) -> Result<(CoreTypeTree<A>, &'a [u8]), Refusal> {

@@ -6,6 +6,7 @@ ghost use Rattle.wenc_base.specs.reading.Types.{to as reference_to};
 ghost use Rattle.wenc_decode.specs.inside.CoreTypes.{read_referred};
 ghost use Rattle.wenc_decode.specs.inside.Tables.{find};
 ghost use Rattle.wenc_read.specs.Gives.{Gives};
+ghost use Rattle.wenc_read.specs.laws.Exact.{exact_by};
 
 use crate::decode::Decode;
 use std::alloc::Allocator;
@@ -36,12 +37,18 @@ fn abstract_of(byte: u8) -> Option<AbstractHeapType>
 impl<A: Allocator + Copy> Decode<A> for HeapType {
     ghost use Rattle.wenc_base.specs.declared.types.HeapType.{HeapType as Value'};
     ghost use Rattle.wenc_base.specs.reading.Types.{read_heap_type};
+    ghost use Rattle.wenc_base.specs.Types.{heap_type};
+    ghost use Rattle.wenc_base.specs.laws.Types.{heap_type_sound, heap_type_lawful};
 
     ghost Value = { Value' };
 
     ghost view = { λ h. h };
 
     ghost read = { read_heap_type };
+
+    ghost form = { heap_type };
+
+    ghost exact = { exact_by heap_type_sound heap_type_lawful };
 
     fn decode<'a>(_alloc: A, bytes: &'a [u8]) -> Result<(HeapType, &'a [u8]), Refusal> {
         let (first, rest) = byte(bytes)?;
@@ -58,12 +65,18 @@ impl<A: Allocator + Copy> Decode<A> for HeapType {
 impl<A: Allocator + Copy> Decode<A> for RefType {
     ghost use Rattle.wenc_base.specs.declared.types.RefType.{RefType as Value'};
     ghost use Rattle.wenc_base.specs.reading.Types.{read_reference};
+    ghost use Rattle.wenc_base.specs.Types.{reference};
+    ghost use Rattle.wenc_base.specs.laws.Types.{reference_sound, reference_lawful};
 
     ghost Value = { Value' };
 
     ghost view = { λ r. r };
 
     ghost read = { read_reference };
+
+    ghost form = { reference };
+
+    ghost exact = { exact_by reference_sound reference_lawful };
 
     #[tactic(auto, unfolding(wenc_base::specs::Readers::choose))]
     fn decode<'a>(alloc: A, bytes: &'a [u8]) -> Result<(RefType, &'a [u8]), Refusal> {
@@ -102,12 +115,18 @@ fn reference<A: Allocator + Copy>(
 impl<A: Allocator + Copy> Decode<A> for ValType {
     ghost use Rattle.wenc_base.specs.declared.types.ValType.{ValType as Value'};
     ghost use Rattle.wenc_base.specs.reading.Types.{read_val_type};
+    ghost use Rattle.wenc_base.specs.Types.{val_type};
+    ghost use Rattle.wenc_base.specs.laws.Types.{val_type_sound, val_type_lawful};
 
     ghost Value = { Value' };
 
     ghost view = { λ t. t };
 
     ghost read = { read_val_type };
+
+    ghost form = { val_type };
+
+    ghost exact = { exact_by val_type_sound val_type_lawful };
 
     #[tactic(auto, unfolding(wenc_base::specs::Readers::choose))]
     fn decode<'a>(alloc: A, bytes: &'a [u8]) -> Result<(ValType, &'a [u8]), Refusal> {

@@ -1,7 +1,10 @@
 //! The trait `Decode`, and the parts of every form: numbers, flags, strings, lists and options.
 ghost use Rattle.std.specs.Prelude.{◌≡◌, ◌≤◌, ◌<◌, List, length, map};
+ghost use Rattle.wenc_base.specs.Piece.{Form};
 ghost use Rattle.wenc_base.specs.Readers.{Reader, times};
+ghost use Rattle.wenc_read.specs.Exact.{IsExact};
 ghost use Rattle.wenc_read.specs.Gives.{Gives};
+ghost use Rattle.wenc_read.specs.laws.Exact.{exact_by};
 
 use std::alloc::Allocator;
 use wenc_read::{Refusal, byte, flag_of, name_of, u32_of};
@@ -21,6 +24,12 @@ pub trait Decode<A: Allocator + Copy>: Sized + Drop {
     /// The reader that finds the value.
     ghost read: { Reader Value };
 
+    /// The form that is read.
+    ghost form: { Form Value };
+
+    /// The reader finds what is read widely, and nothing else.
+    ghost exact: { IsExact form read };
+
     /// Reads the value that begins the bytes, in any of its spellings. Returns it and the bytes
     /// after it.
     ///
@@ -35,12 +44,18 @@ pub trait Decode<A: Allocator + Copy>: Sized + Drop {
 impl<A: Allocator + Copy> Decode<A> for u32 {
     ghost use Rattle.wenc_base.specs.reading.Numbers.{read_u32};
     ghost use Rattle.std.specs.Prelude.{ℕ};
+    ghost use Rattle.wenc_base.specs.Number.{u32 as number};
+    ghost use Rattle.wenc_base.specs.laws.Numbers.{u32_sound, u32_lawful};
 
     ghost Value = { ℕ };
 
     ghost view = { λ n. n };
 
     ghost read = { read_u32 };
+
+    ghost form = { number };
+
+    ghost exact = { exact_by u32_sound u32_lawful };
 
     #[inline(always)]
     fn decode<'a>(_alloc: A, bytes: &'a [u8]) -> Result<(u32, &'a [u8]), Refusal> {
@@ -51,12 +66,18 @@ impl<A: Allocator + Copy> Decode<A> for u32 {
 impl<A: Allocator + Copy> Decode<A> for bool {
     ghost use Rattle.std.specs.Prelude.{Bool};
     ghost use Rattle.wenc_base.specs.reading.Forms.{read_flag};
+    ghost use Rattle.wenc_base.specs.Forms.{flag};
+    ghost use Rattle.wenc_base.specs.laws.Forms.{flag_sound, flag_lawful};
 
     ghost Value = { Bool };
 
     ghost view = { λ b. b };
 
     ghost read = { read_flag };
+
+    ghost form = { flag };
+
+    ghost exact = { exact_by flag_sound flag_lawful };
 
     fn decode<'a>(_alloc: A, bytes: &'a [u8]) -> Result<(bool, &'a [u8]), Refusal> {
         flag_of(bytes)
@@ -67,12 +88,18 @@ impl<A: Allocator + Copy> Decode<A> for String<A> {
     ghost use Rattle.std.specs.Prelude.{ℕ};
     ghost use Rattle.std.specs.String.{string_bytes};
     ghost use Rattle.wenc_base.specs.reading.Forms.{read_name};
+    ghost use Rattle.wenc_base.specs.Forms.{name};
+    ghost use Rattle.wenc_base.specs.laws.Forms.{name_sound, name_lawful};
 
     ghost Value = { List ℕ };
 
     ghost view = { string_bytes };
 
     ghost read = { read_name };
+
+    ghost form = { name };
+
+    ghost exact = { exact_by name_sound name_lawful };
 
     #[inline(always)]
     fn decode<'a>(alloc: A, bytes: &'a [u8]) -> Result<(String<A>, &'a [u8]), Refusal> {
@@ -111,12 +138,18 @@ fn members<'a, A: Allocator + Copy, T: Decode<A>>(
 /// A list: the number of values, then the values.
 impl<A: Allocator + Copy, T: Decode<A>> Decode<A> for Vec<T, A> {
     ghost use Rattle.wenc_base.specs.reading.Forms.{read_list};
+    ghost use Rattle.wenc_base.specs.Forms.{list};
+    ghost use Rattle.wenc_read.specs.laws.Exact.{list_exact};
 
     ghost Value = { List T.Value };
 
     ghost view = { λ x. map T.view x.items };
 
     ghost read = { read_list T.read };
+
+    ghost form = { list T.form };
+
+    ghost exact = { list_exact T.exact };
 
     fn decode<'a>(alloc: A, bytes: &'a [u8]) -> Result<(Vec<T, A>, &'a [u8]), Refusal> {
         let (count, rest) = u32_of(bytes)?;
@@ -128,12 +161,18 @@ impl<A: Allocator + Copy, T: Decode<A>> Decode<A> for Vec<T, A> {
 impl<A: Allocator + Copy, T: Decode<A>> Decode<A> for Option<T> {
     ghost use Rattle.std.specs.Prelude.{Option as OptionOf, option_map};
     ghost use Rattle.wenc_base.specs.reading.Forms.{read_option};
+    ghost use Rattle.wenc_base.specs.Forms.{option};
+    ghost use Rattle.wenc_read.specs.laws.Exact.{option_exact};
 
     ghost Value = { OptionOf T.Value };
 
     ghost view = { option_map T.view };
 
     ghost read = { read_option T.read };
+
+    ghost form = { option T.form };
+
+    ghost exact = { option_exact T.exact };
 
     #[tactic(auto, unfolding(wenc_base::specs::Readers::choose))]
     fn decode<'a>(alloc: A, bytes: &'a [u8]) -> Result<(Option<T>, &'a [u8]), Refusal> {

@@ -3,6 +3,7 @@ ghost use Rattle.wenc_base.specs.Readers.{pick, nowhere};
 ghost use Rattle.wenc_decode.specs.inside.Types.{read_defined_row, handle_rows};
 ghost use Rattle.wenc_read.specs.Gives.{Gives};
 ghost use Rattle.wenc_types.specs.TypeTrees.{defined_view};
+ghost use Rattle.wenc_read.specs.laws.Exact.{exact_by};
 
 use crate::decode::Decode;
 use crate::types::primitive_of;
@@ -13,15 +14,20 @@ use wenc_types::{CaseTree, DefinedTree};
 
 /// A field or a parameter.
 impl<A: Allocator + Copy> Decode<A> for (String<A>, ComponentValType) {
-    ghost use Rattle.wenc_types.specs.DefinedTypes.{LabelledType};
+    ghost use Rattle.wenc_types.specs.DefinedTypes.{LabelledType, labelled_type};
     ghost use Rattle.wenc_types.specs.TypeTrees.{labelled_type_view};
     ghost use Rattle.wenc_types.specs.reading.DefinedTypes.{read_labelled_type};
+    ghost use Rattle.wenc_types.specs.laws.DefinedTypes.{named_sound, labelled_type_lawful};
 
     ghost Value = { LabelledType };
 
     ghost view = { labelled_type_view };
 
     ghost read = { read_labelled_type };
+
+    ghost form = { labelled_type };
+
+    ghost exact = { exact_by named_sound labelled_type_lawful };
 
     #[inline(always)]
     fn decode<'a>(
@@ -35,15 +41,20 @@ impl<A: Allocator + Copy> Decode<A> for (String<A>, ComponentValType) {
 }
 
 impl<A: Allocator + Copy> Decode<A> for CaseTree<A> {
-    ghost use Rattle.wenc_types.specs.DefinedTypes.{Case};
+    ghost use Rattle.wenc_types.specs.DefinedTypes.{Case, case};
     ghost use Rattle.wenc_types.specs.TypeTrees.{case_view};
     ghost use Rattle.wenc_types.specs.reading.DefinedTypes.{read_case};
+    ghost use Rattle.wenc_types.specs.laws.DefinedTypes.{case_sound, case_lawful};
 
     ghost Value = { Case };
 
     ghost view = { case_view };
 
     ghost read = { read_case };
+
+    ghost form = { case };
+
+    ghost exact = { exact_by case_sound case_lawful };
 
     #[tactic(auto, unfolding(wenc_base::specs::Readers::choose))]
     fn decode<'a>(alloc: A, bytes: &'a [u8]) -> Result<(CaseTree<A>, &'a [u8]), Refusal> {
@@ -143,14 +154,20 @@ fn of_handle<A: Allocator + Copy>(
 }
 
 impl<A: Allocator + Copy> Decode<A> for DefinedTree<A> {
-    ghost use Rattle.wenc_types.specs.DefinedTypes.{DefValType};
+    ghost use Rattle.wenc_types.specs.DefinedTypes.{DefValType, def_val_type};
     ghost use Rattle.wenc_types.specs.reading.DefinedTypes.{read_defined};
+    ghost use Rattle.wenc_types.specs.laws.DefinedTypes.{defined_type_lawful};
+    ghost use Rattle.wenc_decode.specs.laws.TypeTrees.{defined_sound};
 
     ghost Value = { DefValType };
 
     ghost view = { defined_view };
 
     ghost read = { read_defined };
+
+    ghost form = { def_val_type };
+
+    ghost exact = { exact_by defined_sound defined_type_lawful };
 
     fn decode<'a>(alloc: A, bytes: &'a [u8]) -> Result<(DefinedTree<A>, &'a [u8]), Refusal> {
         let (first, rest) = byte(bytes)?;

@@ -1,6 +1,7 @@
 //! Types of the imports and exports of core modules.
 ghost use Rattle.wenc_decode.specs.inside.Entities.{read_maximum, read_bounds, memory_so, table_so};
 ghost use Rattle.wenc_read.specs.Gives.{Gives};
+ghost use Rattle.wenc_read.specs.laws.Exact.{exact_by};
 
 use crate::decode::Decode;
 use std::alloc::Allocator;
@@ -44,12 +45,18 @@ fn memory(
 impl<A: Allocator + Copy> Decode<A> for MemoryType {
     ghost use Rattle.wenc_base.specs.declared.memories.MemoryType.{MemoryType as Value'};
     ghost use Rattle.wenc_base.specs.reading.Entities.{read_memory_type};
+    ghost use Rattle.wenc_base.specs.Entities.{memory_type};
+    ghost use Rattle.wenc_base.specs.laws.Entities.{memory_type_sound, memory_type_lawful};
 
     ghost Value = { Value' };
 
     ghost view = { λ m. m };
 
     ghost read = { read_memory_type };
+
+    ghost form = { memory_type };
+
+    ghost exact = { exact_by memory_type_sound memory_type_lawful };
 
     #[tactic(auto, unfolding(wenc_base::specs::Readers::choose))]
     fn decode<'a>(_alloc: A, bytes: &'a [u8]) -> Result<(MemoryType, &'a [u8]), Refusal> {
@@ -91,12 +98,18 @@ fn table(
 impl<A: Allocator + Copy> Decode<A> for TableType {
     ghost use Rattle.wenc_base.specs.declared.tables.TableType.{TableType as Value'};
     ghost use Rattle.wenc_base.specs.reading.Entities.{read_table_type};
+    ghost use Rattle.wenc_base.specs.Entities.{table_type};
+    ghost use Rattle.wenc_base.specs.laws.Entities.{table_type_sound, table_type_lawful};
 
     ghost Value = { Value' };
 
     ghost view = { λ t. t };
 
     ghost read = { read_table_type };
+
+    ghost form = { table_type };
+
+    ghost exact = { exact_by table_type_sound table_type_lawful };
 
     #[tactic(auto, unfolding(wenc_base::specs::Readers::choose))]
     fn decode<'a>(alloc: A, bytes: &'a [u8]) -> Result<(TableType, &'a [u8]), Refusal> {
@@ -114,12 +127,18 @@ impl<A: Allocator + Copy> Decode<A> for TableType {
 impl<A: Allocator + Copy> Decode<A> for GlobalType {
     ghost use Rattle.wenc_base.specs.declared.globals.GlobalType.{GlobalType as Value'};
     ghost use Rattle.wenc_base.specs.reading.Entities.{read_global_type};
+    ghost use Rattle.wenc_base.specs.Entities.{global_type};
+    ghost use Rattle.wenc_base.specs.laws.Entities.{global_type_sound, global_type_lawful};
 
     ghost Value = { Value' };
 
     ghost view = { λ g. g };
 
     ghost read = { read_global_type };
+
+    ghost form = { global_type };
+
+    ghost exact = { exact_by global_type_sound global_type_lawful };
 
     fn decode<'a>(alloc: A, bytes: &'a [u8]) -> Result<(GlobalType, &'a [u8]), Refusal> {
         let (val_type, rest) = ValType::decode(alloc, bytes)?;
@@ -131,12 +150,18 @@ impl<A: Allocator + Copy> Decode<A> for GlobalType {
 impl<A: Allocator + Copy> Decode<A> for TagType {
     ghost use Rattle.wenc_base.specs.declared.tags.TagType.{TagType as Value'};
     ghost use Rattle.wenc_base.specs.reading.Entities.{read_tag_type};
+    ghost use Rattle.wenc_base.specs.Entities.{tag_type};
+    ghost use Rattle.wenc_base.specs.laws.Entities.{tag_type_sound, tag_type_lawful};
 
     ghost Value = { Value' };
 
     ghost view = { λ t. t };
 
     ghost read = { read_tag_type };
+
+    ghost form = { tag_type };
+
+    ghost exact = { exact_by tag_type_sound tag_type_lawful };
 
     #[tactic(auto, unfolding(wenc_base::specs::Readers::choose))]
     fn decode<'a>(alloc: A, bytes: &'a [u8]) -> Result<(TagType, &'a [u8]), Refusal> {
@@ -153,12 +178,18 @@ impl<A: Allocator + Copy> Decode<A> for TagType {
 impl<A: Allocator + Copy> Decode<A> for EntityType {
     ghost use Rattle.wenc_base.specs.declared.imports.EntityType.{EntityType as Value'};
     ghost use Rattle.wenc_base.specs.reading.Entities.{read_entity_type};
+    ghost use Rattle.wenc_base.specs.Entities.{entity_type};
+    ghost use Rattle.wenc_base.specs.laws.Entities.{entity_type_sound, entity_type_lawful};
 
     ghost Value = { Value' };
 
     ghost view = { λ e. e };
 
     ghost read = { read_entity_type };
+
+    ghost form = { entity_type };
+
+    ghost exact = { exact_by entity_type_sound entity_type_lawful };
 
     #[tactic(auto, unfolding(wenc_base::specs::Readers::choose))]
     fn decode<'a>(alloc: A, bytes: &'a [u8]) -> Result<(EntityType, &'a [u8]), Refusal> {
@@ -191,12 +222,18 @@ impl<A: Allocator + Copy> Decode<A> for EntityType {
 impl<A: Allocator + Copy> Decode<A> for ExportKind {
     ghost use Rattle.wenc_base.specs.declared.exports.ExportKind.{ExportKind as Value'};
     ghost use Rattle.wenc_base.specs.reading.Exports.{read_core_export_kind};
+    ghost use Rattle.wenc_base.specs.Exports.{core_export_kind};
+    ghost use Rattle.wenc_base.specs.laws.Exports.{core_export_kind_sound, core_export_kind_lawful};
 
     ghost Value = { Value' };
 
     ghost view = { λ k. k };
 
     ghost read = { read_core_export_kind };
+
+    ghost form = { core_export_kind };
+
+    ghost exact = { exact_by core_export_kind_sound core_export_kind_lawful };
 
     #[tactic(auto, unfolding(wenc_base::specs::Readers::choose))]
     fn decode<'a>(_alloc: A, bytes: &'a [u8]) -> Result<(ExportKind, &'a [u8]), Refusal> {

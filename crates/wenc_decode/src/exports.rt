@@ -1,4 +1,6 @@
 //! Sorts of items.
+ghost use Rattle.wenc_read.specs.laws.Exact.{exact_by};
+
 use crate::decode::Decode;
 use std::alloc::Allocator;
 use wenc_parts::ComponentExportKind;
@@ -7,12 +9,18 @@ use wenc_read::{Refusal, byte};
 impl<A: Allocator + Copy> Decode<A> for ComponentExportKind {
     ghost use Rattle.wenc_parts.specs.declared.exports.ComponentExportKind.{ComponentExportKind as Value'};
     ghost use Rattle.wenc_parts.specs.reading.Exports.{read_component_export_kind};
+    ghost use Rattle.wenc_parts.specs.Exports.{component_export_kind};
+    ghost use Rattle.wenc_parts.specs.laws.Exports.{component_export_kind_sound, component_export_kind_lawful};
 
     ghost Value = { Value' };
 
     ghost view = { λ k. k };
 
     ghost read = { read_component_export_kind };
+
+    ghost form = { component_export_kind };
+
+    ghost exact = { exact_by component_export_kind_sound component_export_kind_lawful };
 
     #[tactic(auto, unfolding(wenc_base::specs::Readers::choose))]
     #[inline(always)]

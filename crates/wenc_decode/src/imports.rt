@@ -1,4 +1,6 @@
 //! The `externdesc` of imports and exports.
+ghost use Rattle.wenc_read.specs.laws.Exact.{exact_by};
+
 use crate::decode::Decode;
 use std::alloc::Allocator;
 use wenc_parts::{ComponentTypeRef, ComponentValType, TypeBounds};
@@ -7,12 +9,18 @@ use wenc_read::{Refusal, byte};
 impl<A: Allocator + Copy> Decode<A> for TypeBounds {
     ghost use Rattle.wenc_parts.specs.declared.imports.TypeBounds.{TypeBounds as Value'};
     ghost use Rattle.wenc_parts.specs.reading.Imports.{read_type_bounds};
+    ghost use Rattle.wenc_parts.specs.Imports.{type_bounds};
+    ghost use Rattle.wenc_parts.specs.laws.Imports.{type_bounds_sound, type_bounds_lawful};
 
     ghost Value = { Value' };
 
     ghost view = { λ b. b };
 
     ghost read = { read_type_bounds };
+
+    ghost form = { type_bounds };
+
+    ghost exact = { exact_by type_bounds_sound type_bounds_lawful };
 
     #[tactic(auto, unfolding(wenc_base::specs::Readers::choose))]
     #[inline(always)]
@@ -31,12 +39,18 @@ impl<A: Allocator + Copy> Decode<A> for TypeBounds {
 impl<A: Allocator + Copy> Decode<A> for ComponentTypeRef {
     ghost use Rattle.wenc_parts.specs.declared.imports.ComponentTypeRef.{ComponentTypeRef as Value'};
     ghost use Rattle.wenc_parts.specs.reading.Imports.{read_type_reference};
+    ghost use Rattle.wenc_parts.specs.Imports.{type_reference};
+    ghost use Rattle.wenc_parts.specs.laws.Imports.{type_reference_sound, type_reference_lawful};
 
     ghost Value = { Value' };
 
     ghost view = { λ r. r };
 
     ghost read = { read_type_reference };
+
+    ghost form = { type_reference };
+
+    ghost exact = { exact_by type_reference_sound type_reference_lawful };
 
     #[tactic(auto, unfolding(wenc_base::specs::Readers::choose))]
     #[inline(always)]

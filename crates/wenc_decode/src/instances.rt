@@ -2,6 +2,7 @@
 ghost use Rattle.std.specs.Prelude.{ℕ, List};
 ghost use Rattle.std.specs.String.{string_bytes};
 ghost use Rattle.wenc_sections.specs.Instances.{named_pair, named_triple};
+ghost use Rattle.wenc_read.specs.laws.Exact.{exact_by};
 
 use crate::decode::Decode;
 use std::alloc::Allocator;
@@ -13,12 +14,18 @@ use wenc_sections::{CoreInstanceTree, InstanceTree};
 impl<A: Allocator + Copy> Decode<A> for ModuleArg {
     ghost use Rattle.wenc_parts.specs.declared.instances.ModuleArg.{ModuleArg as Value'};
     ghost use Rattle.wenc_parts.specs.reading.Instances.{read_module_argument};
+    ghost use Rattle.wenc_parts.specs.Instances.{module_argument};
+    ghost use Rattle.wenc_parts.specs.laws.Instances.{module_argument_sound, module_argument_lawful};
 
     ghost Value = { Value' };
 
     ghost view = { λ a. a };
 
     ghost read = { read_module_argument };
+
+    ghost form = { module_argument };
+
+    ghost exact = { exact_by module_argument_sound module_argument_lawful };
 
     #[tactic(auto, unfolding(wenc_base::specs::Readers::choose))]
     #[inline(always)]
@@ -39,12 +46,23 @@ impl<A: Allocator + Copy> Decode<A> for (String<A>, ModuleArg) {
     ghost use Rattle.wenc_sections.specs.reading.Pairs.{read_pair};
     ghost use Rattle.wenc_parts.specs.declared.instances.ModuleArg.{ModuleArg as Value'};
     ghost use Rattle.wenc_parts.specs.reading.Instances.{read_module_argument};
+    ghost use Rattle.wenc_base.specs.Delimited.{pair};
+    ghost use Rattle.wenc_base.specs.Forms.{name as name_form};
+    ghost use Rattle.wenc_base.specs.laws.Forms.{name_sound, name_lawful};
+    ghost use Rattle.wenc_parts.specs.Instances.{module_argument};
+    ghost use Rattle.wenc_parts.specs.laws.Instances.{module_argument_sound, module_argument_lawful};
+    ghost use Rattle.wenc_sections.specs.laws.Pairs.{pair_sound, pair_lawful};
 
     ghost Value = { List ℕ × Value' };
 
     ghost view = { named_pair string_bytes };
 
     ghost read = { read_pair read_name read_module_argument };
+
+    ghost form = { pair name_form module_argument };
+
+    ghost exact = { exact_by (pair_sound name_sound module_argument_sound)
+        (pair_lawful name_lawful module_argument_lawful) };
 
     #[inline(always)]
     fn decode<'a>(
@@ -64,12 +82,25 @@ impl<A: Allocator + Copy> Decode<A> for (String<A>, ExportKind, u32) {
     ghost use Rattle.wenc_base.specs.reading.Forms.{read_name};
     ghost use Rattle.wenc_sections.specs.reading.Pairs.{read_triple};
     ghost use Rattle.wenc_base.specs.reading.Numbers.{read_u32};
+    ghost use Rattle.wenc_base.specs.Forms.{name as name_form};
+    ghost use Rattle.wenc_base.specs.laws.Forms.{name_sound, name_lawful};
+    ghost use Rattle.wenc_base.specs.Exports.{core_export_kind};
+    ghost use Rattle.wenc_base.specs.laws.Exports.{core_export_kind_sound, core_export_kind_lawful};
+    ghost use Rattle.wenc_base.specs.Number.{u32 as number};
+    ghost use Rattle.wenc_base.specs.laws.Numbers.{u32_sound, u32_lawful};
+    ghost use Rattle.wenc_sections.specs.Pairs.{triple};
+    ghost use Rattle.wenc_sections.specs.laws.Pairs.{triple_sound, triple_lawful};
 
     ghost Value = { List ℕ × Kind × ℕ };
 
     ghost view = { named_triple string_bytes };
 
     ghost read = { read_triple read_name read_core_export_kind read_u32 };
+
+    ghost form = { triple name_form core_export_kind number };
+
+    ghost exact = { exact_by (triple_sound name_sound core_export_kind_sound u32_sound)
+        (triple_lawful name_lawful core_export_kind_lawful u32_lawful) };
 
     #[inline(always)]
     fn decode<'a>(
@@ -85,14 +116,19 @@ impl<A: Allocator + Copy> Decode<A> for (String<A>, ExportKind, u32) {
 
 impl<A: Allocator + Copy> Decode<A> for CoreInstanceTree<A> {
     ghost use Rattle.wenc_sections.specs.InstanceTrees.{core_instance_tree_view};
-    ghost use Rattle.wenc_sections.specs.Instances.{CoreInstance};
+    ghost use Rattle.wenc_sections.specs.Instances.{CoreInstance, core_instance};
     ghost use Rattle.wenc_sections.specs.reading.Items.{read_core_instance};
+    ghost use Rattle.wenc_sections.specs.laws.Items.{core_instance_sound, core_instance_lawful};
 
     ghost Value = { CoreInstance };
 
     ghost view = { core_instance_tree_view };
 
     ghost read = { read_core_instance };
+
+    ghost form = { core_instance };
+
+    ghost exact = { exact_by core_instance_sound core_instance_lawful };
 
     #[tactic(auto, unfolding(wenc_base::specs::Readers::choose))]
     #[inline(always)]
@@ -119,12 +155,25 @@ impl<A: Allocator + Copy> Decode<A> for (String<A>, ComponentExportKind, u32) {
     ghost use Rattle.wenc_base.specs.reading.Numbers.{read_u32};
     ghost use Rattle.wenc_parts.specs.declared.exports.ComponentExportKind.{ComponentExportKind as Kind};
     ghost use Rattle.wenc_parts.specs.reading.Exports.{read_component_export_kind};
+    ghost use Rattle.wenc_base.specs.Forms.{name as name_form};
+    ghost use Rattle.wenc_base.specs.laws.Forms.{name_sound, name_lawful};
+    ghost use Rattle.wenc_parts.specs.Exports.{component_export_kind};
+    ghost use Rattle.wenc_parts.specs.laws.Exports.{component_export_kind_sound, component_export_kind_lawful};
+    ghost use Rattle.wenc_base.specs.Number.{u32 as number};
+    ghost use Rattle.wenc_base.specs.laws.Numbers.{u32_sound, u32_lawful};
+    ghost use Rattle.wenc_sections.specs.Pairs.{triple};
+    ghost use Rattle.wenc_sections.specs.laws.Pairs.{triple_sound, triple_lawful};
 
     ghost Value = { List ℕ × Kind × ℕ };
 
     ghost view = { named_triple string_bytes };
 
     ghost read = { read_triple read_name read_component_export_kind read_u32 };
+
+    ghost form = { triple name_form component_export_kind number };
+
+    ghost exact = { exact_by (triple_sound name_sound component_export_kind_sound u32_sound)
+        (triple_lawful name_lawful component_export_kind_lawful u32_lawful) };
 
     #[inline(always)]
     fn decode<'a>(
@@ -146,12 +195,25 @@ impl<A: Allocator + Copy> Decode<A> for (NameTree<A>, ComponentExportKind, u32) 
     ghost use Rattle.wenc_parts.specs.declared.exports.ComponentExportKind.{ComponentExportKind as Kind};
     ghost use Rattle.wenc_parts.specs.reading.Exports.{read_component_export_kind};
     ghost use Rattle.wenc_parts.specs.reading.Imports.{read_extern_name};
+    ghost use Rattle.wenc_parts.specs.Imports.{extern_name};
+    ghost use Rattle.wenc_parts.specs.laws.Imports.{extern_name_sound, extern_name_lawful};
+    ghost use Rattle.wenc_parts.specs.Exports.{component_export_kind};
+    ghost use Rattle.wenc_parts.specs.laws.Exports.{component_export_kind_sound, component_export_kind_lawful};
+    ghost use Rattle.wenc_base.specs.Number.{u32 as number};
+    ghost use Rattle.wenc_base.specs.laws.Numbers.{u32_sound, u32_lawful};
+    ghost use Rattle.wenc_sections.specs.Pairs.{triple};
+    ghost use Rattle.wenc_sections.specs.laws.Pairs.{triple_sound, triple_lawful};
 
     ghost Value = { ExternName × Kind × ℕ };
 
     ghost view = { named_triple name_tree_view };
 
     ghost read = { read_triple read_extern_name read_component_export_kind read_u32 };
+
+    ghost form = { triple extern_name component_export_kind number };
+
+    ghost exact = { exact_by (triple_sound extern_name_sound component_export_kind_sound u32_sound)
+        (triple_lawful extern_name_lawful component_export_kind_lawful u32_lawful) };
 
     #[inline(always)]
     fn decode<'a>(
@@ -167,14 +229,19 @@ impl<A: Allocator + Copy> Decode<A> for (NameTree<A>, ComponentExportKind, u32) 
 
 impl<A: Allocator + Copy> Decode<A> for InstanceTree<A> {
     ghost use Rattle.wenc_sections.specs.InstanceTrees.{instance_tree_view};
-    ghost use Rattle.wenc_sections.specs.Instances.{Instance};
+    ghost use Rattle.wenc_sections.specs.Instances.{Instance, instance};
     ghost use Rattle.wenc_sections.specs.reading.Items.{read_instance};
+    ghost use Rattle.wenc_sections.specs.laws.Items.{instance_sound, instance_lawful};
 
     ghost Value = { Instance };
 
     ghost view = { instance_tree_view };
 
     ghost read = { read_instance };
+
+    ghost form = { instance };
+
+    ghost exact = { exact_by instance_sound instance_lawful };
 
     #[tactic(auto, unfolding(wenc_base::specs::Readers::choose))]
     #[inline(always)]

@@ -16,6 +16,7 @@ pub mod entities;
 pub mod exports;
 pub mod imports;
 pub mod instances;
+pub mod laws;
 pub mod names;
 mod pairs;
 pub mod type_tree;

@@ -3,6 +3,7 @@ ghost use Rattle.std.specs.Prelude.{◌≡◌};
 ghost use Rattle.wenc_decode.specs.inside.Tables.{find};
 ghost use Rattle.wenc_decode.specs.inside.Types.{primitive_types};
 ghost use Rattle.wenc_parts.specs.Types.{primitive_byte};
+ghost use Rattle.wenc_read.specs.laws.Exact.{exact_by};
 
 use crate::decode::Decode;
 use std::alloc::Allocator;
@@ -35,12 +36,18 @@ pub(crate) fn primitive_of(byte: u8) -> Option<PrimitiveValType>
 impl<A: Allocator + Copy> Decode<A> for ComponentValType {
     ghost use Rattle.wenc_parts.specs.declared.types.ComponentValType.{ComponentValType as Value'};
     ghost use Rattle.wenc_parts.specs.reading.Types.{read_value_type};
+    ghost use Rattle.wenc_parts.specs.Types.{value_type};
+    ghost use Rattle.wenc_parts.specs.laws.Types.{value_type_sound, value_type_lawful};
 
     ghost Value = { Value' };
 
     ghost view = { λ t. t };
 
     ghost read = { read_value_type };
+
+    ghost form = { value_type };
+
+    ghost exact = { exact_by value_type_sound value_type_lawful };
 
     #[tactic(auto, unfolding(wenc_base::specs::Readers::choose))]
     #[inline(always)]
@@ -60,12 +67,18 @@ impl<A: Allocator + Copy> Decode<A> for ResultList {
     ghost use Rattle.std.specs.Prelude.{Option as OptionOf};
     ghost use Rattle.wenc_parts.specs.declared.types.ComponentValType.{ComponentValType as ValueType};
     ghost use Rattle.wenc_parts.specs.reading.Types.{read_result_list};
+    ghost use Rattle.wenc_parts.specs.Types.{result_list};
+    ghost use Rattle.wenc_parts.specs.laws.Types.{result_list_sound, result_list_lawful};
 
     ghost Value = { OptionOf ValueType };
 
     ghost view = { λ r. r.0 };
 
     ghost read = { read_result_list };
+
+    ghost form = { result_list };
+
+    ghost exact = { exact_by result_list_sound result_list_lawful };
 
     #[tactic(auto, unfolding(wenc_base::specs::Readers::choose))]
     #[inline(always)]

@@ -4,3 +4,4 @@ pub mod Listing
 pub mod Names
 pub mod Unread
 pub mod inside
+pub mod laws

@@ -1,14 +1,17 @@
 -- What stands after an id and a size, in a section of names and in a core module (component model,
 -- binary format, "Name Section"; WebAssembly 3.0, binary format, "Sections").
-use Rattle.std.specs.Prelude.{ℕ, List, [], ◌∷◌, map, length, take, drop, Result, Ok, Err, nat_eq}
-use Rattle.std.specs.Prelude.{nat_lt, if◌then◌else◌}
+use Rattle.std.specs.Prelude.{ℕ, ◌≤◌, List, [], ◌∷◌, map, length, take, drop, Result, Ok, Err}
+use Rattle.std.specs.Prelude.{nat_eq, nat_lt, if◌then◌else◌}
 use Rattle.std.specs.String.{string_bytes}
+use Rattle.wenc_base.specs.Forms.{byte_list}
 use Rattle.wenc_base.specs.Names.{NameAssociation}
+use Rattle.wenc_base.specs.Piece.{Form, ◌▸◌, only_where}
 use Rattle.wenc_base.specs.Readers.{Flaw, Bad, Reader, go_on, ◌>>=◌, give, nowhere, choose, done}
 use Rattle.wenc_base.specs.Readers.{made}
 use Rattle.wenc_base.specs.reading.Forms.{read_name, read_list}
 use Rattle.wenc_base.specs.reading.Numbers.{read_u32}
 use Rattle.wenc_sections.specs.Names.{Subsection, ComponentName, ItemNames, RawNames}
+use Rattle.wenc_sections.specs.Names.{subsection}
 use Rattle.wenc_sections.specs.declared.names.Sort.{Sort}
 use Rattle.wenc_sections.specs.declared.names.Sort.TheVariants.{CoreFunc, CoreTable, CoreMemory}
 use Rattle.wenc_sections.specs.declared.names.Sort.TheVariants.{CoreGlobal, CoreTag, CoreType}
@@ -21,6 +24,10 @@ use Rattle.wenc_list.specs.declared.names.Names.TheVariants as names
 
 -- ---- what is after an id and a size
 
+-- any id, and any bytes after their size
+abbrev pub part : Form (ℕ × List ℕ)
+part p = p.0 ▸ byte_list p.1
+
 -- any id, and so many bytes as the size says
 abbrev pub read_part : Reader (ℕ × List ℕ)
 read_part [] = Err Bad
@@ -29,6 +36,16 @@ read_part (id ∷ bytes) = go_on (read_u32 bytes)
     else Ok ((id, take size rest), drop size rest))
 
 -- ---- names
+
+-- Raw it is only where its id has no content of its own.
+abbrev pub IsById : Subsection → Type 0
+IsById (ComponentName name) = Unit {0}
+IsById (ItemNames sort names) = Unit {0}
+IsById (RawNames id bytes) = 2 ≤ id
+
+-- a subsection as its id says
+abbrev pub subsection_by_id : Form Subsection
+subsection_by_id s = only_where (IsById s) (subsection s)
 
 abbrev pub item_name_view : {A : Type 0} → ItemName A → NameAssociation
 item_name_view n = record { index = n.index; name = string_bytes n.name }

@@ -11,6 +11,9 @@ ghost use Rattle.wenc_list.specs.declared.fault.ListFault.TheVariants.{Memory, T
 ghost use Rattle.wenc_list.specs.declared.fault.ListFault.{ListFault};
 ghost use Rattle.wenc_list.specs.declared.listing.ListedSection.{ListedSection};
 
+mod of_names;
+
+pub use of_names::names_are_exact;
 use std::alloc::Allocator;
 
 /// Bytes that are read widely as sections in which no type is deeper than 100 have no fault but

@@ -23,14 +23,21 @@ pub struct ItemName<A: Allocator = Global> {
 }
 
 impl<A: Allocator + Copy> Decode<A> for ItemName<A> {
-    ghost use Rattle.wenc_base.specs.Names.{NameAssociation};
+    ghost use Rattle.wenc_base.specs.Names.{NameAssociation, name_association};
+    ghost use Rattle.wenc_base.specs.laws.Names.{name_association_lawful};
     ghost use Rattle.wenc_list.specs.Names.{item_name_view, read_item_name};
+    ghost use Rattle.wenc_list.specs.laws.Names.{item_name_sound};
+    ghost use Rattle.wenc_read.specs.laws.Exact.{exact_by};
 
     ghost Value = { NameAssociation };
 
     ghost view = { item_name_view };
 
     ghost read = { read_item_name };
+
+    ghost form = { name_association };
+
+    ghost exact = { exact_by item_name_sound name_association_lawful };
 
     fn decode<'a>(alloc: A, bytes: &'a [u8]) -> Result<(ItemName<A>, &'a [u8]), Refusal> {
         let (index, rest) = u32_of(bytes)?;

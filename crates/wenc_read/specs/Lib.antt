@@ -1,3 +1,4 @@
 pub mod Gives
+pub mod Exact
 pub mod inside
 pub mod laws

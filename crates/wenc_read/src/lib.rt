@@ -6,6 +6,7 @@
 #![tactic(auto)]
 
 pub mod flag;
+pub mod laws;
 pub mod names;
 pub mod number;
 pub mod refusal;

@@ -1,5 +1,4 @@
 -- Why the laws of the forms hold: for proofs, here and in the crates above.
-pub mod EqualTrees
 pub mod Instances
 pub mod Items
 pub mod Names

@@ -6,6 +6,7 @@ ghost use Rattle.wenc_types.specs.ComponentTypes.{ResourceType, DefinedType, def
 ghost use Rattle.wenc_types.specs.DefinedTypes.{Own};
 
 use std::alloc::Allocator;
+use wasm_encoder::laws::openings_are_members;
 use wasm_encoder::{
     ComponentType, ComponentTypeRef, ComponentTypeSection, ComponentValType, CoreTypeSection,
     EntityType, Fault, InstanceType, ModuleType, PrimitiveValType, TypeBounds, ValType,
@@ -69,7 +70,6 @@ pub fn core_types<A: Allocator + Copy>(alloc: A) -> Result<CoreTypeSection<A>, F
 }
 
 /// `ComponentTypeEncoder`: a resource, and a handle that owns one.
-#[tactic(auto, using(wenc_base::specs::laws::Holders::contains_opened))]
 pub fn types<A: Allocator>(alloc: A) -> Result<ComponentTypeSection<A>, Fault>
     ensures { IfOk result (λ types. Contains def_type types
         (ResourceType ValType.I32 None ∷ DefinedType (Own 0) ∷ [])) }
@@ -77,6 +77,7 @@ pub fn types<A: Allocator>(alloc: A) -> Result<ComponentTypeSection<A>, Fault>
     let mut types = ComponentTypeSection::new(alloc);
     types.ty()?.resource(ValType::I32, None)?;
     types.ty()?.defined_type().own(0)?;
+    openings_are_members();
     Ok(types)
 }
 

@@ -2,8 +2,6 @@
 ghost use Rattle.std.specs.Prelude.{◌≡◌, ◌++◌, OnOk, true};
 ghost use Rattle.wenc_base.specs.Forms.{list, option};
 ghost use Rattle.wenc_base.specs.Piece.{◌⨾◌, nothing, refused_for, verbatim};
-ghost use Rattle.wenc_base.specs.laws.Delimited.{itself};
-ghost use Rattle.wenc_base.specs.laws.Serves.{serves_itself};
 ghost use Rattle.wenc_base.specs.declared.fault.Fault.TheVariants.{TooLarge, Unfinished};
 ghost use Rattle.facts.specs.Own.{light};
 
@@ -32,7 +30,7 @@ impl Encode for Light {
 }
 
 impl Delimited for Light {
-    ghost use Rattle.facts.specs.Own.{read_light, light_lawful};
+    ghost use Rattle.facts.specs.Own.{read_light, light_lawful, light_written};
     ghost use Rattle.facts.specs.declared.strangers.own.Light.{Light as Seen'};
 
     ghost Seen = { Seen' };
@@ -43,11 +41,13 @@ impl Delimited for Light {
 
     ghost readable = { ((λ fuel. read_light), light_lawful) };
 
-    ghost written = { λ _. serves_itself };
+    ghost written = { light_written };
 }
 
 impl DelimitedEq for Light {
-    ghost alike = { itself _ };
+    ghost use Rattle.facts.specs.Own.{light_alike};
+
+    ghost alike = { light_alike _ };
 }
 
 /// Appends a list of values, and then an optional one.

@@ -6,6 +6,8 @@ ghost use Rattle.wenc_base.specs.Types.{reference_to};
 ghost use Rattle.wenc_base.specs.declared.types.AbstractHeapType.TheVariants.{Func, Any};
 ghost use Rattle.wenc_base.specs.declared.types.HeapType.TheVariants.{Abstract, Concrete};
 
+use wenc_read::laws::readers_are_exact;
+
 /// Shows the encodings of some numbers, what is read as 2, and two lists of bytes that aren't a
 /// number of 32 bits.
 pub fn numbers()
@@ -21,7 +23,9 @@ pub fn numbers()
         → (number n).Reads Wide (0x82 ∷ 0x80 ∷ 0x80 ∷ 0x80 ∷ 0x80 ∷ 0x00 ∷ []) rest → ⊥ }
     ensures too_large { (n : ℕ) (rest : List ℕ)
         → (number n).Reads Wide (0xff ∷ 0xff ∷ 0xff ∷ 0xff ∷ 0x1f ∷ []) rest → ⊥ }
-{}
+{
+    readers_are_exact();
+}
 
 /// Shows the encodings of some references, what else is read widely as a nullable one, and that it
 /// isn't read strictly.

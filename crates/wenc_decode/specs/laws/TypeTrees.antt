@@ -31,7 +31,7 @@ use Rattle.wenc_types.specs.reading.ComponentTypes.{read_resource_type}
 
 -- ---- what doesn't nest
 
-defined_sound : Sound def_val_type read_defined
+pub defined_sound : Sound def_val_type read_defined
 defined_sound = choose_tells _ _ (both_tables def_val_type (primitive_rows Primitive) (defined_rows (λ t. t)) (primitive_rows_sound def_val_type Primitive (λ p rest. refl)) (defined_rows_sound def_val_type (λ t. t) (λ t bytes rest r. r))) nowhere_tells
 
 abbrev Shallow : ℕ → Form DefType

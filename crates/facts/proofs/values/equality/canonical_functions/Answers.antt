@@ -1,6 +1,6 @@
 use denote.Param.{param}
 use Rattle.std.proofs.lemmas.Bool.Decides.{Decides-at}
-use Rattle.wenc_sections.specs.laws.EqualTrees.{trees}
+use Rattle.facts.proofs.EqualTrees.{trees}
 use Rattle.facts.proofs.values.equality.canonical_functions.Goals as goal
 
 pub returns : goal.returns

@@ -20,12 +20,17 @@ use Rattle.wenc_parts.specs.contracts.types.ComponentValTypePartialEq.TheImpl.{e
 use Rattle.wenc_sections.specs.CanonTrees.{canon_view}
 use Rattle.wenc_canon.specs.Canonicals as canon
 use Rattle.wenc_canon.specs.Canonicals.{Field, Index, Options, Flag, Zero, CoreType, Results, Value, Values, row, Canonical, Lift, Lower, OfBuiltin}
-use Rattle.wenc_canon.specs.inside.Rows.{row_first_byte}
 use Rattle.wenc_sections.specs.declared.canon_tree.CanonTree.{CanonTree}
 use Rattle.wenc_canon.specs.declared.canonicals.CanonicalOption.{CanonicalOption}
 use Rattle.wenc_sections.specs.contracts.canon_tree.CanonTree.{enum}
 use Rattle.wenc_sections.specs.contracts.canon_tree.CanonTreePartialEq.TheImpl.{eq-value}
 use Rattle.wenc_canon.specs.contracts.canonicals.CanonicalOptionPartialEq.TheImpl.{eq-value as option_eq'}
+
+-- the byte that a canonical function begins with
+abbrev opcode_of : Canonical → ℕ
+opcode_of (Lift function options type_index) = 0x00
+opcode_of (Lower function options) = 0x01
+opcode_of (OfBuiltin i values) = (row i).opcode
 
 -- ---- a test that goes by variants
 
@@ -194,7 +199,7 @@ infixr 10 ◌then◌
 abbrev ◌then◌ : {T : Type 0} {U : T → Type 0} → (x : T) → U x → (y : T) × U y
 x then u = (x, u)
 
-abbrev row_at : (Fs : List Part) {test : Parts Fs → Parts Fs → Bool} {seen : Parts Fs → Canonical} {n : ℕ} (k : ℕ) → ((x : Parts Fs) → row_first_byte (seen x) ≡ k) → n ≤ k → ((x y : Parts Fs) → Decides (test x y) (seen x ≡ seen y)) → Variant row_first_byte Fs test seen n
+abbrev row_at : (Fs : List Part) {test : Parts Fs → Parts Fs → Bool} {seen : Parts Fs → Canonical} {n : ℕ} (k : ℕ) → ((x : Parts Fs) → opcode_of (seen x) ≡ k) → n ≤ k → ((x y : Parts Fs) → Decides (test x y) (seen x ≡ seen y)) → Variant opcode_of Fs test seen n
 row_at Fs k is from tells = record { k = k; is = is; from = from; tells = tells }
 
 module _ (A : RattleType) (al : Ghosts A.Denot) where
@@ -206,7 +211,7 @@ module _ (A : RattleType) (al : Ghosts A.Denot) where
 
   pub trees : (d e : Dict) (a b : CanonTree A.Denot) → Decides ((eq-value A al d e).it a b) (canon_view a ≡ canon_view b)
   trees d e a b =
-      let same : Decides ((eq-value A al d e).it a b) (seen ((enum A al).as_values a) ≡ seen ((enum A al).as_values b)) = by_decides row_first_byte Parts_of _ seen 0 (
+      let same : Decides ((eq-value A al d e).it a b) (seen ((enum A al).as_values a) ≡ seen ((enum A al).as_values b)) = by_decides opcode_of Parts_of _ seen 0 (
       row_at _ 0x00 (λ x. refl) (omega arith) (λ x y. lifted_row x.0 x.1.0 x.1.1.0.items y.0 y.1.0 y.1.1.0.items) then
       row_at _ 0x01 (λ x. refl) (omega arith) (λ x y. index_and_options_row (λ n os. Lower n os) (λ n os. refl) x.0 x.1.0.items y.0 y.1.0.items) then
       row_at _ 0x02 (λ x. refl) (omega arith) (λ x y. index_row (OfBuiltin canon.ResourceNew) (λ n. refl) x.0 y.0) then

@@ -1,0 +1,32 @@
+//! Laws about the definitions. A call of one does nothing.
+ghost use Rattle.std.specs.Prelude.{◌≡◌, ◌≤◌, ◌<◌, ℕ, List, Ok, Err};
+ghost use Rattle.wenc_base.specs.Piece.{Wide};
+ghost use Rattle.wenc_base.specs.Readers.{Deep};
+ghost use Rattle.wenc_decode.specs.Depth.{OpensTypes};
+ghost use Rattle.wenc_read.specs.Exact.{IsExact};
+ghost use Rattle.wenc_types.specs.ComponentTypes.{DefType, def_type, depth};
+ghost use Rattle.wenc_types.specs.reading.ComponentTypes.{read_type};
+
+use crate::decode::Decode;
+use std::alloc::Allocator;
+
+/// The reader of each `Decode` type is exact: what `decode` returns is read widely, with the bytes
+/// that follow, and what is read so it returns, unless an allocation fails.
+pub fn decoding_is_exact<A: Allocator + Copy, T: Decode<A>>()
+    ensures { IsExact T.form T.read }
+{}
+
+/// What `type_of` returns is read widely, with the bytes that follow, and no deeper than its depth.
+/// What is read so it returns, unless an allocation fails; where that is deeper, it fails with
+/// `TooDeep`, and only where so many types open inside one another.
+pub fn types_are_exact()
+    ensures given_is_read { (levels : ℕ) (t : DefType) (bytes rest : List ℕ)
+        → read_type levels bytes ≡ Ok (t, rest)
+        → (depth t ≤ levels) × (def_type t).Reads Wide bytes rest }
+    ensures read_is_given { (levels : ℕ) (t : DefType) (bytes rest : List ℕ) → depth t ≤ levels
+        → (def_type t).Reads Wide bytes rest → read_type levels bytes ≡ Ok (t, rest) }
+    ensures deeper { (levels : ℕ) (t : DefType) (bytes rest : List ℕ) → levels < depth t
+        → (def_type t).Reads Wide bytes rest → read_type levels bytes ≡ Err Deep }
+    ensures too_deep { (levels : ℕ) (bytes : List ℕ) → read_type levels bytes ≡ Err Deep
+        → OpensTypes levels bytes }
+{}

@@ -1,0 +1,15 @@
+//! A law of names and of parts.
+ghost use Rattle.wenc_list.specs.Names.{part, subsection_by_id, read_names, read_part};
+ghost use Rattle.wenc_read.specs.Exact.{IsExactAt};
+
+use crate::sections::are_bytes;
+
+/// The readers of names and of parts are exact: what `names_of` or `part_of` returns is read
+/// widely, with the bytes that follow, and what is read so it returns, unless an allocation fails.
+/// A subsection is read as its id says: as a raw one only if its id has no content of its own.
+pub fn names_are_exact(bytes: &[u8])
+    ensures names { IsExactAt subsection_by_id read_names bytes.now }
+    ensures parts { IsExactAt part read_part bytes.now }
+{
+    are_bytes(bytes);
+}
