@@ -3,7 +3,6 @@
 use crate::proved::rt_std::alloc::Global;
 use crate::proved::wenc_list::{Names, names_of};
 use crate::proved::wenc_read::Refusal;
-use crate::proved::wenc_sections::Sort;
 use crate::proved::wenc_sections::names::NAMES_LABEL;
 use crate::tree::{ItemTree, Space};
 use crate::{ComponentNameSection, NameMap};
@@ -101,8 +100,8 @@ impl DebugNames {
             Names::Component(name) => {
                 self.component.get_or_insert(name.into());
             }
-            Names::Items(sort, names) => {
-                let items = &mut self.items[space_of(sort).number()];
+            Names::Items(space, names) => {
+                let items = &mut self.items[space.number()];
                 for item in names {
                     items.entry(item.index).or_insert(item.name.into());
                 }
@@ -179,25 +178,6 @@ fn append(section: &mut ComponentNameSection, space: Space, names: &NameMap) {
         Space::Values => section.values(names),
         Space::Components => section.components(names),
         Space::Types => section.types(names),
-    }
-}
-
-/// The space of the items of a sort.
-fn space_of(sort: Sort) -> Space {
-    match sort {
-        Sort::CoreFunc => Space::CoreFuncs,
-        Sort::CoreTable => Space::CoreTables,
-        Sort::CoreMemory => Space::CoreMemories,
-        Sort::CoreGlobal => Space::CoreGlobals,
-        Sort::CoreTag => Space::CoreTags,
-        Sort::CoreType => Space::CoreTypes,
-        Sort::CoreModule => Space::CoreModules,
-        Sort::CoreInstance => Space::CoreInstances,
-        Sort::Func => Space::Funcs,
-        Sort::Value => Space::Values,
-        Sort::Type => Space::Types,
-        Sort::Component => Space::Components,
-        Sort::Instance => Space::Instances,
     }
 }
 

@@ -4,8 +4,8 @@ ghost use Rattle.wenc_builder.specs.Builder.{count_in};
 ghost use Rattle.wenc_builder.specs.Entry.{Entry, items, type_entry};
 ghost use Rattle.wenc_builder.specs.Holds.{Holds};
 ghost use Rattle.wenc_builder.specs.Space.{next_index};
-ghost use Rattle.wenc_builder.specs.declared.builder.space.Space.TheVariants as spaces;
-ghost use Rattle.wenc_builder.specs.declared.builder.space.Space.{Space};
+ghost use Rattle.wenc_sections.specs.declared.space.Space.TheVariants as spaces;
+ghost use Rattle.wenc_sections.specs.declared.space.Space.{Space};
 ghost use Rattle.wenc_types.specs.ComponentTypes.{DefinedType};
 ghost use Rattle.wenc_types.specs.DefinedTypes.{OptionOf};
 

@@ -7,7 +7,7 @@ ghost use Rattle.wenc_builder.specs.Holds.{Holds};
 ghost use Rattle.wenc_builder.specs.Item.{collected, HasNoRaw};
 ghost use Rattle.wenc_builder.specs.Sections.{Reading, Run, Section};
 ghost use Rattle.wenc_builder.specs.Space.{defines, some_in};
-ghost use Rattle.wenc_builder.specs.declared.builder.space.Space.TheVariants as spaces;
+ghost use Rattle.wenc_sections.specs.declared.space.Space.TheVariants as spaces;
 ghost use Rattle.wenc_parts.specs.SectionIds.{section_number};
 ghost use Rattle.wenc_parts.specs.declared.component.ComponentSectionId.TheVariants as ids;
 

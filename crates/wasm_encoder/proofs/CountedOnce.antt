@@ -8,9 +8,10 @@ use Rattle.wenc_builder.specs.Enters.{EntersWith, Enters}
 use Rattle.wenc_base.specs.declared.fault.Fault.{Fault}
 use Rattle.wenc_builder.specs.Entry.{Entry, items}
 use Rattle.wenc_builder.specs.Holds.{Holds}
-use Rattle.wenc_builder.specs.Space.{space_number, Indices, defines, some_in, number_in, defined_in, IsIndexAt, next_index}
-use Rattle.wenc_builder.specs.declared.builder.space.Space.{Space}
-use Rattle.wenc_builder.specs.laws.Space.{space_within, same_number, space_decides, space_tells, space_ne}
+use Rattle.wenc_sections.specs.Space.{space_number}
+use Rattle.wenc_builder.specs.Space.{Indices, defines, some_in, number_in, defined_in, IsIndexAt, next_index}
+use Rattle.wenc_sections.specs.declared.space.Space.{Space}
+use Rattle.wenc_sections.specs.laws.Space.{space_within, same_number, space_decides, space_tells, space_ne}
 use Rattle.wenc_parts.specs.declared.component.ComponentSectionId.{ComponentSectionId}
 
 -- one entry more

@@ -9,8 +9,8 @@ use Rattle.wenc_builder.specs.Entry.{Entry, items, named_in, names_from, names}
 use Rattle.wenc_builder.specs.Item.{Item, StartItem, CustomItem, RawItem}
 use Rattle.wenc_builder.specs.Names.{named_entry}
 use Rattle.wenc_builder.specs.Space.{Indices, defines, number_in, defined_in, next_index}
-use Rattle.wenc_builder.specs.declared.builder.space.Space.{Space}
-use Rattle.wenc_builder.specs.laws.Space.{space_tells}
+use Rattle.wenc_sections.specs.declared.space.Space.{Space}
+use Rattle.wenc_sections.specs.laws.Space.{space_tells}
 use Rattle.wenc_sections.specs.Names.{Subsection}
 use Rattle.wenc_sections.specs.Start.{Start}
 use Rattle.wasm_encoder.specs.Cause.{added}

@@ -5,8 +5,8 @@ use Rattle.std.proofs.lemmas.Bool.Decides.{eqb_tells}
 use Rattle.wenc_builder.specs.Item.{Item, RawItem, collected, HasNoRaw, IsNoRaw}
 use Rattle.wenc_builder.specs.Sections.{Run, joined, runs}
 use Rattle.wenc_builder.specs.Space.{defines, defined_in, number_in, some_in, next_index}
-use Rattle.wenc_builder.specs.declared.builder.space.Space.{Space}
-use Rattle.wenc_builder.specs.laws.Space.{space_decides}
+use Rattle.wenc_sections.specs.declared.space.Space.{Space}
+use Rattle.wenc_sections.specs.laws.Space.{space_decides}
 
 joined_to_run : (id : ℕ) (x : Item) (xs : List Item) → joined (Some id) x (Run id xs ∷ []) ≡ Run id (x ∷ xs) ∷ []
 joined_to_run id x xs = elim (eqb_tells id id) [ inl t ↦ rw t.0 refl | inr t ↦ absurd (t.1 refl) ]

@@ -7,7 +7,7 @@ use Rattle.wenc_builder.specs.Cause.{BeginCause}
 use Rattle.wenc_builder.specs.Entry.{Entry, core_type_entry, type_entry}
 use Rattle.wenc_builder.specs.Holds.{Holds}
 use Rattle.wenc_builder.specs.LenderState.{no_room_in_section}
-use Rattle.wenc_builder.specs.declared.builder.space.Space.TheVariants.{CoreTypes, Types}
+use Rattle.wenc_sections.specs.declared.space.Space.TheVariants.{CoreTypes, Types}
 use Rattle.wenc_parts.specs.declared.component.ComponentSectionId.TheVariants as ids
 use Rattle.wenc_types.specs.ComponentTypes.{DefType, def_type}
 use Rattle.wenc_types.specs.CoreTypes.{CoreType, core_type}

@@ -3,8 +3,8 @@ use Rattle.std.specs.Prelude.{◌≡◌, ℕ, List, [], ◌++◌, ◌⊎◌, map
 use Rattle.std.specs.Io.KnownBytes.{Appends, Keeps}
 use Rattle.wenc_base.specs.Piece.{Wide}
 use Rattle.wenc_builder.specs.Sections.{Reading}
-use Rattle.wenc_builder.specs.Space.{space_number}
-use Rattle.wenc_builder.specs.declared.builder.space.Space.{Space}
+use Rattle.wenc_sections.specs.Space.{space_number}
+use Rattle.wenc_sections.specs.declared.space.Space.{Space}
 use Rattle.wenc_list.specs.declared.fault.ListFault.{ListFault}
 use Rattle.wenc_list.specs.declared.fault.ListFault.TheVariants.{Memory}
 use Rattle.wenc_list.specs.declared.listing.Listing.{Listing}

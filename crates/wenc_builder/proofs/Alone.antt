@@ -10,8 +10,9 @@ use Rattle.wenc_builder.specs.Builder.{State, Namespace, no_names, namespace_at,
 use Rattle.wenc_builder.specs.Cause.{SpaceCause, CallCause}
 use Rattle.wenc_builder.specs.inside.Takes.{TakesAlone, TakesNoIndex, with_alone}
 use Rattle.wenc_builder.specs.inside.Layout.{Buffered, buffer_with, StandsAlone}
-use Rattle.wenc_builder.specs.Space.{Indices, space_number}
-use Rattle.wenc_builder.specs.laws.Space.{space_within}
+use Rattle.wenc_sections.specs.Space.{space_number}
+use Rattle.wenc_builder.specs.Space.{Indices}
+use Rattle.wenc_sections.specs.laws.Space.{space_within}
 use Rattle.wenc_builder.specs.inside.Spaces.{Spaced}
 use Rattle.wenc_builder.specs.inside.View.{Agree, builder_view}
 use Rattle.wenc_builder.proofs.Taken.{settled_before}

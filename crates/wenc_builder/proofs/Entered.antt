@@ -9,7 +9,7 @@ use Rattle.wenc_base.specs.declared.fault.Fault.TheVariants.{Memory, TooMany, To
 use Rattle.wenc_base.specs.laws.Serves.{still_warranted}
 use Rattle.wenc_builder.specs.Item.{collected, item}
 use Rattle.wenc_builder.specs.Space.{IsIndexOf, Indices, defines}
-use Rattle.wenc_builder.specs.declared.builder.space.Space.{Space}
+use Rattle.wenc_sections.specs.declared.space.Space.{Space}
 use Rattle.wenc_builder.specs.Entry.{Entry, items}
 use Rattle.wenc_builder.specs.Builder.{Content, with_entry, State, builder_is_finished, step, settled_in, content_of, namespace_at, Draft, draft, draft_indices, item_begun, item_ended}
 use Rattle.wenc_builder.specs.Holds.{Holds}

@@ -22,7 +22,7 @@ use Rattle.wenc_builder.specs.inside.Takes.{AppendsListed, TakesListed}
 use Rattle.wenc_builder.specs.inside.Layout.{kind_id, draft_of}
 use Rattle.wenc_builder.specs.LenderState.{no_room_in_section}
 use Rattle.wenc_builder.specs.declared.builder.kind.Kind.TheVariants as kinds
-use Rattle.wenc_builder.specs.declared.builder.space.Space.{Space}
+use Rattle.wenc_sections.specs.declared.space.Space.{Space}
 use Rattle.wenc_builder.specs.laws.LenderState.{still_begun, item_appended_twice}
 use Rattle.wenc_builder.specs.laws.Caused.{section_grows}
 use Rattle.wenc_builder.proofs.Entered.{IsDraftOf, draft_enters}

@@ -5,6 +5,7 @@ use Rattle.std.proofs.Math.Seq.{take-suc}
 use Rattle.std.proofs.lemmas.Bool.Decides.{eqb_tells}
 use Rattle.std.proofs.lemmas.Grind.{flat_map-append}
 use Rattle.std.proofs.lemmas.List.Folds.{flat_map-map}
+use Rattle.std.specs.List.{flat_map}
 use Rattle.std.specs.Option.{MatchOption}
 use Rattle.std.specs.Result.{OnOk}
 use Rattle.wenc_base.specs.Encode.{Serves, in_order, sized_in_order}
@@ -16,17 +17,16 @@ use Rattle.wenc_base.specs.Number.{unsigned_text}
 use Rattle.wenc_base.specs.Piece.{Piece, ◌▸◌, each}
 use Rattle.wenc_base.specs.declared.fault.Fault.{Fault}
 use Rattle.wenc_base.specs.declared.fault.Fault.TheVariants.{Memory, TooMany, TooLarge, Unfinished}
-use Rattle.wenc_sections.specs.Names.{Subsection, subsection, subsections_text, ItemNames, item_names, item_sort, name_subsections, names_label}
-use Rattle.wenc_sections.specs.declared.names.Sort.{Sort}
-use Rattle.wenc_sections.specs.declared.names.Sort.TheVariants as sorts
+use Rattle.wenc_sections.specs.Names.{Subsection, subsection, subsections_text, ItemNames, item_names, item_sort, names_label}
+use Rattle.wenc_sections.specs.declared.space.Space.TheVariants as spaces
 use Rattle.wenc_builder.specs.Entry.{Entry, custom_entry, names}
 use Rattle.wenc_builder.specs.Builder.{namespace_at, State, builder_is_finished}
 use Rattle.wenc_builder.specs.Enters.{EntersWithoutIndex}
 use Rattle.wenc_builder.specs.inside.Alone.{with_bytes}
 use Rattle.wenc_builder.specs.inside.Takes.{TakesNoIndex}
 use Rattle.wenc_builder.specs.Holds.{Holds}
-use Rattle.wenc_builder.specs.Names.{named_sorts, by_sort, named_entry, AddsNames, names_held, space_names, none_named, kept_names}
-use Rattle.wenc_builder.specs.declared.builder.space.Space.{Space}
+use Rattle.wenc_builder.specs.Names.{named_spaces, name_subsections, by_space, named_entry, AddsNames, names_held, space_names, none_named, kept_names}
+use Rattle.wenc_sections.specs.declared.space.Space.{Space}
 use Rattle.wenc_builder.specs.Item.{CustomItem, item}
 use Rattle.wenc_builder.specs.inside.Layout.{Buffered, StandsAlone}
 use Rattle.wenc_builder.specs.LenderState.{IsItemText}
@@ -39,21 +39,21 @@ use Rattle.wenc_builder.proofs.Texts.{plain_serves}
 use Rattle.wenc_builder.proofs.Viewed.{finished_is}
 
 -- the subsections, one after the other
-abbrev all_names : List (Sort × HolderState) → List ℕ
+abbrev all_names : List (Space × HolderState) → List ℕ
 all_names ps = (each space_names ps).text
 
 -- ---- whether there are any
 
-pub none_next : {N : Type 0} (seen : N → Sort × HolderState) (ns : List N) (n : N) → none_named (map seen ns) ≡ true → nat_eq (seen n).1.count 0 ≡ true → none_named (map seen (ns ++ n ∷ [])) ≡ true
+pub none_next : {N : Type 0} (seen : N → Space × HolderState) (ns : List N) (n : N) → none_named (map seen ns) ≡ true → nat_eq (seen n).1.count 0 ≡ true → none_named (map seen (ns ++ n ∷ [])) ≡ true
 none_next seen [] n h e = rw e refl
 none_next seen (m ∷ ns) n h e = elim (eqb_tells (seen m).1.count 0) [ inl t ↦ rw t.0 (none_next seen ns n (rw t.0 at h) e) | inr t ↦ let f = rw t.0 at h in cc ]
 
-pub none_at : {N : Type 0} (seen : N → Sort × HolderState) (ns : List N) (i : ℕ) (n : N) → none_named (map seen (take i ns)) ≡ true → i < length ns → n ≡ get_or ns i n → nat_eq (seen n).1.count 0 ≡ true → none_named (map seen (take (i + 1) ns)) ≡ true
+pub none_at : {N : Type 0} (seen : N → Space × HolderState) (ns : List N) (i : ℕ) (n : N) → none_named (map seen (take i ns)) ≡ true → i < length ns → n ≡ get_or ns i n → nat_eq (seen n).1.count 0 ≡ true → none_named (map seen (take (i + 1) ns)) ≡ true
 none_at seen ns i n h lt is e =
     let one : take (i + 1) ns ≡ take i ns ++ n ∷ [] = rw (add-one i, take-suc ns i n lt) (ap (λ u. take i ns ++ u ∷ []) (sym is)) in
     rw one (none_next seen (take i ns) n h e)
 
-pub some_at : {N : Type 0} (seen : N → Sort × HolderState) (ns : List N) (i : ℕ) (n : N) → i < length ns → n ≡ get_or ns i n → nat_eq (seen n).1.count 0 ≡ false → none_named (map seen ns) ≡ false
+pub some_at : {N : Type 0} (seen : N → Space × HolderState) (ns : List N) (i : ℕ) (n : N) → i < length ns → n ≡ get_or ns i n → nat_eq (seen n).1.count 0 ≡ false → none_named (map seen ns) ≡ false
 some_at seen [] i n lt is e = absurd (omega arith)
 some_at seen (m ∷ ns) zero n lt is e = rw (← is, e) refl
 some_at seen (m ∷ ns) (suc i) n lt is e = elim (eqb_tells (seen m).1.count 0) [ inl t ↦ rw t.0 (some_at seen ns i n (omega arith) is e) | inr t ↦ rw t.0 refl ]
@@ -63,37 +63,41 @@ some_at seen (m ∷ ns) (suc i) n lt is e = elim (eqb_tells (seen m).1.count 0) 
 abbrev kept : List NameAssociation → HolderState
 kept ns = holding [] (length ns) (names_text ns)
 
-abbrev kept_at : Sort × List NameAssociation → Sort × HolderState
+abbrev kept_at : Space × List NameAssociation → Space × HolderState
 kept_at p = (p.0, kept p.1)
 
-one_text : (sort : Sort) (ns : List NameAssociation) → (space_names (sort, kept ns)).text ≡ subsections_text (item_names sort ns)
-one_text sort [] = refl
-one_text sort (n ∷ ns) = elim (eqb_tells (length (n ∷ ns)) 0) [ inl t ↦ absurd (omega (arith, t.1)) | inr t ↦ rw t.0 (sym (one (subsection (ItemNames sort (n ∷ ns))).text)) ]
+one_text : (space : Space) (ns : List NameAssociation) → (space_names (space, kept ns)).text ≡ subsections_text (item_names space ns)
+one_text space [] = refl
+one_text space (n ∷ ns) = elim (eqb_tells (length (n ∷ ns)) 0) [ inl t ↦ absurd (omega (arith, t.1)) | inr t ↦ rw t.0 (sym (one (subsection (ItemNames space (n ∷ ns))).text)) ]
   where
     one : (t : List ℕ) → t ++ [] ≡ t
     one [] = refl
     one (x ∷ xs) = ap (λ (r : List ℕ). x ∷ r) (one xs)
 
-texts : (ps : List (Sort × List NameAssociation)) → all_names (map kept_at ps) ≡ subsections_text (name_subsections ps)
+-- the subsections of names that are given in a list
+abbrev subsections_of : List (Space × List NameAssociation) → List Subsection
+subsections_of ps = flat_map (λ p. item_names p.0 p.1) ps
+
+texts : (ps : List (Space × List NameAssociation)) → all_names (map kept_at ps) ≡ subsections_text (subsections_of ps)
 texts [] = refl
-texts (p ∷ ps) = rw (one_text p.0 p.1, texts ps) (sym (flat_map-append (λ (s : Subsection). (subsection s).text) (item_names p.0 p.1) (name_subsections ps)))
+texts (p ∷ ps) = rw (one_text p.0 p.1, texts ps) (sym (flat_map-append (λ (s : Subsection). (subsection s).text) (item_names p.0 p.1) (subsections_of ps)))
 
-none_text : (ps : List (Sort × List NameAssociation)) → none_named (map kept_at ps) ≡ true → name_subsections ps ≡ []
+none_text : (ps : List (Space × List NameAssociation)) → none_named (map kept_at ps) ≡ true → subsections_of ps ≡ []
 none_text [] h = refl
-none_text ((sort, []) ∷ ps) h = none_text ps h
-none_text ((sort, n ∷ ns) ∷ ps) h = elim (eqb_tells (length (n ∷ ns)) 0) [ inl t ↦ absurd (omega (arith, t.1)) | inr t ↦ let f = rw t.0 at h in cc ]
+none_text ((space, []) ∷ ps) h = none_text ps h
+none_text ((space, n ∷ ns) ∷ ps) h = elim (eqb_tells (length (n ∷ ns)) 0) [ inl t ↦ absurd (omega (arith, t.1)) | inr t ↦ let f = rw t.0 at h in cc ]
 
-some_text : (ps : List (Sort × HolderState)) → none_named ps ≡ false → all_names ps ≡ [] → ⊥
+some_text : (ps : List (Space × HolderState)) → none_named ps ≡ false → all_names ps ≡ [] → ⊥
 some_text [] h e = cc
 some_text (p ∷ ps) h e = elim (eqb_tells p.1.count 0) [ inl t ↦ some_text ps (rw t.0 at h) (rw t.0 at e) | inr t ↦ let f = rw t.0 at e in cc ]
 
 -- what a builder keeps is what it holds
-same_by_sort : {A : Type 0} (f g : Space → A) → ((s : Space) → f s ≡ g s) → (ps : List (Sort × Space)) → map {B = Sort × A} (λ p. (p.0, f p.1)) ps ≡ map {B = Sort × A} (λ p. (p.0, g p.1)) ps
-same_by_sort f g same [] = refl
-same_by_sort f g same (p ∷ ps) = rw (same p.1, same_by_sort f g same ps) refl
+same_by_space : {A : Type 0} (f g : Space → A) → ((s : Space) → f s ≡ g s) → (ss : List Space) → map {B = Space × A} (λ s. (s, f s)) ss ≡ map {B = Space × A} (λ s. (s, g s)) ss
+same_by_space f g same [] = refl
+same_by_space f g same (s ∷ ss) = rw (same s, same_by_space f g same ss) refl
 
-kept_is : (old : State) (es : List Entry) → Holds old es → by_sort (λ k. names_held (namespace_at old.settled.spaces k)) ≡ map kept_at (by_sort (names es))
-kept_is old es h = same_by_sort (λ k. names_held (namespace_at old.settled.spaces k)) (λ k. kept (names es k)) (λ s. ap names_held (h.spaces.each s)) named_sorts
+kept_is : (old : State) (es : List Entry) → Holds old es → by_space (λ k. names_held (namespace_at old.settled.spaces k)) ≡ map kept_at (by_space (names es))
+kept_is old es h = same_by_space (λ k. names_held (namespace_at old.settled.spaces k)) (λ k. kept (names es k)) (λ s. ap names_held (h.spaces.each s)) named_spaces
 
 -- ---- the section
 
@@ -103,23 +107,23 @@ too_large n TooMany c = absurd c
 too_large n TooLarge c = (refl, c)
 too_large n Unfinished c = absurd c
 
-sort_free : (sort : Sort) → NoCause (item_sort sort).Cause
-sort_free sorts.CoreFunc fault c = c
-sort_free sorts.CoreTable fault c = c
-sort_free sorts.CoreMemory fault c = c
-sort_free sorts.CoreGlobal fault c = c
-sort_free sorts.CoreTag fault c = c
-sort_free sorts.CoreType fault c = c
-sort_free sorts.CoreModule fault c = c
-sort_free sorts.CoreInstance fault c = c
-sort_free sorts.Func fault c = c
-sort_free sorts.Value fault c = c
-sort_free sorts.«Type» fault c = c
-sort_free sorts.Component fault c = c
-sort_free sorts.Instance fault c = c
+sort_free : (space : Space) → NoCause (item_sort space).Cause
+sort_free spaces.CoreFuncs fault c = c
+sort_free spaces.CoreTables fault c = c
+sort_free spaces.CoreMemories fault c = c
+sort_free spaces.CoreGlobals fault c = c
+sort_free spaces.CoreTags fault c = c
+sort_free spaces.CoreTypes fault c = c
+sort_free spaces.CoreModules fault c = c
+sort_free spaces.CoreInstances fault c = c
+sort_free spaces.Funcs fault c = c
+sort_free spaces.Values fault c = c
+sort_free spaces.Types fault c = c
+sort_free spaces.Components fault c = c
+sort_free spaces.Instances fault c = c
 
 -- what is against a subsection makes all of them too large
-one_long : (p : Sort × HolderState) (fault : Fault) → (space_names p).Cause fault → (fault ≡ TooLarge) × (2 ^ 32 ≤ length (space_names p).text)
+one_long : (p : Space × HolderState) (fault : Fault) → (space_names p).Cause fault → (fault ≡ TooLarge) × (2 ^ 32 ≤ length (space_names p).text)
 one_long p fault c = elim (eqb_tells p.1.count 0) [
   | inl t ↦ let none = rw t.0 at c in absurd none
   | inr t ↦ rw t.0 (large (rw t.0 at c))
@@ -133,7 +137,7 @@ one_long p fault c = elim (eqb_tells p.1.count 0) [
     large (inr (inl k)) = absurd (sort_free p.0 fault k)
     large (inr (inr k)) = absurd k
 
-module _ {N : Type 0} (seen : N → Sort × HolderState) where
+module _ {N : Type 0} (seen : N → Space × HolderState) where
   abbrev seen_names : List N → Piece
   seen_names = each (λ n. space_names (seen n))
 
@@ -177,7 +181,7 @@ module _ {N : Type 0} (seen : N → Sort × HolderState) where
 
 -- ---- the call
 
-module _ {N : Type 0} (seen : N → Sort × HolderState) (ns : List N) (old new : State) (result : Result (Unit {0}) Fault) (is : map seen ns ≡ kept_names old) (some : none_named (map seen ns) ≡ false) (t : TakesNoIndex old new result (written seen ns)) where
+module _ {N : Type 0} (seen : N → Space × HolderState) (ns : List N) (old new : State) (result : Result (Unit {0}) Fault) (is : map seen ns ≡ kept_names old) (some : none_named (map seen ns) ≡ false) (t : TakesNoIndex old new result (written seen ns)) where
   as_kept : (bytes : List ℕ) → (seen_names seen ns).text ≡ bytes → EntersWithoutIndex old new result (custom_entry names_label bytes)
   as_kept bytes e = without_index_enters old new result (custom_entry names_label bytes) (record { alone = refl; defined = refl; named = refl }) (names_serve seen ns bytes e) t
 
@@ -190,18 +194,18 @@ module _ {N : Type 0} (seen : N → Sort × HolderState) (ns : List N) (old new 
 
   pub adds_names : AddsNames old new result
   adds_names = record {
-    held = λ es h. at (name_subsections (by_sort (names es))) (ap all_names (is ∙ kept_is old es h) ∙ texts (by_sort (names es)));
-    none = λ none f. let other = subst (λ (qs : List (Sort × HolderState)). none_named qs ≡ true) (sym is) none in cc;
+    held = λ es h. at (name_subsections (names es)) (ap all_names (is ∙ kept_is old es h) ∙ texts (by_space (names es)));
+    none = λ none f. let other = subst (λ (qs : List (Space × HolderState)). none_named qs ≡ true) (sym is) none in cc;
     some = λ n. as_kept (all_names (kept_names old)) (seen_text ∙ ap all_names is);
     err = t.err;
     unfinished = (as_kept (seen_names seen ns).text refl).unfinished;
   }
 
-pub nothing_named : (old : State) (ps : List (Sort × HolderState)) → ps ≡ kept_names old → none_named ps ≡ true → builder_is_finished old ≡ true → AddsNames old old (Ok tt)
+pub nothing_named : (old : State) (ps : List (Space × HolderState)) → ps ≡ kept_names old → none_named ps ≡ true → builder_is_finished old ≡ true → AddsNames old old (Ok tt)
 nothing_named old ps is none finished = record {
-  held = λ es h. rw (none_text (by_sort (names es)) (rw (is ∙ kept_is old es h) at none)) (refl, refl);
+  held = λ es h. rw (none_text (by_space (names es)) (rw (is ∙ kept_is old es h) at none)) (refl, refl);
   none = λ n f. (refl, refl);
-  some = λ named. let other = subst (λ (qs : List (Sort × HolderState)). none_named qs ≡ false) (sym is) named in cc;
+  some = λ named. let other = subst (λ (qs : List (Space × HolderState)). none_named qs ≡ false) (sym is) named in cc;
   err = tt;
   unfinished = (λ f. cc, λ e. cc);
 }
@@ -212,10 +216,10 @@ both_fit : (P Q : Type 0) (r : Result (Unit {0}) Fault) → OnOk r P → OnOk r 
 both_fit P Q (Ok u) h k = (h, k)
 both_fit P Q (Err f) h k = tt
 
-module _ {N : Type 0} (b : Buffered) (s : Spaced) (old : State) (seen : N → Sort × HolderState) (ns : List N) (agree : Agree b.writing s.taking) (view : builder_view b s ≡ old) (finished : is_none b.writing ≡ true)
-    (is : map seen ns ≡ by_sort (λ k. names_held (namespace_at s.settled k))) where
-  is_there : map seen ns ≡ by_sort (λ k. names_held (namespace_at old.settled.spaces k))
-  is_there = subst (λ (x : State). map seen ns ≡ by_sort (λ k. names_held (namespace_at x.settled.spaces k))) view is
+module _ {N : Type 0} (b : Buffered) (s : Spaced) (old : State) (seen : N → Space × HolderState) (ns : List N) (agree : Agree b.writing s.taking) (view : builder_view b s ≡ old) (finished : is_none b.writing ≡ true)
+    (is : map seen ns ≡ by_space (λ k. names_held (namespace_at s.settled k))) where
+  is_there : map seen ns ≡ by_space (λ k. names_held (namespace_at old.settled.spaces k))
+  is_there = subst (λ (x : State). map seen ns ≡ by_space (λ k. names_held (namespace_at x.settled.spaces k))) view is
 
   pub none_named_there : none_named (map seen ns) ≡ true → AddsNames old old (Ok tt)
   none_named_there none = nothing_named old (map seen ns) is_there none (sym (finished_is b s old agree view) ∙ finished)

@@ -10,11 +10,11 @@ use Rattle.wenc_builder.specs.Cause.{SectionCause, NoRoom}
 use Rattle.wenc_builder.specs.inside.HoldsSome.{HoldsSome}
 use Rattle.wenc_builder.specs.inside.Layout.{Buffered, section_begun, section_appended, buffer_begun, buffer_appended, buffer_ended, buffer_given_up, buffer_with}
 use Rattle.wenc_builder.specs.LenderState.{IsItemText, is_whole}
-use Rattle.wenc_builder.specs.declared.builder.space.Space.{Space}
+use Rattle.wenc_sections.specs.declared.space.Space.{Space}
 use Rattle.wenc_builder.specs.inside.Spaces.{Spaced, spaces_begun, spaces_ended, spaces_given_up}
 use Rattle.wenc_builder.specs.inside.View.{builder_view, IsBuilder}
 use Rattle.wenc_builder.specs.laws.Held.{some_begun, some_appended, some_ended, some_given_up, some_alone, start_takes_values}
-use Rattle.wenc_builder.specs.declared.builder.space.Space.TheVariants.{Values}
+use Rattle.wenc_sections.specs.declared.space.Space.TheVariants.{Values}
 use Rattle.wenc_builder.proofs.Viewed.{appended_is, appended_section, still_agree, ended_is, not_taking}
 
 pub writing_none : (b : Buffered) → is_none b.writing ≡ true → b.writing ≡ None

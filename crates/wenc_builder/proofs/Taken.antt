@@ -10,7 +10,7 @@ use Rattle.wenc_builder.specs.Cause.{SectionCause, SpaceCause}
 use Rattle.wenc_builder.specs.Enters.{Takes, TakesDraft}
 use Rattle.wenc_builder.specs.inside.Layout.{Buffered}
 use Rattle.wenc_builder.specs.LenderState.{no_room_in_section}
-use Rattle.wenc_builder.specs.declared.builder.space.Space.{Space}
+use Rattle.wenc_sections.specs.declared.space.Space.{Space}
 use Rattle.wenc_builder.specs.inside.Spaces.{Spaced}
 use Rattle.wenc_builder.specs.inside.View.{Agree, builder_view}
 use Rattle.wenc_builder.specs.laws.Caused.{space_refuses, begun_free, beginning_refuses, text_refuses, whole_free}

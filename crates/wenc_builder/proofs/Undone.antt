@@ -3,9 +3,9 @@ use Rattle.std.proofs.Common.{◌≡◌, ℕ, ◌<◌, ◌≤◌, List, length, 
 use Rattle.std.proofs.lemmas.List.{take_at, take_all, get_or-set_same, get_or_default, set-set, set-get_or, length-set}
 use Rattle.wenc_base.specs.Names.{name_association}
 use Rattle.wenc_builder.specs.Builder.{Namespace, no_names, namespace_at, namespace_set, namespace_with}
-use Rattle.wenc_builder.specs.Space.{space_number}
-use Rattle.wenc_builder.specs.declared.builder.space.Space.{Space}
-use Rattle.wenc_builder.specs.laws.Space.{space_within}
+use Rattle.wenc_sections.specs.Space.{space_number}
+use Rattle.wenc_sections.specs.declared.space.Space.{Space}
+use Rattle.wenc_sections.specs.laws.Space.{space_within}
 use Rattle.wenc_builder.specs.inside.Spaces.{Spaced, spaces_begun, taken, spaces_before, spaced_view, CanUndo}
 use Rattle.wenc_builder.specs.declared.builder.spaces.Undo.{Undo}
 

@@ -3,8 +3,9 @@ use Rattle.std.specs.Prelude.{ℕ, List, [], ◌∷◌, ◌++◌, ◌+◌, Optio
 use Rattle.std.specs.Prelude.{nat_eq, if◌then◌else◌, slice_set, slice_index_or}
 use Rattle.wenc_base.specs.Holder.{holding, section_text}
 use Rattle.wenc_builder.specs.Item.{Item, collected, item}
-use Rattle.wenc_builder.specs.Space.{space_number, Indices, defines}
-use Rattle.wenc_builder.specs.declared.builder.space.Space.{Space}
+use Rattle.wenc_sections.specs.Space.{space_number}
+use Rattle.wenc_builder.specs.Space.{Indices, defines}
+use Rattle.wenc_sections.specs.declared.space.Space.{Space}
 use Rattle.wenc_base.specs.Names.{name_association}
 use Rattle.wenc_parts.specs.SectionIds.{section_number}
 use Rattle.wenc_parts.specs.declared.component.ComponentSectionId.{ComponentSectionId}

@@ -5,7 +5,7 @@ use Rattle.wenc_base.specs.declared.fault.Fault.{Fault}
 use Rattle.wenc_base.specs.declared.fault.Fault.TheVariants.{TooMany, TooLarge, Unfinished}
 use Rattle.wenc_builder.specs.Item.{item}
 use Rattle.wenc_builder.specs.Space.{Indices, defines}
-use Rattle.wenc_builder.specs.declared.builder.space.Space.{Space}
+use Rattle.wenc_sections.specs.declared.space.Space.{Space}
 use Rattle.wenc_builder.specs.Entry.{Entry}
 use Rattle.wenc_builder.specs.Builder.{OpenSection, Namespace, namespace_at, Content, with_entry}
 use Rattle.wenc_builder.specs.Builder.{State, builder_is_finished, content_of}

@@ -19,8 +19,9 @@ use Rattle.wenc_builder.specs.Item.{Item, ModuleItem, CoreInstanceItem, CoreType
 use Rattle.wenc_builder.specs.Item.{InstanceItem, AliasItem, TypeItem, CanonItem, StartItem}
 use Rattle.wenc_builder.specs.Item.{ImportItem, ExportItem, CustomItem, RawItem}
 use Rattle.wenc_builder.specs.Sections.{component, runs}
-use Rattle.wenc_builder.specs.Space.{space_eq, Indices, defines, defined_in, next_index}
-use Rattle.wenc_builder.specs.declared.builder.space.Space.{Space}
+use Rattle.wenc_sections.specs.Space.{space_eq}
+use Rattle.wenc_builder.specs.Space.{Indices, defines, defined_in, next_index}
+use Rattle.wenc_sections.specs.declared.space.Space.{Space}
 
 -- an item, with a debug name or none
 pub record Entry : Type 0 where

@@ -8,7 +8,7 @@ use Rattle.wenc_builder.specs.Space.{next_index}
 use Rattle.wenc_builder.specs.Entry.{Entry, items, names}
 use Rattle.wenc_builder.specs.Builder.{OpenSection, SectionsState, sections_text}
 use Rattle.wenc_builder.specs.Builder.{Namespace, namespace_at, State}
-use Rattle.wenc_builder.specs.declared.builder.space.Space.{Space}
+use Rattle.wenc_sections.specs.declared.space.Space.{Space}
 
 -- the open section: the last one, where that collects items
 abbrev pub open_of : List Section → Option OpenSection

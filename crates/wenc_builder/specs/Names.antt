@@ -1,42 +1,35 @@
 -- The section of debug names that a builder adds (component model, binary format, "Name Section").
 use Rattle.std.specs.Prelude.{◌≡◌, ◌↔◌, ℕ, List, [], ◌∷◌, map, nat_eq, if◌then◌else◌, Bool, true}
 use Rattle.std.specs.Prelude.{false, Option, Some, None, Result, Ok, Err, OnErr}
+use Rattle.std.specs.List.{flat_map}
 use Rattle.std.specs.Option.{MatchOption}
+use Rattle.wenc_base.specs.Names.{NameAssociation}
 use Rattle.wenc_base.specs.Piece.{Piece, Form, nothing, each}
 use Rattle.wenc_base.specs.Holder.{HolderState, holding}
 use Rattle.wenc_base.specs.declared.fault.Fault.{Fault}
 use Rattle.wenc_base.specs.declared.fault.Fault.TheVariants.{Unfinished}
-use Rattle.wenc_sections.specs.Names.{Subsection, subsections_text, name_subsections}
+use Rattle.wenc_sections.specs.Names.{Subsection, subsections_text, item_names}
 use Rattle.wenc_sections.specs.Names.{names_label, held_subsection}
-use Rattle.wenc_sections.specs.declared.names.Sort.{Sort}
-use Rattle.wenc_sections.specs.declared.names.Sort.TheVariants.{CoreFunc, CoreTable, CoreMemory}
-use Rattle.wenc_sections.specs.declared.names.Sort.TheVariants.{CoreGlobal, CoreTag, CoreType}
-use Rattle.wenc_sections.specs.declared.names.Sort.TheVariants.{CoreModule, CoreInstance, Func}
-use Rattle.wenc_sections.specs.declared.names.Sort.TheVariants.{Value, «Type» as TypeSort}
-use Rattle.wenc_sections.specs.declared.names.Sort.TheVariants.{Component, Instance}
 use Rattle.wenc_builder.specs.Entry.{Entry, custom_entry, names}
 use Rattle.wenc_builder.specs.Builder.{Namespace, namespace_at, State, builder_is_finished}
 use Rattle.wenc_builder.specs.Enters.{EntersWithoutIndex}
 use Rattle.wenc_builder.specs.Holds.{Holds}
-use Rattle.wenc_builder.specs.declared.builder.space.Space.{Space}
-use Rattle.wenc_builder.specs.declared.builder.space.Space.TheVariants.{CoreModules, CoreFuncs}
-use Rattle.wenc_builder.specs.declared.builder.space.Space.TheVariants.{CoreTypes, CoreMemories}
-use Rattle.wenc_builder.specs.declared.builder.space.Space.TheVariants.{CoreTables, CoreInstances}
-use Rattle.wenc_builder.specs.declared.builder.space.Space.TheVariants.{CoreTags, CoreGlobals}
-use Rattle.wenc_builder.specs.declared.builder.space.Space.TheVariants.{Funcs, Instances, Values}
-use Rattle.wenc_builder.specs.declared.builder.space.Space.TheVariants.{Components, Types}
+use Rattle.wenc_sections.specs.declared.space.Space.{Space}
+use Rattle.wenc_sections.specs.declared.space.Space.TheVariants.{CoreModules, CoreFuncs, CoreTypes}
+use Rattle.wenc_sections.specs.declared.space.Space.TheVariants.{CoreMemories, CoreTables}
+use Rattle.wenc_sections.specs.declared.space.Space.TheVariants.{CoreInstances, CoreTags, CoreGlobals}
+use Rattle.wenc_sections.specs.declared.space.Space.TheVariants.{Funcs, Instances, Values, Components}
+use Rattle.wenc_sections.specs.declared.space.Space.TheVariants.{Types}
 
--- the sorts of the items in each space, in the order in which their names are written
-abbrev pub named_sorts : List (Sort × Space)
-named_sorts =
-    (CoreFunc, CoreFuncs) ∷ (CoreTable, CoreTables) ∷ (CoreMemory, CoreMemories) ∷
-    (CoreGlobal, CoreGlobals) ∷ (CoreTag, CoreTags) ∷ (CoreType, CoreTypes) ∷
-    (CoreModule, CoreModules) ∷ (CoreInstance, CoreInstances) ∷ (Instance, Instances) ∷
-    (Func, Funcs) ∷ (TypeSort, Types) ∷ (Component, Components) ∷ (Value, Values) ∷ []
+-- the spaces, in the order in which their names are written
+abbrev pub named_spaces : List Space
+named_spaces =
+    CoreFuncs ∷ CoreTables ∷ CoreMemories ∷ CoreGlobals ∷ CoreTags ∷ CoreTypes ∷ CoreModules ∷
+    CoreInstances ∷ Instances ∷ Funcs ∷ Types ∷ Components ∷ Values ∷ []
 
--- what each space has, by its sort
-abbrev pub by_sort : {A : Type 0} → (Space → A) → List (Sort × A)
-by_sort at = map (λ p. (p.0, at p.1)) named_sorts
+-- a subsection for each space that has names
+abbrev pub name_subsections : (Space → List NameAssociation) → List Subsection
+name_subsections names = flat_map (λ space. item_names space (names space)) named_spaces
 
 -- the entry of these subsections, where there are any
 abbrev pub named_entry : List Subsection → Option Entry
@@ -45,9 +38,13 @@ named_entry (s ∷ ss) = Some (custom_entry names_label (subsections_text (s ∷
 
 -- the entry of the names of all entries
 abbrev pub names_entry : List Entry → Option Entry
-names_entry es = named_entry (name_subsections (by_sort (names es)))
+names_entry es = named_entry (name_subsections (names es))
 
 -- ---- as they are kept
+
+-- what each space has
+abbrev pub by_space : {A : Type 0} → (Space → A) → List (Space × A)
+by_space at = map (λ space. (space, at space)) named_spaces
 
 -- the names in a space
 abbrev pub names_held : Namespace → HolderState
@@ -59,18 +56,18 @@ unless_empty true p = nothing
 unless_empty false p = p
 
 -- the subsection of names that are kept, where there are some
-abbrev pub space_names : Form (Sort × HolderState)
+abbrev pub space_names : Form (Space × HolderState)
 space_names p =
     unless_empty (nat_eq p.1.count 0) (held_subsection p.0 p.1)
 
 -- there is no name at all
-abbrev pub none_named : List (Sort × HolderState) → Bool
+abbrev pub none_named : List (Space × HolderState) → Bool
 none_named [] = true
 none_named (p ∷ ps) = if nat_eq p.1.count 0 then none_named ps else false
 
--- the names that are kept of each space, by its sort
-abbrev pub kept_names : State → List (Sort × HolderState)
-kept_names s = by_sort (λ k. names_held (namespace_at s.settled.spaces k))
+-- the names that are kept of each space
+abbrev pub kept_names : State → List (Space × HolderState)
+kept_names s = by_space (λ k. names_held (namespace_at s.settled.spaces k))
 
 -- ---- the call
 

@@ -1,5 +1,4 @@
 pub mod Runs
-pub mod Space
 pub mod Step
 pub mod Never
 pub mod Caused

@@ -19,7 +19,7 @@ ghost use Rattle.wenc_builder.specs.Holds.{Holds};
 ghost use Rattle.wenc_builder.specs.Enters.{Enters, EntersListed, EntersWithoutIndex, Takes, TakesDraft};
 ghost use Rattle.wenc_builder.specs.inside.Takes.{TakesAlone, TakesNoIndex, AppendsListed, TakesListed, IsItemPiece};
 ghost use Rattle.wenc_builder.specs.Space.{indices_in, some_in, canonical_space};
-ghost use Rattle.wenc_builder.specs.declared.builder.space.Space.TheVariants as spaces;
+ghost use Rattle.wenc_sections.specs.declared.space.Space.TheVariants as spaces;
 ghost use Rattle.wenc_builder.specs.LenderState.{is_whole};
 ghost use Rattle.wenc_builder.specs.Item.{HasNoRaw};
 ghost use Rattle.wenc_builder.specs.inside.Alone.{with_bytes};
@@ -37,7 +37,6 @@ mod kind;
 mod names;
 mod namespace;
 mod producers;
-mod space;
 mod spaces;
 mod trees;
 mod types;
@@ -45,7 +44,6 @@ mod types;
 use alone::{CustomLead, Ready, Size};
 use buffer::Buffer;
 use kind::Kind;
-pub use space::Space;
 use spaces::Spaces;
 use std::alloc::{Allocator, Global};
 use std::convert::AsSlice;
@@ -56,7 +54,7 @@ use wenc_parts::{
     Alias, ComponentExportKind, ComponentExternName, ComponentSectionId, ComponentTypeRef,
 };
 use wenc_sections::names::NAMES_LABEL;
-use wenc_sections::{CanonTree, ComponentStartSection};
+use wenc_sections::{CanonTree, ComponentStartSection, Space};
 
 /// Builds a component call by call.
 ///

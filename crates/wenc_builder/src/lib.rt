@@ -4,4 +4,5 @@
 
 mod builder;
 
-pub use builder::{ComponentBuilder, Space};
+pub use builder::ComponentBuilder;
+pub use wenc_sections::Space;

@@ -6,10 +6,11 @@ use Rattle.std.specs.Prelude.{option_map}
 use Rattle.wenc_base.specs.Piece.{Wide, each}
 use Rattle.wenc_builder.specs.Item.{Item, ModuleItem, CoreInstanceItem, CoreTypeItem, ComponentItem, InstanceItem, AliasItem, TypeItem, CanonItem, StartItem, ImportItem, ExportItem, CustomItem, RawItem, collected}
 use Rattle.wenc_builder.specs.Sections.{Section, members, item_of, section_piece}
-use Rattle.wenc_builder.specs.Space.{Indices, indices_in, space_number, kind_space, alias_space, canonical_space, some_in, number_in, defined_in, next_index}
-use Rattle.wenc_builder.specs.declared.builder.space.Space.{Space}
-use Rattle.wenc_builder.specs.declared.builder.space.Space.TheVariants.{CoreModules, CoreTypes, CoreInstances, Instances, Values, Components, Types}
-use Rattle.wenc_builder.specs.laws.Space.{same_number, space_tells}
+use Rattle.wenc_sections.specs.Space.{space_number, kind_space, alias_space}
+use Rattle.wenc_builder.specs.Space.{Indices, indices_in, canonical_space, some_in, number_in, defined_in, next_index}
+use Rattle.wenc_sections.specs.declared.space.Space.{Space}
+use Rattle.wenc_sections.specs.declared.space.Space.TheVariants.{CoreModules, CoreTypes, CoreInstances, Instances, Values, Components, Types}
+use Rattle.wenc_sections.specs.laws.Space.{same_number, space_tells}
 use Rattle.wenc_parts.specs.Imports.{kind_of}
 use Rattle.wenc_list.specs.Items.{item_view, section_view}
 use Rattle.wenc_list.specs.Listing.{count_of_sections}

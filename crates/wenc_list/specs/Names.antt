@@ -12,12 +12,12 @@ use Rattle.wenc_base.specs.reading.Forms.{read_name, read_list}
 use Rattle.wenc_base.specs.reading.Numbers.{read_u32}
 use Rattle.wenc_sections.specs.Names.{Subsection, ComponentName, ItemNames, RawNames}
 use Rattle.wenc_sections.specs.Names.{subsection}
-use Rattle.wenc_sections.specs.declared.names.Sort.{Sort}
-use Rattle.wenc_sections.specs.declared.names.Sort.TheVariants.{CoreFunc, CoreTable, CoreMemory}
-use Rattle.wenc_sections.specs.declared.names.Sort.TheVariants.{CoreGlobal, CoreTag, CoreType}
-use Rattle.wenc_sections.specs.declared.names.Sort.TheVariants.{CoreModule, CoreInstance, Func}
-use Rattle.wenc_sections.specs.declared.names.Sort.TheVariants.{Value, «Type» as TypeSort}
-use Rattle.wenc_sections.specs.declared.names.Sort.TheVariants.{Component, Instance}
+use Rattle.wenc_sections.specs.declared.space.Space.{Space}
+use Rattle.wenc_sections.specs.declared.space.Space.TheVariants.{CoreModules, CoreFuncs, CoreTypes}
+use Rattle.wenc_sections.specs.declared.space.Space.TheVariants.{CoreMemories, CoreTables}
+use Rattle.wenc_sections.specs.declared.space.Space.TheVariants.{CoreInstances, CoreTags, CoreGlobals}
+use Rattle.wenc_sections.specs.declared.space.Space.TheVariants.{Funcs, Instances, Values, Components}
+use Rattle.wenc_sections.specs.declared.space.Space.TheVariants.{Types}
 use Rattle.wenc_list.specs.declared.names.ItemName.{ItemName}
 use Rattle.wenc_list.specs.declared.names.Names.{Names}
 use Rattle.wenc_list.specs.declared.names.Names.TheVariants as names
@@ -52,24 +52,25 @@ item_name_view n = record { index = n.index; name = string_bytes n.name }
 
 abbrev pub names_view : {A : Type 0} → Names A → Subsection
 names_view (names.Component name) = ComponentName (string_bytes name)
-names_view (names.Items sort names) = ItemNames sort (map item_name_view names.items)
+names_view (names.Items space names) = ItemNames space (map item_name_view names.items)
 names_view (names.Raw id bytes) = RawNames id bytes.items
 
 abbrev pub read_item_name : Reader NameAssociation
 read_item_name = read_u32 >>= λ index. read_name >>= λ text.
     give (record { index = index; name = text })
 
-abbrev pub read_core_sort : Reader Sort
-read_core_sort = choose ((0x00, give CoreFunc) ∷ (0x01, give CoreTable) ∷ (0x02, give CoreMemory) ∷
-    (0x03, give CoreGlobal) ∷ (0x04, give CoreTag) ∷ (0x10, give CoreType) ∷
-    (0x11, give CoreModule) ∷ (0x12, give CoreInstance) ∷ []) nowhere
+abbrev pub read_core_sort : Reader Space
+read_core_sort = choose ((0x00, give CoreFuncs) ∷ (0x01, give CoreTables) ∷ (0x02, give CoreMemories) ∷
+    (0x03, give CoreGlobals) ∷ (0x04, give CoreTags) ∷ (0x10, give CoreTypes) ∷
+    (0x11, give CoreModules) ∷ (0x12, give CoreInstances) ∷ []) nowhere
 
-abbrev pub read_sort : Reader Sort
-read_sort = choose ((0x00, read_core_sort) ∷ (0x01, give Func) ∷ (0x02, give Value) ∷
-    (0x03, give TypeSort) ∷ (0x04, give Component) ∷ (0x05, give Instance) ∷ []) nowhere
+abbrev pub read_sort : Reader Space
+read_sort = choose ((0x00, read_core_sort) ∷ (0x01, give Funcs) ∷ (0x02, give Values) ∷
+    (0x03, give Types) ∷ (0x04, give Components) ∷ (0x05, give Instances) ∷ []) nowhere
 
 abbrev pub read_item_names : Reader Subsection
-read_item_names = read_sort >>= λ sort. read_list read_item_name >>= λ ns. give (ItemNames sort ns)
+read_item_names = read_sort >>= λ space. read_list read_item_name >>= λ ns.
+    give (ItemNames space ns)
 
 -- the names that fill a subsection with this id, or its bytes
 abbrev pub read_names_in : ℕ → List ℕ → Result Subsection Flaw

@@ -2,8 +2,8 @@
 ghost use Rattle.std.specs.Prelude.{◌≡◌, ◌≤◌, ℕ, List, [], map, length, slice_index, IfOk, IfErr, Err, MatchResult};
 ghost use Rattle.wenc_base.specs.Piece.{Wide};
 ghost use Rattle.wenc_builder.specs.Sections.{Section, Reading};
-ghost use Rattle.wenc_builder.specs.Space.{space_number};
-ghost use Rattle.wenc_builder.specs.declared.builder.space.Space.{Space};
+ghost use Rattle.wenc_sections.specs.Space.{space_number};
+ghost use Rattle.wenc_sections.specs.declared.space.Space.{Space};
 ghost use Rattle.wenc_list.specs.Items.{item_view, section_view};
 ghost use Rattle.wenc_list.specs.Listing.{AreWithin, AreFrom, ArePlaced, count_of_sections, IsFaultOf, IsMemoryOrTooDeep, HasNoHeader, IsFaultBehind};
 ghost use Rattle.wenc_list.specs.inside.Taken.{TakesAll, FaultsIn};

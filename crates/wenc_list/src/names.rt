@@ -11,7 +11,7 @@ ghost use Rattle.wenc_read.specs.Gives.{Gives, GivesAlways};
 use std::alloc::{Allocator, Global};
 use wenc_decode::Decode;
 use wenc_read::{Refusal, byte, name_of, u32_of};
-use wenc_sections::Sort;
+use wenc_sections::Space;
 
 /// The name of an item.
 #[derive(Drop)]
@@ -51,8 +51,8 @@ impl<A: Allocator + Copy> Decode<A> for ItemName<A> {
 pub enum Names<A: Allocator = Global> {
     /// The component's own name.
     Component(String<A>),
-    /// Names of items of one sort.
-    Items(Sort, Vec<ItemName<A>, A>),
+    /// Names of items in one index space.
+    Items(Space, Vec<ItemName<A>, A>),
     /// A subsection with another id, as its bytes, which aren't read.
     Raw(u8, Vec<u8, A>),
 }
@@ -93,36 +93,36 @@ pub fn part_of(bytes: &[u8]) -> Result<((u8, &[u8]), &[u8]), Refusal>
     Ok(((id, content), rest))
 }
 
-/// Reads a core sort, after its first byte.
+/// Reads a core sort, after its first byte, as its index space.
 #[tactic(auto, unfolding(wenc_base::specs::Readers::choose))]
-fn core_sort_of(bytes: &[u8]) -> Result<(Sort, &[u8]), Refusal>
+fn core_sort_of(bytes: &[u8]) -> Result<(Space, &[u8]), Refusal>
     ensures { Gives (λ x. (x.0, x.1.now)) result (read_core_sort bytes.now) }
 {
     match byte(bytes)? {
-        (0x00, rest) => Ok((Sort::CoreFunc, rest)),
-        (0x01, rest) => Ok((Sort::CoreTable, rest)),
-        (0x02, rest) => Ok((Sort::CoreMemory, rest)),
-        (0x03, rest) => Ok((Sort::CoreGlobal, rest)),
-        (0x04, rest) => Ok((Sort::CoreTag, rest)),
-        (0x10, rest) => Ok((Sort::CoreType, rest)),
-        (0x11, rest) => Ok((Sort::CoreModule, rest)),
-        (0x12, rest) => Ok((Sort::CoreInstance, rest)),
+        (0x00, rest) => Ok((Space::CoreFuncs, rest)),
+        (0x01, rest) => Ok((Space::CoreTables, rest)),
+        (0x02, rest) => Ok((Space::CoreMemories, rest)),
+        (0x03, rest) => Ok((Space::CoreGlobals, rest)),
+        (0x04, rest) => Ok((Space::CoreTags, rest)),
+        (0x10, rest) => Ok((Space::CoreTypes, rest)),
+        (0x11, rest) => Ok((Space::CoreModules, rest)),
+        (0x12, rest) => Ok((Space::CoreInstances, rest)),
         _ => Err(Refusal::Malformed),
     }
 }
 
-/// Reads a sort.
+/// Reads a sort, as its index space.
 #[tactic(auto, unfolding(wenc_base::specs::Readers::choose))]
-fn sort_of(bytes: &[u8]) -> Result<(Sort, &[u8]), Refusal>
+fn sort_of(bytes: &[u8]) -> Result<(Space, &[u8]), Refusal>
     ensures { Gives (λ x. (x.0, x.1.now)) result (read_sort bytes.now) }
 {
     match byte(bytes)? {
         (0x00, rest) => core_sort_of(rest),
-        (0x01, rest) => Ok((Sort::Func, rest)),
-        (0x02, rest) => Ok((Sort::Value, rest)),
-        (0x03, rest) => Ok((Sort::Type, rest)),
-        (0x04, rest) => Ok((Sort::Component, rest)),
-        (0x05, rest) => Ok((Sort::Instance, rest)),
+        (0x01, rest) => Ok((Space::Funcs, rest)),
+        (0x02, rest) => Ok((Space::Values, rest)),
+        (0x03, rest) => Ok((Space::Types, rest)),
+        (0x04, rest) => Ok((Space::Components, rest)),
+        (0x05, rest) => Ok((Space::Instances, rest)),
         _ => Err(Refusal::Malformed),
     }
 }
@@ -139,14 +139,14 @@ fn component_name<A: Allocator>(alloc: A, content: &[u8]) -> Result<String<A>, R
     }
 }
 
-/// Reads names of items of one sort, which take all of the content.
+/// Reads names of items in one index space, which take all of the content.
 fn item_names<A: Allocator + Copy>(alloc: A, content: &[u8]) -> Result<Names<A>, Refusal>
     ensures { Gives names_view result (done read_item_names content.now) }
 {
-    let (sort, rest) = sort_of(content)?;
+    let (space, rest) = sort_of(content)?;
     let (names, rest) = Vec::decode(alloc, rest)?;
     if rest.is_empty() {
-        Ok(Names::Items(sort, names))
+        Ok(Names::Items(space, names))
     } else {
         Err(Refusal::Malformed)
     }

@@ -13,7 +13,7 @@ use Rattle.wenc_base.specs.laws.Names.{held_names}
 use Rattle.wenc_base.specs.laws.Numbers.{size_free}
 use Rattle.wenc_base.specs.declared.fault.Fault.{Fault}
 use Rattle.wenc_base.specs.declared.fault.Fault.TheVariants.{Memory, TooMany, TooLarge, Unfinished}
-use Rattle.wenc_sections.specs.declared.names.Sort.{Sort}
+use Rattle.wenc_sections.specs.declared.space.Space.{Space}
 use Rattle.wenc_sections.specs.Names.{item_sort, ItemNames, subsection, held_subsection, names_label, names_custom, names_section, RoomCause, AppendsSubsection, AppendsNames}
 use Rattle.wenc_sections.specs.laws.Names.{held_subsection_is}
 
@@ -51,23 +51,23 @@ some_bytes : (ns : List NameAssociation) → length ns ≤ length (names_text ns
 some_bytes [] = omega arith
 some_bytes (n ∷ ns) = omega (arith, some_bytes ns, groups_some 128 9 n.index, length-append (name_association n).text (names_text ns), length-append (unsigned_text n.index) (name n.name).text)
 
-names_fit : (sort : Sort) (held : HolderState) (ns : List NameAssociation) → Contains name_association held ns → (held_subsection sort held).Fits → (subsection (ItemNames sort ns)).Fits
-names_fit sort held ns holds h =
-    let size : length ((item_sort sort).text ++ (name_map ns).text) < 2 ^ 32 = rw (held_names held ns holds) at h.0 in
-    let few : length ns < 2 ^ 32 = omega (arith, size, some_bytes ns, length-append (item_sort sort).text (name_map ns).text, length-append (unsigned_text (length ns)) (names_text ns)) in
+names_fit : (space : Space) (held : HolderState) (ns : List NameAssociation) → Contains name_association held ns → (held_subsection space held).Fits → (subsection (ItemNames space ns)).Fits
+names_fit space held ns holds h =
+    let size : length ((item_sort space).text ++ (name_map ns).text) < 2 ^ 32 = rw (held_names held ns holds) at h.0 in
+    let few : length ns < 2 ^ 32 = omega (arith, size, some_bytes ns, length-append (item_sort space).text (name_map ns).text, length-append (unsigned_text (length ns)) (names_text ns)) in
     (size, (h.1.0, (few, holds.fit)))
 
-pub names_appended : (sort : Sort) (held : HolderState) (old new : List ℕ) (outcome : Result (Unit {0}) Fault) → AppendsSubsection (held_subsection sort held) old new outcome → AppendsNames sort held old new outcome
-names_appended sort held old new outcome a = record {
+pub names_appended : (space : Space) (held : HolderState) (old new : List ℕ) (outcome : Result (Unit {0}) Fault) → AppendsSubsection (held_subsection space held) old new outcome → AppendsNames space held old new outcome
+names_appended space held old new outcome a = record {
   bytes = a;
   names = λ ns holds. record {
-    appended = rw (held_subsection_is sort held ns holds) at a.appended;
+    appended = rw (held_subsection_is space held ns holds) at a.appended;
     fits = fits outcome ns holds a.fits;
   };
 }
   where
-    fits : (outcome : Result (Unit {0}) Fault) (ns : List NameAssociation) → Contains name_association held ns → OnOk outcome (held_subsection sort held).Fits → OnOk outcome (subsection (ItemNames sort ns)).Fits
-    fits (Ok u) ns holds h = names_fit sort held ns holds h
+    fits : (outcome : Result (Unit {0}) Fault) (ns : List NameAssociation) → Contains name_association held ns → OnOk outcome (held_subsection space held).Fits → OnOk outcome (subsection (ItemNames space ns)).Fits
+    fits (Ok u) ns holds h = names_fit space held ns holds h
     fits (Err fault) ns holds h = tt
 
 -- ---- the section

@@ -4,6 +4,7 @@ pub mod Instances
 pub mod InstanceTrees
 pub mod CanonTrees
 pub mod Start
+pub mod Space
 pub mod Names
 pub mod Pairs
 pub mod inside

@@ -9,59 +9,55 @@ use Rattle.wenc_base.specs.Holder.{HolderState, held_text, Contains}
 use Rattle.wenc_base.specs.Names.{NameAssociation, name_association, name_map}
 use Rattle.wenc_base.specs.declared.fault.Fault.{Fault}
 use Rattle.wenc_base.specs.declared.fault.Fault.TheVariants.{TooLarge}
-use Rattle.wenc_sections.specs.declared.names.Sort.{Sort}
-use Rattle.wenc_sections.specs.declared.names.Sort.TheVariants.{CoreFunc, CoreTable, CoreMemory}
-use Rattle.wenc_sections.specs.declared.names.Sort.TheVariants.{CoreGlobal, CoreTag, CoreType}
-use Rattle.wenc_sections.specs.declared.names.Sort.TheVariants.{CoreModule, CoreInstance, Func}
-use Rattle.wenc_sections.specs.declared.names.Sort.TheVariants.{Value, «Type» as TypeSort}
-use Rattle.wenc_sections.specs.declared.names.Sort.TheVariants.{Component, Instance}
+use Rattle.wenc_sections.specs.declared.space.Space.{Space}
+use Rattle.wenc_sections.specs.declared.space.Space.TheVariants.{CoreModules, CoreFuncs, CoreTypes}
+use Rattle.wenc_sections.specs.declared.space.Space.TheVariants.{CoreMemories, CoreTables}
+use Rattle.wenc_sections.specs.declared.space.Space.TheVariants.{CoreInstances, CoreTags, CoreGlobals}
+use Rattle.wenc_sections.specs.declared.space.Space.TheVariants.{Funcs, Instances, Values, Components}
+use Rattle.wenc_sections.specs.declared.space.Space.TheVariants.{Types}
 
--- what names are of (component model, binary format, `sort` and `core:sort`)
-abbrev pub item_sort : Form Sort
-item_sort CoreFunc = 0x00 ▸ byte 0x00
-item_sort CoreTable = 0x00 ▸ byte 0x01
-item_sort CoreMemory = 0x00 ▸ byte 0x02
-item_sort CoreGlobal = 0x00 ▸ byte 0x03
-item_sort CoreTag = 0x00 ▸ byte 0x04
-item_sort CoreType = 0x00 ▸ byte 0x10
-item_sort CoreModule = 0x00 ▸ byte 0x11
-item_sort CoreInstance = 0x00 ▸ byte 0x12
-item_sort Func = byte 0x01
-item_sort Value = byte 0x02
-item_sort TypeSort = byte 0x03
-item_sort Component = byte 0x04
-item_sort Instance = byte 0x05
+-- the sort of the items in a space (component model, binary format, `sort` and `core:sort`)
+abbrev pub item_sort : Form Space
+item_sort CoreFuncs = 0x00 ▸ byte 0x00
+item_sort CoreTables = 0x00 ▸ byte 0x01
+item_sort CoreMemories = 0x00 ▸ byte 0x02
+item_sort CoreGlobals = 0x00 ▸ byte 0x03
+item_sort CoreTags = 0x00 ▸ byte 0x04
+item_sort CoreTypes = 0x00 ▸ byte 0x10
+item_sort CoreModules = 0x00 ▸ byte 0x11
+item_sort CoreInstances = 0x00 ▸ byte 0x12
+item_sort Funcs = byte 0x01
+item_sort Values = byte 0x02
+item_sort Types = byte 0x03
+item_sort Components = byte 0x04
+item_sort Instances = byte 0x05
 
 -- ---- subsections
 
--- the component's own name, names of items of one sort, or any bytes under any id
+-- the component's own name, names of items in one space, or any bytes under any id
 pub data Subsection : Type 0 where
   ComponentName : (name : List ℕ) → Subsection
-  ItemNames : (sort : Sort) (names : List NameAssociation) → Subsection
+  ItemNames : (space : Space) (names : List NameAssociation) → Subsection
   RawNames : (id : ℕ) (bytes : List ℕ) → Subsection
 
 -- its id, how many bytes come, and these
 abbrev pub subsection : Form Subsection
 subsection (ComponentName text) = 0x00 ▸ sized (name text)
-subsection (ItemNames sort names) = 0x01 ▸ sized (item_sort sort ⨾ name_map names)
+subsection (ItemNames space names) = 0x01 ▸ sized (item_sort space ⨾ name_map names)
 subsection (RawNames id bytes) = id ▸ byte_list bytes
 
 -- subsections one after the other
 abbrev pub subsections_text : List Subsection → List ℕ
 subsections_text ss = flat_map (λ s. (subsection s).text) ss
 
--- the names of a sort that are held, which are taken as they are
-abbrev pub held_subsection : Sort → HolderState → Piece
-held_subsection sort held = 0x01 ▸ sized (item_sort sort ⨾ verbatim (held_text held))
+-- the names in a space that are held, which are taken as they are
+abbrev pub held_subsection : Space → HolderState → Piece
+held_subsection space held = 0x01 ▸ sized (item_sort space ⨾ verbatim (held_text held))
 
--- the names of a sort, where it has some
-abbrev pub item_names : Sort → List NameAssociation → List Subsection
-item_names sort [] = []
-item_names sort (n ∷ ns) = ItemNames sort (n ∷ ns) ∷ []
-
--- a subsection for each of these sorts that has names
-abbrev pub name_subsections : List (Sort × List NameAssociation) → List Subsection
-name_subsections sorts = flat_map (λ p. item_names p.0 p.1) sorts
+-- the names in a space, where it has some
+abbrev pub item_names : Space → List NameAssociation → List Subsection
+item_names space [] = []
+item_names space (n ∷ ns) = ItemNames space (n ∷ ns) ∷ []
 
 -- ---- the section
 
@@ -89,10 +85,10 @@ pub record AppendsSubsection (p : Piece) (old new : List ℕ)
   pub appended : Appends p.text (RoomCause old p.text) ⊥ old new outcome
   pub fits : OnOk outcome p.Fits
 
--- A call appends the names of a sort that are held: as they are and, whatever names these are, as
+-- A call appends the names in a space that are held: as they are and, whatever names these are, as
 -- their subsection.
-pub record AppendsNames (sort : Sort) (held : HolderState) (old new : List ℕ)
+pub record AppendsNames (space : Space) (held : HolderState) (old new : List ℕ)
     (outcome : Result (Unit {0}) Fault) : Type 0 where
-  pub bytes : AppendsSubsection (held_subsection sort held) old new outcome
+  pub bytes : AppendsSubsection (held_subsection space held) old new outcome
   pub names : (ns : List NameAssociation) → Contains name_association held ns
-      → AppendsSubsection (subsection (ItemNames sort ns)) old new outcome
+      → AppendsSubsection (subsection (ItemNames space ns)) old new outcome

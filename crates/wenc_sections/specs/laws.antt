@@ -3,3 +3,4 @@ pub mod Instances
 pub mod Items
 pub mod Names
 pub mod Pairs
+pub mod Space

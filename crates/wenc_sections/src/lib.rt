@@ -19,6 +19,7 @@ pub mod instance_trees;
 pub mod instances;
 pub mod modules;
 pub mod names;
+pub mod space;
 pub mod start;
 pub mod types;
 
@@ -31,6 +32,7 @@ pub use imports::ComponentImportSection;
 pub use instance_trees::{CoreInstanceTree, InstanceTree};
 pub use instances::{ComponentInstanceSection, InstanceSection};
 pub use modules::ModuleSection;
-pub use names::{ComponentNameSection, NamesOf, Sort};
+pub use names::{ComponentNameSection, NamesOf};
+pub use space::Space;
 pub use start::ComponentStartSection;
 pub use types::{ComponentTypeSection, CoreTypeSection};

@@ -6,6 +6,7 @@ ghost use Rattle.wenc_base.specs.declared.fault.Fault.{Fault as FaultSpec};
 ghost use Rattle.wenc_sections.specs.Names.{item_sort, ComponentName, RawNames, subsection, names_label, RoomCause, AppendsSubsection, AppendsNames};
 ghost use Rattle.wenc_base.specs.laws.Serves.{serves_itself};
 
+use crate::space::Space;
 use std::alloc::{Allocator, Global};
 use std::marker::Model;
 use wenc_base::{
@@ -29,65 +30,33 @@ pub const NAMES_LABEL: &str = "component-name";
 /// The largest number of bytes in all subsections: the section's name and its length have 15 more.
 const LIMIT: usize = 4294967280;
 
-/// The sort of the items that names are for (component model, binary format, `sort` and
-/// `core:sort`).
-#[derive(Clone, Copy, Debug, PartialEq, Eq)]
-pub enum Sort {
-    /// Core functions.
-    CoreFunc,
-    /// Core tables.
-    CoreTable,
-    /// Core memories.
-    CoreMemory,
-    /// Core globals.
-    CoreGlobal,
-    /// Core tags.
-    CoreTag,
-    /// Core types.
-    CoreType,
-    /// Core modules.
-    CoreModule,
-    /// Core instances.
-    CoreInstance,
-    /// Functions.
-    Func,
-    /// Values.
-    Value,
-    /// Types.
-    Type,
-    /// Components.
-    Component,
-    /// Instances.
-    Instance,
-}
-
-/// Returns the encoding of a sort.
-fn sort_bytes(sort: Sort) -> &'static [u8]
-    ensures { result.now ≡ (item_sort sort).text }
+/// Returns the encoding of the sort of the items in a space.
+fn sort_bytes(space: Space) -> &'static [u8]
+    ensures { result.now ≡ (item_sort space).text }
 {
-    match sort {
-        Sort::CoreFunc => &[CORE_SORT, 0x00],
-        Sort::CoreTable => &[CORE_SORT, 0x01],
-        Sort::CoreMemory => &[CORE_SORT, 0x02],
-        Sort::CoreGlobal => &[CORE_SORT, 0x03],
-        Sort::CoreTag => &[CORE_SORT, 0x04],
-        Sort::CoreType => &[CORE_SORT, CORE_TYPE_SORT],
-        Sort::CoreModule => &[CORE_SORT, CORE_MODULE_SORT],
-        Sort::CoreInstance => &[CORE_SORT, CORE_INSTANCE_SORT],
-        Sort::Func => &[FUNCTION_SORT],
-        Sort::Value => &[VALUE_SORT],
-        Sort::Type => &[TYPE_SORT],
-        Sort::Component => &[COMPONENT_SORT],
-        Sort::Instance => &[INSTANCE_SORT],
+    match space {
+        Space::CoreFuncs => &[CORE_SORT, 0x00],
+        Space::CoreTables => &[CORE_SORT, 0x01],
+        Space::CoreMemories => &[CORE_SORT, 0x02],
+        Space::CoreGlobals => &[CORE_SORT, 0x03],
+        Space::CoreTags => &[CORE_SORT, 0x04],
+        Space::CoreTypes => &[CORE_SORT, CORE_TYPE_SORT],
+        Space::CoreModules => &[CORE_SORT, CORE_MODULE_SORT],
+        Space::CoreInstances => &[CORE_SORT, CORE_INSTANCE_SORT],
+        Space::Funcs => &[FUNCTION_SORT],
+        Space::Values => &[VALUE_SORT],
+        Space::Types => &[TYPE_SORT],
+        Space::Components => &[COMPONENT_SORT],
+        Space::Instances => &[INSTANCE_SORT],
     }
 }
 
-/// A subsection with the names of items of one sort (component model, binary format, "Name
+/// A subsection with the names of items in one index space (component model, binary format, "Name
 /// Section").
 ///
 /// Encoding fails with `TooLarge` if more than 4294967295 bytes follow its size.
 #[derive(Clone, Copy)]
-pub struct NamesOf<'a, A: Allocator = Global>(pub Sort, pub &'a NameMap<A>);
+pub struct NamesOf<'a, A: Allocator = Global>(pub Space, pub &'a NameMap<A>);
 
 impl<'a, A: Allocator> Encode for NamesOf<'a, A> {
     ghost use Rattle.wenc_sections.specs.Names.{held_subsection};
@@ -159,93 +128,93 @@ impl<A: Allocator> ComponentNameSection<A> {
 
     /// Names core functions.
     pub fn core_funcs<B: Allocator>(&mut self, names: &NameMap<B>) -> Result<(), Fault>
-        ensures { AppendsNames Sort.CoreFunc names.now self.old self.new result }
+        ensures { AppendsNames Space.CoreFuncs names.now self.old self.new result }
     {
-        self.append_names(Sort::CoreFunc, names)
+        self.append_names(Space::CoreFuncs, names)
     }
 
     /// Names core tables.
     pub fn core_tables<B: Allocator>(&mut self, names: &NameMap<B>) -> Result<(), Fault>
-        ensures { AppendsNames Sort.CoreTable names.now self.old self.new result }
+        ensures { AppendsNames Space.CoreTables names.now self.old self.new result }
     {
-        self.append_names(Sort::CoreTable, names)
+        self.append_names(Space::CoreTables, names)
     }
 
     /// Names core memories.
     pub fn core_memories<B: Allocator>(&mut self, names: &NameMap<B>) -> Result<(), Fault>
-        ensures { AppendsNames Sort.CoreMemory names.now self.old self.new result }
+        ensures { AppendsNames Space.CoreMemories names.now self.old self.new result }
     {
-        self.append_names(Sort::CoreMemory, names)
+        self.append_names(Space::CoreMemories, names)
     }
 
     /// Names core globals.
     pub fn core_globals<B: Allocator>(&mut self, names: &NameMap<B>) -> Result<(), Fault>
-        ensures { AppendsNames Sort.CoreGlobal names.now self.old self.new result }
+        ensures { AppendsNames Space.CoreGlobals names.now self.old self.new result }
     {
-        self.append_names(Sort::CoreGlobal, names)
+        self.append_names(Space::CoreGlobals, names)
     }
 
     /// Names core tags.
     pub fn core_tags<B: Allocator>(&mut self, names: &NameMap<B>) -> Result<(), Fault>
-        ensures { AppendsNames Sort.CoreTag names.now self.old self.new result }
+        ensures { AppendsNames Space.CoreTags names.now self.old self.new result }
     {
-        self.append_names(Sort::CoreTag, names)
+        self.append_names(Space::CoreTags, names)
     }
 
     /// Names core types.
     pub fn core_types<B: Allocator>(&mut self, names: &NameMap<B>) -> Result<(), Fault>
-        ensures { AppendsNames Sort.CoreType names.now self.old self.new result }
+        ensures { AppendsNames Space.CoreTypes names.now self.old self.new result }
     {
-        self.append_names(Sort::CoreType, names)
+        self.append_names(Space::CoreTypes, names)
     }
 
     /// Names core modules.
     pub fn core_modules<B: Allocator>(&mut self, names: &NameMap<B>) -> Result<(), Fault>
-        ensures { AppendsNames Sort.CoreModule names.now self.old self.new result }
+        ensures { AppendsNames Space.CoreModules names.now self.old self.new result }
     {
-        self.append_names(Sort::CoreModule, names)
+        self.append_names(Space::CoreModules, names)
     }
 
     /// Names core instances.
     pub fn core_instances<B: Allocator>(&mut self, names: &NameMap<B>) -> Result<(), Fault>
-        ensures { AppendsNames Sort.CoreInstance names.now self.old self.new result }
+        ensures { AppendsNames Space.CoreInstances names.now self.old self.new result }
     {
-        self.append_names(Sort::CoreInstance, names)
+        self.append_names(Space::CoreInstances, names)
     }
 
     /// Names functions.
     pub fn funcs<B: Allocator>(&mut self, names: &NameMap<B>) -> Result<(), Fault>
-        ensures { AppendsNames Sort.Func names.now self.old self.new result }
+        ensures { AppendsNames Space.Funcs names.now self.old self.new result }
     {
-        self.append_names(Sort::Func, names)
+        self.append_names(Space::Funcs, names)
     }
 
     /// Names values.
     pub fn values<B: Allocator>(&mut self, names: &NameMap<B>) -> Result<(), Fault>
-        ensures { AppendsNames Sort.Value names.now self.old self.new result }
+        ensures { AppendsNames Space.Values names.now self.old self.new result }
     {
-        self.append_names(Sort::Value, names)
+        self.append_names(Space::Values, names)
     }
 
     /// Names types.
     pub fn types<B: Allocator>(&mut self, names: &NameMap<B>) -> Result<(), Fault>
-        ensures { AppendsNames Sort.«Type» names.now self.old self.new result }
+        ensures { AppendsNames Space.Types names.now self.old self.new result }
     {
-        self.append_names(Sort::Type, names)
+        self.append_names(Space::Types, names)
     }
 
     /// Names components.
     pub fn components<B: Allocator>(&mut self, names: &NameMap<B>) -> Result<(), Fault>
-        ensures { AppendsNames Sort.Component names.now self.old self.new result }
+        ensures { AppendsNames Space.Components names.now self.old self.new result }
     {
-        self.append_names(Sort::Component, names)
+        self.append_names(Space::Components, names)
     }
 
     /// Names instances.
     pub fn instances<B: Allocator>(&mut self, names: &NameMap<B>) -> Result<(), Fault>
-        ensures { AppendsNames Sort.Instance names.now self.old self.new result }
+        ensures { AppendsNames Space.Instances names.now self.old self.new result }
     {
-        self.append_names(Sort::Instance, names)
+        self.append_names(Space::Instances, names)
     }
 
     /// Appends a subsection with this id and these contents, unchanged.
@@ -256,12 +225,12 @@ impl<A: Allocator> ComponentNameSection<A> {
         self.append(&Tagged(id, &data))
     }
 
-    /// Appends a subsection with the names of items of this sort.
+    /// Appends a subsection with the names of items in this index space.
     #[tactic(auto, using(crate::proofs::Appended::no_room, crate::proofs::Appended::names_appended))]
-    fn append_names<B: Allocator>(&mut self, sort: Sort, names: &NameMap<B>) -> Result<(), Fault>
-        ensures { AppendsNames sort names.now self.old self.new result }
+    fn append_names<B: Allocator>(&mut self, space: Space, names: &NameMap<B>) -> Result<(), Fault>
+        ensures { AppendsNames space names.now self.old self.new result }
     {
-        self.append(&NamesOf(sort, names))
+        self.append(&NamesOf(space, names))
     }
 
     /// Appends a subsection. If the section would be too large, removes it and fails.

@@ -23,7 +23,7 @@ use wenc_parts::{
     ComponentValType, ModuleArg, PrimitiveValType, ResultList, TypeBounds,
 };
 use wenc_read::{NestedRefusal, Refusal};
-use wenc_sections::{CanonTree, Sort};
+use wenc_sections::CanonTree;
 use wenc_types::{CaseTree, CoreTypeTree, DefinedTree, FuncStage, ModuleDecl};
 
 pub fn kinds_of_core_exports(one: ExportKind, other: ExportKind) -> bool
@@ -279,12 +279,6 @@ pub fn nested_refusals(one: NestedRefusal, other: NestedRefusal) -> bool
 }
 
 pub fn faults_of_listing(one: ListFault, other: ListFault) -> bool
-    ensures { IsTrue result ↔ (one ≡ other) }
-{
-    one == other
-}
-
-pub fn sorts_of_named_items(one: Sort, other: Sort) -> bool
     ensures { IsTrue result ↔ (one ≡ other) }
 {
     one == other

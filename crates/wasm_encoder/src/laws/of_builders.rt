@@ -11,7 +11,7 @@ ghost use Rattle.wenc_builder.specs.Holds.{Holds};
 ghost use Rattle.wenc_builder.specs.Item.{Item, collected, HasNoRaw};
 ghost use Rattle.wenc_builder.specs.Sections.{Section, Run, runs, whole};
 ghost use Rattle.wenc_builder.specs.Space.{defines, some_in, next_index};
-ghost use Rattle.wenc_builder.specs.declared.builder.space.Space.{Space};
+ghost use Rattle.wenc_sections.specs.declared.space.Space.{Space};
 ghost use Rattle.wenc_parts.specs.Types.{value_type, primitive};
 ghost use Rattle.wenc_parts.specs.declared.component.ComponentSectionId.{ComponentSectionId};
 ghost use Rattle.wenc_parts.specs.declared.types.ComponentValType.TheVariants as value_types;

@@ -15,7 +15,7 @@ use Rattle.wenc_parts.specs.SectionIds.{section_number}
 use Rattle.wenc_parts.specs.Component.{preamble}
 use Rattle.wenc_builder.specs.Builder.{OpenSection, SectionsState, entered, stood_alone}
 use Rattle.wenc_builder.specs.Builder.{open_text, Draft, draft}
-use Rattle.wenc_builder.specs.declared.builder.space.Space.{Space}
+use Rattle.wenc_sections.specs.declared.space.Space.{Space}
 use Rattle.wenc_builder.specs.declared.builder.kind.Kind.{Kind}
 use Rattle.wenc_builder.specs.declared.builder.kind.Kind.TheVariants.{CoreInstance, CoreType}
 use Rattle.wenc_builder.specs.declared.builder.kind.Kind.TheVariants.{Instance, Alias}

@@ -4,7 +4,7 @@ use Rattle.std.specs.Prelude.{Some, None}
 use Rattle.wenc_base.specs.Holder.{HolderState, holding, content_size}
 use Rattle.wenc_builder.specs.Builder.{Namespace, no_names, namespace_at, namespace_set}
 use Rattle.wenc_builder.specs.Builder.{namespace_with}
-use Rattle.wenc_builder.specs.declared.builder.space.Space.{Space}
+use Rattle.wenc_sections.specs.declared.space.Space.{Space}
 use Rattle.wenc_builder.specs.declared.builder.spaces.Undo.{Undo}
 
 -- what a space is seen as

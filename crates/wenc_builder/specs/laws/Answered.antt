@@ -11,7 +11,7 @@ use Rattle.wenc_builder.specs.Space.{Indices, defines, IsIndexAt, IsIndexOf, nex
 use Rattle.wenc_builder.specs.Entry.{Entry, items, EntryCause}
 use Rattle.wenc_builder.specs.Builder.{OpenSection, Namespace, namespace_at, with_entry, State}
 use Rattle.wenc_builder.specs.Holds.{Holds, open_of, namespace_of}
-use Rattle.wenc_builder.specs.declared.builder.space.Space.{Space}
+use Rattle.wenc_sections.specs.declared.space.Space.{Space}
 use Rattle.wenc_builder.specs.Cause.{SectionCause, SpaceCause, IndexCause, AddingCause, EnterCause}
 use Rattle.wenc_builder.specs.Enters.{IsCountAt, EntersWith, Enters}
 use Rattle.wenc_builder.specs.laws.EntryCause.{from_counts, to_counts, encodable_free}

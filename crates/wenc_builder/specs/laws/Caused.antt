@@ -10,9 +10,10 @@ use Rattle.wenc_builder.specs.Builder.{State, content_of, Draft, draft, draft_in
 use Rattle.wenc_builder.specs.Builder.{item_begun}
 use Rattle.wenc_builder.specs.Cause.{SectionCause, SpaceCause, IndexCause, AddingCause, CallCause, NoRoom}
 use Rattle.wenc_base.specs.Fault.{either}
-use Rattle.wenc_builder.specs.Space.{Indices, space_number}
-use Rattle.wenc_builder.specs.declared.builder.space.Space.{Space}
-use Rattle.wenc_builder.specs.laws.Space.{space_within}
+use Rattle.wenc_sections.specs.Space.{space_number}
+use Rattle.wenc_builder.specs.Space.{Indices}
+use Rattle.wenc_sections.specs.declared.space.Space.{Space}
+use Rattle.wenc_sections.specs.laws.Space.{space_within}
 
 -- ---- a section, a space
 

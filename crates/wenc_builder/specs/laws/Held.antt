@@ -17,7 +17,7 @@ use Rattle.wenc_builder.specs.Item.{Item, StartItem, collected, item}
 use Rattle.wenc_builder.specs.Cause.{NoRoom}
 use Rattle.wenc_builder.specs.LenderState.{IsItemText, IsWhole, is_whole}
 use Rattle.wenc_builder.specs.Space.{Indices, defines, some_in}
-use Rattle.wenc_builder.specs.declared.builder.space.Space.TheVariants.{Values}
+use Rattle.wenc_sections.specs.declared.space.Space.TheVariants.{Values}
 use Rattle.wenc_sections.specs.Start.{Start}
 use Rattle.wenc_builder.specs.inside.HoldsSome.{IsIndexed, HasRoomFor, HoldsSome}
 use Rattle.wenc_builder.specs.laws.Fits.{HasRoom}

@@ -3,10 +3,11 @@ use Rattle.std.proofs.Common.{◌≡◌, ℕ, zero, suc, ◌+◌, ◌<◌, List,
 use Rattle.std.proofs.lemmas.List.{get_or-set_same, get_or-set_other, length-set}
 use Rattle.wenc_builder.specs.Item.{Item, item}
 use Rattle.wenc_builder.specs.Sections.{preamble, runs}
-use Rattle.wenc_builder.specs.laws.Space.{space_within, same_number, space_decides, space_tells, space_ne}
+use Rattle.wenc_sections.specs.laws.Space.{space_within, same_number, space_decides, space_tells, space_ne}
 use Rattle.wenc_builder.specs.laws.Fits.{SectionsFit, HasRoom, sections_fit_more}
-use Rattle.wenc_builder.specs.Space.{space_number, Indices, defines, defined_in, next_index}
-use Rattle.wenc_builder.specs.declared.builder.space.Space.{Space}
+use Rattle.wenc_sections.specs.Space.{space_number}
+use Rattle.wenc_builder.specs.Space.{Indices, defines, defined_in, next_index}
+use Rattle.wenc_sections.specs.declared.space.Space.{Space}
 use Rattle.wenc_base.specs.Names.{NameAssociation, name_association, names_text}
 use Rattle.wenc_builder.specs.Entry.{Entry, items, named_as, named_in, names_from, names}
 use Rattle.wenc_builder.specs.Builder.{Namespace, no_names, namespace_at, namespace_with, spaces_with}

@@ -12,7 +12,7 @@ use Rattle.wenc_builder.specs.Cause.{CallCause, BeginCause}
 use Rattle.wenc_builder.specs.Holds.{Holds}
 use Rattle.wenc_builder.specs.LenderState.{no_room_in_section}
 use Rattle.wenc_parts.specs.declared.component.ComponentSectionId.TheVariants as ids
-use Rattle.wenc_builder.specs.declared.builder.space.Space.TheVariants as spaces
+use Rattle.wenc_sections.specs.declared.space.Space.TheVariants as spaces
 use Rattle.wenc_builder.specs.laws.Answered.{to_entry, from_entry}
 use Rattle.wenc_builder.specs.laws.Fits.{HasRoom}
 use Rattle.wenc_builder.specs.laws.Step.{holds_step}

@@ -1,10 +1,11 @@
 //! Methods that add built-in canonical functions.
+use super::ComponentBuilder;
 use super::kind::Kind;
-use super::{ComponentBuilder, Space};
 use std::alloc::Allocator;
 use wenc_base::{Fault, Tagged, ValType};
 use wenc_canon::rows::Row;
 use wenc_canon::{AddsBuiltin, AddsRow, AddsSlot, AddsSlotRow, CanonicalOption, Fields};
+use wenc_sections::Space;
 
 impl<A: Allocator> AddsRow for ComponentBuilder<A> {
     ghost use Rattle.std.specs.Prelude.{None};

@@ -7,10 +7,10 @@ ghost use Rattle.wenc_canon.specs.Canonicals.{Lift, Lower};
 
 use super::ComponentBuilder;
 use super::kind::Kind;
-use super::space::Space;
 use std::alloc::Allocator;
 use wenc_base::{Fault, Tagged};
 use wenc_canon::{CanonicalOption, rows};
+use wenc_sections::Space;
 
 /// Lifted and lowered functions: each method adds one with an optional debug name, and returns its
 /// index (component model, binary format, "Canonical Definitions"). Options are written in the

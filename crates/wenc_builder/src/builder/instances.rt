@@ -10,10 +10,10 @@ ghost use Rattle.wenc_sections.specs.Instances.{Instantiate, Exports, named_trip
 
 use super::ComponentBuilder;
 use super::kind::Kind;
-use super::space::Space;
 use std::alloc::Allocator;
 use wenc_base::{ExportKind, Fault, Named, Tagged};
 use wenc_parts::{ComponentExportKind, ComponentExternName, ModuleArg};
+use wenc_sections::Space;
 use wenc_sections::instances::{CORE_EXPORTS, CORE_INSTANTIATE, EXPORTS, INSTANTIATE};
 
 /// Instances of core modules and of components: each method adds one with an optional debug name,

@@ -8,11 +8,11 @@ ghost use Rattle.wenc_builder.specs.Names.{space_names, none_named};
 use super::spaces::SPACES;
 use std::alloc::{Allocator, Global};
 use wenc_base::{Encode, Fault, NameMap};
-use wenc_sections::{NamesOf, Sort};
+use wenc_sections::{NamesOf, Space};
 
-/// The subsection with the names of one sort; nothing if there are none.
+/// The subsection with the names in one space; nothing if there are none.
 #[derive(Clone, Copy)]
-pub struct SpaceNames<'a, A: Allocator = Global>(pub Sort, pub &'a NameMap<A>);
+pub struct SpaceNames<'a, A: Allocator = Global>(pub Space, pub &'a NameMap<A>);
 
 impl<'a, A: Allocator> Encode for SpaceNames<'a, A> {
     ghost piece = { λ n. space_names (n.0, n.1.now) };
@@ -25,7 +25,7 @@ impl<'a, A: Allocator> Encode for SpaceNames<'a, A> {
     }
 }
 
-/// The subsections of all sorts, in order.
+/// The subsections of all spaces, in order.
 #[derive(Clone, Copy)]
 pub struct Subsections<'a, A: Allocator = Global>(pub [SpaceNames<'a, A>; SPACES]);
 

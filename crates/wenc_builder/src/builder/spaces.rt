@@ -5,16 +5,15 @@ ghost use Rattle.wenc_base.specs.Fault.{IsMemory, IsWarranted};
 ghost use Rattle.wenc_base.specs.declared.fault.Fault.{Fault as FaultSpec};
 ghost use Rattle.wenc_builder.specs.Builder.{namespace_at};
 ghost use Rattle.wenc_builder.specs.Cause.{SpaceCause};
-ghost use Rattle.wenc_builder.specs.Names.{by_sort, names_held};
+ghost use Rattle.wenc_builder.specs.Names.{by_space, names_held};
 ghost use Rattle.wenc_builder.specs.inside.Spaces.{empty_spaces, space_begun, spaces_begun, spaces_ended, spaces_given_up, count_at};
 
 use super::names::{SpaceNames, Subsections};
 use super::namespace::Namespace;
-use super::space::Space;
 use std::alloc::{Allocator, Global};
 use std::marker::Model;
 use wenc_base::{Fault, NameMap};
-use wenc_sections::Sort;
+use wenc_sections::Space;
 
 /// The number of spaces.
 pub const SPACES: usize = 13;
@@ -90,22 +89,22 @@ impl<A: Allocator> Spaces<A> {
     pub fn sorted_names(&self) -> Subsections<'_, A>
         requires { self.now.taking ≡ None }
         ensures { map (λ n. (n.0, n.1.now)) result.0
-            ≡ by_sort (λ k. names_held (namespace_at self.now.settled k)) }
+            ≡ by_space (λ k. names_held (namespace_at self.now.settled k)) }
     {
         Subsections([
-            SpaceNames(Sort::CoreFunc, self.names(Space::CoreFuncs)),
-            SpaceNames(Sort::CoreTable, self.names(Space::CoreTables)),
-            SpaceNames(Sort::CoreMemory, self.names(Space::CoreMemories)),
-            SpaceNames(Sort::CoreGlobal, self.names(Space::CoreGlobals)),
-            SpaceNames(Sort::CoreTag, self.names(Space::CoreTags)),
-            SpaceNames(Sort::CoreType, self.names(Space::CoreTypes)),
-            SpaceNames(Sort::CoreModule, self.names(Space::CoreModules)),
-            SpaceNames(Sort::CoreInstance, self.names(Space::CoreInstances)),
-            SpaceNames(Sort::Instance, self.names(Space::Instances)),
-            SpaceNames(Sort::Func, self.names(Space::Funcs)),
-            SpaceNames(Sort::Type, self.names(Space::Types)),
-            SpaceNames(Sort::Component, self.names(Space::Components)),
-            SpaceNames(Sort::Value, self.names(Space::Values)),
+            SpaceNames(Space::CoreFuncs, self.names(Space::CoreFuncs)),
+            SpaceNames(Space::CoreTables, self.names(Space::CoreTables)),
+            SpaceNames(Space::CoreMemories, self.names(Space::CoreMemories)),
+            SpaceNames(Space::CoreGlobals, self.names(Space::CoreGlobals)),
+            SpaceNames(Space::CoreTags, self.names(Space::CoreTags)),
+            SpaceNames(Space::CoreTypes, self.names(Space::CoreTypes)),
+            SpaceNames(Space::CoreModules, self.names(Space::CoreModules)),
+            SpaceNames(Space::CoreInstances, self.names(Space::CoreInstances)),
+            SpaceNames(Space::Instances, self.names(Space::Instances)),
+            SpaceNames(Space::Funcs, self.names(Space::Funcs)),
+            SpaceNames(Space::Types, self.names(Space::Types)),
+            SpaceNames(Space::Components, self.names(Space::Components)),
+            SpaceNames(Space::Values, self.names(Space::Values)),
         ])
     }
 

@@ -7,11 +7,10 @@ ghost use Rattle.wenc_sections.specs.InstanceTrees.{core_instance_tree_view, ins
 
 use super::ComponentBuilder;
 use super::kind::Kind;
-use super::space::Space;
 use std::alloc::Allocator;
 use wenc_base::Fault;
 use wenc_canon::AddsSlot;
-use wenc_sections::{CanonTree, CoreInstanceTree, InstanceTree};
+use wenc_sections::{CanonTree, CoreInstanceTree, InstanceTree, Space};
 
 /// Items given as trees, for commands: each method adds one with an optional debug name, and
 /// returns its index. Each fails as documented on `ComponentBuilder`.

@@ -16,9 +16,9 @@ ghost use Rattle.wenc_types.specs.declared.func_type.FuncStage.TheVariants as st
 
 use super::ComponentBuilder;
 use super::kind::Kind;
-use super::space::Space;
 use std::alloc::Allocator;
 use wenc_base::{Fault, ValType};
+use wenc_sections::Space;
 use wenc_types::{
     ComponentCoreTypeEncoder, ComponentDefinedTypeEncoder, ComponentFuncTypeEncoder, ComponentType,
     ComponentTypeEncoder, InstanceType, TypeTree,

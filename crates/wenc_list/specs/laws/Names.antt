@@ -17,8 +17,8 @@ use Rattle.wenc_base.specs.reading.Numbers.{read_u32}
 use Rattle.wenc_read.specs.Exact.{IsExactAt}
 use Rattle.wenc_read.specs.laws.Exact.{found_and_read}
 use Rattle.wenc_sections.specs.Names.{Subsection, ComponentName, ItemNames, RawNames, item_sort, subsection}
-use Rattle.wenc_sections.specs.declared.names.Sort.{Sort}
-use Rattle.wenc_sections.specs.declared.names.Sort.TheVariants.{CoreFunc, CoreTable, CoreMemory, CoreGlobal, CoreTag, CoreType, CoreModule, CoreInstance, Func, Value, «Type» as TypeSort, Component, Instance}
+use Rattle.wenc_sections.specs.declared.space.Space.{Space}
+use Rattle.wenc_sections.specs.declared.space.Space.TheVariants.{CoreModules, CoreFuncs, CoreTypes, CoreMemories, CoreTables, CoreInstances, CoreTags, CoreGlobals, Funcs, Instances, Values, Components, Types}
 use Rattle.wenc_sections.specs.laws.Names.{sort_lawful}
 use Rattle.wenc_list.specs.Names.{part, subsection_by_id, read_part, read_item_name, read_core_sort, read_sort, read_item_names, read_names_in, read_names}
 
@@ -32,16 +32,16 @@ item_name_sound = then_tells _ u32_sound (λ index. last_tells (named_so index) 
 
 core_sort_sound : Sound (sound_behind 0x00 item_sort) read_core_sort
 core_sort_sound = choose_tells _ _ (
-  give_tells CoreFunc (λ bytes. (_, refl, refl)),
+  give_tells CoreFuncs (λ bytes. (_, refl, refl)),
   (
-    give_tells CoreTable (λ bytes. (_, refl, refl)),
+    give_tells CoreTables (λ bytes. (_, refl, refl)),
     (
-      give_tells CoreMemory (λ bytes. (_, refl, refl)),
+      give_tells CoreMemories (λ bytes. (_, refl, refl)),
       (
-        give_tells CoreGlobal (λ bytes. (_, refl, refl)),
+        give_tells CoreGlobals (λ bytes. (_, refl, refl)),
         (
-          give_tells CoreTag (λ bytes. (_, refl, refl)),
-          (give_tells CoreType (λ bytes. (_, refl, refl)), (give_tells CoreModule (λ bytes. (_, refl, refl)), (give_tells CoreInstance (λ bytes. (_, refl, refl)), tt))),
+          give_tells CoreTags (λ bytes. (_, refl, refl)),
+          (give_tells CoreTypes (λ bytes. (_, refl, refl)), (give_tells CoreModules (λ bytes. (_, refl, refl)), (give_tells CoreInstances (λ bytes. (_, refl, refl)), tt))),
         ),
       ),
     ),
@@ -52,8 +52,8 @@ sort_sound : Sound item_sort read_sort
 sort_sound = choose_tells _ _ (
   core_sort_sound,
   (
-    give_tells Func (λ bytes. refl),
-    (give_tells Value (λ bytes. refl), (give_tells TypeSort (λ bytes. refl), (give_tells Component (λ bytes. refl), (give_tells Instance (λ bytes. refl), tt)))),
+    give_tells Funcs (λ bytes. refl),
+    (give_tells Values (λ bytes. refl), (give_tells Types (λ bytes. refl), (give_tells Components (λ bytes. refl), (give_tells Instances (λ bytes. refl), tt)))),
   ),
 ) nowhere_tells
 
@@ -65,7 +65,7 @@ listed other = raw (λ bs. ⊥) []
 item_names_sound : SoundWhole listed (done read_item_names)
 item_names_sound = whole_sound (then_tells _ sort_sound (λ sort. last_tells (ItemNames sort) (list_sound item_name_sound) (λ names middle rest r bytes p. (middle, p, r))))
 
-item_names_lawful : (sort : Sort) (names : List NameAssociation) → Lawful (item_sort sort ⨾ name_map names) (λ fuel. read_item_names) (ItemNames sort names)
+item_names_lawful : (sort : Space) (names : List NameAssociation) → Lawful (item_sort sort ⨾ name_map names) (λ fuel. read_item_names) (ItemNames sort names)
 item_names_lawful sort names = then _ (sort_lawful sort) (last (ItemNames sort) (list_lawful name_association_lawful names))
 
 -- ---- parts

@@ -6,7 +6,7 @@ use crate::proved::wenc_list::{
     Names, Unread, behind_module_header, first_unread, names_of, part_of,
 };
 use crate::proved::wenc_read::{byte, flag_of, index_of, name_of, u32_of, u64_of};
-use crate::proved::wenc_sections::Sort;
+use crate::proved::wenc_sections::Space;
 
 #[test]
 fn numbers() {
@@ -24,7 +24,7 @@ fn names() {
     assert_eq!((name.as_str(), rest), ("test", b"\x0b".as_slice()));
     let (names, rest) = names_of(Global, b"\x01\x05\x01\x01\x02\x01g\x00").unwrap();
     assert_eq!(rest, b"\x00");
-    let Names::Items(Sort::Func, names) = names else {
+    let Names::Items(Space::Funcs, names) = names else {
         panic!("they are of functions");
     };
     assert_eq!((names[0].index, names[0].name.as_str()), (2, "g"));

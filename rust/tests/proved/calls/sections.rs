@@ -12,7 +12,7 @@ use crate::proved::wenc_parts::{
 use crate::proved::wenc_sections::{
     ComponentAliasSection, ComponentExportSection, ComponentImportSection,
     ComponentInstanceSection, ComponentNameSection, ComponentStartSection, CoreInstanceTree,
-    InstanceSection, InstanceTree, ModuleSection, NamesOf, NestedComponentSection, Sort,
+    InstanceSection, InstanceTree, ModuleSection, NamesOf, NestedComponentSection, Space,
 };
 
 const OUTER: Alias<'static> =
@@ -91,7 +91,7 @@ const NAMES: &str = "\
 fn names() {
     let mut names = NameMap::new(Global);
     names.append(0, "t").unwrap();
-    is(&NamesOf(Sort::Type, &names), "01050301000174");
+    is(&NamesOf(Space::Types, &names), "01050301000174");
     let mut section = ComponentNameSection::new(Global);
     assert!(section.is_empty());
     section_is(&section, 0, "000f0e636f6d706f6e656e742d6e616d65");

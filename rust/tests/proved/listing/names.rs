@@ -5,23 +5,23 @@ use crate::proved::tests::hex;
 use crate::proved::tests::refusing::Refusing;
 use crate::proved::wenc_list::{Names, behind_module_header, names_of, part_of};
 use crate::proved::wenc_read::Refusal;
-use crate::proved::wenc_sections::Sort;
+use crate::proved::wenc_sections::Space;
 use std::{format, string::String};
 
-const SORTS: [(&str, Sort); 13] = [
-    ("0000", Sort::CoreFunc),
-    ("0001", Sort::CoreTable),
-    ("0002", Sort::CoreMemory),
-    ("0003", Sort::CoreGlobal),
-    ("0004", Sort::CoreTag),
-    ("0010", Sort::CoreType),
-    ("0011", Sort::CoreModule),
-    ("0012", Sort::CoreInstance),
-    ("01", Sort::Func),
-    ("02", Sort::Value),
-    ("03", Sort::Type),
-    ("04", Sort::Component),
-    ("05", Sort::Instance),
+const SORTS: [(&str, Space); 13] = [
+    ("0000", Space::CoreFuncs),
+    ("0001", Space::CoreTables),
+    ("0002", Space::CoreMemories),
+    ("0003", Space::CoreGlobals),
+    ("0004", Space::CoreTags),
+    ("0010", Space::CoreTypes),
+    ("0011", Space::CoreModules),
+    ("0012", Space::CoreInstances),
+    ("01", Space::Funcs),
+    ("02", Space::Values),
+    ("03", Space::Types),
+    ("04", Space::Components),
+    ("05", Space::Instances),
 ];
 
 /// The names as text, and the bytes after them.

@@ -3,24 +3,24 @@
 use super::checks::{alone, are, is_text};
 use crate::proved::rt_std::alloc::Global;
 use crate::proved::wenc_base::{Fault, NameMap};
-use crate::proved::wenc_sections::{ComponentNameSection, NamesOf, Sort};
+use crate::proved::wenc_sections::{ComponentNameSection, NamesOf, Space};
 use std::format;
 
 /// Each sort, and the bytes of its subsection with one name, "t" of index 0.
-const SORTS: &[(Sort, &str)] = &[
-    (Sort::CoreFunc, "0106000001000174"),
-    (Sort::CoreTable, "0106000101000174"),
-    (Sort::CoreMemory, "0106000201000174"),
-    (Sort::CoreGlobal, "0106000301000174"),
-    (Sort::CoreTag, "0106000401000174"),
-    (Sort::CoreType, "0106001001000174"),
-    (Sort::CoreModule, "0106001101000174"),
-    (Sort::CoreInstance, "0106001201000174"),
-    (Sort::Func, "01050101000174"),
-    (Sort::Value, "01050201000174"),
-    (Sort::Type, "01050301000174"),
-    (Sort::Component, "01050401000174"),
-    (Sort::Instance, "01050501000174"),
+const SORTS: &[(Space, &str)] = &[
+    (Space::CoreFuncs, "0106000001000174"),
+    (Space::CoreTables, "0106000101000174"),
+    (Space::CoreMemories, "0106000201000174"),
+    (Space::CoreGlobals, "0106000301000174"),
+    (Space::CoreTags, "0106000401000174"),
+    (Space::CoreTypes, "0106001001000174"),
+    (Space::CoreModules, "0106001101000174"),
+    (Space::CoreInstances, "0106001201000174"),
+    (Space::Funcs, "01050101000174"),
+    (Space::Values, "01050201000174"),
+    (Space::Types, "01050301000174"),
+    (Space::Components, "01050401000174"),
+    (Space::Instances, "01050501000174"),
 ];
 
 /// Names items of each sort, by the calls in the order of the table.

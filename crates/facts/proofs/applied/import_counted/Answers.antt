@@ -1,6 +1,6 @@
 use Rattle.std.proofs.Common.{Ok, Err, refl}
 use Rattle.wenc_builder.specs.Entry.{import_entry}
-use Rattle.wenc_builder.specs.declared.builder.space.Space.TheVariants as spaces
+use Rattle.wenc_sections.specs.declared.space.Space.TheVariants as spaces
 use Rattle.wenc_parts.specs.Imports.{extern_name_view}
 use Rattle.wenc_parts.specs.declared.imports.ComponentTypeRef.TheVariants as refs
 use Rattle.facts.proofs.applied.import_counted.Goals as goal

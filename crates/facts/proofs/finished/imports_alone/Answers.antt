@@ -2,7 +2,7 @@ use Rattle.std.proofs.Common.{◌≡◌, ◌↔◌, List, ◌∷◌, Option, sub
 use Rattle.wenc_builder.specs.Builder.{BegunItem, Content, Namespace, namespace_at, content_of, content_with}
 use Rattle.wenc_builder.specs.Entry.{items}
 use Rattle.wenc_builder.specs.Sections.{Reading, Section}
-use Rattle.wenc_builder.specs.declared.builder.space.Space.TheVariants as spaces
+use Rattle.wenc_sections.specs.declared.space.Space.TheVariants as spaces
 use Rattle.facts.proofs.finished.imports_alone.Goals as goal
 
 pub returns-in-Ok-clause-one_section : goal.returns-in-Ok-clause-one_section

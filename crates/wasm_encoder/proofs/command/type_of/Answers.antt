@@ -3,7 +3,7 @@ use Rattle.std.specs.Option.{option_copied}
 use Rattle.wenc_builder.specs.Entry.{type_entry}
 use Rattle.wenc_builder.specs.Builder.{draft_in}
 use Rattle.wenc_parts.specs.declared.component.ComponentSectionId.TheVariants as ids
-use Rattle.wenc_builder.specs.declared.builder.space.Space.TheVariants as spaces
+use Rattle.wenc_sections.specs.declared.space.Space.TheVariants as spaces
 use Rattle.wenc_types.specs.TypeTrees.{type_view}
 use Rattle.wenc_builder.specs.laws.Typed.{type_is_written}
 use Rattle.wasm_encoder.proofs.Typed.{type_accepted, opening_refused, type_refused}

@@ -1,5 +1,6 @@
 use Rattle.std.proofs.Common.{ℕ, ◌+◌, slice_index, sym, ap, ◌∙◌, arith}
-use Rattle.wenc_builder.specs.Space.{space_number, defines}
+use Rattle.wenc_sections.specs.Space.{space_number}
+use Rattle.wenc_builder.specs.Space.{defines}
 use Rattle.wenc_list.specs.Items.{item_view}
 use Rattle.wenc_list.proofs.Indices.{defined_so, defined_nowhere, own_space}
 use Rattle.wenc_list.proofs.counts.add_item.Goals as goal

@@ -1,6 +1,7 @@
 use Rattle.std.proofs.Common.{◌≡◌, ◌+◌, map, take, get_or}
-use Rattle.wenc_builder.specs.Space.{next_index, space_number}
-use Rattle.wenc_builder.specs.declared.builder.space.Space.{Space}
+use Rattle.wenc_sections.specs.Space.{space_number}
+use Rattle.wenc_builder.specs.Space.{next_index}
+use Rattle.wenc_sections.specs.declared.space.Space.{Space}
 use Rattle.wenc_list.specs.Items.{item_view}
 use Rattle.wenc_list.proofs.counts.count.Given as goal
 

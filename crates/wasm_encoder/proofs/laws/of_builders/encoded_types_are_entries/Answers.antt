@@ -9,7 +9,7 @@ use Rattle.wenc_types.specs.ComponentTypes.{DefType, def_type}
 use Rattle.wenc_types.specs.CoreTypes.{CoreType, core_type}
 use Rattle.wasm_encoder.specs.WrittenTypes.{IsEntered}
 use Rattle.wenc_parts.specs.declared.component.ComponentSectionId.TheVariants as ids
-use Rattle.wenc_builder.specs.declared.builder.space.Space.TheVariants as spaces
+use Rattle.wenc_sections.specs.declared.space.Space.TheVariants as spaces
 use Rattle.wenc_builder.specs.laws.LenderState.{begun_given_up, written_given_up}
 use Rattle.wenc_builder.specs.laws.Typed.{type_is_written, core_type_is_written}
 use Rattle.wasm_encoder.proofs.Typed.{written_whole}

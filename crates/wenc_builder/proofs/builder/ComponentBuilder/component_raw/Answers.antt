@@ -5,7 +5,7 @@ use Rattle.wenc_builder.specs.Space.{indices_in}
 use Rattle.std.specs.Option.{option_copied}
 use Rattle.wenc_builder.specs.Entry.{component_entry}
 use Rattle.wenc_builder.specs.Item.{ComponentItem}
-use Rattle.wenc_builder.specs.declared.builder.space.Space.TheVariants as spaces
+use Rattle.wenc_sections.specs.declared.space.Space.TheVariants as spaces
 use Rattle.wenc_builder.proofs.Entered.{alone_enters}
 use Rattle.wenc_builder.proofs.Texts.{item_piece, bytes_serve}
 use Rattle.wenc_builder.proofs.builder.ComponentBuilder.component_raw.Goals as goal

@@ -7,7 +7,7 @@ use Rattle.wenc_builder.specs.Entry.{items, component_entry}
 use Rattle.wenc_builder.specs.Item.{ComponentItem}
 use Rattle.wenc_builder.specs.Sections.{whole}
 use Rattle.wenc_builder.specs.Space.{indices_in}
-use Rattle.wenc_builder.specs.declared.builder.space.Space.TheVariants as spaces
+use Rattle.wenc_sections.specs.declared.space.Space.TheVariants as spaces
 use Rattle.wenc_builder.proofs.Entered.{alone_enters}
 use Rattle.wenc_builder.proofs.Standing.{writing_none}
 use Rattle.wenc_builder.proofs.Texts.{item_piece, bytes_serve}

@@ -6,7 +6,7 @@ use Rattle.wenc_builder.specs.Entry.{core_instance_entry}
 use Rattle.wenc_builder.specs.Item.{CoreInstanceItem}
 use Rattle.wenc_sections.specs.InstanceTrees.{core_instance_tree_view}
 use Rattle.wenc_builder.specs.declared.builder.kind.Kind.TheVariants as kinds
-use Rattle.wenc_builder.specs.declared.builder.space.Space.TheVariants as spaces
+use Rattle.wenc_sections.specs.declared.space.Space.TheVariants as spaces
 use Rattle.wenc_builder.proofs.Entered.{draft_enters}
 use Rattle.wenc_builder.proofs.Texts.{item_piece}
 use Rattle.wenc_builder.proofs.builder.ComponentBuilder.core_instance_tree.Goals as goal

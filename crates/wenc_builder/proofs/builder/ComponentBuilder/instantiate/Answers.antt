@@ -6,7 +6,7 @@ use Rattle.wenc_builder.specs.Entry.{instance_entry}
 use Rattle.wenc_builder.specs.Item.{InstanceItem}
 use Rattle.wenc_builder.specs.inside.Layout.{kind_id}
 use Rattle.wenc_builder.specs.declared.builder.kind.Kind.TheVariants as kinds
-use Rattle.wenc_builder.specs.declared.builder.space.Space.TheVariants as spaces
+use Rattle.wenc_sections.specs.declared.space.Space.TheVariants as spaces
 use Rattle.wenc_builder.proofs.Listed.{listed_enters}
 use Rattle.wenc_builder.proofs.Texts.{item_piece}
 use Rattle.wenc_builder.proofs.builder.ComponentBuilder.instantiate.Goals as goal

@@ -3,7 +3,7 @@ use Rattle.std.specs.Option.{option_copied}
 use Rattle.wenc_canon.specs.Canonicals.{Lift}
 use Rattle.wenc_canon.specs.laws.Rows.{lift_serves}
 use Rattle.wenc_builder.specs.Item.{CanonItem}
-use Rattle.wenc_builder.specs.declared.builder.space.Space.TheVariants as spaces
+use Rattle.wenc_sections.specs.declared.space.Space.TheVariants as spaces
 use Rattle.wenc_builder.proofs.Listed.{options_enter}
 use Rattle.wenc_builder.proofs.Texts.{item_piece}
 use Rattle.wenc_builder.proofs.builder.ComponentBuilder.lift_func.Goals as goal

@@ -4,7 +4,7 @@ use Rattle.std.proofs.Common.{None}
 use Rattle.wenc_sections.specs.Start.{started}
 use Rattle.wenc_builder.specs.Entry.{entry}
 use Rattle.wenc_builder.specs.Item.{StartItem}
-use Rattle.wenc_builder.specs.declared.builder.space.Space.TheVariants as spaces
+use Rattle.wenc_sections.specs.declared.space.Space.TheVariants as spaces
 use Rattle.wenc_builder.proofs.Entered.{alone_enters}
 use Rattle.wenc_builder.proofs.Texts.{item_piece, plain_serves}
 use Rattle.wenc_builder.proofs.builder.ComponentBuilder.start.Goals as goal

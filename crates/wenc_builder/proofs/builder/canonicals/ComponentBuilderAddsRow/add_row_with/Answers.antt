@@ -8,7 +8,7 @@ use Rattle.wenc_builder.specs.Entry.{canonical_tree_entry}
 use Rattle.wenc_builder.specs.Item.{CanonItem}
 use Rattle.wenc_builder.specs.inside.Layout.{kind_id}
 use Rattle.wenc_builder.specs.declared.builder.kind.Kind.TheVariants as kinds
-use Rattle.wenc_builder.specs.declared.builder.space.Space.TheVariants as spaces
+use Rattle.wenc_sections.specs.declared.space.Space.TheVariants as spaces
 use Rattle.wenc_builder.proofs.Listed.{listed_enters}
 use Rattle.wenc_builder.proofs.Texts.{item_piece}
 use Rattle.wenc_builder.proofs.builder.canonicals.ComponentBuilderAddsRow.add_row_with.Goals as goal

@@ -6,7 +6,7 @@ use Rattle.wenc_builder.specs.Entry.{canonical_tree_entry}
 use Rattle.wenc_builder.specs.Item.{CanonItem}
 use Rattle.wenc_builder.specs.inside.Layout.{kind_id}
 use Rattle.wenc_builder.specs.declared.builder.kind.Kind.TheVariants as kinds
-use Rattle.wenc_builder.specs.declared.builder.space.Space.TheVariants as spaces
+use Rattle.wenc_sections.specs.declared.space.Space.TheVariants as spaces
 use Rattle.wenc_builder.proofs.Entered.{draft_enters}
 use Rattle.wenc_builder.proofs.Texts.{item_piece}
 use Rattle.wenc_builder.proofs.builder.canonicals.ComponentBuilderAddsSlotRow.add_slot_row.Goals as goal

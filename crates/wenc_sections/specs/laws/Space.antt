@@ -2,8 +2,8 @@
 use Rattle.std.proofs.Common.{◌≡◌, ◌≢◌, ◌<◌, ◌⊎◌, inl, inr, Bool, true, false, refl, arith}
 use Rattle.std.proofs.lemmas.Grind.{common_steps}
 use Rattle.std.specs.Bool.{Decides}
-use Rattle.wenc_builder.specs.Space.{space_number, space_eq}
-use Rattle.wenc_builder.specs.declared.builder.space.Space.{Space}
+use Rattle.wenc_sections.specs.Space.{space_number, space_eq}
+use Rattle.wenc_sections.specs.declared.space.Space.{Space}
 
 pub space_within : (s : Space) → space_number s < 13
 space_within s = grind (arith, common_steps)
