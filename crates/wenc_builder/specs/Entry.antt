@@ -1,5 +1,5 @@
 -- Items with their debug names, and why one is refused.
-use Rattle.std.specs.Prelude.{ℕ, List, [], ◌∷◌, ◌++◌, ◌+◌, ◌⊎◌, map, Option, Some, None, nat_eq}
+use Rattle.std.specs.Prelude.{◌≡◌, ℕ, List, [], ◌∷◌, ◌++◌, ◌+◌, ◌⊎◌, map, Option, Some, None}
 use Rattle.std.specs.Prelude.{if◌then◌else◌}
 use Rattle.wenc_base.specs.Fault.{count_cause}
 use Rattle.wenc_base.specs.Forms.{sized}

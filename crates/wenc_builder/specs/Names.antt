@@ -17,9 +17,9 @@ use Rattle.wenc_builder.specs.Holds.{Holds}
 use Rattle.wenc_sections.specs.declared.space.Space.{Space}
 use Rattle.wenc_sections.specs.declared.space.Space.TheVariants.{CoreModules, CoreFuncs, CoreTypes}
 use Rattle.wenc_sections.specs.declared.space.Space.TheVariants.{CoreMemories, CoreTables}
-use Rattle.wenc_sections.specs.declared.space.Space.TheVariants.{CoreInstances, CoreTags, CoreGlobals}
-use Rattle.wenc_sections.specs.declared.space.Space.TheVariants.{Funcs, Instances, Values, Components}
-use Rattle.wenc_sections.specs.declared.space.Space.TheVariants.{Types}
+use Rattle.wenc_sections.specs.declared.space.Space.TheVariants.{CoreInstances, CoreTags}
+use Rattle.wenc_sections.specs.declared.space.Space.TheVariants.{CoreGlobals, Funcs, Instances}
+use Rattle.wenc_sections.specs.declared.space.Space.TheVariants.{Values, Components, Types}
 
 -- the spaces, in the order in which their names are written
 abbrev pub named_spaces : List Space

@@ -15,9 +15,9 @@ use Rattle.wenc_sections.specs.Names.{subsection}
 use Rattle.wenc_sections.specs.declared.space.Space.{Space}
 use Rattle.wenc_sections.specs.declared.space.Space.TheVariants.{CoreModules, CoreFuncs, CoreTypes}
 use Rattle.wenc_sections.specs.declared.space.Space.TheVariants.{CoreMemories, CoreTables}
-use Rattle.wenc_sections.specs.declared.space.Space.TheVariants.{CoreInstances, CoreTags, CoreGlobals}
-use Rattle.wenc_sections.specs.declared.space.Space.TheVariants.{Funcs, Instances, Values, Components}
-use Rattle.wenc_sections.specs.declared.space.Space.TheVariants.{Types}
+use Rattle.wenc_sections.specs.declared.space.Space.TheVariants.{CoreInstances, CoreTags}
+use Rattle.wenc_sections.specs.declared.space.Space.TheVariants.{CoreGlobals, Funcs, Instances}
+use Rattle.wenc_sections.specs.declared.space.Space.TheVariants.{Values, Components, Types}
 use Rattle.wenc_list.specs.declared.names.ItemName.{ItemName}
 use Rattle.wenc_list.specs.declared.names.Names.{Names}
 use Rattle.wenc_list.specs.declared.names.Names.TheVariants as names
@@ -60,9 +60,9 @@ read_item_name = read_u32 >>= λ index. read_name >>= λ text.
     give (record { index = index; name = text })
 
 abbrev pub read_core_sort : Reader Space
-read_core_sort = choose ((0x00, give CoreFuncs) ∷ (0x01, give CoreTables) ∷ (0x02, give CoreMemories) ∷
-    (0x03, give CoreGlobals) ∷ (0x04, give CoreTags) ∷ (0x10, give CoreTypes) ∷
-    (0x11, give CoreModules) ∷ (0x12, give CoreInstances) ∷ []) nowhere
+read_core_sort = choose ((0x00, give CoreFuncs) ∷ (0x01, give CoreTables) ∷
+    (0x02, give CoreMemories) ∷ (0x03, give CoreGlobals) ∷ (0x04, give CoreTags) ∷
+    (0x10, give CoreTypes) ∷ (0x11, give CoreModules) ∷ (0x12, give CoreInstances) ∷ []) nowhere
 
 abbrev pub read_sort : Reader Space
 read_sort = choose ((0x00, read_core_sort) ∷ (0x01, give Funcs) ∷ (0x02, give Values) ∷

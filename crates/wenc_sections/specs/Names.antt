@@ -12,9 +12,9 @@ use Rattle.wenc_base.specs.declared.fault.Fault.TheVariants.{TooLarge}
 use Rattle.wenc_sections.specs.declared.space.Space.{Space}
 use Rattle.wenc_sections.specs.declared.space.Space.TheVariants.{CoreModules, CoreFuncs, CoreTypes}
 use Rattle.wenc_sections.specs.declared.space.Space.TheVariants.{CoreMemories, CoreTables}
-use Rattle.wenc_sections.specs.declared.space.Space.TheVariants.{CoreInstances, CoreTags, CoreGlobals}
-use Rattle.wenc_sections.specs.declared.space.Space.TheVariants.{Funcs, Instances, Values, Components}
-use Rattle.wenc_sections.specs.declared.space.Space.TheVariants.{Types}
+use Rattle.wenc_sections.specs.declared.space.Space.TheVariants.{CoreInstances, CoreTags}
+use Rattle.wenc_sections.specs.declared.space.Space.TheVariants.{CoreGlobals, Funcs, Instances}
+use Rattle.wenc_sections.specs.declared.space.Space.TheVariants.{Values, Components, Types}
 
 -- the sort of the items in a space (component model, binary format, `sort` and `core:sort`)
 abbrev pub item_sort : Form Space
