@@ -1,7 +1,7 @@
 //! The laws, each applied: to a literal, to a call, or to a run.
 ghost use Rattle.std.specs.List.Sorted.{IsStrictlyIncreasing};
 ghost use Rattle.std.specs.List.{AllByRecursion};
-ghost use Rattle.std.specs.Prelude.{◌≡◌, ◌+◌, ◌≤◌, ◌++◌, ◌∷◌, [], ℕ, negsuc, List, map, IsOk, IfOk, IfSome, OnOk};
+ghost use Rattle.std.specs.Prelude.{◌≡◌, ◌+◌, ◌<◌, ◌≤◌, ◌++◌, ◌∷◌, [], ℕ, negsuc, List, map, true, IsOk, IfOk, IfSome, OnOk};
 ghost use Rattle.wasm_encoder.specs.Cause.{led};
 ghost use Rattle.wasm_encoder.specs.Command.{Commands, command_view, commands_listed};
 ghost use Rattle.wasm_encoder.specs.Ran.{Ran};
@@ -129,6 +129,17 @@ pub fn import_counted<A: Allocator, B: Allocator>(
         Ok(index) => Ok(index),
         Err(fault) => Err(fault),
     }
+}
+
+/// Returns whether no item is being written. If so, the builder holds entries in whose debug names
+/// the indices ascend, each below its space's count, whichever calls were made.
+pub fn names_in_order<A: Allocator>(builder: &ComponentBuilder<A>) -> bool
+    ensures { result ≡ true → ∥ ((es : List Entry) × Holds builder.now es × ((space : Space)
+        → IsStrictlyIncreasing (map (λ n. n.index) (names es space))
+        × AllByRecursion (λ n. n.index < count_in builder.now space) (names es space))) ∥₁ }
+{
+    named_indices_ascend::<A>();
+    builder.is_finished()
 }
 
 /// Finishes two builders: if no item is raw, and the bytes are equal, so are the items.

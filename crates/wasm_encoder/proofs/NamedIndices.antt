@@ -5,7 +5,7 @@ use Rattle.std.specs.List.{AllByRecursion}
 use Rattle.std.specs.List.Sorted.{IsStrictlyIncreasing}
 use Rattle.wenc_base.specs.Names.{NameAssociation}
 use Rattle.wenc_base.specs.declared.fault.Fault.{Fault}
-use Rattle.wenc_builder.specs.Entry.{Entry, items, named_in, names_from, names}
+use Rattle.wenc_builder.specs.Entry.{Entry, StartIsNameless, items, named_in, names_from, names}
 use Rattle.wenc_builder.specs.Item.{Item, StartItem, CustomItem, RawItem}
 use Rattle.wenc_builder.specs.Names.{named_entry}
 use Rattle.wenc_builder.specs.Space.{Indices, defines, number_in, defined_in, next_index}

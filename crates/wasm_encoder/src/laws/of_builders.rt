@@ -103,8 +103,9 @@ pub fn counts_never_fall()
 {}
 
 /// The indices in a space's list of names ascend, and each is below the space's count, if no start
-/// function has a name. None has in all entries that commands lead to, if no command adds a start
-/// function with a name, and none of the code does.
+/// function has a name: in some entries that a builder holds, whichever calls were made
+/// (`ComponentBuilder::is_finished`), and in all that commands lead to, if none adds a start
+/// function with a name, and no command of the code does.
 pub fn named_indices_ascend<A: Allocator>()
     ensures ascending { (es : List Entry) (k : Space) → AllByRecursion StartIsNameless es
         → IsStrictlyIncreasing (map (λ n. n.index) (names es k)) }

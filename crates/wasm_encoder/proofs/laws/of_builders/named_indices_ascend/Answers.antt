@@ -1,5 +1,5 @@
 use Rattle.wasm_encoder.proofs.NamedIndices.{ascending, below, led_nameless, all_viewed}
-use Rattle.std.proofs.Common.{ℕ, List, ◌<◌, subst}
+use Rattle.std.proofs.Common.{ℕ, ◌<◌, subst}
 use Rattle.std.specs.List.{AllByRecursion}
 use Rattle.wenc_builder.specs.Entry.{names}
 use Rattle.wasm_encoder.proofs.CountedOnce.{next_counted}
