@@ -26,6 +26,12 @@ use wenc::*;
 thread_local! {
     /// How many allocations of this thread are granted before one is refused.
     static GRANTED: Cell<Option<u32>> = const { Cell::new(None) };
+
+    /// How many there were since one was refused.
+    static SINCE: Cell<Option<u32>> = const { Cell::new(None) };
+
+    /// How many there may be.
+    static MORE: Cell<u32> = const { Cell::new(0) };
 }
 
 /// The system's allocator, which refuses one request where it is told to.
@@ -37,7 +43,9 @@ static ALLOCATOR: Refusing = Refusing;
 fn is_refused() -> bool {
     let granted = GRANTED.get();
     GRANTED.set(granted.and_then(|granted| granted.checked_sub(1)));
-    granted == Some(0)
+    let is_refused = granted == Some(0);
+    SINCE.set(if is_refused { Some(0) } else { SINCE.get().map(|since| since + 1) });
+    is_refused
 }
 
 // SAFETY: each is the system's, or answers that there is no memory.
@@ -59,19 +67,30 @@ unsafe impl GlobalAlloc for Refusing {
     }
 }
 
-/// Makes the call with the request number `n` refused, counted from 0. Returns its answer, and
-/// whether there was such a request.
+/// Makes the call with the request number `n` refused, counted from 0, which is its last. Returns
+/// its answer, and whether there was such a request.
 fn refusing<T>(n: u32, call: impl FnOnce() -> T) -> (T, bool) {
+    SINCE.set(None);
     GRANTED.set(Some(n));
     let answer = call();
+    assert!(SINCE.take() <= Some(MORE.get()), "requests after the refused one");
     (answer, GRANTED.take().is_none())
+}
+
+/// In this work a type of functions is converted: room for its results is asked for too, where that
+/// for its parameters was refused.
+fn converting(work: impl FnOnce()) {
+    MORE.set(1);
+    work();
+    MORE.set(0);
 }
 
 /// Makes what has no answer for a refusal, or what is none of the requests, while none is to come.
 fn calmly<T>(make: impl FnOnce() -> T) -> T {
-    let granted = GRANTED.take();
+    let (granted, since) = (GRANTED.take(), SINCE.take());
     let made = make();
     GRANTED.set(granted);
+    SINCE.set(since);
     made
 }
 

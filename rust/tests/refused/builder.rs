@@ -382,14 +382,14 @@ fn sections_of_their_own() {
 /// Instances, and functions with options, each with its section.
 #[allow(unused_variables, reason = "some have a name of their own")]
 const LISTED: [Row; 6] = rows! { |b, name|
-    b.try_core_instantiate(name, u32::MAX, [(NAME, ModuleArg::Instance(u32::MAX))]) => CORE_INSTANCE, NAME,
-        b"\x02\x2c\x01\x00\xff\xff\xff\xff\x0f\x01\x1dan-interface-with-a-long-name\x12\xff\xff\xff\xff\x0f";
-    b.try_core_instantiate_exports(name, [(NAME, ExportKind::Func, u32::MAX)]) => CORE_INSTANCE, NAME,
-        b"\x02\x27\x01\x01\x01\x1dan-interface-with-a-long-name\x00\xff\xff\xff\xff\x0f";
-    b.try_instantiate(name, u32::MAX, [(NAME, ComponentExportKind::Func, u32::MAX)]) => INSTANCE, NAME,
-        b"\x05\x2c\x01\x00\xff\xff\xff\xff\x0f\x01\x1dan-interface-with-a-long-name\x01\xff\xff\xff\xff\x0f";
-    b.try_instantiate_exports(name, [(NAME, ComponentExportKind::Func, u32::MAX)]) => INSTANCE, NAME,
-        b"\x05\x28\x01\x01\x01\x00\x1dan-interface-with-a-long-name\x01\xff\xff\xff\xff\x0f";
+    b.try_core_instantiate(name, u32::MAX, [(NAME, ModuleArg::Instance(u32::MAX))]) =>
+        CORE_INSTANCE, NAME, b"\x02\x2c\x01\x00\xff\xff\xff\xff\x0f\x01\x1dan-interface-with-a-long-name\x12\xff\xff\xff\xff\x0f";
+    b.try_core_instantiate_exports(name, [(NAME, ExportKind::Func, u32::MAX)]) =>
+        CORE_INSTANCE, NAME, b"\x02\x27\x01\x01\x01\x1dan-interface-with-a-long-name\x00\xff\xff\xff\xff\x0f";
+    b.try_instantiate(name, u32::MAX, [(NAME, ComponentExportKind::Func, u32::MAX)]) =>
+        INSTANCE, NAME, b"\x05\x2c\x01\x00\xff\xff\xff\xff\x0f\x01\x1dan-interface-with-a-long-name\x01\xff\xff\xff\xff\x0f";
+    b.try_instantiate_exports(name, [(NAME, ComponentExportKind::Func, u32::MAX)]) =>
+        INSTANCE, NAME, b"\x05\x28\x01\x01\x01\x00\x1dan-interface-with-a-long-name\x01\xff\xff\xff\xff\x0f";
     b.try_lower_func(name, u32::MAX, [CanonicalOption::Memory(u32::MAX)]) => CORE_FUNC, NAME,
         b"\x08\x0f\x01\x01\x00\xff\xff\xff\xff\x0f\x01\x03\xff\xff\xff\xff\x0f";
     b.try_lift_func(name, u32::MAX, u32::MAX, [CanonicalOption::Memory(u32::MAX)]) => FUNC, NAME,

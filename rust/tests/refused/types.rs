@@ -7,7 +7,7 @@ use crate::builder::{
 use crate::counts::counts;
 use crate::members::{NO_ITEMS, state, sweep, sweep_all, take_back_each};
 use crate::shapes::{field, function, structure, sub};
-use crate::{calmly, refusing};
+use crate::{calmly, converting, refusing};
 use wenc::tree::{CoreTypeTree, DefinedTree, TypeTree};
 use wenc::*;
 
@@ -70,42 +70,26 @@ fn is_type(write: &dyn Fn(ComponentTypeEncoder<'_>) -> Done, section: &[u8]) {
     sweep_in_builder(call, TYPE, section);
 }
 
-/// The same of a type of values, by the calls that begin one too.
-fn is_defined(write: &dyn Fn(ComponentDefinedTypeEncoder<'_>) -> Done, section: &[u8]) {
-    is_type(&|ty| write(ty.defined_type()), section);
-    sweep::<ComponentTypeSection>(&|types| write(types.try_defined_type()?), true, section);
-    let declaration = [&[0x01], &section[3..]].concat();
-    sweep_both(
-        &|ty| write(ty.try_type_defined()?.1),
-        &|ty| write(ty.try_type_defined()?.1),
-        true,
-        A_TYPE,
-        &declaration,
-    );
-    let call: Call<'_> = &|b, name| {
-        let (index, ty) = b.try_type_defined(name)?;
-        write(ty).map(|()| index)
-    };
-    sweep_in_builder(call, TYPE, section);
-}
-
-/// The same of a type of functions.
-fn is_function(write: &dyn Fn(ComponentFuncTypeEncoder<'_>) -> Done, section: &[u8]) {
-    is_type(&|ty| write(ty.function()), section);
-    sweep::<ComponentTypeSection>(&|types| write(types.try_function()?), true, section);
-    let declaration = [&[0x01], &section[3..]].concat();
-    sweep_both(
-        &|ty| write(ty.try_type_function()?.1),
-        &|ty| write(ty.try_type_function()?.1),
-        true,
-        A_TYPE,
-        &declaration,
-    );
-    let call: Call<'_> = &|b, name| {
-        let (index, ty) = b.try_type_function(name)?;
-        write(ty).map(|()| index)
-    };
-    sweep_in_builder(call, TYPE, section);
+/// The same of a type of values or of functions, by the calls that begin one too.
+macro_rules! is_begun {
+    ($write:expr, $section:expr, $encoder:ident $in_section:ident $in_type:ident) => {{
+        let (write, section): (_, &[u8]) = ($write, $section);
+        is_type(&|ty| write(ty.$encoder()), section);
+        sweep::<ComponentTypeSection>(&|types| write(types.$in_section()?), true, section);
+        let declaration = [&[0x01], &section[3..]].concat();
+        sweep_both(
+            &|ty| write(ty.$in_type()?.1),
+            &|ty| write(ty.$in_type()?.1),
+            true,
+            A_TYPE,
+            &declaration,
+        );
+        let call: Call<'_> = &|b, name| {
+            let (index, ty) = b.$in_type(name)?;
+            write(ty).map(|()| index)
+        };
+        sweep_in_builder(call, TYPE, section);
+    }};
 }
 
 /// Calls of an encoder, each with the section of what it writes.
@@ -175,7 +159,7 @@ const DEFINED: [(fn(ComponentDefinedTypeEncoder<'_>) -> Done, &[u8]); 45] = rows
 #[test]
 fn types_of_values() {
     for (write, section) in DEFINED {
-        is_defined(&write, section);
+        is_begun!(write, section, defined_type try_defined_type try_type_defined);
     }
 }
 
@@ -219,7 +203,7 @@ const FUNCTIONS: [(fn(ComponentFuncTypeEncoder<'_>) -> Done, &[u8]); 9] = rows! 
 #[test]
 fn types_of_functions() {
     for (write, section) in FUNCTIONS {
-        is_function(&write, section);
+        is_begun!(write, section, function try_function try_type_function);
     }
 }
 
@@ -466,13 +450,15 @@ fn core_types() {
         (FuncType::new([ValType::V128], references), b"\x03\x07\x01\x60\x01\x7b\x02\x70\x6f"),
     ];
     for (ty, section) in functions {
-        is_core(&|encoder| encoder.try_func_type(&ty), &section[3..], section);
+        converting(|| is_core(&|encoder| encoder.try_func_type(&ty), &section[3..], section));
     }
     for (ty, text, section) in subtypes() {
-        is_core(&|encoder| encoder.try_subtype(&ty), text, section);
+        converting(|| is_core(&|encoder| encoder.try_subtype(&ty), text, section));
     }
     for (types, section) in groups() {
-        is_core(&|ty| ty.try_rec(calmly(|| types.clone())), &section[3..], section);
+        let write: &dyn Fn(CoreTypeEncoder<'_>) -> Done =
+            &|ty| ty.try_rec(calmly(|| types.clone()));
+        converting(|| is_core(write, &section[3..], section));
     }
     is_core_type(&|ty| ty.try_module(&ModuleType::new()), b"\x03\x03\x01\x50\x00");
     let mut module = ModuleType::new();

@@ -50,134 +50,101 @@ const UNFINISHED: Result<u32, Error> = Err(Error::Unfinished);
 /// Calls under a debug name, where they take one, and the component that they make.
 type Row = (fn(&mut ComponentBuilder, Option<&str>), &'static str);
 
-const ROWS: [Row; 15] = [
-    (
-        |b, _| {
-            assert_eq!(b.alias_export(0, "f", ComponentExportKind::Func), 0);
-            assert_eq!(b.alias_export(5, "m", ComponentExportKind::Module), 0);
-        },
-        "06 0c 02 01 00 00 01 66 00 11 00 05 01 6d",
-    ),
-    (
-        |b, name| assert_eq!(b.core_alias_export(name, 0, "t", ExportKind::Tag), 0),
-        "06 07 01 00 04 01 00 01 74",
-    ),
-    (
-        |b, _| {
-            let ty = Some(ComponentTypeRef::Func(1));
-            assert_eq!(b.export("g", ComponentExportKind::Func, 0, ty), 0);
-        },
-        "0b 09 01 00 01 67 01 00 01 01 01",
-    ),
-    (
-        |b, name| {
-            assert_eq!(b.task_cancel(), 0);
-            assert_eq!(b.lift_func(name, 1, 2, OPTIONS), 0);
-        },
-        "08 0a 02 05 00 00 01 02 03 00 06 02",
-    ),
-    (
-        |b, name| {
-            let none: [(&str, ComponentValType); 0] = [];
-            b.type_function(name).1.async_(true).params(none).result(None);
-            b.type_function(name).1.params(none).result(None);
-        },
-        "07 09 02 43 00 01 00 40 00 01 00",
-    ),
-    (
-        |b, _| {
-            assert_eq!(b.start(7, vec![1, 0], 1), 0);
-            assert_eq!(b.try_start(0, vec![], u32::MAX), Err(Error::TooMany));
-        },
-        "09 05 07 02 01 00 01",
-    ),
-    (
-        |b, _| {
-            assert_eq!(b.resource_new(1), 0);
-            b.custom_section(&custom());
-            b.raw_custom_section(b"\x02\x01x");
-            assert_eq!(b.resource_rep(1), 1);
-        },
-        "08 03 01 02 01 00 02 01 78 00 02 01 78 08 03 01 04 01",
-    ),
-    (
-        |b, _| {
-            assert_eq!(b.resource_new(1), 0);
-            b.producers_section(&producers("sdk", "a", "1"));
-            assert_eq!(b.resource_rep(1), 1);
-        },
+/// Calls, each with the component that they make.
+macro_rules! rows {
+    (|$b:ident, $name:ident| $($calls:expr => $wanted:literal;)*) => {
+        [$((|$b, $name| $calls, $wanted)),*]
+    };
+}
+
+#[allow(unused_variables, reason = "some take no debug name")]
+const ROWS: [Row; 15] = rows! { |b, name|
+    {
+        assert_eq!(b.alias_export(0, "f", ComponentExportKind::Func), 0);
+        assert_eq!(b.alias_export(5, "m", ComponentExportKind::Module), 0);
+    } => "06 0c 02 01 00 00 01 66 00 11 00 05 01 6d";
+    assert_eq!(b.core_alias_export(name, 0, "t", ExportKind::Tag), 0) =>
+        "06 07 01 00 04 01 00 01 74";
+    {
+        let ty = Some(ComponentTypeRef::Func(1));
+        assert_eq!(b.export("g", ComponentExportKind::Func, 0, ty), 0);
+    } => "0b 09 01 00 01 67 01 00 01 01 01";
+    {
+        assert_eq!(b.task_cancel(), 0);
+        assert_eq!(b.lift_func(name, 1, 2, OPTIONS), 0);
+    } => "08 0a 02 05 00 00 01 02 03 00 06 02";
+    {
+        let none: [(&str, ComponentValType); 0] = [];
+        b.type_function(name).1.async_(true).params(none).result(None);
+        b.type_function(name).1.params(none).result(None);
+    } => "07 09 02 43 00 01 00 40 00 01 00";
+    {
+        assert_eq!(b.start(7, vec![1, 0], 1), 0);
+        assert_eq!(b.try_start(0, vec![], u32::MAX), Err(Error::TooMany));
+    } => "09 05 07 02 01 00 01";
+    {
+        assert_eq!(b.resource_new(1), 0);
+        b.custom_section(&custom());
+        b.raw_custom_section(b"\x02\x01x");
+        assert_eq!(b.resource_rep(1), 1);
+    } => "08 03 01 02 01 00 02 01 78 00 02 01 78 08 03 01 04 01";
+    {
+        assert_eq!(b.resource_new(1), 0);
+        b.producers_section(&producers("sdk", "a", "1"));
+        assert_eq!(b.resource_rep(1), 1);
+    } =>
         "08 03 01 02 01 00 14 09 70 72 6f 64 75 63 65 72 73 01 03 73 64 6b 01 01 61 01 31 \
-         08 03 01 04 01",
-    ),
-    (
-        |b, name| {
-            drop(b.type_defined(name));
-            let section = producers("sdk", "a", "1");
-            assert_eq!(b.try_producers_section(&section), Err(Error::Unfinished));
-            assert!(b.discard_unfinished());
-            b.producers_section(&producers("language", "Rust", ""));
-        },
-        "00 1b 09 70 72 6f 64 75 63 65 72 73 01 08 6c 61 6e 67 75 61 67 65 01 04 52 75 73 74 00",
-    ),
+         08 03 01 04 01";
+    {
+        drop(b.type_defined(name));
+        let section = producers("sdk", "a", "1");
+        assert_eq!(b.try_producers_section(&section), Err(Error::Unfinished));
+        assert!(b.discard_unfinished());
+        b.producers_section(&producers("language", "Rust", ""));
+    } => "00 1b 09 70 72 6f 64 75 63 65 72 73 01 08 6c 61 6e 67 75 61 67 65 01 04 52 75 73 74 00";
     // What is unfinished is said before anything else is.
-    (
-        |b, name| {
-            assert_eq!(b.start(0, vec![], 4294967295), 0);
-            assert_eq!(b.try_start(0, vec![], 1), Err(Error::TooMany));
-            drop(b.type_defined(name));
-            assert_eq!(b.try_start(0, vec![], 1), UNFINISHED);
-            assert!(b.discard_unfinished());
-        },
-        "09 07 00 00 ff ff ff ff 0f",
-    ),
-    (
-        |b, _| {
-            assert_eq!(b.start(0, vec![], 4294967294), 0);
-            assert_eq!(b.alias_export(0, "v", ComponentExportKind::Value), 4294967294);
-            assert_eq!(b.try_import("v", BYTE), Err(Error::TooMany));
-            assert_eq!(b.try_start(0, vec![], 1), Err(Error::TooMany));
-        },
-        "09 07 00 00 fe ff ff ff 0f 06 06 01 02 00 00 01 76",
-    ),
+    {
+        assert_eq!(b.start(0, vec![], 4294967295), 0);
+        assert_eq!(b.try_start(0, vec![], 1), Err(Error::TooMany));
+        drop(b.type_defined(name));
+        assert_eq!(b.try_start(0, vec![], 1), UNFINISHED);
+        assert!(b.discard_unfinished());
+    } => "09 07 00 00 ff ff ff ff 0f";
+    {
+        assert_eq!(b.start(0, vec![], 4294967294), 0);
+        assert_eq!(b.alias_export(0, "v", ComponentExportKind::Value), 4294967294);
+        assert_eq!(b.try_import("v", BYTE), Err(Error::TooMany));
+        assert_eq!(b.try_start(0, vec![], 1), Err(Error::TooMany));
+    } => "09 07 00 00 fe ff ff ff 0f 06 06 01 02 00 00 01 76";
     // A component with one in it is a nested one too.
-    (
-        |b, name| assert_eq!(b.component(name, cancels_inside()), 0),
-        "04 16 00 61 73 6d 0d 00 01 00 04 0c 00 61 73 6d 0d 00 01 00 08 02 01 05",
-    ),
+    assert_eq!(b.component(name, cancels_inside()), 0) =>
+        "04 16 00 61 73 6d 0d 00 01 00 04 0c 00 61 73 6d 0d 00 01 00 08 02 01 05";
     // Neither call takes a component that is unfinished.
-    (
-        |b, name| {
-            assert_eq!(b.try_component_ref(name, &unfinished()), UNFINISHED);
-            assert_eq!(b.try_component(name, unfinished()), UNFINISHED);
-            assert_eq!(b.component_raw(name, b""), 0);
-            assert_eq!(b.alias(name, FUNCTION), 0);
-        },
-        "04 00 06 06 01 01 00 00 01 66",
-    ),
+    {
+        assert_eq!(b.try_component_ref(name, &unfinished()), UNFINISHED);
+        assert_eq!(b.try_component(name, unfinished()), UNFINISHED);
+        assert_eq!(b.component_raw(name, b""), 0);
+        assert_eq!(b.alias(name, FUNCTION), 0);
+    } => "04 00 06 06 01 01 00 00 01 66";
     // Nor does a builder that is unfinished take any.
-    (
-        |b, name| {
-            assert_eq!(b.task_cancel(), 0);
-            drop(b.type_defined(name));
-            assert_eq!(b.try_component_ref(name, &cancels()), UNFINISHED);
-            assert_eq!(b.try_component(name, cancels()), UNFINISHED);
-            assert!(b.discard_unfinished() && !b.discard_unfinished());
-        },
-        "08 02 01 05",
-    ),
-    (
-        |b, _| {
-            assert_eq!(b.import("a", ComponentTypeRef::Value(ComponentValType::Type(64))), 0);
-            assert_eq!(b.import("b", ComponentTypeRef::Type(TypeBounds::Eq(3))), 0);
-            let (kind, name) = (ComponentExportKind::Module, "m");
-            assert_eq!(b.alias(Some("m"), Alias::InstanceExport { instance: 5, kind, name }), 0);
-            assert_eq!(b.export("c", ComponentExportKind::Module, 0, None), 1);
-            assert_eq!(b.alias_export(0, "v", ComponentExportKind::Value), 1);
-        },
+    {
+        assert_eq!(b.task_cancel(), 0);
+        drop(b.type_defined(name));
+        assert_eq!(b.try_component_ref(name, &cancels()), UNFINISHED);
+        assert_eq!(b.try_component(name, cancels()), UNFINISHED);
+        assert!(b.discard_unfinished() && !b.discard_unfinished());
+    } => "08 02 01 05";
+    {
+        assert_eq!(b.import("a", ComponentTypeRef::Value(ComponentValType::Type(64))), 0);
+        assert_eq!(b.import("b", ComponentTypeRef::Type(TypeBounds::Eq(3))), 0);
+        let (kind, name) = (ComponentExportKind::Module, "m");
+        assert_eq!(b.alias(Some("m"), Alias::InstanceExport { instance: 5, kind, name }), 0);
+        assert_eq!(b.export("c", ComponentExportKind::Module, 0, None), 1);
+        assert_eq!(b.alias_export(0, "v", ComponentExportKind::Value), 1);
+    } =>
         "0a 0d 02 00 01 61 02 c0 00 00 01 62 03 00 03 06 07 01 00 11 00 05 01 6d \
-         0b 08 01 00 01 63 00 11 00 00 06 06 01 02 00 00 01 76",
-    ),
-];
+         0b 08 01 00 01 63 00 11 00 00 06 06 01 02 00 00 01 76";
+};
 
 /// Where a debug name isn't written, each row is made without one and with one.
 #[test]

@@ -1,20 +1,14 @@
 //! Types, their sections, and what they declare. `refused` has each type, by each that lends itself
 //! to its encoder.
 
+use crate::text;
 use wenc::{
     Alias, Component, ComponentExportKind, ComponentOuterAliasKind, ComponentSection,
     ComponentType, ComponentTypeRef, ComponentTypeSection, ComponentValType, CoreTypeSection,
-    Encode, EntityType, ExportKind, InstanceType, ModuleType, PrimitiveValType, TypeBounds,
-    ValType,
+    EntityType, ExportKind, InstanceType, ModuleType, PrimitiveValType, TypeBounds, ValType,
 };
 
 const NONE: [(&str, ComponentValType); 0] = [];
-
-fn text(value: &impl Encode) -> Vec<u8> {
-    let mut sink = Vec::new();
-    value.encode(&mut sink);
-    sink
-}
 
 /// What a section is in a component, with its id.
 fn alone(section: &impl ComponentSection) -> Vec<u8> {
