@@ -11,7 +11,7 @@ mod modules;
 mod parts;
 mod program;
 mod reading;
-mod sections;
+pub mod sections;
 mod types;
 mod values;
 

@@ -374,85 +374,54 @@ fn borrowed() {
     types(wanted, |section| _ = section.instance(&ty));
 }
 
-fn imported(name: &'static str, ty: EntityType) -> impl Fn(&mut ModuleType) -> Done {
-    move |module| module.try_import("m", name, ty).map(|_| ())
-}
-
-fn module_export(name: &'static str, ty: EntityType) -> impl Fn(&mut ModuleType) -> Done {
-    move |module| module.try_export(name, ty).map(|_| ())
-}
-
 /// What is asked of one that counts no type: it is as if empty, and is finished.
 const NO_TYPE: [u8; 6] = [0, 0, 0, 0, 1, 1];
 
 /// What is asked of a module type that counts a type.
 const ONE_TYPE: [u8; 6] = [0, 1, 0, 0, 0, 1];
 
-/// Declarations of module types, with whether each counts as a type. Upstream gives these texts.
-type Declared = (Box<dyn Fn(&mut ModuleType) -> Done>, [u8; 6], &'static [u8]);
+/// A declaration of a module type, with whether it counts as a type, and its text.
+type Declared = (fn(&mut ModuleType) -> Done, [u8; 6], &'static [u8]);
 
-fn entities() -> [Declared; 7] {
-    let wide = memory(128, Some(65536), true, false).into();
-    let func_table = table(RefType::FUNCREF, false, 1, None).into();
-    [
-        (Box::new(imported("f", EntityType::Function(0))), NO_TYPE, b"\x00\x01m\x01f\x00\x00"),
-        (Box::new(imported("t", func_table)), NO_TYPE, b"\x00\x01m\x01t\x01\x70\x00\x01"),
-        (
-            Box::new(|ty| ty.try_ty()?.try_function([ValType::I32], [ValType::I64])),
-            ONE_TYPE,
-            b"\x01\x60\x01\x7f\x01\x7e",
-        ),
-        (
-            Box::new(move |ty| ty.try_import("", "", wide).map(|_| ())),
-            NO_TYPE,
-            b"\x00\x00\x00\x02\x05\x80\x01\x80\x80\x04",
-        ),
-        (
-            Box::new(|ty| ty.try_alias_outer_core_type(128, 4294967295).map(|_| ())),
-            ONE_TYPE,
-            b"\x02\x10\x01\x80\x01\xff\xff\xff\xff\x0f",
-        ),
-        (
-            Box::new(module_export("g", global(ValType::F64, true).into())),
-            NO_TYPE,
-            b"\x03\x01g\x03\x7c\x01",
-        ),
-        (Box::new(module_export("e", tag(128).into())), NO_TYPE, b"\x03\x01e\x04\x00\x80\x01"),
-    ]
+macro_rules! declared {
+    (|$ty:ident| $($call:expr => $counted:expr, $text:expr;)*) => {
+        [$((|$ty| $call.map(|_| ()), $counted, $text)),*]
+    };
 }
+
+/// Upstream gives these texts.
+const ENTITIES: [Declared; 7] = declared! { |ty|
+    ty.try_import("m", "f", EntityType::Function(0)) => NO_TYPE, b"\x00\x01m\x01f\x00\x00";
+    ty.try_import("m", "t", table(RefType::FUNCREF, false, 1, None).into()) =>
+        NO_TYPE, b"\x00\x01m\x01t\x01\x70\x00\x01";
+    ty.try_ty()?.try_function([ValType::I32], [ValType::I64]) =>
+        ONE_TYPE, b"\x01\x60\x01\x7f\x01\x7e";
+    ty.try_import("", "", memory(128, Some(65536), true, false).into()) =>
+        NO_TYPE, b"\x00\x00\x00\x02\x05\x80\x01\x80\x80\x04";
+    ty.try_alias_outer_core_type(128, 4294967295) =>
+        ONE_TYPE, b"\x02\x10\x01\x80\x01\xff\xff\xff\xff\x0f";
+    ty.try_export("g", global(ValType::F64, true).into()) => NO_TYPE, b"\x03\x01g\x03\x7c\x01";
+    ty.try_export("e", tag(128).into()) => NO_TYPE, b"\x03\x01e\x04\x00\x80\x01";
+};
 
 /// The length of a name is that of `NAME`, 73.
-fn others() -> [Declared; 5] {
-    let widest = memory(u64::MAX, Some(u64::MAX), true, true).into();
-    [
-        (
-            Box::new(imported("n", memory(1, Some(2), false, true).into())),
-            NO_TYPE,
-            b"\x00\x01m\x01n\x02\x03\x01\x02",
-        ),
-        (
-            Box::new(|ty| ty.try_alias_outer_core_type(1, 0).map(|_| ())),
-            ONE_TYPE,
-            b"\x02\x10\x01\x01\x00",
-        ),
-        (Box::new(module_export("t", tag(0).into())), NO_TYPE, b"\x03\x01t\x04\x00\x00"),
-        (
-            Box::new(move |ty| ty.try_import(NAME, NAME, widest).map(|_| ())),
-            NO_TYPE,
-            b"\x00\x49a name that is longer than a first growth, by far: aaaaaaaaaaaaaaaaaaaaaa\
-            \x49a name that is longer than a first growth, by far: aaaaaaaaaaaaaaaaaaaaaa\x02\x07\xff\xff\xff\xff\xff\xff\xff\xff\xff\x01\xff\xff\xff\xff\xff\xff\xff\xff\xff\x01",
-        ),
-        (
-            Box::new(module_export(NAME, tag(u32::MAX).into())),
-            NO_TYPE,
-            b"\x03\x49a name that is longer than a first growth, by far: aaaaaaaaaaaaaaaaaaaaaa\x04\x00\xff\xff\xff\xff\x0f",
-        ),
-    ]
-}
+const OTHERS: [Declared; 5] = declared! { |ty|
+    ty.try_import("m", "n", memory(1, Some(2), false, true).into()) =>
+        NO_TYPE, b"\x00\x01m\x01n\x02\x03\x01\x02";
+    ty.try_alias_outer_core_type(1, 0) => ONE_TYPE, b"\x02\x10\x01\x01\x00";
+    ty.try_export("t", tag(0).into()) => NO_TYPE, b"\x03\x01t\x04\x00\x00";
+    ty.try_import(NAME, NAME, memory(u64::MAX, Some(u64::MAX), true, true).into()) =>
+        NO_TYPE,
+        b"\x00\x49a name that is longer than a first growth, by far: aaaaaaaaaaaaaaaaaaaaaa\
+            \x49a name that is longer than a first growth, by far: aaaaaaaaaaaaaaaaaaaaaa\x02\x07\xff\xff\xff\xff\xff\xff\xff\xff\xff\x01\xff\xff\xff\xff\xff\xff\xff\xff\xff\x01";
+    ty.try_export(NAME, tag(u32::MAX).into()) =>
+        NO_TYPE,
+        b"\x03\x49a name that is longer than a first growth, by far: aaaaaaaaaaaaaaaaaaaaaa\x04\x00\xff\xff\xff\xff\x0f";
+};
 
 #[test]
 fn module_types() {
-    for (call, counted, text) in entities().into_iter().chain(others()) {
+    for (call, counted, text) in ENTITIES.into_iter().chain(OTHERS) {
         let wanted = [&counted, &[0x50, 1][..], text].concat();
         sweep_all(&call, text[0] == 0x01, &wanted);
     }
@@ -463,7 +432,7 @@ fn module_types() {
 #[test]
 fn core_types() {
     let mut module = ModuleType::new();
-    for (call, _, _) in entities() {
+    for (call, _, _) in ENTITIES {
         call(&mut module).expect("there is memory");
     }
     let open_of_one = sub(false, None, function([ValType::I32], []));
@@ -554,8 +523,8 @@ fn module_types_that_are_given_up() {
     let begin: Call<'_, ModuleType> = &|ty| ty.try_ty().map(drop);
     let refused: [Call<'_, ModuleType>; 5] = [
         begin,
-        &imported("n", EntityType::Function(0)),
-        &module_export("n", EntityType::Function(0)),
+        &|ty| ty.try_import("m", "n", EntityType::Function(0)).map(|_| ()),
+        &|ty| ty.try_export("n", EntityType::Function(0)).map(|_| ()),
         &|ty| ty.try_alias_outer_core_type(1, 0).map(|_| ()),
         &|ty| ty.try_alias_core_type(1, 0).map(|_| ()),
     ];

@@ -2,7 +2,8 @@
 
 use super::checks::{alone, are, is_text};
 use crate::proved::rt_std::alloc::Global;
-use crate::proved::wenc_base::{Fault, NameMap};
+use crate::proved::tests::calls::sections::name_each;
+use crate::proved::wenc_base::NameMap;
 use crate::proved::wenc_sections::{ComponentNameSection, NamesOf, Sort};
 use std::format;
 
@@ -22,23 +23,6 @@ const SORTS: &[(Sort, &str)] = &[
     (Sort::Component, "01050401000174"),
     (Sort::Instance, "01050501000174"),
 ];
-
-/// Names items of each sort, by the calls in the order of the table.
-fn name_each(section: &mut ComponentNameSection, names: &NameMap) -> Result<(), Fault> {
-    section.core_funcs(names)?;
-    section.core_tables(names)?;
-    section.core_memories(names)?;
-    section.core_globals(names)?;
-    section.core_tags(names)?;
-    section.core_types(names)?;
-    section.core_modules(names)?;
-    section.core_instances(names)?;
-    section.funcs(names)?;
-    section.values(names)?;
-    section.types(names)?;
-    section.components(names)?;
-    section.instances(names)
-}
 
 /// Each subsection in a section, and by itself.
 #[test]
