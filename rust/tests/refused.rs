@@ -13,6 +13,8 @@ mod counts;
 mod declarations;
 #[path = "refused/members.rs"]
 mod members;
+#[path = "refused/names.rs"]
+mod names;
 #[allow(dead_code, reason = "some are for others")]
 #[path = "core_types/shapes.rs"]
 mod shapes;

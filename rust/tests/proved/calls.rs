@@ -11,7 +11,7 @@ mod modules;
 mod parts;
 mod program;
 mod reading;
-pub mod sections;
+mod sections;
 mod types;
 mod values;
 

@@ -1,4 +1,4 @@
-//! Components, names, what declarations count as, and encoders over a bare holder.
+//! Components, what declarations count as, and encoders over a bare holder.
 
 mod checks;
 mod components;
@@ -7,5 +7,4 @@ mod counts;
 #[cfg(target_pointer_width = "64")]
 mod dropped;
 mod holders;
-mod names;
 mod sweeps;

@@ -108,39 +108,46 @@ fn started<M: Members>(count: u32) -> M {
     members
 }
 
-/// The call has its request number `n` refused, with so many members there before it, and is made
-/// again. Whether there is such a request. What an encoder's refused call has left is given up.
-fn is_refused<M: Members>(count: u32, call: Call<'_, M>, is_lent: bool, n: u32) -> bool {
-    let mut members = started::<M>(count);
-    let before = state(&members);
-    call(&mut members).expect("there is memory");
-    let after = state(&members);
-    assert_ne!(before, after);
-    let mut members = started::<M>(count);
-    let (outcome, was_refused) = refusing(n, || call(&mut members));
-    assert_eq!(outcome, if was_refused { Err(Error::NoMemory) } else { Ok(()) });
-    if was_refused {
-        assert!(!members.give_up() || is_lent);
-        assert_eq!(state(&members), before);
-        call(&mut members).expect("one request is refused");
-    }
-    assert_eq!(state(&members), after);
-    was_refused
+/// Has the requests of a call refused in turn, with up to eight members there before it, of which
+/// there is at least one. The refused call changes nothing, and is made again. A first growth has
+/// room for eight bytes: so the growth comes at each place of the call.
+pub fn sweep_from<T>(started: &dyn Fn(u32) -> T, call: Call<'_, T>, state: &dyn Fn(&T) -> Vec<u8>) {
+    let requests = (0..9).map(|count| {
+        let (before, mut of) = (state(&started(count)), started(count));
+        call(&mut of).expect("there is memory");
+        let after = state(&of);
+        assert_ne!(before, after);
+        let is_refused = |n: &u32| {
+            let mut of = started(count);
+            let (outcome, was_refused) = refusing(*n, || call(&mut of));
+            assert_eq!(outcome, if was_refused { Err(Error::NoMemory) } else { Ok(()) });
+            if was_refused {
+                assert_eq!(state(&of), before);
+                call(&mut of).expect("one request is refused");
+            }
+            assert_eq!(state(&of), after);
+            was_refused
+        };
+        let requests = (0..20).take_while(is_refused).count();
+        assert!(requests < 20, "each of 20 requests was refused");
+        requests
+    });
+    assert!(requests.sum::<usize>() > 0, "no request was made");
 }
 
-/// Sweeps a call, of which an encoder makes the last one or not. With it alone, this is all that
-/// can be asked: what is counted, and whether it is empty and finished; then the text. A first
-/// growth has room for eight bytes: so the growth comes at each place of the call.
+/// Sweeps a call, of which an encoder makes the last one or not: what the refused one has left is
+/// given up. With it alone, this is all that can be asked: what is counted, and whether it is empty
+/// and finished; then the text.
 pub fn sweep_all<M: Members>(call: Call<'_, M>, is_lent: bool, wanted: &[u8]) {
     let mut members = M::default();
     call(&mut members).expect("there is memory");
     assert_eq!(state(&members), wanted);
-    let requests = (0..9).map(|count| {
-        let growths = (0..20).take_while(|n| is_refused::<M>(count, call, is_lent, *n)).count();
-        assert!(growths < 20, "each of 20 requests was refused");
-        growths
-    });
-    assert!(requests.sum::<usize>() > 0, "no request was made");
+    let call = |members: &mut M| {
+        let outcome = call(members);
+        assert!(outcome.is_ok() || !members.give_up() || is_lent);
+        outcome
+    };
+    sweep_from(&started, &call, &state);
 }
 
 /// Sweeps a call that adds an item: with it alone this is the section, and twice one of two.

@@ -524,13 +524,14 @@ fn dropped_encoders() {
 #[test]
 fn unfinished_builders() {
     let cases = [("a", None), ("b", Some(STRING))];
-    let writes: [&dyn Fn(&mut ComponentBuilder) -> Done; 5] = [
+    let writes: [&dyn Fn(&mut ComponentBuilder) -> Done; 6] = [
         &|b| {
             b.try_core_type(Some(SHORT_NAME))?.1.core().try_function([ValType::I32], [ValType::I32])
         },
         &|b| b.try_ty(Some(SHORT_NAME))?.1.try_resource(ValType::I32, Some(u32::MAX)),
         &|b| b.try_type_defined(Some(SHORT_NAME))?.1.try_record([(SHORT_NAME, STRING)]),
         &|b| b.try_type_defined(Some(SHORT_NAME))?.1.try_variant(cases),
+        &|b| FUNCTIONS[1].0(b.try_type_function(Some(SHORT_NAME))?.1),
         &|b| FUNCTIONS[8].0(b.try_type_function(Some(SHORT_NAME))?.1),
     ];
     for write in writes {

@@ -64,7 +64,8 @@ fn instances() {
 }
 
 /// Names of items of each sort.
-pub fn name_each(section: &mut ComponentNameSection, names: &NameMap) -> Result<(), Fault> {
+fn name_each(section: &mut ComponentNameSection, names: &NameMap) -> Result<(), Fault> {
+    section.component("c")?;
     section.core_funcs(names)?;
     section.core_tables(names)?;
     section.core_memories(names)?;
@@ -77,7 +78,8 @@ pub fn name_each(section: &mut ComponentNameSection, names: &NameMap) -> Result<
     section.values(names)?;
     section.types(names)?;
     section.components(names)?;
-    section.instances(names)
+    section.instances(names)?;
+    section.raw(9, &[0xaa])
 }
 
 const NAMES: &str = "\
@@ -93,9 +95,7 @@ fn names() {
     let mut section = ComponentNameSection::new(Global);
     assert!(section.is_empty());
     section_is(&section, 0, "000f0e636f6d706f6e656e742d6e616d65");
-    section.component("c").unwrap();
     name_each(&mut section, &names).unwrap();
-    section.raw(9, &[0xaa]).unwrap();
     let copy = section.try_clone().unwrap();
     assert_eq!(digits(copy.as_custom().data), NAMES);
 }
