@@ -1,7 +1,7 @@
 //! What component types, instance types and module types declare, what they count, the indices
 //! that are answered, and types that are given up.
 
-use crate::members::{Call, Members, are_states, state, sweep_all, take_back_each};
+use crate::members::{Call, Members, alone, are_states, state, sweep_all, take_back_each};
 use crate::shapes::{field, function, global, memory, sub, table, tag};
 use crate::types::{A_CORE_TYPE, A_TYPE, Done, LAST, NAME, STRING, sweep_both};
 use wenc::tree::CoreTypeTree;
@@ -164,13 +164,6 @@ const FULL: &str = "07940101411800005000600000016b730203000101740205000201690201
     0100020302010002001102010002040201000300016d0011050300016601060300017602730300016503000703\
     00017303010300016905080300016304090400016d001105040001660106040001760273040001650300070400\
     01730301040001690508040001630409";
-
-/// The section alone has these bytes.
-fn alone(section: &impl ComponentSection, wanted: &str) {
-    let bytes = Component::new().section(section).as_slice()[8..].to_vec();
-    let digits: String = bytes.iter().map(|byte| format!("{byte:02x}")).collect();
-    assert_eq!(digits, wanted);
-}
 
 /// A section of types that this writes has these bytes.
 fn types(wanted: &str, write: impl FnOnce(&mut ComponentTypeSection)) {

@@ -86,10 +86,20 @@ members! {
     ]
 }
 
-fn text(value: &impl Encode) -> Vec<u8> {
+pub fn text(value: &impl Encode) -> Vec<u8> {
     let mut sink = Vec::new();
     value.encode(&mut sink);
     sink
+}
+
+pub fn digits(bytes: &[u8]) -> String {
+    bytes.iter().map(|byte| format!("{byte:02x}")).collect()
+}
+
+/// The section alone is this in a component, in hexadecimal.
+#[track_caller]
+pub fn alone(section: &impl ComponentSection, wanted: &str) {
+    assert_eq!(digits(&Component::new().section(section).as_slice()[8..]), wanted);
 }
 
 /// All that can be asked of it, in bytes: what it counts, whether it is empty and finished, and its
@@ -203,8 +213,6 @@ pub const NO_ITEMS: &[u8] = &[0, 0, 0, 0, 1, 1, 1, 0];
 #[track_caller]
 pub fn are_states<M: Members>(wanted: [&str; 3]) {
     for (count, wanted) in (0..).zip(wanted) {
-        let bytes = state(&started::<M>(count));
-        let digits: String = bytes.iter().map(|byte| format!("{byte:02x}")).collect();
-        assert_eq!(digits, wanted);
+        assert_eq!(digits(&state(&started::<M>(count))), wanted);
     }
 }

@@ -1,19 +1,9 @@
 //! Sections of names, and of producers.
 
 use crate::calmly;
-use crate::members::sweep_from;
+use crate::members::{alone, digits, sweep_from, text};
 use crate::types::{Done, NAME};
 use wenc::*;
-
-fn digits(bytes: &[u8]) -> String {
-    bytes.iter().map(|byte| format!("{byte:02x}")).collect()
-}
-
-/// The section alone is this in a component.
-#[track_caller]
-fn alone(section: &impl ComponentSection, wanted: &str) {
-    assert_eq!(digits(&Component::new().section(section).as_slice()[8..]), wanted);
-}
 
 /// One name, "t" of index 0.
 fn names() -> NameMap {
@@ -106,13 +96,6 @@ fn raw_subsections() {
     assert_eq!(digits(&section.as_custom().data), wanted);
 }
 
-/// What encodes itself, as bytes.
-fn bytes(value: &impl Encode) -> Vec<u8> {
-    let mut sink = Vec::new();
-    value.encode(&mut sink);
-    sink
-}
-
 #[test]
 fn maps_and_producers() {
     let names = |count| {
@@ -120,18 +103,18 @@ fn maps_and_producers() {
         (0..count).for_each(|index| names.append(index, ""));
         names
     };
-    sweep_from(&names, &|names| names.try_append(9, NAME), &bytes);
+    sweep_from(&names, &|names| names.try_append(9, NAME), &text);
     let field = |count| {
         let mut field = ProducersField::new();
         (0..count).for_each(|_| _ = field.value("", ""));
         field
     };
-    sweep_from(&field, &|field| field.try_value(NAME, "1").map(|_| ()), &bytes);
+    sweep_from(&field, &|field| field.try_value(NAME, "1").map(|_| ()), &text);
     let section = |count| {
         let mut section = ProducersSection::new();
         (0..count).for_each(|_| _ = section.field("", &ProducersField::new()));
         section
     };
     let one = field(1);
-    sweep_from(&section, &|section| section.try_field(NAME, &one).map(|_| ()), &bytes);
+    sweep_from(&section, &|section| section.try_field(NAME, &one).map(|_| ()), &text);
 }
