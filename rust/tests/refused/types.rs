@@ -374,48 +374,33 @@ fn closed() -> SubType {
     sub(true, None, function([], []))
 }
 
+macro_rules! subtypes {
+    ($($ty:expr => $text:expr, $section:expr;)*) => { [$(($ty, $text, $section)),*] };
+}
+
 /// Subtypes, each without its guard, and its section.
 fn subtypes() -> [(SubType, &'static [u8], &'static [u8]); 10] {
-    [
-        (closed(), b"\x60\x00\x00", b"\x03\x04\x01\x60\x00\x00"),
-        (open(), b"\x50\x00\x60\x00\x00", b"\x03\x07\x01\x00\x50\x00\x60\x00\x00"),
-        (long(), UNGUARDED_LONG, LONG),
-        (
-            array(true, 4, StorageType::I16, false),
-            b"\x4f\x01\x04\x5e\x77\x00",
-            b"\x03\x07\x01\x4f\x01\x04\x5e\x77\x00",
-        ),
-        (
-            array(false, 128, StorageType::I16, false),
-            b"\x50\x01\x80\x01\x5e\x77\x00",
-            b"\x03\x09\x01\x00\x50\x01\x80\x01\x5e\x77\x00",
-        ),
-        (
-            array(true, u32::MAX, StorageType::Val(REFERENCE), true),
+    subtypes! {
+        closed() => b"\x60\x00\x00", b"\x03\x04\x01\x60\x00\x00";
+        open() => b"\x50\x00\x60\x00\x00", b"\x03\x07\x01\x00\x50\x00\x60\x00\x00";
+        long() => UNGUARDED_LONG, LONG;
+        array(true, 4, StorageType::I16, false) =>
+            b"\x4f\x01\x04\x5e\x77\x00", b"\x03\x07\x01\x4f\x01\x04\x5e\x77\x00";
+        array(false, 128, StorageType::I16, false) =>
+            b"\x50\x01\x80\x01\x5e\x77\x00", b"\x03\x09\x01\x00\x50\x01\x80\x01\x5e\x77\x00";
+        array(true, u32::MAX, StorageType::Val(REFERENCE), true) =>
             b"\x4f\x01\xff\xff\xff\xff\x0f\x5e\x64\xff\xff\xff\xff\x0f\x01",
-            b"\x03\x10\x01\x4f\x01\xff\xff\xff\xff\x0f\x5e\x64\xff\xff\xff\xff\x0f\x01",
-        ),
-        (
-            sub(true, Some(3), structure([I32])),
-            b"\x4f\x01\x03\x5f\x01\x7f\x00",
-            b"\x03\x08\x01\x4f\x01\x03\x5f\x01\x7f\x00",
-        ),
-        (
-            sub(false, None, CompositeInnerType::Array(ArrayType(field(StorageType::I8, false)))),
-            b"\x50\x00\x5e\x78\x00",
-            b"\x03\x07\x01\x00\x50\x00\x5e\x78\x00",
-        ),
-        (
-            sub(false, Some(128), function([ValType::I32], [])),
+            b"\x03\x10\x01\x4f\x01\xff\xff\xff\xff\x0f\x5e\x64\xff\xff\xff\xff\x0f\x01";
+        sub(true, Some(3), structure([I32])) =>
+            b"\x4f\x01\x03\x5f\x01\x7f\x00", b"\x03\x08\x01\x4f\x01\x03\x5f\x01\x7f\x00";
+        sub(false, None, CompositeInnerType::Array(ArrayType(field(StorageType::I8, false)))) =>
+            b"\x50\x00\x5e\x78\x00", b"\x03\x07\x01\x00\x50\x00\x5e\x78\x00";
+        sub(false, Some(128), function([ValType::I32], [])) =>
             b"\x50\x01\x80\x01\x60\x01\x7f\x00",
-            b"\x03\x0a\x01\x00\x50\x01\x80\x01\x60\x01\x7f\x00",
-        ),
-        (
-            sub(false, Some(0), structure([I8])),
-            b"\x50\x01\x00\x5f\x01\x78\x01",
-            b"\x03\x09\x01\x00\x50\x01\x00\x5f\x01\x78\x01",
-        ),
-    ]
+            b"\x03\x0a\x01\x00\x50\x01\x80\x01\x60\x01\x7f\x00";
+        sub(false, Some(0), structure([I8])) =>
+            b"\x50\x01\x00\x5f\x01\x78\x01", b"\x03\x09\x01\x00\x50\x01\x00\x5f\x01\x78\x01";
+    }
 }
 
 /// Types that refer to each other.
