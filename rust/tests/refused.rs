@@ -2,6 +2,24 @@
 //! call answers it and changes nothing, and succeeds when it is made once more. Nothing ends the
 //! program.
 #![allow(unsafe_code, reason = "a global allocator is unsafe")]
+// What sweeps takes closures of many kinds.
+#![allow(clippy::type_complexity)]
+
+#[path = "refused/builder.rs"]
+mod builder;
+#[path = "counts.rs"]
+mod counts;
+#[path = "refused/declarations.rs"]
+mod declarations;
+#[path = "refused/members.rs"]
+mod members;
+#[path = "refused/names.rs"]
+mod names;
+#[allow(dead_code, reason = "some are for others")]
+#[path = "core_types/shapes.rs"]
+mod shapes;
+#[path = "refused/types.rs"]
+mod types;
 
 use std::alloc::{GlobalAlloc, Layout, System};
 use std::cell::Cell;
@@ -10,6 +28,12 @@ use wenc::*;
 thread_local! {
     /// How many allocations of this thread are granted before one is refused.
     static GRANTED: Cell<Option<u32>> = const { Cell::new(None) };
+
+    /// How many there were since one was refused.
+    static SINCE: Cell<Option<u32>> = const { Cell::new(None) };
+
+    /// How many there may be.
+    static MORE: Cell<u32> = const { Cell::new(0) };
 }
 
 /// The system's allocator, which refuses one request where it is told to.
@@ -21,7 +45,9 @@ static ALLOCATOR: Refusing = Refusing;
 fn is_refused() -> bool {
     let granted = GRANTED.get();
     GRANTED.set(granted.and_then(|granted| granted.checked_sub(1)));
-    granted == Some(0)
+    let is_refused = granted == Some(0);
+    SINCE.set(if is_refused { Some(0) } else { SINCE.get().map(|since| since + 1) });
+    is_refused
 }
 
 // SAFETY: each is the system's, or answers that there is no memory.
@@ -41,6 +67,33 @@ unsafe impl GlobalAlloc for Refusing {
             unsafe { System.realloc(at, layout, size) }
         }
     }
+}
+
+/// Makes the call with the request number `n` refused, counted from 0, which is its last. Returns
+/// its answer, and whether there was such a request.
+fn refusing<T>(n: u32, call: impl FnOnce() -> T) -> (T, bool) {
+    SINCE.set(None);
+    GRANTED.set(Some(n));
+    let answer = call();
+    assert!(SINCE.take() <= Some(MORE.get()), "requests after the refused one");
+    (answer, GRANTED.take().is_none())
+}
+
+/// In this work a type of functions is converted: room for its results is asked for too, where that
+/// for its parameters was refused.
+fn converting(work: impl FnOnce()) {
+    MORE.set(1);
+    work();
+    MORE.set(0);
+}
+
+/// Makes what has no answer for a refusal, or what is none of the requests, while none is to come.
+fn calmly<T>(make: impl FnOnce() -> T) -> T {
+    let (granted, since) = (GRANTED.take(), SINCE.take());
+    let made = make();
+    GRANTED.set(granted);
+    SINCE.set(since);
+    made
 }
 
 /// How many calls were refused.
@@ -150,12 +203,6 @@ fn sections_are_made_of_items() {
     builder.append_names();
     let bytes = builder.finish();
     let listing = list(&bytes).expect("it is listed");
-    // What has no answer for a refusal is made while none is to come.
-    let calmly = |make: &mut dyn FnMut()| {
-        let granted = GRANTED.take();
-        make();
-        GRANTED.set(granted);
-    };
     each_is_refused(10, |refusals| {
         for (section, listed) in Sections::new(&bytes).expect("a component").zip(&listing.sections)
         {
@@ -165,11 +212,11 @@ fn sections_are_made_of_items() {
                 refusals.call(|| anew.item(item).map(|_| ()));
             }
             let mut places = Vec::new();
-            calmly(&mut || places.extend(section.items().map(|item| item.expect("an item").0)));
+            calmly(|| places.extend(section.items().map(|item| item.expect("an item").0)));
             for place in places {
                 refusals.call(|| kept.raw(&bytes[place.clone()]).map(|_| ()));
             }
-            calmly(&mut || {
+            calmly(|| {
                 for made in [&anew, &kept] {
                     let mut component = Component::new();
                     component.section(made);
@@ -230,12 +277,11 @@ fn sections_are_made_by_hand() {
         }
         let mut types = ComponentTypeSection::new();
         refusals.call(|| types.try_instance(&instance).map(|_| ()));
-        // What has no answer for a refusal is made while none is to come.
-        let granted = GRANTED.take();
-        let mut component = Component::new();
-        component.section(&imports).section(&types);
-        GRANTED.set(granted);
-        component.finish()
+        calmly(|| {
+            let mut component = Component::new();
+            component.section(&imports).section(&types);
+            component.finish()
+        })
     });
     are_upstreams(&bytes, 5258, 0x4af0_e550_fc43_704c);
 }
@@ -306,9 +352,7 @@ fn commands_are_run() {
             assert_eq!(error, Error::NoMemory);
             refusals.0 += 1;
         }
-        Ok(built) => {
-            // What the test makes is none of the requests.
-            let granted = GRANTED.take();
+        Ok(built) => calmly(|| {
             let refused = built.answers.iter().position(Result::is_err);
             let types: Vec<u8> = (0..20).filter(|at| refused != Some(usize::from(*at))).collect();
             let mut answers: Vec<_> =
@@ -318,7 +362,6 @@ fn commands_are_run() {
                 refusals.0 += 1;
             }
             assert_eq!((built.answers, built.bytes), (answers, imports(&types)));
-            GRANTED.set(granted);
-        }
+        }),
     });
 }

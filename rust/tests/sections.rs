@@ -1,5 +1,8 @@
 //! Sections by hand: the bytes of each, a user's own, and what panics leave behind.
 
+#[path = "sections/worked.rs"]
+mod worked;
+
 use std::borrow::Cow;
 use std::panic::{AssertUnwindSafe, catch_unwind};
 use wenc::*;

@@ -10,3 +10,11 @@ mod stages;
 mod unfinished;
 #[path = "types/written.rs"]
 mod written;
+
+use wenc::Encode;
+
+fn text(value: &impl Encode) -> Vec<u8> {
+    let mut sink = Vec::new();
+    value.encode(&mut sink);
+    sink
+}

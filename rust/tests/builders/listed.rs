@@ -1,5 +1,6 @@
 //! Components listed: what the builder says of its items, and what is no component.
 
+use crate::counts::counts;
 use wenc::*;
 
 fn component(behind_header: &[u8]) -> Vec<u8> {
@@ -61,21 +62,7 @@ fn of_each_kind() -> ComponentBuilder {
 #[test]
 fn each_section_and_each_space_is_told() {
     let b = of_each_kind();
-    let told = [
-        b.core_module_count(),
-        b.core_func_count(),
-        b.core_type_count(),
-        b.core_memory_count(),
-        b.core_table_count(),
-        b.core_instance_count(),
-        b.core_tag_count(),
-        b.core_global_count(),
-        b.func_count(),
-        b.instance_count(),
-        b.value_count(),
-        b.component_count(),
-        b.type_count(),
-    ];
+    let told = counts(&b);
     assert_eq!(told, [1, 1, 1, 1, 1, 1, 1, 1, 2, 2, 3, 1, 1]);
     let listing = list(&b.finish()).unwrap();
     let items = sections(&listing).into_iter().map(|(id, _, items)| (id, items));

@@ -3,6 +3,8 @@
 
 mod canonicals;
 mod components;
+#[path = "../counts.rs"]
+mod counts;
 mod hex;
 mod listed;
 #[cfg(panic = "unwind")]

@@ -1,6 +1,7 @@
 //! Iterators and conversions that panic: whoever catches it finds the builder as it was, or
 //! unfinished.
 
+use crate::counts::counts;
 use crate::hex::{behind_header, section};
 use std::panic::{AssertUnwindSafe, catch_unwind};
 use wenc::*;
@@ -66,24 +67,6 @@ fn builder() -> ComponentBuilder {
     b.import("f", ComponentTypeRef::Func(0));
     b.task_cancel();
     b
-}
-
-fn counts(b: &ComponentBuilder) -> [u32; 13] {
-    [
-        b.core_module_count(),
-        b.core_func_count(),
-        b.core_type_count(),
-        b.core_memory_count(),
-        b.core_table_count(),
-        b.core_instance_count(),
-        b.core_tag_count(),
-        b.core_global_count(),
-        b.func_count(),
-        b.instance_count(),
-        b.value_count(),
-        b.component_count(),
-        b.type_count(),
-    ]
 }
 
 /// Makes a call that panics.

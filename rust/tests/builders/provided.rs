@@ -13,250 +13,109 @@ const TYPE: u32 = 200;
 
 const STRING: ComponentValType = ComponentValType::Primitive(PrimitiveValType::String);
 
-/// A row by its section, that of its name, and its call, which is the builder's and the section's.
-macro_rules! row {
-    ($section:literal, $name:literal, $call:ident $args:tt) => {
-        ($section, $name, |b| b.$call $args, |s| s.$call $args)
+/// Calls, which are the builder's and the section's, each with its section and that of its name.
+macro_rules! provided {
+    ($($call:ident $args:tt $section:literal $name:literal;)*) => {
+        [$(($section, $name, |b| b.$call $args, |s| s.$call $args)),*]
     };
 }
 
-const PROVIDED: [(&str, &[u8], OnBuilder, OnSection); 47] = [
-    row!(
-        "08 04 01 02 c8 01",
-        b"\x00\x22\x0ecomponent-name\x01\x11\x00\x00\x01\x00\x0cresource.new",
-        resource_new(TYPE)
-    ),
-    row!(
-        "08 04 01 03 c8 01",
-        b"\x00\x23\x0ecomponent-name\x01\x12\x00\x00\x01\x00\x0dresource.drop",
-        resource_drop(TYPE)
-    ),
-    row!(
-        "08 04 01 04 c8 01",
-        b"\x00\x22\x0ecomponent-name\x01\x11\x00\x00\x01\x00\x0cresource.rep",
-        resource_rep(TYPE)
-    ),
-    row!(
-        "08 02 01 05",
-        b"\x00\x21\x0ecomponent-name\x01\x10\x00\x00\x01\x00\x0btask.cancel",
-        task_cancel()
-    ),
-    row!(
-        "08 03 01 06 01",
-        b"\x00\x24\x0ecomponent-name\x01\x13\x00\x00\x01\x00\x0esubtask.cancel",
-        subtask_cancel(true)
-    ),
-    row!(
-        "08 08 01 09 00 73 02 00 03 02",
-        b"\x00\x21\x0ecomponent-name\x01\x10\x00\x00\x01\x00\x0btask.return",
-        task_return(Some(STRING), OPTIONS)
-    ),
-    row!(
-        "08 04 01 0a 7f 07",
-        b"\x00\x23\x0ecomponent-name\x01\x12\x00\x00\x01\x00\x0dcontext.get 7",
-        context_get(ValType::I32, 7)
-    ),
-    row!(
-        "08 05 01 0b 7e 80 01",
-        b"\x00\x25\x0ecomponent-name\x01\x14\x00\x00\x01\x00\x0fcontext.set 128",
-        context_set(ValType::I64, 128)
-    ),
-    row!(
-        "08 03 01 0c 00",
-        b"\x00\x22\x0ecomponent-name\x01\x11\x00\x00\x01\x00\x0cthread.yield",
-        thread_yield()
-    ),
-    row!(
-        "08 02 01 0d",
-        b"\x00\x22\x0ecomponent-name\x01\x11\x00\x00\x01\x00\x0csubtask.drop",
-        subtask_drop()
-    ),
-    row!(
-        "08 04 01 0e c8 01",
-        b"\x00\x20\x0ecomponent-name\x01\x0f\x00\x00\x01\x00\x0astream.new",
-        stream_new(TYPE)
-    ),
-    row!(
-        "08 08 01 0f c8 01 02 00 03 02",
-        b"\x00\x21\x0ecomponent-name\x01\x10\x00\x00\x01\x00\x0bstream.read",
-        stream_read(TYPE, OPTIONS)
-    ),
-    row!(
-        "08 05 01 10 c8 01 00",
-        b"\x00\x22\x0ecomponent-name\x01\x11\x00\x00\x01\x00\x0cstream.write",
-        stream_write(TYPE, [])
-    ),
-    row!(
-        "08 05 01 11 c8 01 00",
-        b"\x00\x28\x0ecomponent-name\x01\x17\x00\x00\x01\x00\x12stream.cancel-read",
-        stream_cancel_read(TYPE, false)
-    ),
-    row!(
-        "08 05 01 12 c8 01 01",
-        b"\x00\x29\x0ecomponent-name\x01\x18\x00\x00\x01\x00\x13stream.cancel-write",
-        stream_cancel_write(TYPE, true)
-    ),
-    row!(
-        "08 04 01 13 c8 01",
-        b"\x00\x2a\x0ecomponent-name\x01\x19\x00\x00\x01\x00\x14stream.drop-readable",
-        stream_drop_readable(TYPE)
-    ),
-    row!(
-        "08 04 01 14 c8 01",
-        b"\x00\x2a\x0ecomponent-name\x01\x19\x00\x00\x01\x00\x14stream.drop-writable",
-        stream_drop_writable(TYPE)
-    ),
-    row!(
-        "08 04 01 15 c8 01",
-        b"\x00\x20\x0ecomponent-name\x01\x0f\x00\x00\x01\x00\x0afuture.new",
-        future_new(TYPE)
-    ),
-    row!(
-        "08 05 01 16 c8 01 00",
-        b"\x00\x21\x0ecomponent-name\x01\x10\x00\x00\x01\x00\x0bfuture.read",
-        future_read(TYPE, [])
-    ),
-    row!(
-        "08 08 01 17 c8 01 02 00 03 02",
-        b"\x00\x22\x0ecomponent-name\x01\x11\x00\x00\x01\x00\x0cfuture.write",
-        future_write(TYPE, OPTIONS)
-    ),
-    row!(
-        "08 05 01 18 c8 01 01",
-        b"\x00\x28\x0ecomponent-name\x01\x17\x00\x00\x01\x00\x12future.cancel-read",
-        future_cancel_read(TYPE, true)
-    ),
-    row!(
-        "08 05 01 19 c8 01 00",
-        b"\x00\x29\x0ecomponent-name\x01\x18\x00\x00\x01\x00\x13future.cancel-write",
-        future_cancel_write(TYPE, false)
-    ),
-    row!(
-        "08 04 01 1a c8 01",
-        b"\x00\x2a\x0ecomponent-name\x01\x19\x00\x00\x01\x00\x14future.drop-readable",
-        future_drop_readable(TYPE)
-    ),
-    row!(
-        "08 04 01 1b c8 01",
-        b"\x00\x2a\x0ecomponent-name\x01\x19\x00\x00\x01\x00\x14future.drop-writable",
-        future_drop_writable(TYPE)
-    ),
-    row!(
-        "08 06 01 1c 02 00 03 02",
-        b"\x00\x27\x0ecomponent-name\x01\x16\x00\x00\x01\x00\x11error-context.new",
-        error_context_new(OPTIONS)
-    ),
-    row!(
-        "08 03 01 1d 00",
-        b"\x00\x31\x0ecomponent-name\x01\x20\x00\x00\x01\x00\x1berror-context.debug-message",
-        error_context_debug_message([])
-    ),
-    row!(
-        "08 02 01 1e",
-        b"\x00\x28\x0ecomponent-name\x01\x17\x00\x00\x01\x00\x12error-context.drop",
-        error_context_drop()
-    ),
-    row!(
-        "08 02 01 1f",
-        b"\x00\x26\x0ecomponent-name\x01\x15\x00\x00\x01\x00\x10waitable-set.new",
-        waitable_set_new()
-    ),
-    row!(
-        "08 04 01 20 00 03",
-        b"\x00\x27\x0ecomponent-name\x01\x16\x00\x00\x01\x00\x11waitable-set.wait",
-        waitable_set_wait(3)
-    ),
-    row!(
-        "08 04 01 21 00 04",
-        b"\x00\x27\x0ecomponent-name\x01\x16\x00\x00\x01\x00\x11waitable-set.poll",
-        waitable_set_poll(4)
-    ),
-    row!(
-        "08 02 01 22",
-        b"\x00\x27\x0ecomponent-name\x01\x16\x00\x00\x01\x00\x11waitable-set.drop",
-        waitable_set_drop()
-    ),
-    row!(
-        "08 02 01 23",
-        b"\x00\x23\x0ecomponent-name\x01\x12\x00\x00\x01\x00\x0dwaitable.join",
-        waitable_join()
-    ),
-    row!(
-        "08 02 01 24",
-        b"\x00\x26\x0ecomponent-name\x01\x15\x00\x00\x01\x00\x10backpressure.inc",
-        backpressure_inc()
-    ),
-    row!(
-        "08 02 01 25",
-        b"\x00\x26\x0ecomponent-name\x01\x15\x00\x00\x01\x00\x10backpressure.dec",
-        backpressure_dec()
-    ),
-    row!(
-        "08 02 01 26",
-        b"\x00\x22\x0ecomponent-name\x01\x11\x00\x00\x01\x00\x0cthread.index",
-        thread_index()
-    ),
-    row!(
-        "08 05 01 27 c8 01 05",
-        b"\x00\x29\x0ecomponent-name\x01\x18\x00\x00\x01\x00\x13thread.new-indirect",
-        thread_new_indirect(TYPE, 5)
-    ),
-    row!(
-        "08 02 01 28",
-        b"\x00\x29\x0ecomponent-name\x01\x18\x00\x00\x01\x00\x13thread.resume-later",
-        thread_resume_later()
-    ),
-    row!(
-        "08 03 01 29 00",
-        b"\x00\x24\x0ecomponent-name\x01\x13\x00\x00\x01\x00\x0ethread.suspend",
-        thread_suspend()
-    ),
-    row!(
-        "08 03 01 2a 00",
-        b"\x00\x30\x0ecomponent-name\x01\x1f\x00\x00\x01\x00\x1athread.suspend-then-resume",
-        thread_suspend_then_resume()
-    ),
-    row!(
-        "08 03 01 2b 00",
-        b"\x00\x2e\x0ecomponent-name\x01\x1d\x00\x00\x01\x00\x18thread.yield-then-resume",
-        thread_yield_then_resume()
-    ),
-    row!(
-        "08 03 01 2c 00",
-        b"\x00\x31\x0ecomponent-name\x01\x20\x00\x00\x01\x00\x1bthread.suspend-then-promote",
-        thread_suspend_then_promote()
-    ),
-    row!(
-        "08 03 01 2d 00",
-        b"\x00\x2f\x0ecomponent-name\x01\x1e\x00\x00\x01\x00\x19thread.yield-then-promote",
-        thread_yield_then_promote()
-    ),
-    row!(
-        "08 04 01 2e c8 01",
-        b"\x00\x24\x0ecomponent-name\x01\x13\x00\x00\x01\x00\x0estream.forward",
-        stream_forward(TYPE)
-    ),
-    row!(
-        "08 04 01 2f c8 01",
-        b"\x00\x24\x0ecomponent-name\x01\x13\x00\x00\x01\x00\x0efuture.forward",
-        future_forward(TYPE)
-    ),
-    row!(
-        "08 04 01 40 c8 01",
-        b"\x00\x26\x0ecomponent-name\x01\x15\x00\x00\x01\x00\x10thread.spawn-ref",
-        thread_spawn_ref(TYPE)
-    ),
-    row!(
-        "08 05 01 41 c8 01 06",
-        b"\x00\x2b\x0ecomponent-name\x01\x1a\x00\x00\x01\x00\x15thread.spawn-indirect",
-        thread_spawn_indirect(TYPE, 6)
-    ),
-    row!(
-        "08 02 01 42",
-        b"\x00\x32\x0ecomponent-name\x01\x21\x00\x00\x01\x00\x1cthread.available-parallelism",
-        thread_available_parallelism()
-    ),
-];
+const PROVIDED: [(&str, &[u8], OnBuilder, OnSection); 47] = provided! {
+    resource_new(TYPE) "08 04 01 02 c8 01"
+        b"\x00\x22\x0ecomponent-name\x01\x11\x00\x00\x01\x00\x0cresource.new";
+    resource_drop(TYPE) "08 04 01 03 c8 01"
+        b"\x00\x23\x0ecomponent-name\x01\x12\x00\x00\x01\x00\x0dresource.drop";
+    resource_rep(TYPE) "08 04 01 04 c8 01"
+        b"\x00\x22\x0ecomponent-name\x01\x11\x00\x00\x01\x00\x0cresource.rep";
+    task_cancel() "08 02 01 05"
+        b"\x00\x21\x0ecomponent-name\x01\x10\x00\x00\x01\x00\x0btask.cancel";
+    subtask_cancel(true) "08 03 01 06 01"
+        b"\x00\x24\x0ecomponent-name\x01\x13\x00\x00\x01\x00\x0esubtask.cancel";
+    task_return(Some(STRING), OPTIONS) "08 08 01 09 00 73 02 00 03 02"
+        b"\x00\x21\x0ecomponent-name\x01\x10\x00\x00\x01\x00\x0btask.return";
+    context_get(ValType::I32, 7) "08 04 01 0a 7f 07"
+        b"\x00\x23\x0ecomponent-name\x01\x12\x00\x00\x01\x00\x0dcontext.get 7";
+    context_set(ValType::I64, 128) "08 05 01 0b 7e 80 01"
+        b"\x00\x25\x0ecomponent-name\x01\x14\x00\x00\x01\x00\x0fcontext.set 128";
+    thread_yield() "08 03 01 0c 00"
+        b"\x00\x22\x0ecomponent-name\x01\x11\x00\x00\x01\x00\x0cthread.yield";
+    subtask_drop() "08 02 01 0d"
+        b"\x00\x22\x0ecomponent-name\x01\x11\x00\x00\x01\x00\x0csubtask.drop";
+    stream_new(TYPE) "08 04 01 0e c8 01"
+        b"\x00\x20\x0ecomponent-name\x01\x0f\x00\x00\x01\x00\x0astream.new";
+    stream_read(TYPE, OPTIONS) "08 08 01 0f c8 01 02 00 03 02"
+        b"\x00\x21\x0ecomponent-name\x01\x10\x00\x00\x01\x00\x0bstream.read";
+    stream_write(TYPE, []) "08 05 01 10 c8 01 00"
+        b"\x00\x22\x0ecomponent-name\x01\x11\x00\x00\x01\x00\x0cstream.write";
+    stream_cancel_read(TYPE, false) "08 05 01 11 c8 01 00"
+        b"\x00\x28\x0ecomponent-name\x01\x17\x00\x00\x01\x00\x12stream.cancel-read";
+    stream_cancel_write(TYPE, true) "08 05 01 12 c8 01 01"
+        b"\x00\x29\x0ecomponent-name\x01\x18\x00\x00\x01\x00\x13stream.cancel-write";
+    stream_drop_readable(TYPE) "08 04 01 13 c8 01"
+        b"\x00\x2a\x0ecomponent-name\x01\x19\x00\x00\x01\x00\x14stream.drop-readable";
+    stream_drop_writable(TYPE) "08 04 01 14 c8 01"
+        b"\x00\x2a\x0ecomponent-name\x01\x19\x00\x00\x01\x00\x14stream.drop-writable";
+    future_new(TYPE) "08 04 01 15 c8 01"
+        b"\x00\x20\x0ecomponent-name\x01\x0f\x00\x00\x01\x00\x0afuture.new";
+    future_read(TYPE, []) "08 05 01 16 c8 01 00"
+        b"\x00\x21\x0ecomponent-name\x01\x10\x00\x00\x01\x00\x0bfuture.read";
+    future_write(TYPE, OPTIONS) "08 08 01 17 c8 01 02 00 03 02"
+        b"\x00\x22\x0ecomponent-name\x01\x11\x00\x00\x01\x00\x0cfuture.write";
+    future_cancel_read(TYPE, true) "08 05 01 18 c8 01 01"
+        b"\x00\x28\x0ecomponent-name\x01\x17\x00\x00\x01\x00\x12future.cancel-read";
+    future_cancel_write(TYPE, false) "08 05 01 19 c8 01 00"
+        b"\x00\x29\x0ecomponent-name\x01\x18\x00\x00\x01\x00\x13future.cancel-write";
+    future_drop_readable(TYPE) "08 04 01 1a c8 01"
+        b"\x00\x2a\x0ecomponent-name\x01\x19\x00\x00\x01\x00\x14future.drop-readable";
+    future_drop_writable(TYPE) "08 04 01 1b c8 01"
+        b"\x00\x2a\x0ecomponent-name\x01\x19\x00\x00\x01\x00\x14future.drop-writable";
+    error_context_new(OPTIONS) "08 06 01 1c 02 00 03 02"
+        b"\x00\x27\x0ecomponent-name\x01\x16\x00\x00\x01\x00\x11error-context.new";
+    error_context_debug_message([]) "08 03 01 1d 00"
+        b"\x00\x31\x0ecomponent-name\x01\x20\x00\x00\x01\x00\x1berror-context.debug-message";
+    error_context_drop() "08 02 01 1e"
+        b"\x00\x28\x0ecomponent-name\x01\x17\x00\x00\x01\x00\x12error-context.drop";
+    waitable_set_new() "08 02 01 1f"
+        b"\x00\x26\x0ecomponent-name\x01\x15\x00\x00\x01\x00\x10waitable-set.new";
+    waitable_set_wait(3) "08 04 01 20 00 03"
+        b"\x00\x27\x0ecomponent-name\x01\x16\x00\x00\x01\x00\x11waitable-set.wait";
+    waitable_set_poll(4) "08 04 01 21 00 04"
+        b"\x00\x27\x0ecomponent-name\x01\x16\x00\x00\x01\x00\x11waitable-set.poll";
+    waitable_set_drop() "08 02 01 22"
+        b"\x00\x27\x0ecomponent-name\x01\x16\x00\x00\x01\x00\x11waitable-set.drop";
+    waitable_join() "08 02 01 23"
+        b"\x00\x23\x0ecomponent-name\x01\x12\x00\x00\x01\x00\x0dwaitable.join";
+    backpressure_inc() "08 02 01 24"
+        b"\x00\x26\x0ecomponent-name\x01\x15\x00\x00\x01\x00\x10backpressure.inc";
+    backpressure_dec() "08 02 01 25"
+        b"\x00\x26\x0ecomponent-name\x01\x15\x00\x00\x01\x00\x10backpressure.dec";
+    thread_index() "08 02 01 26"
+        b"\x00\x22\x0ecomponent-name\x01\x11\x00\x00\x01\x00\x0cthread.index";
+    thread_new_indirect(TYPE, 5) "08 05 01 27 c8 01 05"
+        b"\x00\x29\x0ecomponent-name\x01\x18\x00\x00\x01\x00\x13thread.new-indirect";
+    thread_resume_later() "08 02 01 28"
+        b"\x00\x29\x0ecomponent-name\x01\x18\x00\x00\x01\x00\x13thread.resume-later";
+    thread_suspend() "08 03 01 29 00"
+        b"\x00\x24\x0ecomponent-name\x01\x13\x00\x00\x01\x00\x0ethread.suspend";
+    thread_suspend_then_resume() "08 03 01 2a 00"
+        b"\x00\x30\x0ecomponent-name\x01\x1f\x00\x00\x01\x00\x1athread.suspend-then-resume";
+    thread_yield_then_resume() "08 03 01 2b 00"
+        b"\x00\x2e\x0ecomponent-name\x01\x1d\x00\x00\x01\x00\x18thread.yield-then-resume";
+    thread_suspend_then_promote() "08 03 01 2c 00"
+        b"\x00\x31\x0ecomponent-name\x01\x20\x00\x00\x01\x00\x1bthread.suspend-then-promote";
+    thread_yield_then_promote() "08 03 01 2d 00"
+        b"\x00\x2f\x0ecomponent-name\x01\x1e\x00\x00\x01\x00\x19thread.yield-then-promote";
+    stream_forward(TYPE) "08 04 01 2e c8 01"
+        b"\x00\x24\x0ecomponent-name\x01\x13\x00\x00\x01\x00\x0estream.forward";
+    future_forward(TYPE) "08 04 01 2f c8 01"
+        b"\x00\x24\x0ecomponent-name\x01\x13\x00\x00\x01\x00\x0efuture.forward";
+    thread_spawn_ref(TYPE) "08 04 01 40 c8 01"
+        b"\x00\x26\x0ecomponent-name\x01\x15\x00\x00\x01\x00\x10thread.spawn-ref";
+    thread_spawn_indirect(TYPE, 6) "08 05 01 41 c8 01 06"
+        b"\x00\x2b\x0ecomponent-name\x01\x1a\x00\x00\x01\x00\x15thread.spawn-indirect";
+    thread_available_parallelism() "08 02 01 42"
+        b"\x00\x32\x0ecomponent-name\x01\x21\x00\x00\x01\x00\x1cthread.available-parallelism";
+};
 
 /// A section with all of them, in the order of the rows.
 const ALL: &str = "08 87 01 2f \

@@ -6,8 +6,6 @@ use wenc::{
     ValType,
 };
 
-pub use wenc::CompositeInnerType as Inner;
-
 pub const FUNCREF: RefType = RefType::FUNCREF;
 pub const EXTERNREF: RefType = RefType::EXTERNREF;
 

@@ -1,20 +1,10 @@
-//! Worked types, sections and components, and types with declarations, with each request for memory
-//! refused in turn.
+//! Components, what declarations count as, and encoders over a bare holder.
 
 mod checks;
-mod component_types;
 mod components;
-mod core_types;
-mod custom;
+mod counts;
 // It counts with a length that only 64 bits hold.
 #[cfg(target_pointer_width = "64")]
 mod dropped;
 mod holders;
-mod instances;
-mod items;
-mod lending;
-mod names;
-mod nested;
 mod sweeps;
-mod swept;
-mod unfinished;

@@ -12,9 +12,6 @@ use crate::proved::wenc_parts::ComponentSection;
 /// What a refused request is answered with.
 pub const REFUSED: Fault = Fault::Memory(AllocError);
 
-/// Longer than a vector's first room, so that each call has to grow.
-pub const NAME: &str = "a name that is longer than a first growth, by far: aaaaaaaaaaaaaaaaaaaaaa";
-
 /// An index whose text has five bytes.
 pub const LARGE: u32 = 4294967295;
 

@@ -2,8 +2,11 @@
 //! byte is worked out from the format.
 
 mod alone;
+mod builder;
 mod commands;
 mod core_types;
+#[path = "../counts.rs"]
+mod counts;
 mod functions;
 #[path = "../builders/hex.rs"]
 mod hex;
@@ -11,4 +14,5 @@ mod instances;
 mod items;
 mod names;
 mod sizes;
+mod trees;
 mod types;

@@ -1,15 +1,10 @@
 //! The calls of types with declarations that answer an index, in both forms.
 
+use crate::text;
 use wenc::{
-    ComponentType, ComponentTypeRef, ComponentValType, Encode, Error, InstanceType, ModuleType,
+    ComponentType, ComponentTypeRef, ComponentValType, Error, InstanceType, ModuleType,
     PrimitiveValType, TypeBounds,
 };
-
-fn text(value: &impl Encode) -> Vec<u8> {
-    let mut sink = Vec::new();
-    value.encode(&mut sink);
-    sink
-}
 
 const NONE: [(&str, ComponentValType); 0] = [];
 

@@ -1,17 +1,12 @@
 //! Values of a caller that panic: what has the type finds it unfinished, or as it was.
 
+use crate::text;
 use std::panic::{AssertUnwindSafe, catch_unwind};
 use wenc::{
     ComponentBuilder, ComponentDefinedTypeEncoder, ComponentExternName, ComponentType,
-    ComponentTypeRef, ComponentTypeSection, ComponentValType, Encode, Error, InstanceType,
+    ComponentTypeRef, ComponentTypeSection, ComponentValType, Error, InstanceType,
     PrimitiveValType,
 };
-
-fn text(value: &impl Encode) -> Vec<u8> {
-    let mut sink = Vec::new();
-    value.encode(&mut sink);
-    sink
-}
 
 fn panics(call: impl FnOnce()) -> bool {
     catch_unwind(AssertUnwindSafe(call)).is_err()

@@ -1,19 +1,14 @@
 //! The order of calls for a type of functions: a call out of turn panics, with `try_` it fails, and
 //! writes nothing.
 
+use crate::text;
 use std::panic::{AssertUnwindSafe, catch_unwind};
 use wenc::{
-    ComponentBuilder, ComponentFuncTypeEncoder, ComponentTypeSection, ComponentValType, Encode,
-    Error, PrimitiveValType,
+    ComponentBuilder, ComponentFuncTypeEncoder, ComponentTypeSection, ComponentValType, Error,
+    PrimitiveValType,
 };
 
 const NONE: [(&str, ComponentValType); 0] = [];
-
-fn text(value: &impl Encode) -> Vec<u8> {
-    let mut sink = Vec::new();
-    value.encode(&mut sink);
-    sink
-}
 
 /// Whether the call panics.
 fn panics<T>(call: impl FnOnce() -> T) -> bool {

@@ -1,67 +1,18 @@
-//! Each type, by each that lends itself to its encoder.
+//! Types, their sections, and what they declare. `refused` has each type, by each that lends itself
+//! to its encoder.
 
+use crate::text;
 use wenc::{
-    Alias, Component, ComponentBuilder, ComponentDefinedTypeEncoder, ComponentExportKind,
-    ComponentOuterAliasKind, ComponentSection, ComponentType, ComponentTypeEncoder,
-    ComponentTypeRef, ComponentTypeSection, ComponentValType, CoreTypeSection, Encode, EntityType,
-    ExportKind, InstanceType, ModuleType, PrimitiveValType, TypeBounds, ValType,
+    Alias, Component, ComponentExportKind, ComponentOuterAliasKind, ComponentSection,
+    ComponentType, ComponentTypeRef, ComponentTypeSection, ComponentValType, CoreTypeSection,
+    EntityType, ExportKind, InstanceType, ModuleType, PrimitiveValType, TypeBounds, ValType,
 };
 
 const NONE: [(&str, ComponentValType); 0] = [];
 
-fn text(value: &impl Encode) -> Vec<u8> {
-    let mut sink = Vec::new();
-    value.encode(&mut sink);
-    sink
-}
-
-/// The bytes of a type with one declaration.
-fn declared(lead: u8, sort: u8, item: &[u8]) -> Vec<u8> {
-    [&[lead, 1, sort], item].concat()
-}
-
 /// What a section is in a component, with its id.
 fn alone(section: &impl ComponentSection) -> Vec<u8> {
     Component::new().section(section).as_slice()[8..].to_vec()
-}
-
-/// Writes a type by each that lends itself: alone it makes this section.
-fn each(write: fn(ComponentTypeEncoder<'_>), section: &[u8]) {
-    let mut types = ComponentTypeSection::new();
-    write(types.ty());
-    assert_eq!(alone(&types), section);
-    let item = &section[3..];
-    let mut component = ComponentType::new();
-    write(component.ty());
-    assert_eq!(text(&component), declared(0x41, 0x01, item));
-    let mut instance = InstanceType::new();
-    write(instance.ty());
-    assert_eq!(text(&instance), declared(0x42, 0x01, item));
-    let mut builder = ComponentBuilder::default();
-    write(builder.ty(None).1);
-    assert_eq!(builder.finish()[8..], *section);
-}
-
-/// Writes a type of values by each that lends itself: alone it makes this section, and twice one of
-/// two.
-fn defined(write: fn(ComponentDefinedTypeEncoder<'_>), section: &[u8]) {
-    let mut types = ComponentTypeSection::new();
-    write(types.defined_type());
-    assert_eq!(alone(&types), section);
-    let item = &section[3..];
-    let two = [&[2], item, item].concat();
-    write(types.ty().defined_type());
-    assert_eq!(text(&types)[1..], two);
-    let mut component = ComponentType::new();
-    write(component.ty().defined_type());
-    assert_eq!(text(&component), declared(0x41, 0x01, item));
-    let mut instance = InstanceType::new();
-    write(instance.ty().defined_type());
-    assert_eq!(text(&instance), declared(0x42, 0x01, item));
-    let mut builder = ComponentBuilder::default();
-    write(builder.type_defined(None).1);
-    write(builder.ty(None).1.defined_type());
-    assert_eq!(builder.finish()[10..], two);
 }
 
 #[test]
@@ -94,7 +45,6 @@ fn primitive_types() {
         text(&section),
         *b"\x0f\x0e\x7f\x7e\x7d\x7c\x7b\x7a\x79\x78\x77\x76\x75\x74\x73\x64"
     );
-    defined(|encoder| encoder.primitive(PrimitiveValType::Char), &[0x07, 0x02, 0x01, 0x74]);
 }
 
 #[test]
@@ -103,135 +53,6 @@ fn indices_of_types() {
     assert_eq!(text(&ComponentValType::Type(63)), [0x3f]);
     assert_eq!(text(&ComponentValType::Type(64)), [0xc0, 0x00]);
     assert_eq!(text(&ComponentValType::Type(u32::MAX)), [0xff, 0xff, 0xff, 0xff, 0x0f]);
-}
-
-#[test]
-fn records() {
-    defined(|encoder| encoder.record(NONE), &[0x07, 0x03, 0x01, 0x72, 0x00]);
-    defined(
-        |encoder| {
-            encoder.record([
-                ("a", PrimitiveValType::String.into()),
-                ("bc", ComponentValType::Type(64)),
-            ])
-        },
-        b"\x07\x0b\x01\x72\x02\x01a\x73\x02bc\xc0\0",
-    );
-    defined(
-        |encoder| encoder.record([("é", PrimitiveValType::F32)]),
-        b"\x07\x07\x01\x72\x01\x02\xc3\xa9\x76",
-    );
-}
-
-#[test]
-fn variants() {
-    defined(|encoder| encoder.variant([]), &[0x07, 0x03, 0x01, 0x71, 0x00]);
-    defined(
-        |encoder| encoder.variant([("x", None), ("y", Some(PrimitiveValType::U8.into()))]),
-        b"\x07\x0c\x01\x71\x02\x01x\0\0\x01y\x01\x7d\0",
-    );
-}
-
-#[test]
-fn lists_and_maps() {
-    defined(|encoder| encoder.list(PrimitiveValType::U8), &[0x07, 0x03, 0x01, 0x70, 0x7d]);
-    defined(|encoder| encoder.list(ComponentValType::Type(63)), &[0x07, 0x03, 0x01, 0x70, 0x3f]);
-    defined(
-        |encoder| encoder.map(PrimitiveValType::String, ComponentValType::Type(1)),
-        &[0x07, 0x04, 0x01, 0x63, 0x73, 0x01],
-    );
-    defined(
-        |encoder| encoder.fixed_length_list(PrimitiveValType::F64, 300),
-        &[0x07, 0x05, 0x01, 0x67, 0x75, 0xac, 0x02],
-    );
-}
-
-#[test]
-fn tuples_flags_and_enumerations() {
-    defined(|encoder| encoder.tuple([] as [ComponentValType; 0]), &[0x07, 0x03, 0x01, 0x6f, 0x00]);
-    defined(
-        |encoder| encoder.tuple([PrimitiveValType::Bool, PrimitiveValType::Char]),
-        &[0x07, 0x05, 0x01, 0x6f, 0x02, 0x7f, 0x74],
-    );
-    defined(|encoder| encoder.flags(["r", "w"]), b"\x07\x07\x01\x6e\x02\x01r\x01w");
-    defined(|encoder| encoder.enum_type(["lo", "hi"]), b"\x07\x09\x01\x6d\x02\x02lo\x02hi");
-}
-
-#[test]
-fn options_and_results() {
-    defined(
-        |encoder| encoder.option(ComponentValType::Type(200)),
-        &[0x07, 0x04, 0x01, 0x6b, 0xc8, 0x01],
-    );
-    defined(|encoder| encoder.result(None, None), &[0x07, 0x04, 0x01, 0x6a, 0x00, 0x00]);
-    defined(
-        |encoder| {
-            encoder.result(Some(PrimitiveValType::S32.into()), Some(ComponentValType::Type(0)))
-        },
-        &[0x07, 0x06, 0x01, 0x6a, 0x01, 0x7a, 0x01, 0x00],
-    );
-    defined(
-        |encoder| encoder.result(None, Some(PrimitiveValType::String.into())),
-        &[0x07, 0x05, 0x01, 0x6a, 0x00, 0x01, 0x73],
-    );
-}
-
-#[test]
-fn handles() {
-    defined(|encoder| encoder.own(128), &[0x07, 0x04, 0x01, 0x69, 0x80, 0x01]);
-    defined(|encoder| encoder.borrow(5), &[0x07, 0x03, 0x01, 0x68, 0x05]);
-}
-
-#[test]
-fn futures_and_streams() {
-    defined(|encoder| encoder.future(None), &[0x07, 0x03, 0x01, 0x65, 0x00]);
-    defined(
-        |encoder| encoder.future(Some(PrimitiveValType::U64.into())),
-        &[0x07, 0x04, 0x01, 0x65, 0x01, 0x77],
-    );
-    defined(|encoder| encoder.stream(None), &[0x07, 0x03, 0x01, 0x66, 0x00]);
-    defined(
-        |encoder| encoder.stream(Some(ComponentValType::Type(2))),
-        &[0x07, 0x04, 0x01, 0x66, 0x01, 0x02],
-    );
-}
-
-#[test]
-fn functions() {
-    each(
-        |encoder| {
-            let params = [("a", PrimitiveValType::U8.into()), ("b", ComponentValType::Type(3))];
-            encoder.function().params(params).result(Some(PrimitiveValType::Bool.into()));
-        },
-        b"\x07\x0b\x01\x40\x02\x01a\x7d\x01b\x03\0\x7f",
-    );
-    each(
-        |encoder| {
-            encoder.function().params(NONE).result(None);
-        },
-        &[0x07, 0x05, 0x01, 0x40, 0x00, 0x01, 0x00],
-    );
-    each(
-        |encoder| {
-            encoder.function().async_(true).params(NONE).result(Some(ComponentValType::Type(9)));
-        },
-        &[0x07, 0x05, 0x01, 0x43, 0x00, 0x00, 0x09],
-    );
-    each(
-        |encoder| {
-            encoder.function().async_(false).params([("p", PrimitiveValType::S8)]).result(None);
-        },
-        b"\x07\x08\x01\x40\x01\x01p\x7e\x01\0",
-    );
-}
-
-#[test]
-fn resources() {
-    each(|encoder| encoder.resource(ValType::I32, None), &[0x07, 0x04, 0x01, 0x3f, 0x7f, 0x00]);
-    each(
-        |encoder| encoder.resource(ValType::I64, Some(130)),
-        &[0x07, 0x06, 0x01, 0x3f, 0x7e, 0x01, 0x82, 0x01],
-    );
 }
 
 #[test]

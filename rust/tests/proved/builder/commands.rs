@@ -1,243 +1,211 @@
-//! Each command: worked components that `build` makes of commands.
+//! Commands, at once and one by one, with each growth of the whole refused in turn.
 
-use super::checks::HEADER;
-use super::trees::{NONE, Tree, Whole, commands};
 use crate::proved::rt_std::alloc::Global;
+use crate::proved::tests::refusing::Refusing;
+use crate::proved::tests::sweeping::REFUSED;
 use crate::proved::wasm_encoder::command::Running;
-use crate::proved::wasm_encoder::{
-    Command, ComponentTypeRef, ComponentValType, Fault, PrimitiveValType, TypeBounds, build,
-};
+use crate::proved::wasm_encoder::{Command, Fault, build, list};
+use std::borrow::ToOwned;
+use std::collections::BTreeSet;
+use std::vec::Vec;
 
 /// What a command is to answer: an index, none, or a fault.
-pub type Answer = Result<Option<u32>, Fault>;
+type Answer = Result<Option<u32>, Fault>;
 
-/// Commands, their answers, and the component that they make, after its header.
-type Row<'a> = (&'a [Tree<'a>], &'a [Answer], &'a [u8]);
+/// Answers, and the component after its header.
+type Wanted<'a> = (&'a [Answer], &'a [u8]);
+
+/// Commands, the ones of the sections of which they are read; what they come to where the one at
+/// each place is refused, and where none is; and whether some growth is that of the one in the
+/// middle, at once and one by one.
+struct Case<'a> {
+    sections: &'a [&'a [u8]],
+    /// The name of a module.
+    name: Option<&'a str>,
+    refused: &'a [Wanted<'a>],
+    accepted: Wanted<'a>,
+    are_refused: [bool; 2],
+}
+
+/// What was refused: the command at a place, the whole, or nothing.
+enum Refused {
+    Command(usize),
+    Whole,
+    Nothing,
+}
+
+/// What runs commands, and returns their answers and the component.
+type Run = fn(&Refusing, &[Command]) -> Result<(Vec<Answer>, Vec<u8>), Fault>;
+
+fn at_once(heap: &Refusing, commands: &[Command]) -> Result<(Vec<Answer>, Vec<u8>), Fault> {
+    let built = build(heap, commands)?;
+    Ok((built.answers.as_slice().to_vec(), built.bytes.as_slice().to_vec()))
+}
+
+fn one_by_one(heap: &Refusing, commands: &[Command]) -> Result<(Vec<Answer>, Vec<u8>), Fault> {
+    let mut running = Running::new(heap)?;
+    let answers = commands.iter().map(|command| running.run(command)).collect();
+    let bytes = running.finish().expect("it is never refused");
+    Ok((answers, bytes.as_slice().to_vec()))
+}
+
+const HEADER: &[u8] = b"\x00asm\x0d\x00\x01\x00";
+
+/// The command of the item that this section has. A module has this name.
+fn command(section: &[u8], name: Option<&str>) -> Command {
+    let listing = list(Global, &[HEADER, section].concat()).unwrap();
+    let item = listing.sections.into_iter().next().unwrap().items.into_iter().next().unwrap();
+    match Command::from(item) {
+        Command::CoreModule { bytes, .. } => {
+            Command::CoreModule { debug_name: name.map(|name| name.to_owned().into()), bytes }
+        }
+        command => command,
+    }
+}
 
 /// The function that the first instance exports.
-pub const FUNCTION: Tree<'static> = Tree::Alias(NONE, b"\x01\x00\x00\x01\x66");
+const FUNCTION: &[u8] = b"\x06\x06\x01\x01\x00\x00\x01f";
 
 /// The type 1 of the component that this one stands in.
-pub const OUTER_TYPE: Tree<'static> = Tree::Alias(NONE, b"\x03\x02\x00\x01");
+const OUTER_TYPE: &[u8] = b"\x06\x05\x01\x03\x02\x00\x01";
 
-/// An import of a byte.
-const BYTE: Tree<'static> = Tree::Import(
-    b"\x00\x01\x76",
-    ComponentTypeRef::Value(ComponentValType::Primitive(PrimitiveValType::U8)),
+const SHORT: &[u8] = b"\x01\x01\xaa";
+
+const LONG: &[u8] =
+    b"\x01\x49a name that is longer than a first growth, by far: aaaaaaaaaaaaaaaaaaaaaa";
+
+const IMPORT: &[u8] = b"\x0a\x4e\x01\x00\x49a name that is longer than a first growth, by far: aaaaaaaaaaaaaaaaaaaaaa\x01\x00";
+
+const RECORD: &[u8] = b"\x07\x09\x01\x72\x02\x01\x61\x7f\x01\x62\x7f";
+
+/// Growth number `n` is refused, where there is one.
+fn refuse(heap: &Refusing, run: Run, commands: &[Command], case: &Case<'_>, n: u64) -> Refused {
+    heap.refuse_nth(n);
+    let (answers, bytes) = match run(heap, commands) {
+        Ok(ran) => ran,
+        Err(fault) => {
+            assert!(heap.was_refused() && fault == REFUSED);
+            return Refused::Whole;
+        }
+    };
+    let place = answers.iter().position(|answer| answer.is_err());
+    assert_eq!(place.is_some(), heap.was_refused());
+    let wanted = place.map_or(case.accepted, |place| case.refused[place]);
+    assert_eq!((answers.as_slice(), bytes.strip_prefix(HEADER)), (wanted.0, Some(wanted.1)));
+    place.map_or(Refused::Nothing, Refused::Command)
+}
+
+/// Both aliases stand in one section where what is between them is refused.
+const BETWEEN: Wanted<'static> = (
+    &[Ok(Some(0)), Err(REFUSED), Ok(Some(0))],
+    b"\x06\x0a\x02\x01\x00\x00\x01\x66\x03\x02\x00\x01",
 );
 
-const APPEND_NAMES: Tree<'static> = Tree::Whole(Whole::AppendNames);
+/// What aliases have between them is a module, whose answer isn't theirs.
+const FIRST: &[Answer] = &[Err(REFUSED), Ok(Some(0)), Ok(Some(0))];
 
-/// A start with as many results as there may be values.
-const MOST: Tree<'static> = Tree::Whole(Whole::Start(b"\x00", 4294967295));
+const LAST: &[Answer] = &[Ok(Some(0)), Ok(Some(0)), Err(REFUSED)];
 
-const ROWS: &[Row<'static>] = &[
-    (
-        &[
-            Tree::Canon(NONE, b"\x02\x01"),
-            Tree::Whole(Whole::Module(NONE, &[])),
-            Tree::Canon(NONE, b"\x04\x01"),
-        ],
-        &[Ok(Some(0)), Ok(Some(0)), Ok(Some(1))],
-        b"\x08\x03\x01\x02\x01\x01\x00\x08\x03\x01\x04\x01",
-    ),
-    // The size has two bytes.
-    (
-        &[Tree::Whole(Whole::Module(NONE, &[0; 128]))],
-        &[Ok(Some(0))],
-        b"\x01\x80\x01\x00\x00\x00\x00\x00\x00\x00\x00\x00\x00\x00\x00\x00\x00\x00\x00\x00\x00\x00\x00\x00\x00\x00\x00\x00\x00\x00\x00\x00\x00\x00\x00\x00\x00\x00\x00\x00\x00\x00\x00\x00\x00\x00\x00\x00\x00\x00\x00\x00\x00\x00\x00\x00\x00\x00\x00\x00\x00\x00\x00\x00\x00\x00\x00\x00\x00\x00\x00\x00\x00\x00\x00\x00\x00\x00\x00\x00\x00\x00\x00\x00\x00\x00\x00\x00\x00\x00\x00\x00\x00\x00\x00\x00\x00\x00\x00\x00\x00\x00\x00\x00\x00\x00\x00\x00\x00\x00\x00\x00\x00\x00\x00\x00\x00\x00\x00\x00\x00\x00\x00\x00\x00\x00\x00\x00\x00\x00\x00",
-    ),
-    (
-        &[MOST, BYTE, Tree::Whole(Whole::Start(b"\x00", 0))],
-        &[Ok(Some(0)), Err(Fault::TooMany), Ok(Some(4294967295))],
-        b"\x09\x07\x07\x00\xff\xff\xff\xff\x0f\x09\x03\x07\x00\x00",
-    ),
-    (
-        &[Tree::Whole(Whole::Start(b"\x02\x01\x00", 1))],
-        &[Ok(Some(0))],
-        b"\x09\x05\x07\x02\x01\x00\x01",
-    ),
-    (
-        &[Tree::Canon(NONE, b"\x00\x00\x01\x02\x03\x00\x06\x02")],
-        &[Ok(Some(0))],
-        b"\x08\x09\x01\x00\x00\x01\x02\x03\x00\x06\x02",
-    ),
-    (
-        &[Tree::Canon(NONE, b"\x06\x01")],
-        &[Ok(Some(0))],
-        b"\x08\x03\x01\x06\x01",
-    ),
-    (
-        &[Tree::CoreType(b"\x00\x50\x00\x60\x00\x00")],
-        &[Ok(Some(0))],
-        b"\x03\x07\x01\x00\x50\x00\x60\x00\x00",
-    ),
-    (
-        &[Tree::CoreType(b"\x50\x01\x01\x50\x00\x60\x00\x00")],
-        &[Ok(Some(0))],
-        b"\x03\x09\x01\x50\x01\x01\x50\x00\x60\x00\x00",
-    ),
-    (
-        &[Tree::CoreType(b"\x4e\x02\x60\x00\x00\x60\x01\x7f\x00")],
-        &[Ok(Some(0))],
-        b"\x03\x0a\x01\x4e\x02\x60\x00\x00\x60\x01\x7f\x00",
-    ),
-    (
-        &[Tree::Type(b"\x71\x02\x01\x61\x00\x00\x01\x62\x01\x73\x00")],
-        &[Ok(Some(0))],
-        b"\x07\x0c\x01\x71\x02\x01\x61\x00\x00\x01\x62\x01\x73\x00",
-    ),
-    (
-        &[Tree::Type(b"\x43\x00\x01\x00")],
-        &[Ok(Some(0))],
-        b"\x07\x05\x01\x43\x00\x01\x00",
-    ),
-    (
-        &[Tree::Type(b"\x41\x00")],
-        &[Ok(Some(0))],
-        b"\x07\x03\x01\x41\x00",
-    ),
-    (
-        &[Tree::Type(b"\x42\x02\x01\x6b\x73\x04\x00\x01\x74\x03\x00\x00")],
-        &[Ok(Some(0))],
-        b"\x07\x0d\x01\x42\x02\x01\x6b\x73\x04\x00\x01\x74\x03\x00\x00",
-    ),
-    (
-        &[
-            Tree::CoreInstance(b"\x01\x01\x03foo\x00\x00"),
-            Tree::CoreInstance(b"\x00\x01\x01\x03foo\x12\x00"),
-        ],
-        &[Ok(Some(0)), Ok(Some(1))],
-        b"\x02\x12\x02\x01\x01\x03foo\x00\x00\x00\x01\x01\x03foo\x12\x00",
-    ),
-    (
-        &[
-            Tree::Instance(b"\x01\x01\x00\x03foo\x01\x00"),
-            Tree::Instance(b"\x00\x01\x01\x03foo\x05\x00"),
-        ],
-        &[Ok(Some(0)), Ok(Some(1))],
-        b"\x05\x13\x02\x01\x01\x00\x03foo\x01\x00\x00\x01\x01\x03foo\x05\x00",
-    ),
-    (
-        &[Tree::Whole(Whole::RawComponent(b"\x00asm\x0d\x00\x01\x00\x08\x02\x01\x05"))],
-        &[Ok(Some(0))],
-        b"\x04\x0c\x00asm\x0d\x00\x01\x00\x08\x02\x01\x05",
-    ),
-    // The names so far.
-    (
-        &[BYTE, APPEND_NAMES],
-        &[Ok(Some(0)), Ok(None)],
-        b"\x0a\x06\x01\x00\x01\x76\x02\x7d\x00\x16\x0ecomponent-name\x01\x05\x02\x01\x00\x01\x76",
-    ),
-    // A function that has its own name in place of its debug name.
-    (
-        &[Tree::Canon(b"\x01\x01q", b"\x03\x00"), APPEND_NAMES],
-        &[Ok(Some(0)), Ok(None)],
-        b"\x08\x03\x01\x03\x00\x00\x23\x0ecomponent-name\x01\x12\x00\x00\x01\x00\x0dresource.drop",
-    ),
-    (
-        &[Tree::Canon(NONE, b"\x2d\x00"), APPEND_NAMES],
-        &[Ok(Some(0)), Ok(None)],
-        b"\x08\x03\x01\x2d\x00\x00\x2f\x0ecomponent-name\x01\x1e\x00\x00\x01\x00\x19thread.yield-then-promote",
-    ),
-    (&[APPEND_NAMES], &[Ok(None)], b""),
-    (
-        &[Tree::Whole(Whole::Custom(b"\x01x"))],
-        &[Ok(None)],
-        b"\x00\x02\x01\x78",
-    ),
-    (
-        &[Tree::Whole(Whole::RawCustom(&[2, 1, 0x78]))],
-        &[Ok(None)],
-        b"\x00\x02\x01\x78",
-    ),
-    (
-        &[
-            FUNCTION,
-            Tree::Whole(Whole::Module(NONE, &[0xaa])),
-            OUTER_TYPE,
-        ],
-        &[Ok(Some(0)), Ok(Some(0)), Ok(Some(0))],
-        b"\x06\x06\x01\x01\x00\x00\x01\x66\x01\x01\xaa\x06\x05\x01\x03\x02\x00\x01",
-    ),
-    // A tag that the first core instance exports.
-    (
-        &[Tree::Alias(NONE, b"\x00\x04\x01\x00\x01\x74")],
-        &[Ok(Some(0))],
-        b"\x06\x07\x01\x00\x04\x01\x00\x01\x74",
-    ),
-    (
-        &[FUNCTION],
-        &[Ok(Some(0))],
-        b"\x06\x06\x01\x01\x00\x00\x01\x66",
-    ),
-    // A core type of an outer component.
-    (
-        &[Tree::Alias(NONE, b"\x00\x10\x02\x01\x02")],
-        &[Ok(Some(0))],
-        b"\x06\x06\x01\x00\x10\x02\x01\x02",
-    ),
-    (&[], &[], b""),
-    // Among them are a module under its own name as debug name, and a value.
-    (
-        &[
-            Tree::Import(
-                b"\x00\x01\x61",
-                ComponentTypeRef::Value(ComponentValType::Type(64)),
-            ),
-            Tree::Import(b"\x00\x01\x62", ComponentTypeRef::Type(TypeBounds::Eq(3))),
-            Tree::Alias(b"\x01\x01m", b"\x00\x11\x00\x05\x01\x6d"),
-            Tree::Export(b"\x00\x01\x63"),
-            Tree::Alias(NONE, b"\x02\x00\x00\x01\x76"),
-        ],
-        &[
-            Ok(Some(0)),
-            Ok(Some(0)),
-            Ok(Some(0)),
-            Ok(Some(1)),
-            Ok(Some(1)),
-        ],
-        b"\x0a\x0d\x02\x00\x01\x61\x02\xc0\x00\x00\x01\x62\x03\x00\x03\x06\x07\x01\x00\x11\x00\x05\x01\x6d\x0b\x08\x01\x00\x01\x63\x00\x11\x00\x00\x06\x06\x01\x02\x00\x00\x01\x76",
-    ),
+const ALL: &[Answer] = &[Ok(Some(0)), Ok(Some(0)), Ok(Some(0))];
+
+const MODULES: &[Wanted<'static>] = &[
+    (FIRST, b"\x01\x01\xaa\x06\x05\x01\x03\x02\x00\x01"),
+    BETWEEN,
+    (LAST, b"\x06\x06\x01\x01\x00\x00\x01f\x01\x01\xaa"),
 ];
 
-/// The commands of a nested component, which stands alone in another. What is refused inside
-/// refuses the whole component.
-const NESTED: &[Row<'static>] = &[
-    (
-        &[Tree::Canon(NONE, b"\x05")],
-        &[Ok(Some(0))],
-        b"\x04\x0c\x00asm\x0d\x00\x01\x00\x08\x02\x01\x05",
-    ),
-    (&[MOST, BYTE], &[Err(Fault::TooMany)], b""),
+const ALL_MODULES: Wanted<'static> =
+    (ALL, b"\x06\x06\x01\x01\x00\x00\x01f\x01\x01\xaa\x06\x05\x01\x03\x02\x00\x01");
+
+/// What is refused adds nothing, and those after it run all the same. The short module has room
+/// without a growth, and its name hasn't. The import is of a function, as the first alias is. Where
+/// the opening of a record is refused, so is the command; where the rest of the type is, so is the
+/// whole, but one by one the command, which is given up: the alias takes its index.
+const CASES: &[Case<'static>] = &[
+    Case {
+        sections: &[FUNCTION, SHORT, OUTER_TYPE],
+        name: None,
+        refused: MODULES,
+        accepted: ALL_MODULES,
+        are_refused: [false; 2],
+    },
+    Case {
+        sections: &[FUNCTION, SHORT, OUTER_TYPE],
+        name: Some("m"),
+        refused: MODULES,
+        accepted: ALL_MODULES,
+        are_refused: [true; 2],
+    },
+    Case {
+        sections: &[FUNCTION, LONG, OUTER_TYPE],
+        name: None,
+        refused: &[
+            (FIRST, b"\x01\x49a name that is longer than a first growth, by far: aaaaaaaaaaaaaaaaaaaaaa\x06\x05\x01\x03\x02\x00\x01"),
+            BETWEEN,
+            (LAST, b"\x06\x06\x01\x01\x00\x00\x01f\x01\x49a name that is longer than a first growth, by far: aaaaaaaaaaaaaaaaaaaaaa"),
+        ],
+        accepted: (ALL, b"\x06\x06\x01\x01\x00\x00\x01f\x01\x49a name that is longer than a first growth, by far: aaaaaaaaaaaaaaaaaaaaaa\x06\x05\x01\x03\x02\x00\x01"),
+        are_refused: [true; 2],
+    },
+    Case {
+        sections: &[FUNCTION, IMPORT, OUTER_TYPE],
+        name: None,
+        refused: &[
+            (FIRST, b"\x0a\x4e\x01\x00\x49a name that is longer than a first growth, by far: aaaaaaaaaaaaaaaaaaaaaa\x01\x00\x06\x05\x01\x03\x02\x00\x01"),
+            BETWEEN,
+            (&[Ok(Some(0)), Ok(Some(1)), Err(REFUSED)], b"\x06\x06\x01\x01\x00\x00\x01f\x0a\x4e\x01\x00\x49a name that is longer than a first growth, by far: aaaaaaaaaaaaaaaaaaaaaa\x01\x00"),
+        ],
+        accepted: (&[Ok(Some(0)), Ok(Some(1)), Ok(Some(0))], b"\x06\x06\x01\x01\x00\x00\x01f\x0a\x4e\x01\x00\x49a name that is longer than a first growth, by far: aaaaaaaaaaaaaaaaaaaaaa\x01\x00\x06\x05\x01\x03\x02\x00\x01"),
+        are_refused: [true; 2],
+    },
+    Case {
+        sections: &[RECORD],
+        name: None,
+        refused: &[(&[Err(REFUSED)], b"")],
+        accepted: (&[Ok(Some(0))], RECORD),
+        are_refused: [true; 2],
+    },
+    Case {
+        sections: &[FUNCTION, RECORD, OUTER_TYPE],
+        name: None,
+        refused: &[
+            (&[Err(REFUSED), Ok(Some(0)), Ok(Some(1))], b"\x07\x09\x01\x72\x02\x01\x61\x7f\x01\x62\x7f\x06\x05\x01\x03\x02\x00\x01"),
+            BETWEEN,
+            (LAST, b"\x06\x06\x01\x01\x00\x00\x01f\x07\x09\x01\x72\x02\x01\x61\x7f\x01\x62\x7f"),
+        ],
+        accepted: (&[Ok(Some(0)), Ok(Some(0)), Ok(Some(1))], b"\x06\x06\x01\x01\x00\x00\x01f\x07\x09\x01\x72\x02\x01\x61\x7f\x01\x62\x7f\x06\x05\x01\x03\x02\x00\x01"),
+        are_refused: [false, true],
+    },
 ];
 
-/// The commands are answered so, and make the component with these bytes after its header, at once
-/// and one by one.
-pub fn builds(commands: &[Command], answers: &[Answer], wanted: &[u8]) {
-    let built = build(Global, commands).unwrap();
-    assert_eq!(built.answers.as_slice(), answers);
-    assert_eq!(built.bytes.as_slice().strip_prefix(HEADER), Some(wanted));
-    let mut running = Running::new(Global).unwrap();
-    for (command, answer) in commands.iter().zip(answers) {
-        assert_eq!(running.run(command), *answer);
+/// The places of the commands that are refused, growth by growth.
+fn places(heap: &Refusing, run: Run, commands: &[Command], case: &Case<'_>) -> BTreeSet<usize> {
+    let mut places = BTreeSet::new();
+    let mut whole = 0;
+    for n in 1..60 {
+        match refuse(heap, run, commands, case, n) {
+            Refused::Command(place) => _ = places.insert(place),
+            Refused::Whole => whole += 1,
+            Refused::Nothing => {
+                assert!(whole > 0, "the builder takes memory");
+                return places;
+            }
+        }
     }
-    let bytes = running.finish().unwrap();
-    assert_eq!(bytes.as_slice().strip_prefix(HEADER), Some(wanted));
+    panic!("each of 59 growths was refused")
 }
 
 #[test]
-fn rows() {
-    for (trees, answers, wanted) in ROWS {
-        let commands = commands(trees);
-        builds(commands.as_slice(), answers, wanted);
-    }
-}
-
-#[test]
-fn nested_rows() {
-    for (trees, answers, wanted) in NESTED {
-        let nested = Command::Component { debug_name: None, commands: commands(trees) };
-        builds(&[nested], answers, wanted);
+fn commands_are_swept() {
+    let heap = Refusing::new();
+    let runs: [Run; 2] = [at_once, one_by_one];
+    for case in CASES {
+        let commands = case.sections.iter().map(|section| command(section, case.name));
+        let commands: Vec<Command> = commands.collect();
+        for (run, is_refused) in runs.into_iter().zip(case.are_refused) {
+            let places = places(&heap, run, &commands, case);
+            assert!(places.contains(&0));
+            assert_eq!(places.contains(&(commands.len() / 2)), is_refused);
+        }
     }
 }

@@ -6,9 +6,9 @@ use crate::proved::rt_std::string::String;
 use crate::proved::rt_std::vec::Vec;
 use crate::proved::tests::hex::{bytes, digits};
 use crate::proved::wasm_encoder::{
-    AliasTree, CanonTree, Command, ComponentExportKind, ComponentOuterAliasKind, ComponentTypeRef,
-    CoreInstanceTree, CoreTypeTree, InstanceTree, ItemTree, ListFault, Listing, NameTree, Space,
-    TypeTree, ValType, build, list, producers_command,
+    AliasTree, Built, CanonTree, Command, ComponentExportKind, ComponentOuterAliasKind,
+    ComponentTypeRef, CoreInstanceTree, CoreTypeTree, InstanceTree, ItemTree, ListFault, Listing,
+    NameTree, Running, Space, TypeTree, ValType, build, list, producers_command,
 };
 use crate::proved::wenc_base::ProducersSection;
 use crate::proved::wenc_decode::Decode;
@@ -65,12 +65,23 @@ const ITEMS: &str = "\
     01000b0701000167010000002b0e636f6d706f6e656e742d6e616d650110000001000b7461736b2e63616e63656c\
     01080102000166010167";
 
+/// What the commands come to at once, which is the same one by one.
+fn build_both(commands: &[Command]) -> Built {
+    let built = build(Global, commands).unwrap();
+    let mut running = Running::new(Global).unwrap();
+    for (command, answer) in commands.iter().zip(built.answers.as_slice()) {
+        assert_eq!(running.run(command), *answer);
+    }
+    assert_eq!(running.finish().unwrap(), built.bytes);
+    built
+}
+
 #[test]
 fn built() {
-    let built = build(Global, &sections()).unwrap();
+    let built = build_both(&sections());
     assert_eq!(digits(&built.bytes), SECTIONS);
     assert_eq!(built.answers[3..5], [Ok(Some(0)), Ok(None)]);
-    let built = build(Global, &items()).unwrap();
+    let built = build_both(&items());
     assert_eq!(digits(&built.bytes), ITEMS);
     assert_eq!(built.answers[7], Ok(Some(1)));
 }

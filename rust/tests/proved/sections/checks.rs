@@ -1,11 +1,9 @@
 //! What the tests compare.
 
 use crate::proved::rt_std::alloc::Global;
-use crate::proved::rt_std::string::String;
 use crate::proved::rt_std::vec::Vec;
 use crate::proved::tests::hex::digits;
 use crate::proved::wenc_base::{Encode, Fault};
-use crate::proved::wenc_parts::{Component, ComponentSection};
 use std::vec;
 
 /// The bytes are this lead and these, in hexadecimal.
@@ -30,16 +28,4 @@ pub fn is_text(value: &impl Encode, wanted: &str) {
 /// The call was refused since something is unfinished.
 pub fn is_refused(outcome: Result<(), Fault>) {
     assert_eq!(outcome, Err(Fault::Unfinished));
-}
-
-/// A text of its own.
-pub fn owned(text: &str) -> String {
-    String::from_str(Global, text).unwrap()
-}
-
-/// A component with this section alone has these bytes after its header.
-pub fn alone(section: &impl ComponentSection, wanted: &str) {
-    let mut component = Component::new(Global).unwrap();
-    component.section(section).unwrap();
-    are(component.as_slice(), "0061736d0d000100", wanted);
 }

@@ -1,12 +1,12 @@
 //! Encoders over a bare holder: dropped at each stage, and with each growth refused.
 
-use super::core_types::making::{FINAL, FINAL_OF_ONE, I8, I32, OPEN, func_type, subtype, subtypes};
 use crate::proved::rt_std::alloc::Global;
 use crate::proved::rt_std::vec::Vec;
 use crate::proved::tests::refusing::Refusing;
 use crate::proved::tests::sweeping::{LARGE, REFUSED, TEXT};
 use crate::proved::wenc_base::{
-    CoreTypeEncoder, Encode, Fault, GroupTree, Holder, StorageType, ValType, Verbatim,
+    CompositeType, CoreTypeEncoder, Encode, Fault, FieldType, FuncType, GroupTree, Holder,
+    StorageType, SubType, ValType, Verbatim,
 };
 use crate::proved::wenc_parts::{ComponentValType, PrimitiveValType};
 use crate::proved::wenc_types::{
@@ -23,6 +23,20 @@ type Calls = fn(&mut Heaped<'_>) -> Result<(), Fault>;
 const STRING: ComponentValType = ComponentValType::Primitive(PrimitiveValType::String);
 
 const U8: ComponentValType = ComponentValType::Primitive(PrimitiveValType::U8);
+
+const I8: FieldType = FieldType { element_type: StorageType::I8, mutable: true };
+
+const I32: FieldType = FieldType { element_type: StorageType::Val(ValType::I32), mutable: false };
+
+fn func_type(params: &[ValType]) -> FuncType {
+    FuncType::new(Global, params.iter().copied(), [].into_iter()).unwrap()
+}
+
+/// A type of functions that take these.
+fn subtype(is_final: bool, params: &[ValType]) -> SubType {
+    let composite_type = CompositeType::Func(func_type(params));
+    SubType { is_final, supertype_idx: None, composite_type }
+}
 
 /// What a member is opened with.
 const LEADS: &[&[u8]] = &[&[], &[0x10]];
@@ -156,131 +170,91 @@ struct Ended {
     steps: &'static [usize],
 }
 
-const fn at_once(calls: Calls, written: &'static [u8]) -> Ended {
-    Ended { calls, written, steps: &[] }
+/// Calls, what they write, and after how many bytes a growth may be refused too.
+macro_rules! ended {
+    (|$holder:ident| $($calls:expr => $written:literal $(, after [$($step:literal),*])?;)*) => {
+        &[$(Ended { calls: |$holder| $calls, written: $written, steps: &[$($($step),*)?] }),*]
+    };
 }
 
-const CORE_TYPES: &[Ended] = &[
-    Ended {
-        calls: |holder| {
-            let params = [ValType::I32].into_iter();
-            CoreTypeEncoder::new(holder, true).function(params, [ValType::I64].into_iter())
-        },
-        written: b"\x60\x01\x7f\x01\x7e",
-        steps: &[3],
-    },
-    at_once(
-        |holder| CoreTypeEncoder::new(holder, true).func_type(&func_type(&[ValType::I32], &[])),
-        b"\x60\x01\x7f\x00",
-    ),
-    at_once(
-        |holder| CoreTypeEncoder::new(holder, false).array(&StorageType::I16, false),
-        b"\x5e\x77\x00",
-    ),
-    at_once(
-        |holder| CoreTypeEncoder::new(holder, true).struct_([I8, I32].into_iter()),
-        b"\x5f\x02\x78\x01\x7f\x00",
-    ),
-    at_once(
-        |holder| CoreTypeEncoder::new(holder, true).subtype(&subtype(&OPEN)),
-        b"\x00\x50\x00\x60\x00\x00",
-    ),
-    at_once(
-        |holder| CoreTypeEncoder::new(holder, false).subtype(&subtype(&OPEN)),
-        b"\x50\x00\x60\x00\x00",
-    ),
-    at_once(
-        |holder| CoreTypeEncoder::new(holder, true).rec(subtypes(&[FINAL, FINAL_OF_ONE]).iter()),
-        b"\x4e\x02\x60\x00\x00\x60\x01\x7f\x00",
-    ),
-    at_once(
-        |holder| CoreTypeEncoder::new(holder, true).group(&GroupTree::Sub(subtype(&OPEN))),
-        b"\x00\x50\x00\x60\x00\x00",
-    ),
-    at_once(
-        |holder| ComponentCoreTypeEncoder::new(holder).core().array(&StorageType::I8, true),
-        b"\x5e\x78\x01",
-    ),
-    at_once(
-        |holder| ComponentCoreTypeEncoder::new(holder).module(&ModuleType::new(Global)),
-        b"\x50\x00",
-    ),
-    at_once(
-        |holder| {
-            let tree = CoreTypeTree::Group(GroupTree::Sub(subtype(&OPEN)));
-            ComponentCoreTypeEncoder::new(holder).tree(&tree)
-        },
-        b"\x00\x50\x00\x60\x00\x00",
-    ),
-];
+const CORE_TYPES: &[Ended] = ended! { |holder|
+    {
+        let params = [ValType::I32].into_iter();
+        CoreTypeEncoder::new(holder, true).function(params, [ValType::I64].into_iter())
+    } =>
+        b"\x60\x01\x7f\x01\x7e", after [3];
+    CoreTypeEncoder::new(holder, true).func_type(&func_type(&[ValType::I32])) =>
+        b"\x60\x01\x7f\x00";
+    CoreTypeEncoder::new(holder, false).array(&StorageType::I16, false) => b"\x5e\x77\x00";
+    CoreTypeEncoder::new(holder, true).struct_([I8, I32].into_iter()) =>
+        b"\x5f\x02\x78\x01\x7f\x00";
+    CoreTypeEncoder::new(holder, true).subtype(&subtype(false, &[])) => b"\x00\x50\x00\x60\x00\x00";
+    CoreTypeEncoder::new(holder, false).subtype(&subtype(false, &[])) => b"\x50\x00\x60\x00\x00";
+    {
+        let types = [subtype(true, &[]), subtype(true, &[ValType::I32])];
+        CoreTypeEncoder::new(holder, true).rec(types.iter())
+    } =>
+        b"\x4e\x02\x60\x00\x00\x60\x01\x7f\x00";
+    CoreTypeEncoder::new(holder, true).group(&GroupTree::Sub(subtype(false, &[]))) =>
+        b"\x00\x50\x00\x60\x00\x00";
+    ComponentCoreTypeEncoder::new(holder).core().array(&StorageType::I8, true) => b"\x5e\x78\x01";
+    ComponentCoreTypeEncoder::new(holder).module(&ModuleType::new(Global)) => b"\x50\x00";
+    {
+        let tree = CoreTypeTree::Group(GroupTree::Sub(subtype(false, &[])));
+        ComponentCoreTypeEncoder::new(holder).tree(&tree)
+    } =>
+        b"\x00\x50\x00\x60\x00\x00";
+};
 
-const TYPES: &[Ended] = &[
-    at_once(
-        |holder| ComponentTypeEncoder::new(holder).component(&ComponentType::new(Global)),
-        b"\x41\x00",
-    ),
-    at_once(
-        |holder| ComponentTypeEncoder::new(holder).instance(&InstanceType::new(Global)),
-        b"\x42\x00",
-    ),
-    at_once(
-        |holder| ComponentTypeEncoder::new(holder).resource(ValType::I32, Some(LARGE)),
-        b"\x3f\x7f\x01\xff\xff\xff\xff\x0f",
-    ),
-    at_once(
-        |holder| {
-            let tree: TypeTree = TypeTree::Resource { rep: ValType::I32, dtor: None };
-            ComponentTypeEncoder::new(holder).tree(&tree)
-        },
-        b"\x3f\x7f\x00",
-    ),
-    Ended {
-        calls: |holder| {
-            let mut function = ComponentFuncTypeEncoder::new(holder);
-            function.params([("a", STRING)].into_iter())?;
-            function.result(Some(U8))
-        },
-        written: b"\x40\x01\x01\x61\x73\x00\x7d",
-        steps: &[5],
-    },
-    Ended {
-        calls: |holder| {
-            let mut function = ComponentTypeEncoder::new(holder).function();
-            function.async_(true)?;
-            function.params([].into_iter())?;
-            function.result(None)
-        },
-        written: b"\x43\x00\x01\x00",
-        steps: &[1, 2],
-    },
-];
+const TYPES: &[Ended] = ended! { |holder|
+    ComponentTypeEncoder::new(holder).component(&ComponentType::new(Global)) => b"\x41\x00";
+    ComponentTypeEncoder::new(holder).instance(&InstanceType::new(Global)) => b"\x42\x00";
+    ComponentTypeEncoder::new(holder).resource(ValType::I32, Some(LARGE)) =>
+        b"\x3f\x7f\x01\xff\xff\xff\xff\x0f";
+    {
+        let tree: TypeTree = TypeTree::Resource { rep: ValType::I32, dtor: None };
+        ComponentTypeEncoder::new(holder).tree(&tree)
+    } =>
+        b"\x3f\x7f\x00";
+    {
+        let mut function = ComponentFuncTypeEncoder::new(holder);
+        function.params([("a", STRING)].into_iter())?;
+        function.result(Some(U8))
+    } =>
+        b"\x40\x01\x01\x61\x73\x00\x7d", after [5];
+    {
+        let mut function = ComponentTypeEncoder::new(holder).function();
+        function.async_(true)?;
+        function.params([].into_iter())?;
+        function.result(None)
+    } =>
+        b"\x43\x00\x01\x00", after [1, 2];
+};
 
 /// An encoder of a type of values.
 fn defined<'e, 'h>(holder: &'e mut Heaped<'h>) -> ComponentDefinedTypeEncoder<'e, Heaped<'h>> {
     ComponentTypeEncoder::new(holder).defined_type()
 }
 
-const DEFINED: &[Ended] = &[
-    at_once(|holder| defined(holder).tree(&<DefinedTree>::Own(5)), b"\x69\x05"),
-    at_once(|holder| defined(holder).primitive(PrimitiveValType::Char), b"\x74"),
-    at_once(|holder| defined(holder).record([("a", STRING)].into_iter()), b"\x72\x01\x01\x61\x73"),
-    at_once(
-        |holder| defined(holder).variant([("a", None), ("b", Some(STRING))].into_iter()),
-        b"\x71\x02\x01\x61\x00\x00\x01\x62\x01\x73\x00",
-    ),
-    at_once(|holder| defined(holder).list(STRING), b"\x70\x73"),
-    at_once(|holder| defined(holder).map(STRING, U8), b"\x63\x73\x7d"),
-    at_once(|holder| defined(holder).fixed_length_list(U8, 128), b"\x67\x7d\x80\x01"),
-    at_once(|holder| defined(holder).tuple([STRING, U8].into_iter()), b"\x6f\x02\x73\x7d"),
-    at_once(|holder| defined(holder).flags(["a", "b"].into_iter()), b"\x6e\x02\x01\x61\x01\x62"),
-    at_once(|holder| defined(holder).enum_type(["a"].into_iter()), b"\x6d\x01\x01\x61"),
-    at_once(|holder| defined(holder).option(STRING), b"\x6b\x73"),
-    at_once(|holder| defined(holder).result(Some(STRING), None), b"\x6a\x01\x73\x00"),
-    at_once(|holder| defined(holder).own(LARGE), b"\x69\xff\xff\xff\xff\x0f"),
-    at_once(|holder| defined(holder).borrow(128), b"\x68\x80\x01"),
-    at_once(|holder| defined(holder).future(Some(U8)), b"\x65\x01\x7d"),
-    at_once(|holder| defined(holder).stream(None), b"\x66\x00"),
-];
+const DEFINED: &[Ended] = ended! { |holder|
+    defined(holder).tree(&<DefinedTree>::Own(5)) => b"\x69\x05";
+    defined(holder).primitive(PrimitiveValType::Char) => b"\x74";
+    defined(holder).record([("a", STRING)].into_iter()) => b"\x72\x01\x01\x61\x73";
+    defined(holder).variant([("a", None), ("b", Some(STRING))].into_iter()) =>
+        b"\x71\x02\x01\x61\x00\x00\x01\x62\x01\x73\x00";
+    defined(holder).list(STRING) => b"\x70\x73";
+    defined(holder).map(STRING, U8) => b"\x63\x73\x7d";
+    defined(holder).fixed_length_list(U8, 128) => b"\x67\x7d\x80\x01";
+    defined(holder).tuple([STRING, U8].into_iter()) => b"\x6f\x02\x73\x7d";
+    defined(holder).flags(["a", "b"].into_iter()) => b"\x6e\x02\x01\x61\x01\x62";
+    defined(holder).enum_type(["a"].into_iter()) => b"\x6d\x01\x01\x61";
+    defined(holder).option(STRING) => b"\x6b\x73";
+    defined(holder).result(Some(STRING), None) => b"\x6a\x01\x73\x00";
+    defined(holder).own(LARGE) => b"\x69\xff\xff\xff\xff\x0f";
+    defined(holder).borrow(128) => b"\x68\x80\x01";
+    defined(holder).future(Some(U8)) => b"\x65\x01\x7d";
+    defined(holder).stream(None) => b"\x66\x00";
+};
 
 /// Growth number `n` of the calls is refused, with so many members there. Answers how much they had
 /// written then, where there is such a growth. Given up, and begun once more, the member is whole.

@@ -1,12 +1,17 @@
-//! Components whose requests for memory can be refused.
+//! Components, and types with declarations, whose requests for memory can be refused: what has no
+//! call that the facade tries.
 
 use super::checks::bytes;
 use crate::proved::rt_std::vec::Vec;
 use crate::proved::tests::refusing::Refusing;
 use crate::proved::tests::sweeping::TEXT;
-use crate::proved::tests::sweeping::members::{Adds, Members, sweep_add, sweep_clones, sweep_new};
-use crate::proved::wenc_base::{Fault, RawCustomSection};
+use crate::proved::tests::sweeping::members::{
+    Adds, Members, started, sweep_add, sweep_clones, sweep_new,
+};
+use crate::proved::tests::sweeping::sweep_encode;
+use crate::proved::wenc_base::{ByRef, Fault, RawCustomSection};
 use crate::proved::wenc_parts::Component;
+use crate::proved::wenc_types::{ComponentType, InstanceType, ModuleType};
 
 /// A component.
 struct Sections<'a>(Component<&'a Refusing>);
@@ -43,4 +48,44 @@ fn components_are_swept() {
         sweep_add::<Sections, RawCustomSection>(&heap, &section);
     }
     sweep_clones::<Sections>(&heap, true);
+}
+
+/// Types with declarations, and how a short one is added.
+macro_rules! declarations {
+    ($($ty:ident $of:ident $add:expr;)*) => {
+        $(impl<'a> Members<'a> for $ty<&'a Refusing> {
+            fn empty(heap: &'a Refusing) -> Result<Self, Fault> {
+                Ok($ty::new(heap))
+            }
+
+            fn add_short(&mut self) -> Result<(), Fault> {
+                let $of = self;
+                $add
+            }
+
+            fn again(&self) -> Result<Self, Fault> {
+                self.try_clone()
+            }
+
+            fn state(&self) -> Vec<u8> {
+                bytes(&(self.type_count(), self.is_finished(), ByRef(self)))
+            }
+        })*
+
+        /// Copies and `encode`.
+        #[test]
+        fn types_with_declarations_are_swept() {
+            let heap = Refusing::new();
+            $(
+                (0..3).for_each(|count| sweep_encode(&started::<$ty<&Refusing>>(&heap, count)));
+                sweep_clones::<$ty<&Refusing>>(&heap, false);
+            )*
+        }
+    };
+}
+
+declarations! {
+    ComponentType ty ty.ty()?.defined_type().own(0);
+    InstanceType ty ty.ty()?.defined_type().own(0);
+    ModuleType ty ty.alias_outer_core_type(0, 0);
 }

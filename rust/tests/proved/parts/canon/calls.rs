@@ -27,34 +27,33 @@ const OPTIONS: &[(CanonicalOption, &[u8])] = &[
 const STRING: Option<ComponentValType> =
     Some(ComponentValType::Primitive(PrimitiveValType::String));
 
-const BOTH: &[CanonicalOption] = &[CanonicalOption::UTF8, CanonicalOption::Memory(0)];
+const BOTH: [CanonicalOption; 2] = [CanonicalOption::UTF8, CanonicalOption::Memory(0)];
 
-const WAITS: &[CanonicalOption] = &[CanonicalOption::UTF8, CanonicalOption::Async];
+const WAITS: [CanonicalOption; 2] = [CanonicalOption::UTF8, CanonicalOption::Async];
 
-const NONE: &[CanonicalOption] = &[];
+const NONE: [CanonicalOption; 0] = [];
 
-const GC: &[CanonicalOption] = &[CanonicalOption::Gc];
+const GC: [CanonicalOption; 1] = [CanonicalOption::Gc];
 
 const SLOT: ValType = ValType::Ref(RefType { nullable: true, heap_type: HeapType::Concrete(64) });
 
+/// Makes these calls, one after the other.
+macro_rules! calls {
+    ($to:ident: $($call:ident $args:tt)*) => {{
+        $($to.$call $args?;)*
+        Ok(())
+    }};
+}
+
 /// Those of functions, of resources, of tasks, and of subtasks.
 fn add_functions(to: &mut Section) -> Result<(), Fault> {
-    to.lift(128, 10, BOTH.iter().copied())?;
-    to.lower(128, WAITS.iter().copied())?;
-    to.resource_new(128)?;
-    to.resource_drop(128)?;
-    to.resource_rep(128)?;
-    to.backpressure_inc()?;
-    to.backpressure_dec()?;
-    to.task_return(STRING, BOTH.iter().copied())?;
-    to.task_return(None, NONE.iter().copied())?;
-    to.task_cancel()?;
-    to.context_get(ValType::I32, 0)?;
-    to.context_set(ValType::I32, 0)?;
-    to.context_get(SLOT, 128)?;
-    to.context_set(SLOT, 128)?;
-    to.subtask_drop()?;
-    to.subtask_cancel(true)
+    calls! { to:
+        lift(128, 10, BOTH.into_iter()) lower(128, WAITS.into_iter()) resource_new(128)
+        resource_drop(128) resource_rep(128) backpressure_inc() backpressure_dec()
+        task_return(STRING, BOTH.into_iter()) task_return(None, NONE.into_iter()) task_cancel()
+        context_get(ValType::I32, 0) context_set(ValType::I32, 0) context_get(SLOT, 128)
+        context_set(SLOT, 128) subtask_drop() subtask_cancel(true)
+    }
 }
 
 const FUNCTIONS: &[u8] = &[
@@ -73,14 +72,11 @@ const FUNCTIONS: &[u8] = &[
 ];
 
 fn add_streams(to: &mut Section) -> Result<(), Fault> {
-    to.stream_new(128)?;
-    to.stream_read(7, WAITS.iter().copied())?;
-    to.stream_write(7, WAITS.iter().copied())?;
-    to.stream_forward(128)?;
-    to.stream_cancel_read(3, true)?;
-    to.stream_cancel_write(3, true)?;
-    to.stream_drop_readable(128)?;
-    to.stream_drop_writable(128)
+    calls! { to:
+        stream_new(128) stream_read(7, WAITS.into_iter()) stream_write(7, WAITS.into_iter())
+        stream_forward(128) stream_cancel_read(3, true) stream_cancel_write(3, true)
+        stream_drop_readable(128) stream_drop_writable(128)
+    }
 }
 
 const STREAMS: &[u8] = &[
@@ -93,14 +89,11 @@ const STREAMS: &[u8] = &[
 ];
 
 fn add_futures(to: &mut Section) -> Result<(), Fault> {
-    to.future_new(128)?;
-    to.future_read(7, WAITS.iter().copied())?;
-    to.future_write(7, WAITS.iter().copied())?;
-    to.future_forward(128)?;
-    to.future_cancel_read(3, true)?;
-    to.future_cancel_write(3, true)?;
-    to.future_drop_readable(128)?;
-    to.future_drop_writable(128)
+    calls! { to:
+        future_new(128) future_read(7, WAITS.into_iter()) future_write(7, WAITS.into_iter())
+        future_forward(128) future_cancel_read(3, true) future_cancel_write(3, true)
+        future_drop_readable(128) future_drop_writable(128)
+    }
 }
 
 const FUTURES: &[u8] = &[
@@ -114,15 +107,11 @@ const FUTURES: &[u8] = &[
 
 /// Those of error contexts and of waitables.
 fn add_waitables(to: &mut Section) -> Result<(), Fault> {
-    to.error_context_new(GC.iter().copied())?;
-    to.error_context_debug_message(GC.iter().copied())?;
-    to.error_context_drop()?;
-    to.waitable_set_new()?;
-    to.waitable_set_wait(5)?;
-    to.waitable_set_poll(5)?;
-    to.waitable_set_poll(0)?;
-    to.waitable_set_drop()?;
-    to.waitable_join()
+    calls! { to:
+        error_context_new(GC.into_iter()) error_context_debug_message(GC.into_iter())
+        error_context_drop() waitable_set_new() waitable_set_wait(5) waitable_set_poll(5)
+        waitable_set_poll(0) waitable_set_drop() waitable_join()
+    }
 }
 
 const WAITABLES: &[u8] = &[
@@ -132,18 +121,12 @@ const WAITABLES: &[u8] = &[
 ];
 
 fn add_threads(to: &mut Section) -> Result<(), Fault> {
-    to.thread_spawn_ref(128)?;
-    to.thread_spawn_indirect(1, 2)?;
-    to.thread_available_parallelism()?;
-    to.thread_index()?;
-    to.thread_new_indirect(1, 2)?;
-    to.thread_resume_later()?;
-    to.thread_suspend()?;
-    to.thread_yield()?;
-    to.thread_suspend_then_resume()?;
-    to.thread_yield_then_resume()?;
-    to.thread_suspend_then_promote()?;
-    to.thread_yield_then_promote()
+    calls! { to:
+        thread_spawn_ref(128) thread_spawn_indirect(1, 2) thread_available_parallelism()
+        thread_index() thread_new_indirect(1, 2) thread_resume_later() thread_suspend()
+        thread_yield() thread_suspend_then_resume() thread_yield_then_resume()
+        thread_suspend_then_promote() thread_yield_then_promote()
+    }
 }
 
 const THREADS: &[u8] = &[

@@ -1,0 +1,22 @@
+//! What a builder counts.
+
+use wenc::ComponentBuilder;
+
+/// How many items there are of each kind.
+pub fn counts(b: &ComponentBuilder) -> [u32; 13] {
+    [
+        b.core_module_count(),
+        b.core_func_count(),
+        b.core_type_count(),
+        b.core_memory_count(),
+        b.core_table_count(),
+        b.core_instance_count(),
+        b.core_tag_count(),
+        b.core_global_count(),
+        b.func_count(),
+        b.instance_count(),
+        b.value_count(),
+        b.component_count(),
+        b.type_count(),
+    ]
+}
