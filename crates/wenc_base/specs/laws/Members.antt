@@ -1,5 +1,5 @@
 -- What a holder whose members are texts of one kind stays through all calls.
-use Rattle.std.proofs.Common.{◌≡◌, ℕ, ◌+◌, ◌-◌, Bool, true, false, is_none, Option, Some, None, Result, Ok, Err, append_assoc, List, [], ◌∷◌, ◌++◌, length, refl, sym, ◌∙◌, arith, subst, length-append}
+use Rattle.std.proofs.Common.{◌≡◌, ℕ, ◌+◌, ◌-◌, Bool, true, false, is_none, Option, Some, None, Result, Ok, Err, append_assoc, List, [], ◌∷◌, ◌++◌, length, refl, sym, ◌∙◌, arith, subst}
 use Rattle.std.proofs.Math.Logic.{∥∥₁_map₂, ∥∥₁_elim, ∥∥₁_prop}
 use Rattle.std.proofs.lemmas.List.{take_at, take-append-drop}
 use Rattle.std.specs.List.{flat_map, AllByRecursion}
@@ -74,9 +74,6 @@ within_finished h finished = at h.opening finished
     at None e = tt
     at (Some o) e = cc
 
-pub within_opened : (h : HolderState) (lead : List ℕ) → IsWithin (member_begun h lead)
-within_opened h lead = (omega (arith, length-append h.body lead), omega arith)
-
 -- ---- members of one kind
 
 module _ (P : List ℕ → Type 0) where
@@ -115,13 +112,6 @@ module _ (P : List ℕ → Type 0) where
   keeps_list steps values piece old new (Ok u) each a k =
       rw a.ok.3.state (keeps_more old (piece a.ok.0.items).text (was_finished old u a.unfinished_first) (each a.ok.0.items a.ok.3.fits) k)
   keeps_list steps values piece old new (Err f) each a k = rw a.err k
-
-  -- one is opened
-  pub keeps_opened : (h : HolderState) (lead : List ℕ) → is_finished h ≡ true → HasMembers P h → HasMembers P (member_begun h lead)
-  keeps_opened h lead finished k = record {
-    settled = subst (λ (s : HolderState). ∥ ContainsSome P s ∥₁) (sym (opened_back h lead finished)) (contains_some h finished k);
-    opening = within_opened h lead;
-  }
 
   -- it is ended, as such a text
   pub keeps_closed : (h : HolderState) → ∥ P (member_text h) ∥₁ → HasMembers P h → HasMembers P (member_ended h)

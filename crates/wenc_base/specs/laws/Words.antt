@@ -2,7 +2,7 @@
 use Rattle.std.proofs.Common.{◌≡◌, ℕ, ℤ, pos, negsuc, ◌-ℤ◌, zero, suc, ◌+◌, ◌-◌, ◌*◌, ◌/◌, ◌%◌, ◌^◌, ◌<◌, ◌≤◌, List, [], ◌∷◌, length, map, get_or, refl, sym, ap, ◌∙◌, arith, inl, inr, w64, FitsSigned}
 use Rattle.std.proofs.lemmas.Bool.{cases_lt, le-ltb, lt-ltb}
 use Rattle.std.proofs.lemmas.Int.{ints}
-use Rattle.wenc_base.specs.Number.{groups, complement, unsigned_text, signed_text, sum_from, last_of, signed_sum, AreGroups, IsUnsignedText, IsSignedText, ReadsGroups, last, more}
+use Rattle.wenc_base.specs.Number.{groups, complement, unsigned_text, signed_text, sum_from, last_of, signed_sum, AreGroups, IsUnsignedText, IsSignedText}
 use Rattle.wenc_base.specs.laws.Groups.{limit, groups_below, groups_from}
 use Rattle.std.proofs.Math.Nat.{pow-suc}
 use Rattle.std.proofs.Math.IntN.{pos-ne-negsuc}
@@ -256,15 +256,3 @@ signed_only (negsuc n) bytes h d =
     let short : length bytes ≤ length (map complement (groups 64 9 n)) = d.shortest (map complement (groups 64 9 n)) text.groups_of text.sum in
     let same : map complement bytes ≡ groups 64 9 n = only_text 64 9 n (map complement bytes) (omega arith) (omega arith) r.0 r.1 (omega (arith, short, length-map bytes complement, length-map (groups 64 9 n) complement)) in
     sym (turned_back bytes g) ∙ ap (map complement) same
-
--- ---- reading
-
--- a byte from top on has another after it
-pub word_goes_on : (top room n b : ℕ) (bytes rest : List ℕ) → top ≤ b → ReadsGroups top (suc room) n (b ∷ bytes) rest
-    → (high : ℕ) × (n + 128 ≡ b + 128 * high) × ReadsGroups top room high bytes rest
-word_goes_on top room n b bytes rest h (last lt) = absurd (omega arith)
-word_goes_on top room n b bytes rest h (more {high = high} low byte sum r) = (high, sum, r)
-
--- where no more bytes are allowed, the byte is the last
-pub ends_here : (top n b : ℕ) (bytes rest : List ℕ) → ReadsGroups top 0 n (b ∷ bytes) rest → (n ≡ b) × (b < top)
-ends_here top n b bytes rest (last lt) = (refl, lt)

@@ -1,15 +1,13 @@
 -- What follows for the declarations of module types, component types and instance types.
-use Rattle.std.proofs.Common.{◌≡◌, ℕ, ◌+◌, ◌-◌, Bool, false, List, [], ◌∷◌, ◌++◌, Option, Some, None, Result, Ok, Err, OnOk, refl, ap, sym, ◌∙◌, arith}
-use Rattle.wenc_base.specs.Composites.{RecType, rec_type, standing}
+use Rattle.std.proofs.Common.{◌≡◌, ℕ, ◌+◌, ◌-◌, List, [], ◌∷◌, ◌++◌, Option, Some, None, refl, ap, sym, ◌∙◌, arith}
 use Rattle.wenc_base.specs.Encode.{Serves}
 use Rattle.wenc_base.specs.Forms.{list}
 use Rattle.wenc_base.specs.Holder.{HolderState, held_members, with_member, EncodeCause}
 use Rattle.wenc_base.specs.Piece.{Piece, Form, ◌▸◌, refused_for}
 use Rattle.wenc_base.specs.laws.Holders.{contains_next, contains_opened, given_up_is_before, member_appended_twice}
 use Rattle.wenc_base.specs.laws.Serves.{serves_itself}
-use Rattle.wenc_base.specs.declared.fault.Fault.{Fault}
 use Rattle.wenc_types.specs.ComponentTypes.{InstanceDeclaration, ComponentDeclaration, ComponentType, InstanceType, instances_of, components_of, def_type, instance_declaration, component_declaration}
-use Rattle.wenc_types.specs.CoreTypes.{ModuleDeclaration, ModuleRecType, module_declaration, Module, core_type}
+use Rattle.wenc_types.specs.CoreTypes.{ModuleDeclaration, module_declaration, Module, core_type}
 use Rattle.wenc_types.specs.laws.ComponentTypes.{instances_serve, components_serve}
 use Rattle.wenc_types.specs.Declarations.{ModuleDeclares, InstanceDeclares, ComponentDeclares, one_more, one_less, counts_of, module_sort, instance_sort, component_sort, TypeState, NoneBegun, Declares, IsDeclaration, lead_of, with_held, type_begun, type_appended, type_ended, type_given_up}
 use Rattle.wenc_types.specs.declared.counts.Counts.{Counts}
@@ -69,13 +67,6 @@ back_again Instance n = let e : n.instances + 1 - 1 ≡ n.instances = omega arit
 pub type_given_up_is_before : (t : TypeState) (s : Sort) (text : List ℕ) → NoneBegun t → type_given_up (type_appended (type_begun s t) text) ≡ t
 type_given_up_is_before t s text settled =
     rw (back_again s t.counts, given_up_is_before t.held (lead_of s) text settled.finished, ← settled.none_begun) refl
-
--- A group that an encoder without guards wrote is one declaration more of a module type.
-pub declares_written : (t lent new : TypeState) (guard : Bool) (g : RecType) (outcome : Result (Unit {0}) Fault) → lent ≡ type_begun TypeSort t → guard ≡ false
-    → OnOk outcome (new ≡ type_ended (type_appended lent (standing guard g).text)) → OnOk outcome (standing guard g).Fits → OnOk outcome ((ds : List ModuleDeclaration) → ModuleDeclares t ds → ModuleDeclares new (ds ++ ModuleRecType g ∷ []))
-declares_written t lent new guard g (Ok u) begins unguarded wrote fits =
-    λ ds h. rw (wrote, begins, unguarded) (declares_ended module_declaration module_sort t TypeSort (ModuleRecType g) ds (rec_type g).text refl (rw unguarded at fits) refl h)
-declares_written t lent new guard g (Err f) begins unguarded wrote fits = tt
 
 -- ---- what they serve as
 
