@@ -1,4 +1,4 @@
--- What a command adds after entries, what it answers, and why it is refused.
+-- What a command adds after entries, what it returns, and why it is refused.
 use Rattle.std.specs.Prelude.{ℕ, List, [], ◌∷◌, ◌++◌, Option, None, option_to_list}
 use Rattle.wenc_base.specs.Fault.{first_of}
 use Rattle.wenc_base.specs.declared.fault.Fault.{Fault}
@@ -26,7 +26,7 @@ abbrev pub index_added : List Entry → List Entry → Option ℕ
 index_added es [] = None
 index_added es (x ∷ xs) = index_of (items es) x.item
 
--- what an accepted command answers
+-- what an accepted command returns
 abbrev pub answer_of : List Entry → CommandTree → Option ℕ
 answer_of es c = index_added es (added es c)
 

@@ -15,7 +15,7 @@ use Rattle.wasm_encoder.specs.Cause.{added, answer_of, cause}
 abbrev pub IsRefusal : (Fault → Type 0) → Fault → Type 0
 IsRefusal cause fault = IsWarranted cause fault × (fault ≡ Unfinished → ⊥)
 
--- After these entries the command may get this answer: where it has no cause, the index of its
+-- After these entries the command may have this result: where it has no cause, the index of its
 -- item, if that has one.
 abbrev pub IsDue : List Entry → CommandTree → Result (Option ℕ) Fault → Type 0
 IsDue es c (Ok answer) = (answer ≡ answer_of es c) × NoCause (cause es c)
@@ -26,27 +26,27 @@ abbrev pub entries_after : List Entry → CommandTree → Result (Option ℕ) Fa
 entries_after es c (Ok answer) = es ++ added es c
 entries_after es c (Err fault) = es
 
--- After the entries es, the commands got these answers and led to these entries.
+-- After the entries es, the commands had these results and led to these entries.
 abbrev pub RanFrom : List Entry → List CommandTree → List (Result (Option ℕ) Fault) → List Entry
     → Type 0
 RanFrom es [] [] all = es ≡ all
 RanFrom es (c ∷ cs) (a ∷ answers) all = IsDue es c a × RanFrom (entries_after es c a) cs answers all
 RanFrom es commands answers all = ⊥
 
--- one answer for each command, from no entries on
+-- one result for each command, from no entries on
 abbrev pub Ran : List CommandTree → List (Result (Option ℕ) Fault) → List Entry → Type 0
 Ran commands answers all = RanFrom [] commands answers all
 
 -- ---- a run, command by command
 
--- These commands got these answers, and the builder holds the entries that they led to.
+-- These commands had these results, and the builder holds the entries that they led to.
 pub record HasRun (s : State) (commands : List CommandTree)
     (answers : List (Result (Option ℕ) Fault)) : Type 0 where
   pub entries : List Entry
   pub ran : Ran commands answers entries
   pub held : Holds s entries
 
--- The command ran after those before it, and got this answer.
+-- The command ran after those before it, and had this result.
 abbrev pub RunsNext : State → State → Result (Option ℕ) Fault → CommandTree → Type 0
 RunsNext old new answer c =
     (commands : List CommandTree) (answers : List (Result (Option ℕ) Fault))

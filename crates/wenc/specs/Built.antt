@@ -9,7 +9,7 @@ use Rattle.wasm_encoder.specs.Ran.{Ran}
 use Rattle.wenc.specs.declared.failure.Failure.{Failure}
 use Rattle.wenc.specs.declared.failure.Failure.TheVariants.{Arguments, BadLine, Fault, Transfer}
 
--- The commands that a script says ran, with these answers, and the bytes are the component of the
+-- The commands that a script says ran, with these results, and the bytes are the component of the
 -- items that they led to.
 pub record IsBuilt {A : Type 0} (built : Built A) (said : Result (List CommandTree) ℕ) : Type 0 where
   pub commands : List CommandTree

@@ -28,7 +28,7 @@ no_memory = codes "fault 1" ++ 10 ∷ []
 
 -- ---- runs
 
--- The text is a script, its commands ran with answers of which P holds, and what is printed for
+-- The text is a script, its commands ran with results of which P holds, and what is printed for
 -- them was written.
 pub record Prints (P : List (Result (Option ℕ) Fault) → Type 0)
     (text before after : List ℕ) : Type 0 where

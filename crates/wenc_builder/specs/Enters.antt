@@ -19,9 +19,9 @@ abbrev pub IsCountAt : State → Option Indices → ℕ → Type 0
 IsCountAt s None i = ⊥
 IsCountAt s (Some d) i = i ≡ (namespace_at s.settled.spaces d.space).count
 
--- A call adds this entry to every list that was held, where nothing stands against it, and says
--- this of its answer, by such a list and by the state; or it is refused for a cause and changes
--- nothing. While an item is being written, and only then, it is `Unfinished`.
+-- A call that succeeds adds this entry, which has no cause, to every list that was held, and
+-- returns this, by such a list and by the state; one that fails has a cause and changes nothing.
+-- While an item is being written, and only then, it is `Unfinished`.
 pub record EntersWith {R : Type 0} (old new : State) (result : Result R Fault) (x : Entry)
     (Told : List Entry → R → Type 0) (Counted : Option Indices → R → Type 0) : Type 0 where
   pub held : (es : List Entry) → Holds old es
@@ -34,7 +34,7 @@ pub record EntersWith {R : Type 0} (old new : State) (result : Result R Fault) (
   pub warranted : IfErr result (IsWarranted (EnterCause old x))
   pub unfinished : (builder_is_finished old ≡ false) ↔ (result ≡ Err Unfinished)
 
--- A call adds this entry and answers its index: the number of items that its space had.
+-- A call adds this entry and returns its index: the number of items that its space had.
 abbrev pub Enters : State → State → Result ℕ Fault → Entry → Type 0
 Enters old new result x =
     EntersWith old new result x (λ es i. IsIndexOf (items es) x.item i) (IsCountAt old)
@@ -51,8 +51,8 @@ pub record EntersListed {S B : Type 0} (steps : S → Option B → S → Type 0)
   pub ok : OnOk result (WholeRun steps values (λ run. Enters old new result (x run.items)))
   pub refused : OnErr result (SomeRun steps values (λ run. Enters old new result (x run.items)))
 
--- A call begins an item and lends the builder to an encoder, with the item's index; or it is
--- refused for a cause.
+-- A call begins an item and returns its index and an encoder, which borrows the builder; or it
+-- fails for a cause.
 pub record BeginsItem {E : Type 0} (index : E → ℕ) (lent : E → State) (old : State)
     (result : Result E Fault) (d : Draft) : Type 0 where
   pub begun : IfOk result (λ e. lent e ≡ item_begun old d)
@@ -63,8 +63,7 @@ pub record BeginsItem {E : Type 0} (index : E → ℕ) (lent : E → State) (old
   pub unfinished_first : builder_is_finished old ≡ false → result ≡ Err Unfinished
 
 -- A call that writes this piece takes these indices or none, which leaves `next` and would leave
--- this content when it is done, and says this of its answer; or it is refused for a cause and
--- changes nothing.
+-- this content when it is done, and returns this; or it fails for a cause and changes nothing.
 pub record TakesWith {R : Type 0} (old new next : State) (result : Result R Fault)
     (after : Content) (indices : Option Indices) (p : Piece) (Told : R → Type 0) : Type 0 where
   pub told : IfOk result Told
@@ -75,19 +74,19 @@ pub record TakesWith {R : Type 0} (old new next : State) (result : Result R Faul
   pub warranted : IfErr result (IsWarranted (CallCause old p.Cause after indices))
   pub unfinished_first : builder_is_finished old ≡ false → result ≡ Err Unfinished
 
--- A call takes these indices and answers the number of items that their space had.
+-- A call takes these indices and returns the number of items that their space had.
 abbrev pub TakesIndices : State → State → State → Result ℕ Fault → Content → Indices → Piece
     → Type 0
 TakesIndices old new next result after d p =
     TakesWith old new next result after (Some d) p
     (λ i. i ≡ (namespace_at old.settled.spaces d.space).count)
 
--- A call takes the index of a draft, and answers it.
+-- A call takes the index of a draft, and returns it.
 abbrev pub Takes : State → State → State → Result ℕ Fault → Draft → Piece → Type 0
 Takes old new next result d p =
     TakesIndices old new next result (content_of (item_begun old d)) (draft_indices d) p
 
--- A call takes the index of a draft, writes its item and ends it, and answers that index.
+-- A call takes the index of a draft, writes its item and ends it, and returns that index.
 abbrev pub TakesDraft : State → State → Result ℕ Fault → (List ℕ → Draft) → Piece → Type 0
 TakesDraft old new result d p =
     Takes old new (item_ended (item_begun old (d p.text))) result (d p.text) p

@@ -1,4 +1,4 @@
--- A builder as what encoders are lent.
+-- A builder as the parent of encoders.
 use Rattle.std.specs.Prelude.{◌≡◌, ℕ, Bool, false, List, length, nat_eq, Option, Some, None}
 use Rattle.wenc_base.specs.declared.fault.Fault.{Fault}
 use Rattle.wenc_builder.specs.Builder.{BegunItem, State, content_of, item_appended}

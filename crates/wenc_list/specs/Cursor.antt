@@ -63,7 +63,7 @@ pub record HasTaken (first : SectionItems) (xs : List Item) (left : SectionItems
 abbrev pub IsSpent : SectionItems → Type 0
 IsSpent s = (s.left ≡ 0) × (s.rest.now ≡ [])
 
--- ---- what stands against the next item
+-- ---- why the next item isn't read
 
 -- no item of the section with this id begins here, at whatever depth
 abbrev pub IsNeverItem : ℕ → List ℕ → Type 0

@@ -1,4 +1,4 @@
--- What is listed of a component, and what stands against that (component model, binary format,
+-- What is listed of a component, and why none is (component model, binary format,
 -- "Component Definitions").
 use Rattle.std.specs.List.{AllByRecursion, flat_map}
 use Rattle.std.specs.Prelude.{◌≡◌, ◌⊎◌, ℕ, zero, suc, ◌+◌, ◌<◌, ◌≤◌, List, [], ◌∷◌, ◌++◌, length}
@@ -87,7 +87,7 @@ abbrev pub ArePlaced : {A : Type 0} → List ℕ → List (ListedSection A) → 
 ArePlaced bytes ss =
     (behind : List ℕ) × preamble.Reads Wide bytes behind × AreFrom (length bytes) ss behind []
 
--- ---- what stands against it
+-- ---- why none is listed
 
 -- no section is read here within depth 100
 abbrev pub IsNoneWithin : List ℕ → Type 0

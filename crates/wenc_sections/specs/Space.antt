@@ -35,7 +35,7 @@ space_number Values = 10
 space_number Components = 11
 space_number Types = 12
 
--- whether two spaces are the same
+-- whether two spaces are the same: the derived equality of `Space`
 abbrev pub space_eq : Space → Space → Bool
 space_eq = equality.ghosts.eq
 
@@ -56,14 +56,14 @@ core_kind_space core_kinds.Memory = CoreMemories
 core_kind_space core_kinds.Global = CoreGlobals
 core_kind_space core_kinds.Tag = CoreTags
 
--- the space of what an outer alias stands for
+-- the space of the item that an outer alias is of
 abbrev pub outer_kind_space : ComponentOuterAliasKind → Space
 outer_kind_space outer_kinds.CoreModule = CoreModules
 outer_kind_space outer_kinds.CoreType = CoreTypes
 outer_kind_space outer_kinds.«Type» = Types
 outer_kind_space outer_kinds.Component = Components
 
--- an alias has its index in the space of what it stands for
+-- an alias has its index in the space of the item that it is of
 abbrev pub alias_space : AliasOf → Space
 alias_space (InstanceExport instance kind name) = kind_space kind
 alias_space (CoreInstanceExport instance kind name) = core_kind_space kind

@@ -15,7 +15,7 @@ abbrev pub commands_view : {A : Type 0} → List (Command A) → Commands
 commands_view [] = no_more
 commands_view (c ∷ cs) = then (command_view c) (commands_view cs)
 
--- A command got an answer, for every list of entries that was held.
+-- A command had this result, for every list of entries that was held.
 pub record Answers (old new : State) (answer : Result (Option ℕ) Fault)
     (c : CommandTree) : Type 0 where
   pub held : (es : List Entry) → Holds old es
@@ -49,12 +49,12 @@ HasRunSome s =
     ∥ ((commands : List CommandTree) × (answers : List (Result (Option ℕ) Fault))
     × HasRun s commands answers) ∥₁
 
--- the answer of a call that answers an index
+-- the result of a call that returns an index
 abbrev pub indexed : Result ℕ Fault → Result (Option ℕ) Fault
 indexed (Ok index) = Ok (Some index)
 indexed (Err fault) = Err fault
 
--- and of one that answers none
+-- and of one that returns none
 abbrev pub without_index : Result (Unit {0}) Fault → Result (Option ℕ) Fault
 without_index (Ok done) = Ok None
 without_index (Err fault) = Err fault

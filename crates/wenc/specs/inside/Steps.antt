@@ -16,7 +16,7 @@ use Rattle.wenc.specs.Script.{script}
 use Rattle.wenc.specs.Printed.{line_of, printed}
 use Rattle.wenc.specs.Run.{Says, usage, line_report, fault_report, no_memory}
 
--- the exit status for these answers
+-- the exit status for these results
 abbrev pub IsStatusOf : ℕ → List (Result (Option ℕ) FaultSpec) → Type 0
 IsStatusOf status answers = ((status ≡ 2) × Any IsErr answers) ⊎ ((status ≡ 0) × All IsOk answers)
 
