@@ -1,5 +1,5 @@
 //! Each of the system's allocations refused in turn, while components are built and listed: the
-//! call answers it and changes nothing, and succeeds when it is made once more. Nothing ends the
+//! call fails and changes nothing, and succeeds when it is made once more. Nothing ends the
 //! program.
 #![allow(unsafe_code, reason = "a global allocator is unsafe")]
 // What sweeps takes closures of many kinds.
@@ -50,7 +50,7 @@ fn is_refused() -> bool {
     is_refused
 }
 
-// SAFETY: each is the system's, or answers that there is no memory.
+// SAFETY: each is the system's, or returns null.
 unsafe impl GlobalAlloc for Refusing {
     unsafe fn alloc(&self, layout: Layout) -> *mut u8 {
         if is_refused() { std::ptr::null_mut() } else { unsafe { System.alloc(layout) } }
@@ -70,13 +70,13 @@ unsafe impl GlobalAlloc for Refusing {
 }
 
 /// Makes the call with the request number `n` refused, counted from 0, which is its last. Returns
-/// its answer, and whether there was such a request.
+/// its result, and whether there was such a request.
 fn refusing<T>(n: u32, call: impl FnOnce() -> T) -> (T, bool) {
     SINCE.set(None);
     GRANTED.set(Some(n));
-    let answer = call();
+    let result = call();
     assert!(SINCE.take() <= Some(MORE.get()), "requests after the refused one");
-    (answer, GRANTED.take().is_none())
+    (result, GRANTED.take().is_none())
 }
 
 /// In this work a type of functions is converted: room for its results is asked for too, where that
@@ -87,7 +87,7 @@ fn converting(work: impl FnOnce()) {
     MORE.set(0);
 }
 
-/// Makes what has no answer for a refusal, or what is none of the requests, while none is to come.
+/// Makes what can't fail, or what is none of the requests, while none is to come.
 fn calmly<T>(make: impl FnOnce() -> T) -> T {
     let (granted, since) = (GRANTED.take(), SINCE.take());
     let made = make();
@@ -123,15 +123,15 @@ impl Refusals {
         mut call: impl FnMut(&mut ComponentBuilder) -> Result<(), Error>,
     ) {
         self.call(|| {
-            let answer = call(builder);
-            assert_eq!(builder.is_finished(), answer.is_ok() || !builder.discard_unfinished());
-            answer
+            let result = call(builder);
+            assert_eq!(builder.is_finished(), result.is_ok() || !builder.discard_unfinished());
+            result
         });
     }
 }
 
 /// Does the work with no request refused, then with each in turn: what comes of it is the same, and
-/// is answered, and one call is refused.
+/// is returned, and one call fails.
 fn each_is_refused<T: PartialEq>(least: u32, work: impl Fn(&mut Refusals) -> T) -> T {
     let wanted = work(&mut Refusals::default());
     for n in 0.. {
@@ -239,9 +239,9 @@ fn is_made_by_commands(bytes: &[u8]) {
         let mut builder = refusals.call(ComponentBuilder::try_new);
         for command in &commands {
             refusals.call(|| {
-                let answer = builder.command(command);
+                let result = builder.command(command);
                 assert!(builder.is_finished());
-                answer
+                result
             });
         }
         builder.try_finish().expect("it takes no memory")

@@ -10,7 +10,7 @@ use wenc::*;
 /// It has more bytes than there is room for without a growth.
 pub const NAME: &str = "an-interface-with-a-long-name";
 
-/// A call under a debug name, where it takes one. It answers 0 where it has no index.
+/// A call under a debug name, where it takes one. It returns 0 where it has no index.
 pub type Call<'a> = &'a dyn Fn(&mut ComponentBuilder, Option<&str>) -> Result<u32, Error>;
 
 /// A call, the sort and the name that it leaves where it is accepted, and what it adds: a section,
@@ -148,12 +148,12 @@ pub struct Swept<'a> {
 }
 
 impl Swept<'_> {
-    /// Whether this is the component in which the call is accepted, with this answer.
-    fn is_in(&self, bytes: &[u8], start: &Start, answer: u32) -> bool {
+    /// Whether this is the component in which the call is accepted, with this result.
+    fn is_in(&self, bytes: &[u8], start: &Start, result: u32) -> bool {
         let call = after(Some(bytes), start.bytes);
         match after(after(call, self.added), start.behind) {
             Some(names) if self.sort.is_empty() => names.is_empty(),
-            Some(names) => is_named(names, self.sort, answer, self.name),
+            Some(names) => is_named(names, self.sort, result, self.name),
             None => false,
         }
     }
@@ -193,10 +193,10 @@ impl Swept<'_> {
             assert_eq!(bytes, start.without);
         } else {
             // The aliases in front are of functions, and the one after is of a type.
-            let answer = if self.sort == FUNC { start.aliases } else { 0 };
-            assert_eq!((outcome, behind), (Ok(answer), Ok(u32::from(self.sort == TYPE))));
+            let result = if self.sort == FUNC { start.aliases } else { 0 };
+            assert_eq!((outcome, behind), (Ok(result), Ok(u32::from(self.sort == TYPE))));
             assert_eq!(counted, self.counted(start));
-            assert!(self.is_in(&bytes, start, answer), "{:02x?}", self.added);
+            assert!(self.is_in(&bytes, start, result), "{:02x?}", self.added);
         }
         was_refused
     }

@@ -1,5 +1,5 @@
 //! What component types, instance types and module types declare, what they count, the indices
-//! that are answered, and types that are given up.
+//! that are returned, and types that are given up.
 
 use crate::members::{Call, Members, alone, are_states, state, sweep_all, take_back_each};
 use crate::shapes::{field, function, global, memory, sub, table, tag};
@@ -7,10 +7,10 @@ use crate::types::{A_CORE_TYPE, A_TYPE, Done, LAST, NAME, STRING, sweep_both};
 use wenc::tree::CoreTypeTree;
 use wenc::*;
 
-/// The index that a call answers, or none.
+/// The index that a call returns, or none.
 type Answer = Result<Option<u32>, Error>;
 
-/// What a call answers.
+/// What a call returns.
 trait Index {
     fn index(self) -> Option<u32>;
 }
@@ -230,8 +230,8 @@ fn sections() {
     });
 }
 
-/// A call, the index that it answers after those above it, what it counts as alone, and its text,
-/// which is that of the declaration by the call that answers none.
+/// A call, the index that it returns after those above it, what it counts as alone, and its text,
+/// which is that of the declaration by the call that returns none.
 type Row = (Both, u32, [u8; 6], &'static [u8]);
 
 const OWN: Both = both!(|ty| {
@@ -293,7 +293,7 @@ const LONG: [Row; 2] = [
     ),
 ];
 
-/// Each call answers its index, and all are written in their order after these counts and this
+/// Each call returns its index, and all are written in their order after these counts and this
 /// byte.
 #[test]
 fn indices() {
@@ -319,7 +319,7 @@ fn indexed_calls_are_swept() {
         // An encoder makes the last call of these.
         let is_lent = text[0] == 0x01;
         sweep_both(
-            &|ty| component(ty).map(|answer| assert!(answer <= Some(index + 8))),
+            &|ty| component(ty).map(|result| assert!(result <= Some(index + 8))),
             &|ty| instance(ty).map(|_| ()),
             is_lent,
             counted,
@@ -348,7 +348,7 @@ fn indices_of_core_types() {
 }
 
 /// An instance type with a resource and a function that borrows it, by the indices that are
-/// answered.
+/// returned.
 #[test]
 fn borrowed() {
     let mut ty = InstanceType::new();

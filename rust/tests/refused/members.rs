@@ -171,8 +171,8 @@ pub fn sweep<S: Members + ComponentSection>(call: Call<'_, S>, is_lent: bool, se
 /// A value that isn't whole isn't encoded, and the sink keeps what it had.
 fn is_not_encoded(value: &impl Encode) {
     let mut sink = vec![0x99];
-    let answer = catch_unwind(AssertUnwindSafe(|| value.encode(&mut sink)));
-    let message = answer.expect_err("it is unfinished");
+    let result = catch_unwind(AssertUnwindSafe(|| value.encode(&mut sink)));
+    let message = result.expect_err("it is unfinished");
     let message = message.downcast_ref::<String>().expect("a text");
     assert!(message.starts_with("unfinished: a type or an item was begun and never ended;"));
     assert!(message.ends_with("(of a function's type `result`), or `discard_unfinished`"));
