@@ -31,8 +31,8 @@ pub next_counted : (s : State) (es : List Entry) (space : Space) → Holds s es 
 next_counted s es space h = sym (counted s es space h)
 
 -- no count falls
-pub never_less : {R : Type 0} {Told : List Entry → R → Type 0} {Counted : Option Indices → R → Type 0} (old new : State) (result : Result R Fault) (x : Entry) (space : Space) (es : List Entry)
-    → Holds old es → EntersWith old new result x Told Counted → count_in old space ≤ count_in new space
+pub never_less : {R : Type 0} {Returned : List Entry → R → Type 0} {Counted : Option Indices → R → Type 0} (old new : State) (result : Result R Fault) (x : Entry) (space : Space) (es : List Entry)
+    → Holds old es → EntersWith old new result x Returned Counted → count_in old space ≤ count_in new space
 never_less old new (Ok r) x space es h e =
     let here : count_in new space ≡ next_index (items (es ++ x ∷ [])) space = counted new (es ++ x ∷ []) space (e.held es h).0 in
     omega (arith, here, index_push space es x, counted old es space h)

@@ -12,7 +12,7 @@ use Rattle.wenc.specs.Script.{has_empty, import_command, alias_command, start_co
 use Rattle.std.specs.Prelude.{codes}
 use Rattle.std.specs.Str.{bytes_eq}
 use Rattle.std.proofs.lemmas.Slice.Eq.{bytes_eq-Decides}
-use Rattle.wenc.specs.inside.Full.{of_full, kind_and_index}
+use Rattle.wenc.specs.inside.Full.{unless_word_empty, kind_and_index}
 use Rattle.wenc.proofs.Lines.{false_without}
 
 -- what says nothing where a word is empty says the same of full words
@@ -22,11 +22,11 @@ full_same b x h = grind arith
 -- ---- items with a name
 
 pub full_import : (name k i : List ℕ) (s : ComponentExportKind × ℕ) → Some s ≡ kind_and_index name k i
-    → of_full import_command (name ∷ k ∷ i ∷ []) ≡ Some (Add (import_entry (plain_name name) (reference_word s.0 s.1)))
+    → unless_word_empty import_command (name ∷ k ∷ i ∷ []) ≡ Some (Add (import_entry (plain_name name) (reference_word s.0 s.1)))
 full_import name k i s h = grind (arith, common_steps)
 
 pub full_alias : (i k name : List ℕ) (s : ComponentExportKind × ℕ) → Some s ≡ kind_and_index name k i
-    → of_full alias_command (i ∷ k ∷ name ∷ []) ≡ Some (Add (alias_export_entry s.1 name s.0))
+    → unless_word_empty alias_command (i ∷ k ∷ name ∷ []) ≡ Some (Add (alias_export_entry s.1 name s.0))
 full_alias i k name s h = grind (arith, common_steps)
 
 -- ---- what follows the first word
@@ -39,7 +39,7 @@ numbers_none ((b ∷ word) ∷ words) h = grind (arith, numbers_none words h)
 start_none : (words : List (List ℕ)) → has_empty words ≡ true → start_command words ≡ None
 start_none words h = grind (arith, common_steps, numbers_none)
 
-full_names : (words : List (List ℕ)) → of_full append_names_command words ≡ append_names_command words
+full_names : (words : List (List ℕ)) → unless_word_empty append_names_command words ≡ append_names_command words
 full_names words = grind arith
 
 -- ---- builtins
@@ -81,16 +81,16 @@ differ : (a b : List ℕ) → ¬ (a ≡ b) → bytes_eq a b ≡ false
 differ a b h = false_without (bytes_eq a b) (a ≡ b) (bytes_eq-Decides a b).0 h
 
 module _ (all : List (List ℕ)) (verb : List ℕ) (words : List (List ℕ)) (is : all ≡ verb ∷ words) where
-  pub start_said : verb ≡ codes "start" → of_full command_of all ≡ start_command words
+  pub start_said : verb ≡ codes "start" → unless_word_empty command_of all ≡ start_command words
   start_said v = rw (is, v) (full_same (has_empty words) (start_command words) (start_none words))
 
-  pub names_said : verb ≡ codes "append-names" → of_full command_of all ≡ append_names_command words
+  pub names_said : verb ≡ codes "append-names" → unless_word_empty command_of all ≡ append_names_command words
   names_said v = rw (is, v) (full_names words)
 
   -- one that begins with another word is for a builtin
   pub other_said : ¬ (verb ≡ codes "import") → ¬ (verb ≡ codes "export") → ¬ (verb ≡ codes "alias-export") → ¬ (verb ≡ codes "core-module") → ¬ (verb ≡ codes "start") → ¬ (verb ≡ codes "append-names")
-      → of_full command_of all ≡ option_map (λ function. Add (canonical_tree_entry None function)) (builtin_said verb words)
+      → unless_word_empty command_of all ≡ option_map (λ function. Add (canonical_tree_entry None function)) (builtin_said verb words)
   other_said h1 h2 h3 h4 h5 h6 =
       let same : command_by verb words ≡ option_map (λ function. Add (canonical_tree_entry None function)) (builtin_said verb words) =
       rw (differ verb _ h1, differ verb _ h2, differ verb _ h3, differ verb _ h4, differ verb _ h5, differ verb _ h6) refl in
-      ap (of_full command_of) is ∙ ap (λ (c : Option CommandTree). cond (has_empty (verb ∷ words)) None c) same ∙ full_same _ _ (λ e. ap (option_map _) (none_said verb words e))
+      ap (unless_word_empty command_of) is ∙ ap (λ (c : Option CommandTree). cond (has_empty (verb ∷ words)) None c) same ∙ full_same _ _ (λ e. ap (option_map _) (none_said verb words e))

@@ -3,7 +3,7 @@ ghost use Rattle.std.specs.Prelude.{◌≡◌, IfOk, option_map};
 ghost use Rattle.wasm_encoder.specs.Command.{command_view};
 ghost use Rattle.wenc.specs.Script.{import_command, export_command, alias_command, core_module_command, start_command, append_names_command, command_of, line_command};
 ghost use Rattle.wenc.specs.Words.{words_left};
-ghost use Rattle.wenc.specs.inside.Full.{of_full, kind_and_index};
+ghost use Rattle.wenc.specs.inside.Full.{unless_word_empty, kind_and_index};
 
 use crate::builtin::builtin;
 use crate::kind::{kind, reference};
@@ -25,7 +25,7 @@ fn kind_and_index(name: &str, word: &str, index: &str) -> Option<(ComponentExpor
 /// Parses `import NAME KIND I`.
 fn import(alloc: Global, words: Words) -> Result<Option<Command>, AllocError>
     ensures { IfOk result
-        (λ c. option_map command_view c ≡ of_full import_command (words_left words.entry)) }
+        (λ c. option_map command_view c ≡ unless_word_empty import_command (words_left words.entry)) }
 {
     let Some((name, word, index)) = words.three() else {
         return Ok(None);
@@ -41,7 +41,7 @@ fn import(alloc: Global, words: Words) -> Result<Option<Command>, AllocError>
 /// Parses `export NAME KIND I`.
 fn export(alloc: Global, words: Words) -> Result<Option<Command>, AllocError>
     ensures { IfOk result
-        (λ c. option_map command_view c ≡ of_full export_command (words_left words.entry)) }
+        (λ c. option_map command_view c ≡ unless_word_empty export_command (words_left words.entry)) }
 {
     let Some((name, word, index)) = words.three() else {
         return Ok(None);
@@ -61,7 +61,7 @@ fn export(alloc: Global, words: Words) -> Result<Option<Command>, AllocError>
 /// Parses `alias-export I KIND NAME`.
 fn alias_export(alloc: Global, words: Words) -> Result<Option<Command>, AllocError>
     ensures { IfOk result
-        (λ c. option_map command_view c ≡ of_full alias_command (words_left words.entry)) }
+        (λ c. option_map command_view c ≡ unless_word_empty alias_command (words_left words.entry)) }
 {
     let Some((instance, word, name)) = words.three() else {
         return Ok(None);
@@ -84,7 +84,7 @@ fn alias_export(alloc: Global, words: Words) -> Result<Option<Command>, AllocErr
 /// Parses `core-module HEX`.
 fn core_module(alloc: Global, words: Words) -> Result<Option<Command>, AllocError>
     ensures { IfOk result
-        (λ c. option_map command_view c ≡ of_full core_module_command (words_left words.entry)) }
+        (λ c. option_map command_view c ≡ unless_word_empty core_module_command (words_left words.entry)) }
 {
     let mut words = words;
     let (Some(word), None) = (words.next(), words.next()) else {
@@ -142,7 +142,7 @@ fn append_names(words: Words) -> Option<Command>
 /// Returns the command that the words of a line describe, if they describe one.
 fn command_of(alloc: Global, words: Words) -> Result<Option<Command>, AllocError>
     ensures { IfOk result
-        (λ c. option_map command_view c ≡ of_full command_of (words_left words.entry)) }
+        (λ c. option_map command_view c ≡ unless_word_empty command_of (words_left words.entry)) }
 {
     let mut words = words;
     let Some(verb) = words.next() else {

@@ -90,4 +90,4 @@ pub record Lends {T E : Type 0} (lent : E → T) (next : T) (finished : Bool)
 -- A call gives up the member that is being written, and says whether there was one.
 pub record GivesUp {T : Type 0} (new back : T) (finished result : Bool) : Type 0 where
   pub same : new ≡ back
-  pub told : IsTrue result ↔ (finished ≡ false)
+  pub returned : IsTrue result ↔ (finished ≡ false)

@@ -270,7 +270,7 @@ impl<A: Allocator> Holder<A> {
     #[inline(never)]
     fn refusal_of_lead<E: Encode>(&mut self, lead: &E, fault: Fault) -> Fault
         ensures same { self.new ≡ self.old }
-        ensures told { (result ≡ fault) ⊎ IsWarranted (E.piece lead.now).Cause result }
+        ensures returned { (result ≡ fault) ⊎ IsWarranted (E.piece lead.now).Cause result }
         ensures unfinished_lead { E.unfinished lead.now → result ≡ Unfinished }
     {
         let start = self.bytes.len();

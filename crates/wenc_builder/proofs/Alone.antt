@@ -29,7 +29,7 @@ pub alone_without_indices : (b : Buffered) (s : Spaced) (old new : State) (fault
     → is_none b.writing ≡ true → new ≡ old → length old.settled.spaces ≡ 13 → IsWarranted (SpaceCause (space_after old d name)) fault
     → TakesAlone old new (Err fault) d name p
 alone_without_indices b s old new fault d name p a view w same all refused = record {
-  told = tt;
+  returned = tt;
   ok = tt;
   fits = tt;
   free = tt;
@@ -57,7 +57,7 @@ stands_as old new (Err fault) s t = record { ok = tt; fits = tt; free = tt; err 
 pub stood_nowhere : (b next : Buffered) (s : Spaced) (old : State) (result : Result (Unit {0}) Fault) (p : Piece) → Agree b.writing s.taking → builder_view b s ≡ old → is_none b.writing ≡ true → StandsAlone b next result p
     → TakesNoIndex old (builder_view next s) result p
 stood_nowhere b next s old (Ok u) p a view w t = record {
-  told = tt;
+  returned = tt;
   ok = rw (t.ok, ← view) refl;
   fits = t.fits;
   free = free;
@@ -72,7 +72,7 @@ stood_nowhere b next s old (Ok u) p a view w t = record {
     free fault (inl (inr (inr c))) = c
     free fault (inr c) = let none = settled_before b s old a view w in let unfinished = c.1 in cc
 stood_nowhere b next s old (Err fault) p a view w t = record {
-  told = tt;
+  returned = tt;
   ok = tt;
   fits = tt;
   free = tt;

@@ -79,13 +79,13 @@ only_unfinished old x (inr c) = c.1
 
 -- ---- its call
 
-pub enters : {R : Type 0} {p : Piece} (old new next : State) (result : Result R Fault) (x : Entry) (after : Content) (indices : Option Indices) (Told : R → Type 0) (Tells : List Entry → R → Type 0) (Counts : Option Indices → R → Type 0)
-    → IsEntry old x after indices → Serves p (item x.item) → next ≡ settled_in after → ((es : List Entry) → Holds old es → (r : R) → Told r → Tells es r) → ((r : R) → Told r → Counts indices r)
-    → TakesWith old new next result after indices p Told → EntersWith old new result x Tells Counts
-enters {R} {p} old new next result x after indices Told Tells Counts w s done tells counts t = record {
-  held = held result t.ok t.told t.fits t.free;
+pub enters : {R : Type 0} {p : Piece} (old new next : State) (result : Result R Fault) (x : Entry) (after : Content) (indices : Option Indices) (Returned : R → Type 0) (Tells : List Entry → R → Type 0) (Counts : Option Indices → R → Type 0)
+    → IsEntry old x after indices → Serves p (item x.item) → next ≡ settled_in after → ((es : List Entry) → Holds old es → (r : R) → Returned r → Tells es r) → ((r : R) → Returned r → Counts indices r)
+    → TakesWith old new next result after indices p Returned → EntersWith old new result x Tells Counts
+enters {R} {p} old new next result x after indices Returned Tells Counts w s done tells counts t = record {
+  held = held result t.ok t.returned t.fits t.free;
   state = state result t.ok;
-  counted = counted result t.told;
+  counted = counted result t.returned;
   fits = fits result t.fits;
   free = free result t.free;
   err = t.err;
@@ -99,7 +99,7 @@ enters {R} {p} old new next result x after indices Told Tells Counts w s done te
     room : NoCause (CallCause old p.Cause after indices) → HasRoom (with_entry old.settled x).sections.current
     room none fault c = entry_free old x after indices w s none fault (inl (inr (inr c)))
 
-    held : (r : Result R Fault) → OnOk r (new ≡ next) → IfOk r Told → OnOk r p.Fits → OnOk r (NoCause (CallCause old p.Cause after indices)) → (es : List Entry) → Holds old es → IfOk r (λ a. Holds new (es ++ x ∷ []) × Tells es a)
+    held : (r : Result R Fault) → OnOk r (new ≡ next) → IfOk r Returned → OnOk r p.Fits → OnOk r (NoCause (CallCause old p.Cause after indices)) → (es : List Entry) → Holds old es → IfOk r (λ a. Holds new (es ++ x ∷ []) × Tells es a)
     held (Ok a) e f fit none es h = (rw (is_step e) (holds_step old es x (s.fits fit) (room none) h), tells es h a f)
     held (Err fault) e f fit none es h = tt
 
@@ -107,7 +107,7 @@ enters {R} {p} old new next result x after indices Told Tells Counts w s done te
     state (Ok a) e = is_step e
     state (Err fault) e = tt
 
-    counted : (r : Result R Fault) → IfOk r Told → IfOk r (Counts (defines x.item))
+    counted : (r : Result R Fault) → IfOk r Returned → IfOk r (Counts (defines x.item))
     counted (Ok a) f = subst (λ (o : Option Indices). Counts o a) (sym w.defined) (counts a f)
     counted (Err fault) f = tt
 
@@ -153,10 +153,10 @@ without_index_enters {p} old new result x w s t =
 
 -- ---- a piece for another that has no cause where it fits
 
-takes_as : {R : Type 0} {p q : Piece} (old new next : State) (result : Result R Fault) (after : Content) (indices : Option Indices) (Told : R → Type 0) → (p.Fits → q.Fits) → ((fault : Fault) → p.Cause fault → q.Cause fault)
-    → (q.Fits → NoCause q.Cause) → TakesWith old new next result after indices p Told → TakesWith old new next result after indices q Told
-takes_as {p} {q} old new next (Ok r) after indices Told fits among lawful t = record {
-  told = t.told;
+takes_as : {R : Type 0} {p q : Piece} (old new next : State) (result : Result R Fault) (after : Content) (indices : Option Indices) (Returned : R → Type 0) → (p.Fits → q.Fits) → ((fault : Fault) → p.Cause fault → q.Cause fault)
+    → (q.Fits → NoCause q.Cause) → TakesWith old new next result after indices p Returned → TakesWith old new next result after indices q Returned
+takes_as {p} {q} old new next (Ok r) after indices Returned fits among lawful t = record {
+  returned = t.returned;
   ok = t.ok;
   fits = fits t.fits;
   free = free;
@@ -169,8 +169,8 @@ takes_as {p} {q} old new next (Ok r) after indices Told fits among lawful t = re
     free fault (inl (inl c)) = lawful (fits t.fits) fault c
     free fault (inl (inr c)) = t.free fault (inl (inr c))
     free fault (inr c) = t.free fault (inr c)
-takes_as {p} {q} old new next (Err fault) after indices Told fits among lawful t = record {
-  told = tt;
+takes_as {p} {q} old new next (Err fault) after indices Returned fits among lawful t = record {
+  returned = tt;
   ok = tt;
   fits = tt;
   free = tt;

@@ -34,7 +34,7 @@ pub space_refused : (b : Buffered) (s : Spaced) (old new next : State) (fault : 
     → length old.settled.spaces ≡ 13 → IsWarranted (SpaceCause (space_with old d)) fault
     → Takes old new next (Err fault) d nothing
 space_refused b s old new next fault d a view w same all refused = record {
-  told = tt;
+  returned = tt;
   ok = tt;
   fits = tt;
   free = tt;
@@ -48,7 +48,7 @@ pub begins : (b : Buffered) (s : Spaced) (old new next : State) (index : ℕ) (d
     → NoCause (SpaceCause (space_with old d)) → NoCause (SectionCause (entered old.settled.sections d.id d.text).current)
     → Takes old new next (Ok index) d nothing
 begins b s old new next index d a view w is counted all space section = record {
-  told = counted;
+  returned = counted;
   ok = is;
   fits = tt;
   free = begun_free old d all (settled_before b s old a view w) space section;
@@ -62,7 +62,7 @@ begins b s old new next index d a view w is counted all space section = record {
 pub not_begun : (old new next whole : State) (fault : Fault) (id : ℕ) (space : Space) (name : Option (List ℕ)) (p : Piece)
     → Takes old new next (Err fault) (draft id space name []) nothing → Takes old new whole (Err fault) (draft id space name p.text) p
 not_begun old new next whole fault id space name p t = record {
-  told = tt;
+  returned = tt;
   ok = tt;
   fits = tt;
   free = tt;
@@ -76,7 +76,7 @@ pub added : (old begun written new : State) (index id : ℕ) (space : Space) (na
     → written ≡ item_appended begun p.text → p.Fits → NoCause (either p.Cause (no_room_in_section begun p.text)) → new ≡ item_ended written
     → TakesDraft old new (Ok index) (draft id space name) p
 added old begun written new index id space name p t w fits free e = record {
-  told = t.told;
+  returned = t.returned;
   ok = rw (e, w, t.ok) refl;
   fits = fits;
   free = whole_free old id space name p.text p.Cause t.free (rw t.ok at free);
@@ -93,7 +93,7 @@ pub partly_written : (old begun written new whole : State) (fault : Fault) (inde
     → IsWarranted (either p.Cause (no_room_in_section begun p.text)) fault → written.settled ≡ begun.settled → new ≡ item_given_up written
     → Takes old new whole (Err fault) (draft id space name p.text) p
 partly_written old begun written new whole fault index id space name p t refused w e = record {
-  told = tt;
+  returned = tt;
   ok = tt;
   fits = tt;
   free = tt;

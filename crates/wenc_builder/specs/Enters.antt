@@ -23,9 +23,9 @@ IsCountAt s (Some d) i = i ≡ (namespace_at s.settled.spaces d.space).count
 -- returns this, by such a list and by the state; one that fails has a cause and changes nothing.
 -- While an item is being written, and only then, it is `Unfinished`.
 pub record EntersWith {R : Type 0} (old new : State) (result : Result R Fault) (x : Entry)
-    (Told : List Entry → R → Type 0) (Counted : Option Indices → R → Type 0) : Type 0 where
+    (Returned : List Entry → R → Type 0) (Counted : Option Indices → R → Type 0) : Type 0 where
   pub held : (es : List Entry) → Holds old es
-      → IfOk result (λ r. Holds new (es ++ x ∷ []) × Told es r)
+      → IfOk result (λ r. Holds new (es ++ x ∷ []) × Returned es r)
   pub state : OnOk result (new ≡ step old x)
   pub counted : IfOk result (Counted (defines x.item))
   pub fits : OnOk result (item x.item).Fits
@@ -65,8 +65,8 @@ pub record BeginsItem {E : Type 0} (index : E → ℕ) (lent : E → State) (old
 -- A call that writes this piece takes these indices or none, which leaves `next` and would leave
 -- this content when it is done, and returns this; or it fails for a cause and changes nothing.
 pub record TakesWith {R : Type 0} (old new next : State) (result : Result R Fault)
-    (after : Content) (indices : Option Indices) (p : Piece) (Told : R → Type 0) : Type 0 where
-  pub told : IfOk result Told
+    (after : Content) (indices : Option Indices) (p : Piece) (Returned : R → Type 0) : Type 0 where
+  pub returned : IfOk result Returned
   pub ok : OnOk result (new ≡ next)
   pub fits : OnOk result p.Fits
   pub free : OnOk result (NoCause (CallCause old p.Cause after indices))

@@ -201,7 +201,7 @@ impl<A: Allocator> ComponentBuilder<A> {
     }
 
     /// Begins an item, which `give_up` rolls back until it is ended. Returns its index.
-    fn begin(&mut self, kind: Kind, space: Space, name: Option<&str>) -> Result<u32, Fault>
+    fn open(&mut self, kind: Kind, space: Space, name: Option<&str>) -> Result<u32, Fault>
         ensures { Takes self.old self.new
             (item_begun self.old (draft_of kind space (option_copied name.entry) []))
             result (draft_of kind space (option_copied name.entry) []) nothing }
@@ -209,33 +209,33 @@ impl<A: Allocator> ComponentBuilder<A> {
         if !self.buffer.is_finished() {
             return Err(Fault::Unfinished);
         }
-        self.buffer.begin(kind)?;
-        match self.spaces.begin(space, 1, name) {
+        self.buffer.open(kind)?;
+        match self.spaces.open(space, 1, name) {
             Ok(index) => Ok(index),
             Err(fault) => {
-                self.buffer.give_up();
+                self.buffer.discard();
                 Err(fault)
             }
         }
     }
 
     /// Ends the item being written. Allocates nothing.
-    fn end(&mut self)
+    fn finish_member(&mut self)
         requires unfinished { builder_is_finished self.old ≡ false }
         requires whole { ∥ is_whole self.old ∥₁ }
         ensures { self.new ≡ item_ended self.old }
     {
-        self.buffer.end();
-        self.spaces.end();
+        self.buffer.finish_member();
+        self.spaces.finish_member();
     }
 
     /// Discards the item being written. Allocates nothing.
-    fn give_up(&mut self)
+    fn discard(&mut self)
         requires { builder_is_finished self.old ≡ false }
         ensures { self.new ≡ item_given_up self.old }
     {
-        self.buffer.give_up();
-        self.spaces.give_up();
+        self.buffer.discard();
+        self.spaces.discard();
     }
 
     /// Adds a whole item with an optional debug name, and returns its index.
@@ -250,17 +250,17 @@ impl<A: Allocator> ComponentBuilder<A> {
         ensures { TakesDraft self.old self.new result
             (draft_of kind space (option_copied name.entry)) (E.piece item.now) }
     {
-        let index = match self.begin(kind, space, name) {
+        let index = match self.open(kind, space, name) {
             Ok(index) => index,
             Err(fault) => return Err(fault),
         };
         match self.append_value(item) {
             Ok(()) => {
-                self.end();
+                self.finish_member();
                 Ok(index)
             }
             Err(fault) => {
-                self.give_up();
+                self.discard();
                 Err(fault)
             }
         }
@@ -308,17 +308,17 @@ impl<A: Allocator> ComponentBuilder<A> {
             (draft_of kind space (option_copied name.entry))
             (listed (E.piece lead.now) T.piece (F.piece tail.now)) }
     {
-        let index = match self.begin(kind, space, name) {
+        let index = match self.open(kind, space, name) {
             Ok(index) => index,
             Err(fault) => return Err(fault),
         };
         match self.append_between(lead, values, tail) {
             Ok(()) => {
-                self.end();
+                self.finish_member();
                 Ok(index)
             }
             Err(fault) => {
-                self.give_up();
+                self.discard();
                 Err(fault)
             }
         }
@@ -343,15 +343,15 @@ impl<A: Allocator> ComponentBuilder<A> {
         if !self.buffer.is_finished() {
             return Err(Fault::Unfinished);
         }
-        match self.spaces.begin(space, number, name) {
+        match self.spaces.open(space, number, name) {
             Err(fault) => Err(fault),
             Ok(index) => match self.buffer.stand_alone(lead, bytes) {
                 Ok(()) => {
-                    self.spaces.end();
+                    self.spaces.finish_member();
                     Ok(index)
                 }
                 Err(fault) => {
-                    self.spaces.give_up();
+                    self.spaces.discard();
                     Err(fault)
                 }
             },
@@ -648,7 +648,7 @@ impl<A: Allocator> ComponentBuilder<A> {
         if self.is_finished() {
             return false;
         }
-        self.give_up();
+        self.discard();
         true
     }
 
@@ -704,7 +704,7 @@ impl<A: Allocator> Lender for ComponentBuilder<A> {
     ghost joins = { item_appended_twice };
 
     fn append_value<E: Encode>(&mut self, value: &E) -> Result<(), Fault> {
-        self.buffer.append(value)
+        self.buffer.append_encoded(value)
     }
 
     fn append_list<T: Encode + Drop, I: Iterator<Item = T> + Drop>(
@@ -716,6 +716,6 @@ impl<A: Allocator> Lender for ComponentBuilder<A> {
     }
 
     fn end_member(&mut self) {
-        self.end();
+        self.finish_member();
     }
 }

@@ -1,6 +1,6 @@
 //! Aliases. Each begins with a sort, and refers to an instance's export or an outer item.
 ghost use Rattle.wenc_parts.specs.Aliases.{alias_tree_view};
-ghost use Rattle.wenc_parts.specs.reading.Aliases.{read_alias, read_export, read_core_export, read_outer, read_either, read_exported_alias, read_core_alias};
+ghost use Rattle.wenc_parts.specs.reading.Aliases.{read_alias, read_export, read_core_export, read_outer, read_export_or_outer, read_exported_alias, read_core_alias};
 ghost use Rattle.wenc_read.specs.Gives.{Gives};
 ghost use Rattle.wenc_read.specs.laws.Exact.{exact_by};
 
@@ -85,14 +85,14 @@ fn export_alone<A: Allocator + Copy>(
 
 /// Reads an alias of an instance's export or of an outer item, after the sort.
 #[tactic(auto, unfolding(wenc_base::specs::Readers::choose))]
-fn either<A: Allocator + Copy>(
+fn export_or_outer<A: Allocator + Copy>(
     alloc: A,
     kind: ComponentExportKind,
     outer_kind: ComponentOuterAliasKind,
     bytes: &[u8],
 ) -> Result<(AliasTree<A>, &[u8]), Refusal>
     ensures { Gives (λ x. (alias_tree_view x.0, x.1.now)) result
-        (read_either kind outer_kind bytes.now) }
+        (read_export_or_outer kind outer_kind bytes.now) }
 {
     match byte(bytes)? {
         (0x00, rest) => export(alloc, kind, rest),
@@ -116,7 +116,7 @@ fn core<A: Allocator + Copy>(alloc: A, bytes: &[u8]) -> Result<(AliasTree<A>, &[
             (0x02, rest) => outer(alloc, ComponentOuterAliasKind::CoreType, rest),
             _ => Err(Refusal::Malformed),
         },
-        (0x11, rest) => either(
+        (0x11, rest) => export_or_outer(
             alloc,
             ComponentExportKind::Module,
             ComponentOuterAliasKind::CoreModule,
@@ -147,13 +147,13 @@ impl<A: Allocator + Copy> Decode<A> for AliasTree<A> {
             (0x00, rest) => core(alloc, rest),
             (0x01, rest) => export_alone(alloc, ComponentExportKind::Func, rest),
             (0x02, rest) => export_alone(alloc, ComponentExportKind::Value, rest),
-            (0x03, rest) => either(
+            (0x03, rest) => export_or_outer(
                 alloc,
                 ComponentExportKind::Type,
                 ComponentOuterAliasKind::Type,
                 rest,
             ),
-            (0x04, rest) => either(
+            (0x04, rest) => export_or_outer(
                 alloc,
                 ComponentExportKind::Component,
                 ComponentOuterAliasKind::Component,

@@ -109,12 +109,12 @@ fn defined<A: Allocator + Copy>(
             let (err, rest) = Option::decode(alloc, rest)?;
             Ok((DefinedTree::Result { ok, err }, rest))
         }
-        _ => of_handle(alloc, first, bytes),
+        _ => other_defined(alloc, first, bytes),
     }
 }
 
 /// Reads a handle, fixed-length list, stream, future or map type, after its first byte.
-fn of_handle<A: Allocator + Copy>(
+fn other_defined<A: Allocator + Copy>(
     alloc: A,
     first: u8,
     bytes: &[u8],

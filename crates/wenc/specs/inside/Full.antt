@@ -6,8 +6,8 @@ use Rattle.wenc.specs.Script.{has_empty}
 use Rattle.wenc.specs.Fields.{kind, number_word}
 
 -- what words say, if none is empty
-abbrev pub of_full : (List (List ℕ) → Option CommandTree) → List (List ℕ) → Option CommandTree
-of_full says words = if has_empty words then None else says words
+abbrev pub unless_word_empty : (List (List ℕ) → Option CommandTree) → List (List ℕ) → Option CommandTree
+unless_word_empty says words = if has_empty words then None else says words
 
 -- two values, where there are both
 abbrev pub both : {A B : Type 0} → Option A → Option B → Option (A × B)

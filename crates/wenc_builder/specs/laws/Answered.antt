@@ -54,10 +54,10 @@ from_entry old es x h f c =
     let counted = to_counts es x (encodable_free (items es) h.fits) f c in
     inl (moved (item x.item).Cause _ _ _ _ _ f (backwards _ _ _ (space_is old es x _ refl h)) (sym (current_is old es x h)) counted)
 
-pub answered_with : {R : Type 0} (old new : State) (result : Result R Fault) (x : Entry) (Told : List Entry → R → Type 0) (Counted : Option Indices → R → Type 0) (es : List Entry) → EntersWith old new result x Told Counted → Holds old es
-    → MatchResult result (λ r. Holds new (es ++ x ∷ []) × Told es r × ((fault : Fault) → EntryCause es x fault → ⊥)) (λ fault. Holds new es × IsWarranted (EntryCause es x) fault)
-answered_with old new (Ok r) x Told Counted es e h = ((e.held es h).0, (e.held es h).1, λ fault c. e.free fault (from_entry old es x h fault c))
-answered_with old new (Err fault) x Told Counted es e h = (rw e.err h, still_warranted _ _ (to_entry old es x h) fault e.warranted)
+pub answered_with : {R : Type 0} (old new : State) (result : Result R Fault) (x : Entry) (Returned : List Entry → R → Type 0) (Counted : Option Indices → R → Type 0) (es : List Entry) → EntersWith old new result x Returned Counted → Holds old es
+    → MatchResult result (λ r. Holds new (es ++ x ∷ []) × Returned es r × ((fault : Fault) → EntryCause es x fault → ⊥)) (λ fault. Holds new es × IsWarranted (EntryCause es x) fault)
+answered_with old new (Ok r) x Returned Counted es e h = ((e.held es h).0, (e.held es h).1, λ fault c. e.free fault (from_entry old es x h fault c))
+answered_with old new (Err fault) x Returned Counted es e h = (rw e.err h, still_warranted _ _ (to_entry old es x h) fault e.warranted)
 
 index_is : (xs : List Item) (d : Option Indices) (i : ℕ) → IsIndexAt xs d i → Some i ≡ option_map (λ (d : Indices). next_index xs d.space) d
 index_is xs None i p = absurd p

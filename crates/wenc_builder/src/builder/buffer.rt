@@ -71,7 +71,7 @@ impl<A: Allocator> Buffer<A> {
     }
 
     /// Begins an item of this kind. A failed call changes nothing.
-    pub fn begin(&mut self, kind: Kind) -> Result<(), Fault>
+    pub fn open(&mut self, kind: Kind) -> Result<(), Fault>
         requires { self.old.writing ≡ None }
         ensures ok { OnOk result (self.new ≡ buffer_begun self.old (kind_id kind)) }
         ensures free { OnOk result
@@ -83,17 +83,17 @@ impl<A: Allocator> Buffer<A> {
         match self.kind {
             Some(open) => {
                 if open != kind {
-                    return self.begin_apart(kind);
+                    return self.open_apart(kind);
                 }
                 self.holder.open(&[])
             }
-            None => self.begin_apart(kind),
+            None => self.open_apart(kind),
         }
     }
 
     /// Begins an item that doesn't belong to the open section. Fails only if an allocation fails
     /// (`Memory`), and changes nothing then.
-    fn begin_apart(&mut self, kind: Kind) -> Result<(), Fault>
+    fn open_apart(&mut self, kind: Kind) -> Result<(), Fault>
         requires settled { self.old.writing ≡ None }
         requires apart { OpensAnother self.old.settled.current (kind_id kind) }
         ensures ok { OnOk result (self.new ≡ buffer_begun self.old (kind_id kind)) }
@@ -113,7 +113,7 @@ impl<A: Allocator> Buffer<A> {
     }
 
     /// Appends a value's encoding to the item being written. A failed call changes nothing.
-    pub fn append<E: Encode>(&mut self, value: &E) -> Result<(), Fault>
+    pub fn append_encoded<E: Encode>(&mut self, value: &E) -> Result<(), Fault>
         requires { is_none self.old.writing ≡ false }
         ensures appended { Extends self.old self.new
             (buffer_appended self.old (E.piece value.now).text) result (E.piece value.now)
@@ -141,7 +141,7 @@ impl<A: Allocator> Buffer<A> {
     }
 
     /// Ends the item being written, which belongs to its section from now on. Allocates nothing.
-    pub fn end(&mut self)
+    pub fn finish_member(&mut self)
         requires { is_none self.old.writing ≡ false }
         ensures { self.new ≡ buffer_ended self.old }
     {
@@ -153,7 +153,7 @@ impl<A: Allocator> Buffer<A> {
     }
 
     /// Discards the item being written. Allocates nothing.
-    pub fn give_up(&mut self)
+    pub fn discard(&mut self)
         requires { is_none self.old.writing ≡ false }
         ensures { self.new ≡ buffer_given_up self.old }
     {

@@ -110,7 +110,7 @@ impl<A: Allocator> Spaces<A> {
 
     /// Reserves `number` indices in a space, the first of them with an optional name, which can be
     /// discarded until `end`. Returns the first. A failed call changes nothing.
-    pub fn begin(&mut self, space: Space, number: u32, name: Option<&str>) -> Result<u32, Fault>
+    pub fn open(&mut self, space: Space, number: u32, name: Option<&str>) -> Result<u32, Fault>
         requires { self.old.taking ≡ None }
         ensures index { IfOk result (λ i.
             i ≡ (namespace_at self.old.settled space).count) }
@@ -141,7 +141,7 @@ impl<A: Allocator> Spaces<A> {
     }
 
     /// Commits the indices of the item being written.
-    pub fn end(&mut self)
+    pub fn finish_member(&mut self)
         requires { is_none self.old.taking ≡ false }
         ensures { self.new ≡ spaces_ended self.old }
     {
@@ -149,7 +149,7 @@ impl<A: Allocator> Spaces<A> {
     }
 
     /// Discards the indices of the item being written. Allocates nothing.
-    pub fn give_up(&mut self)
+    pub fn discard(&mut self)
         requires { is_none self.old.taking ≡ false }
         ensures { self.new ≡ spaces_given_up self.old }
     {

@@ -51,7 +51,7 @@ impl<A: Allocator> ComponentBuilder<A> {
         ensures begun { BeginsItem (λ e. e.0) (λ e. e.1.lender.now) self.old result
             (draft_in ids.CoreType Space.CoreTypes (option_copied debug_name.entry) []) }
     {
-        let index = self.begin(Kind::CoreType, Space::CoreTypes, debug_name)?;
+        let index = self.open(Kind::CoreType, Space::CoreTypes, debug_name)?;
         Ok((index, ComponentCoreTypeEncoder::new(self)))
     }
 
@@ -66,7 +66,7 @@ impl<A: Allocator> ComponentBuilder<A> {
         ensures begun { BeginsItem (λ e. e.0) (λ e. e.1.lender.now) self.old result
             (draft_in ids.«Type» Space.Types (option_copied debug_name.entry) []) }
     {
-        let index = self.begin(Kind::Type, Space::Types, debug_name)?;
+        let index = self.open(Kind::Type, Space::Types, debug_name)?;
         Ok((index, ComponentTypeEncoder::new(self)))
     }
 
@@ -123,7 +123,7 @@ impl<A: Allocator> ComponentBuilder<A> {
         ensures begun { BeginsItem (λ e. e.0) (λ e. e.1.lender.now) self.old result
             (draft_in ids.«Type» Space.Types (option_copied debug_name.entry) []) }
     {
-        let index = self.begin(Kind::Type, Space::Types, debug_name)?;
+        let index = self.open(Kind::Type, Space::Types, debug_name)?;
         Ok((index, ComponentDefinedTypeEncoder::new(self)))
     }
 
@@ -139,7 +139,7 @@ impl<A: Allocator> ComponentBuilder<A> {
             (draft_in ids.«Type» Space.Types (option_copied debug_name.entry) []) }
         ensures stage { IfOk result (λ e. e.1.stage ≡ stages.Start) }
     {
-        let index = self.begin(Kind::Type, Space::Types, debug_name)?;
+        let index = self.open(Kind::Type, Space::Types, debug_name)?;
         Ok((index, ComponentFuncTypeEncoder::new(self)))
     }
 

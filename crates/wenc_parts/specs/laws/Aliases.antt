@@ -17,7 +17,7 @@ use Rattle.wenc_parts.specs.declared.aliases.ComponentOuterAliasKind.TheVariants
 use Rattle.wenc_base.specs.Exports.{export_kind_byte}
 use Rattle.wenc_parts.specs.Exports.{component_export_kind}
 use Rattle.wenc_parts.specs.Aliases.{AliasOf, InstanceExport, CoreInstanceExport, Outer, outer_kind, alias}
-use Rattle.wenc_parts.specs.reading.Aliases.{read_alias, read_core_export, read_either, read_export, read_outer, read_outer_kind}
+use Rattle.wenc_parts.specs.reading.Aliases.{read_alias, read_core_export, read_export_or_outer, read_export, read_outer, read_outer_kind}
 
 -- ---- kinds
 
@@ -79,7 +79,7 @@ only_row : (kind : ComponentExportKind) (b : ℕ) → ((rest : List ℕ) → (co
 only_row kind b k = choose_tells _ _ (export_sound kind (λ i n bytes rest r. (_, k _, (_, refl, r))), tt) nowhere_tells
 
 either_sound : {form : Form AliasOf} (kind : ComponentExportKind) (outer : ComponentOuterAliasKind) → ((i : ℕ) (n : List ℕ) → IsAlias (0x00 ▸ u32 i ⨾ name_form n) form (InstanceExport i kind n))
-    → ((c n : ℕ) → IsAlias (0x02 ▸ u32 c ⨾ u32 n) form (Outer outer c n)) → Sound form (read_either kind outer)
+    → ((c n : ℕ) → IsAlias (0x02 ▸ u32 c ⨾ u32 n) form (Outer outer c n)) → Sound form (read_export_or_outer kind outer)
 either_sound kind outer k l = choose_tells _ _ (export_sound kind (λ i n bytes rest r. k i n _ rest (bytes, refl, r)), (outer_sound outer (λ c n bytes rest r. l c n _ rest (bytes, refl, r)), tt)) nowhere_tells
 
 core_rows_sound : Sound (sound_behind 0x00 alias) (choose (
@@ -89,7 +89,7 @@ core_rows_sound : Sound (sound_behind 0x00 alias) (choose (
     (0x03, read_core_export cores.Global) ∷
     (0x04, read_core_export cores.Tag) ∷
     (0x10, choose ((0x02, read_outer outers.CoreType) ∷ []) nowhere) ∷
-    (0x11, read_either kinds.Module outers.CoreModule) ∷ []) nowhere)
+    (0x11, read_export_or_outer kinds.Module outers.CoreModule) ∷ []) nowhere)
 core_rows_sound = choose_tells _ _ (
   core_row cores.Func,
   (

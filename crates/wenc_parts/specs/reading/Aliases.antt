@@ -37,8 +37,8 @@ abbrev pub read_outer : ComponentOuterAliasKind → Reader AliasOf
 read_outer kind = read_u32 >>= λ count. read_u32 >>= λ number. give (Outer kind count number)
 
 -- where a sort is both
-abbrev pub read_either : ComponentExportKind → ComponentOuterAliasKind → Reader AliasOf
-read_either kind outer = choose ((0x00, read_export kind) ∷ (0x02, read_outer outer) ∷ []) nowhere
+abbrev pub read_export_or_outer : ComponentExportKind → ComponentOuterAliasKind → Reader AliasOf
+read_export_or_outer kind outer = choose ((0x00, read_export kind) ∷ (0x02, read_outer outer) ∷ []) nowhere
 
 -- where a sort is no outer item's
 abbrev pub read_exported_alias : ComponentExportKind → Reader AliasOf
@@ -53,13 +53,13 @@ read_core_alias = choose (
     (0x03, read_core_export cores.Global) ∷
     (0x04, read_core_export cores.Tag) ∷
     (0x10, choose ((0x02, read_outer outers.CoreType) ∷ []) nowhere) ∷
-    (0x11, read_either kinds.Module outers.CoreModule) ∷ []) nowhere
+    (0x11, read_export_or_outer kinds.Module outers.CoreModule) ∷ []) nowhere
 
 abbrev pub read_alias : Reader AliasOf
 read_alias = choose (
     (0x00, read_core_alias) ∷
     (0x01, read_exported_alias kinds.Func) ∷
     (0x02, read_exported_alias kinds.Value) ∷
-    (0x03, read_either kinds.«Type» outers.«Type») ∷
-    (0x04, read_either kinds.Component outers.Component) ∷
+    (0x03, read_export_or_outer kinds.«Type» outers.«Type») ∷
+    (0x04, read_export_or_outer kinds.Component outers.Component) ∷
     (0x05, read_exported_alias kinds.Instance) ∷ []) nowhere

@@ -10,7 +10,7 @@ returns-then-not-is_finished-clause-added g c =
 pub returns-in-Err-clause-added : goal.returns-in-Err-clause-added
 returns-in-Err-clause-added g c =
     not_opened g.I.Iterator.next_gives c.args.values (listed (g.E.Encode.piece c.args.lead.now) g.T.Encode.piece (g.F.Encode.piece c.args.tail.now)) c.args.self.now _ c.in-Err.fault c.refusal_of_lead.result (g.E.Encode.piece c.args.lead.now)
-    (search rules) (search rules) c.in-Err.ensures.opened.warranted c.refusal_of_lead.ensures.told (λ f h. inl h)
+    (search rules) (search rules) c.in-Err.ensures.opened.warranted c.refusal_of_lead.ensures.returned (λ f h. inl h)
 
 pub returns-in-Ok-clause-added : goal.returns-in-Ok-clause-added
 returns-in-Ok-clause-added g c =

@@ -11,4 +11,4 @@ pub returns-in-Some : goal.returns-in-Some
 returns-in-Some g c =
     let same = given_up_view c.self.inside.bytes.items c.truncate.new.self.items c.self.inside.kept c.self.inside.count _ c.self.inside.opening c.in-Some.opening c.args.self.now
     (search rules) c.self.invariant.0 c.self.view_is c.in-Some.is c.saturating_sub-self-inside.ensures in
-    record { same = same; told = search rules }
+    record { same = same; returned = search rules }

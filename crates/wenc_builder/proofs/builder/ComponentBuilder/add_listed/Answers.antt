@@ -8,21 +8,21 @@ pub returns-in-Err : goal.returns-in-Err
 returns-in-Err g c =
     list_not_begun g.I.Iterator.next_gives c.args.values c.args.self.now (kind_id c.args.kind) c.args.space (option_copied c.args.name)
     (listed (g.E.Encode.piece c.args.lead.now) g.T.Encode.piece (g.F.Encode.piece c.args.tail.now))
-    c.begin.new.self _ c.in-Err.fault c.in-Err.ensures
+    c.open.new.self _ c.in-Err.fault c.in-Err.ensures
 
 pub returns-in-Ok-append_between : goal.returns-in-Ok-append_between
 returns-in-Ok-append_between g c =
     list_added g.I.Iterator.next_gives c.args.values c.args.self.now (kind_id c.args.kind) c.args.space (option_copied c.args.name)
     (listed (g.E.Encode.piece c.args.lead.now) g.T.Encode.piece (g.F.Encode.piece c.args.tail.now))
-    c.begin.new.self c.in-Ok.index c.in-Ok.ensures c.append_between.new.self c.end.new.self c.in-Ok-append_between.ensures c.end.ensures
+    c.open.new.self c.in-Ok.index c.in-Ok.ensures c.append_between.new.self c.finish_member.new.self c.in-Ok-append_between.ensures c.finish_member.ensures
 
 pub returns-in-Err-append_between : goal.returns-in-Err-append_between
 returns-in-Err-append_between g c =
     list_not_written g.I.Iterator.next_gives c.args.values c.args.self.now (kind_id c.args.kind) c.args.space (option_copied c.args.name)
     (listed (g.E.Encode.piece c.args.lead.now) g.T.Encode.piece (g.F.Encode.piece c.args.tail.now))
-    c.begin.new.self c.in-Ok.index c.in-Ok.ensures c.append_between.new.self c.give_up.new.self c.in-Err-append_between.fault c.in-Err-append_between.ensures c.give_up.ensures
+    c.open.new.self c.in-Ok.index c.in-Ok.ensures c.append_between.new.self c.discard.new.self c.in-Err-append_between.fault c.in-Err-append_between.ensures c.discard.ensures
 
-pub end-requires-clause-whole : goal.end-requires-clause-whole
-end-requires-clause-whole g c =
+pub finish_member-requires-clause-whole : goal.finish_member-requires-clause-whole
+finish_member-requires-clause-whole g c =
     let run = c.in-Ok-append_between.ensures.ok in
     rw (run.3.state, c.in-Ok.ensures.ok) (c.requires.whole run.0.items run.3.fits)

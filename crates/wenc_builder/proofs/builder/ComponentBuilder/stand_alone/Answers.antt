@@ -17,8 +17,8 @@ invariant_of-self g c = rw c.in-Err.ensures.err c.self.invariant
 
 pub invariant_of-self-in-Ok-stand_alone : goal.invariant_of-self-in-Ok-stand_alone
 invariant_of-self-in-Ok-stand_alone g c =
-    rw (c.in-Ok-stand_alone.ensures.stood.ok, c.end.ensures, c.in-Ok.ensures.ok) (alone_stands c.self.inside.buffer c.self.inside.spaces c.self.invariant (sym c.if-not-is_finished.ensures) c.args.space c.args.number (option_copied c.args.name) (with_bytes (g.E.Encode.piece c.args.lead.now) c.args.bytes.now).text c.requires.nameless (c.requires.whole c.in-Ok-stand_alone.ensures.stood.fits))
+    rw (c.in-Ok-stand_alone.ensures.stood.ok, c.finish_member.ensures, c.in-Ok.ensures.ok) (alone_stands c.self.inside.buffer c.self.inside.spaces c.self.invariant (sym c.if-not-is_finished.ensures) c.args.space c.args.number (option_copied c.args.name) (with_bytes (g.E.Encode.piece c.args.lead.now) c.args.bytes.now).text c.requires.nameless (c.requires.whole c.in-Ok-stand_alone.ensures.stood.fits))
 
 pub invariant_of-self-in-Err-stand_alone : goal.invariant_of-self-in-Err-stand_alone
 invariant_of-self-in-Err-stand_alone g c =
-    rw (c.in-Err-stand_alone.ensures.stood.err, c.give_up.ensures, c.in-Ok.ensures.ok) (indexed_back c.self.inside.buffer c.self.inside.spaces c.self.invariant (sym c.if-not-is_finished.ensures) c.args.space c.args.number (option_copied c.args.name))
+    rw (c.in-Err-stand_alone.ensures.stood.err, c.discard.ensures, c.in-Ok.ensures.ok) (indexed_back c.self.inside.buffer c.self.inside.spaces c.self.invariant (sym c.if-not-is_finished.ensures) c.args.space c.args.number (option_copied c.args.name))

@@ -1,6 +1,6 @@
 use Rattle.std.proofs.Common.{◌≡◌, Ok, refl}
 use Rattle.wenc_builder.proofs.Laid.{opens, begun}
-use Rattle.wenc_builder.proofs.builder.buffer.Buffer.begin_apart.Goals as goal
+use Rattle.wenc_builder.proofs.builder.buffer.Buffer.open_apart.Goals as goal
 
 accepted : (g : _) (c : goal.After-open g) → c.open.result ≡ Ok tt
 accepted g c = opens _ _ c.open.result (rw c.in_ok-items_end.ensures.ok at c.open.ensures.opened) (rw c.in_ok-items_end.ensures.ok at c.open.ensures.no_memory refl)

@@ -2,7 +2,7 @@ use Rattle.std.proofs.Common.{ap, ◌∙◌}
 use Rattle.wenc_base.specs.Holder.{HolderState}
 use Rattle.std.specs.Option.{option_copied}
 use Rattle.wenc_builder.proofs.Undone.{begun_view, begun_can}
-use Rattle.wenc_builder.proofs.builder.spaces.Spaces.begin.Goals as goal
+use Rattle.wenc_builder.proofs.builder.spaces.Spaces.open.Goals as goal
 
 pub invariant_of-self-in_default : goal.invariant_of-self-in_default
 invariant_of-self-in_default g c =

@@ -1,6 +1,6 @@
 use Rattle.std.proofs.Common.{refl}
 use Rattle.std.proofs.lemmas.Iterator.Adapters.{option_map_id}
-use Rattle.wenc_decode.proofs.defined_types.of_handle.Goals as goal
+use Rattle.wenc_decode.proofs.defined_types.other_defined.Goals as goal
 
 pub returns-in_ok-ty-in-105 : goal.returns-in_ok-ty-in-105
 returns-in_ok-ty-in-105 g c = rw (c.in-105.is, c.in_ok-ty-in-105.ensures) refl

@@ -1,5 +1,5 @@
 use Rattle.wenc_builder.proofs.Laid.{back_fits}
-use Rattle.wenc_builder.proofs.builder.buffer.Buffer.give_up.Goals as goal
+use Rattle.wenc_builder.proofs.builder.buffer.Buffer.discard.Goals as goal
 
 pub go_back-requires-clause-fits : goal.go_back-requires-clause-fits
 go_back-requires-clause-fits g c =

@@ -1,5 +1,5 @@
 use Rattle.wenc_builder.proofs.Laid.{appended_value}
-use Rattle.wenc_builder.proofs.builder.buffer.Buffer.append.Goals as goal
+use Rattle.wenc_builder.proofs.builder.buffer.Buffer.append_encoded.Goals as goal
 
 pub returns-clause-appended : goal.returns-clause-appended
 returns-clause-appended g c =
