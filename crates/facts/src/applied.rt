@@ -2,25 +2,14 @@
 ghost use Rattle.std.specs.List.Sorted.{IsStrictlyIncreasing};
 ghost use Rattle.std.specs.List.{AllByRecursion};
 ghost use Rattle.std.specs.Prelude.{◌≡◌, ◌+◌, ◌<◌, ◌≤◌, ◌++◌, ◌∷◌, [], ℕ, negsuc, List, map, true, IsOk, IfOk, IfSome, OnOk};
-ghost use Rattle.wasm_encoder.specs.Cause.{led};
-ghost use Rattle.wasm_encoder.specs.Command.{Commands, command_view, commands_listed};
-ghost use Rattle.wasm_encoder.specs.Ran.{Ran};
-ghost use Rattle.wenc_base.specs.Forms.{counted};
-ghost use Rattle.wenc_base.specs.Holder.{Contains};
-ghost use Rattle.wenc_base.specs.Number.{IsUnsignedText, IsSignedText};
-ghost use Rattle.wenc_base.specs.Piece.{Spelling, Strict, Wide};
-ghost use Rattle.wenc_builder.specs.Builder.{count_in};
-ghost use Rattle.wenc_builder.specs.Entry.{Entry, items as items_of, names};
-ghost use Rattle.wenc_builder.specs.Holds.{Holds};
-ghost use Rattle.wenc_builder.specs.Item.{Item, HasNoRaw};
-ghost use Rattle.wenc_builder.specs.Sections.{Section, Run, Reading, whole};
-ghost use Rattle.wenc_sections.specs.declared.space.Space.TheVariants as spaces;
-ghost use Rattle.wenc_sections.specs.declared.space.Space.{Space};
-ghost use Rattle.wenc_parts.specs.Imports.{extern_name_view};
-ghost use Rattle.wenc_parts.specs.Types.{value_type, primitive};
+ghost use Rattle.facts.specs.Prelude.{Space, PrimitiveValType};
+ghost use Rattle.wasm_encoder.specs.Prelude.{led, Commands, command_view, commands_listed, Ran};
+ghost use Rattle.wenc_base.specs.Prelude.{counted, Contains, IsUnsignedText, IsSignedText, Spelling, Strict, Wide};
+ghost use Rattle.wenc_builder.specs.Prelude.{count_in, Entry, items as items_of, names, Holds, Item, HasNoRaw, Section, Run, Reading, whole};
+ghost use Rattle.wenc_parts.specs.Prelude.{extern_name_view, value_type, primitive};
 ghost use Rattle.wenc_parts.specs.declared.types.ComponentValType.TheVariants as value_types;
-ghost use Rattle.wenc_parts.specs.declared.types.PrimitiveValType.{PrimitiveValType};
-ghost use Rattle.wenc_sections.specs.Imports.{Import, import_item};
+ghost use Rattle.wenc_sections.specs.Prelude.{Import, import_item};
+ghost use Rattle.wenc_sections.specs.declared.space.Space.TheVariants as spaces;
 
 use std::alloc::Allocator;
 use wasm_encoder::laws::{

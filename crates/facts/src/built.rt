@@ -1,13 +1,9 @@
 //! Types that a builder returns encoders for, from the public contracts.
 ghost use Rattle.std.specs.Prelude.{◌≡◌, ◌≤◌, ◌+◌, ◌++◌, ◌∷◌, [], List, OnOk, IfOk, None, Ok, true};
-ghost use Rattle.wenc_builder.specs.Builder.{count_in};
-ghost use Rattle.wenc_builder.specs.Entry.{Entry, items, type_entry};
-ghost use Rattle.wenc_builder.specs.Holds.{Holds};
-ghost use Rattle.wenc_builder.specs.Space.{next_index};
+ghost use Rattle.facts.specs.Prelude.{Space};
+ghost use Rattle.wenc_builder.specs.Prelude.{count_in, Entry, items, type_entry, Holds, next_index};
 ghost use Rattle.wenc_sections.specs.declared.space.Space.TheVariants as spaces;
-ghost use Rattle.wenc_sections.specs.declared.space.Space.{Space};
-ghost use Rattle.wenc_types.specs.ComponentTypes.{DefinedType};
-ghost use Rattle.wenc_types.specs.DefinedTypes.{OptionOf};
+ghost use Rattle.wenc_types.specs.Prelude.{DefinedType, OptionOf};
 
 use std::alloc::Allocator;
 use wasm_encoder::laws::{counts_never_fall, encoded_types_are_entries, one_item_counts_once};

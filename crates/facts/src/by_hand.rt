@@ -1,15 +1,9 @@
 //! A component that is written section by section.
 ghost use Rattle.std.specs.Prelude.{◌≡◌, ◌++◌, ◌∷◌, [], IfOk, None, codes};
-ghost use Rattle.wenc_base.specs.Holder.{no_members, with_member, section_text};
-ghost use Rattle.wenc_parts.specs.declared.aliases.ComponentOuterAliasKind.{ComponentOuterAliasKind};
-ghost use Rattle.wenc_parts.specs.declared.exports.ComponentExportKind.{ComponentExportKind};
-ghost use Rattle.wenc_parts.specs.declared.imports.ComponentTypeRef.{ComponentTypeRef};
-ghost use Rattle.wenc_parts.specs.declared.imports.TypeBounds.{TypeBounds};
-ghost use Rattle.wenc_parts.specs.Aliases.{Outer, alias};
-ghost use Rattle.wenc_parts.specs.Imports.{plain_name};
-ghost use Rattle.wenc_parts.specs.Component.{preamble};
-ghost use Rattle.wenc_sections.specs.Imports.{import_item};
-ghost use Rattle.wenc_sections.specs.Exports.{export_item};
+ghost use Rattle.facts.specs.Prelude.{ComponentOuterAliasKind, ComponentExportKind, ComponentTypeRef, TypeBounds};
+ghost use Rattle.wenc_base.specs.Prelude.{no_members, with_member, section_text};
+ghost use Rattle.wenc_parts.specs.Prelude.{Outer, alias, plain_name, preamble};
+ghost use Rattle.wenc_sections.specs.Prelude.{import_item, export_item};
 
 use std::alloc::Allocator;
 use wenc_base::Fault;

@@ -1,9 +1,9 @@
 //! The callers that the pages CALLING.md show.
 ghost use Rattle.std.specs.Prelude.{◌≡◌, ◌++◌, [], IfOk, IfSome};
-ghost use Rattle.wenc.specs.Run.{PrintsAccepted};
-ghost use Rattle.wenc_base.specs.Holder.{no_members, with_member};
-ghost use Rattle.wenc_canon.specs.Canonicals.{canonical, OfBuiltin, ResourceDrop};
-ghost use Rattle.wenc_parts.specs.Imports.{extern_name, extern_name_view, type_reference};
+ghost use Rattle.wenc.specs.Prelude.{PrintsAccepted};
+ghost use Rattle.wenc_base.specs.Prelude.{no_members, with_member};
+ghost use Rattle.wenc_canon.specs.Prelude.{canonical, OfBuiltin, ResourceDrop};
+ghost use Rattle.wenc_parts.specs.Prelude.{extern_name, extern_name_view, type_reference};
 
 use std::alloc::{Allocator, Global};
 use wenc::run;

@@ -1,9 +1,8 @@
 //! A section cut out of a component.
 ghost use Rattle.std.specs.Prelude.{◌≡◌, ◌<◌, ◌≤◌, List, length, map, remove, IfOk, IfErr, MatchOption};
-ghost use Rattle.wenc_base.specs.Piece.{Wide};
-ghost use Rattle.wenc_builder.specs.Sections.{Section, Reading};
-ghost use Rattle.wenc_list.specs.Items.{section_view};
-ghost use Rattle.wenc_list.specs.Listing.{ArePlaced, IsFaultOf};
+ghost use Rattle.wenc_base.specs.Prelude.{Wide};
+ghost use Rattle.wenc_builder.specs.Prelude.{Section, Reading};
+ghost use Rattle.wenc_list.specs.Prelude.{section_view, ArePlaced, IsFaultOf};
 
 use std::alloc::{AllocError, Allocator};
 use wenc_list::laws::own_bytes;

@@ -2,12 +2,8 @@
 ghost use Rattle.std.specs.Iterator.Runs.{WholeRun};
 ghost use Rattle.std.specs.Iterator.{IsFinite};
 ghost use Rattle.std.specs.Prelude.{◌≡◌, ◌++◌, ◌∷◌, [], List, map, OnOk, Ok, true, false};
-ghost use Rattle.wenc_base.specs.Composites.{Single, sub_view};
-ghost use Rattle.wenc_base.specs.Holder.{Contains};
-ghost use Rattle.wenc_types.specs.ComponentTypes.{DefType, DefinedType, FunctionType, ComponentDeclaration, Declared, Typed, def_type};
-ghost use Rattle.wenc_types.specs.Declarations.{ModuleDeclares, ComponentDeclares};
-ghost use Rattle.wenc_types.specs.CoreTypes.{CoreType, Grouped, ModuleDeclaration, ModuleRecType, core_type};
-ghost use Rattle.wenc_types.specs.DefinedTypes.{OptionOf, lent_labelled_type};
+ghost use Rattle.wenc_base.specs.Prelude.{Single, sub_view, Contains};
+ghost use Rattle.wenc_types.specs.Prelude.{DefType, DefinedType, FunctionType, ComponentDeclaration, Declared, Typed, def_type, ModuleDeclares, ComponentDeclares, CoreType, Grouped, ModuleDeclaration, ModuleRecType, core_type, OptionOf, lent_labelled_type};
 
 use std::alloc::Allocator;
 use wasm_encoder::laws::openings_are_members;

@@ -1,15 +1,11 @@
 //! The bytes of finished builders, from the public contracts.
 ghost use Rattle.std.specs.List.{AllByRecursion};
 ghost use Rattle.std.specs.Prelude.{◌≡◌, ◌↔◌, ◌∷◌, [], List, IfOk, Some, length};
-ghost use Rattle.wenc_base.specs.Piece.{Spelling};
-ghost use Rattle.wenc_builder.specs.Entry.{Entry, items};
-ghost use Rattle.wenc_builder.specs.Holds.{Holds};
-ghost use Rattle.wenc_builder.specs.Item.{collected, HasNoRaw};
-ghost use Rattle.wenc_builder.specs.Sections.{Reading, Run, Section};
-ghost use Rattle.wenc_builder.specs.Space.{defines, some_in};
-ghost use Rattle.wenc_sections.specs.declared.space.Space.TheVariants as spaces;
-ghost use Rattle.wenc_parts.specs.SectionIds.{section_number};
+ghost use Rattle.wenc_base.specs.Prelude.{Spelling};
+ghost use Rattle.wenc_builder.specs.Prelude.{Entry, items, Holds, collected, HasNoRaw, Reading, Run, Section, defines, some_in};
+ghost use Rattle.wenc_parts.specs.Prelude.{section_number};
 ghost use Rattle.wenc_parts.specs.declared.component.ComponentSectionId.TheVariants as ids;
+ghost use Rattle.wenc_sections.specs.declared.space.Space.TheVariants as spaces;
 
 use std::alloc::Allocator;
 use wasm_encoder::laws::{held_items_tell_bytes, one_kind_is_one_section};

@@ -1,10 +1,8 @@
 //! Holders with bytes that are kept before their members, and sections over them.
 ghost use Rattle.std.specs.Prelude.{◌≡◌, ◌∷◌, [], IfOk};
-ghost use Rattle.wenc_base.specs.Holder.{holding};
-ghost use Rattle.wenc_base.specs.Openings.{HasMembers};
-ghost use Rattle.wenc_base.specs.Piece.{HasForm};
-ghost use Rattle.wenc_canon.specs.Canonicals.{canonical};
-ghost use Rattle.wenc_parts.specs.Aliases.{alias};
+ghost use Rattle.wenc_base.specs.Prelude.{holding, HasMembers, HasForm};
+ghost use Rattle.wenc_canon.specs.Prelude.{canonical};
+ghost use Rattle.wenc_parts.specs.Prelude.{alias};
 
 use std::alloc::{AllocError, Allocator};
 use wenc_base::{Fault, Holder, Verbatim};

@@ -1,8 +1,7 @@
 //! Sections of imports, and how their encoding is read.
 ghost use Rattle.std.specs.Prelude.{◌≡◌, ◌++◌, ℕ, List, OnOk};
-ghost use Rattle.wenc_base.specs.Forms.{counted};
-ghost use Rattle.wenc_base.specs.Piece.{Spelling};
-ghost use Rattle.wenc_sections.specs.Imports.{Import, import_item};
+ghost use Rattle.wenc_base.specs.Prelude.{counted, Spelling};
+ghost use Rattle.wenc_sections.specs.Prelude.{Import, import_item};
 
 use std::alloc::Allocator;
 use wasm_encoder::laws::{sections_are_read, what_is_finished_has_some};

@@ -1,17 +1,11 @@
 //! What ran, and what was built, is listed.
 ghost use Rattle.std.specs.Prelude.{◌≡◌, ◌⊎◌, ℕ, List, Option as Optional, Result as Outcome, IfErr, IfOk, MatchResult, map};
-ghost use Rattle.wasm_encoder.specs.Command.{CommandTree, command_view};
-ghost use Rattle.wasm_encoder.specs.Ran.{Ran, IsStopped};
-ghost use Rattle.wenc_base.specs.Piece.{Wide};
-ghost use Rattle.wenc_builder.specs.Item.{HasNoRaw};
-ghost use Rattle.wenc_base.specs.declared.fault.Fault.{Fault as FaultSpec};
-ghost use Rattle.wenc_base.specs.Fault.{IsMemory};
-ghost use Rattle.wenc_builder.specs.Entry.{Entry, items as items_of};
-ghost use Rattle.wenc_builder.specs.Sections.{Section, Reading, runs, whole, IsEncodable};
-ghost use Rattle.wenc_list.specs.Items.{section_view};
-ghost use Rattle.wenc_list.specs.Listing.{AreWithin, IsFaultOf, IsMemoryOrTooDeep};
+ghost use Rattle.facts.specs.Prelude.{Fault as FaultSpec, ListFault};
+ghost use Rattle.wasm_encoder.specs.Prelude.{CommandTree, command_view, Ran, IsStopped};
+ghost use Rattle.wenc_base.specs.Prelude.{Wide, IsMemory};
+ghost use Rattle.wenc_builder.specs.Prelude.{HasNoRaw, Entry, items as items_of, Section, Reading, runs, whole, IsEncodable};
+ghost use Rattle.wenc_list.specs.Prelude.{section_view, AreWithin, IsFaultOf, IsMemoryOrTooDeep};
 ghost use Rattle.wenc_list.specs.declared.fault.ListFault.TheVariants.{Memory, TooDeep};
-ghost use Rattle.wenc_list.specs.declared.fault.ListFault.{ListFault};
 
 use std::alloc::Allocator;
 use wasm_encoder::laws::listed;

@@ -1,17 +1,13 @@
 //! Values that are read from the front of bytes.
 ghost use Rattle.std.specs.Prelude.{◌≡◌, ◌≤◌, ◌<◌, [], ◌∷◌, ℕ, List, IfOk, IfErr};
-ghost use Rattle.wenc_base.specs.Number.{u32 as number};
-ghost use Rattle.wenc_base.specs.Piece.{Wide};
-ghost use Rattle.wenc_base.specs.Readers.{times};
-ghost use Rattle.wenc_base.specs.reading.Numbers.{read_u32};
-ghost use Rattle.wenc_list.specs.Names.{names_view, subsection_by_id};
-ghost use Rattle.wenc_parts.specs.Aliases.{AliasOf, alias, alias_tree_view};
-ghost use Rattle.wenc_read.specs.Gives.{Gives};
+ghost use Rattle.wenc_base.specs.Prelude.{u32 as number, Wide, times, read_u32};
+ghost use Rattle.wenc_list.specs.Prelude.{names_view, subsection_by_id};
+ghost use Rattle.wenc_parts.specs.Prelude.{AliasOf, alias, alias_tree_view};
+ghost use Rattle.wenc_read.specs.Prelude.{Gives};
 ghost use Rattle.wenc_read.specs.declared.refusal.NestedRefusal.TheVariants.{Flat, TooDeep};
 ghost use Rattle.wenc_read.specs.declared.refusal.Refusal.TheVariants.{Malformed};
-ghost use Rattle.wenc_sections.specs.Names.{Subsection};
-ghost use Rattle.wenc_types.specs.ComponentTypes.{DefType, def_type, depth};
-ghost use Rattle.wenc_types.specs.TypeTrees.{type_view};
+ghost use Rattle.wenc_sections.specs.Prelude.{Subsection};
+ghost use Rattle.wenc_types.specs.Prelude.{DefType, def_type, depth, type_view};
 
 use std::alloc::Allocator;
 use wenc_decode::laws::{decoding_is_exact, types_are_exact};

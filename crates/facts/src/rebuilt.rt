@@ -1,13 +1,10 @@
 //! Listed components, built again.
 ghost use Rattle.std.specs.List.{AllByRecursion, flat_map};
 ghost use Rattle.std.specs.Prelude.{◌≡◌, ◌++◌, List, map, IfSome, OnOk, IsOk};
-ghost use Rattle.wasm_encoder.specs.Command.{command_view};
-ghost use Rattle.wasm_encoder.specs.ItemCommands.{command_of};
-ghost use Rattle.wasm_encoder.specs.Ran.{Ran};
-ghost use Rattle.wenc_base.specs.Piece.{Wide};
-ghost use Rattle.wenc_builder.specs.Entry.{Entry, items as items_of};
-ghost use Rattle.wenc_builder.specs.Sections.{Section, members, Reading, whole};
-ghost use Rattle.wenc_list.specs.Items.{item_view};
+ghost use Rattle.wasm_encoder.specs.Prelude.{command_view, command_of, Ran};
+ghost use Rattle.wenc_base.specs.Prelude.{Wide};
+ghost use Rattle.wenc_builder.specs.Prelude.{Entry, items as items_of, Section, members, Reading, whole};
+ghost use Rattle.wenc_list.specs.Prelude.{item_view};
 
 use std::alloc::{AllocError, Allocator};
 use wasm_encoder::laws::an_item_becomes_its_command;

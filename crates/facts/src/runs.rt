@@ -1,12 +1,9 @@
 //! Properties of runs of commands, from the contract of `build` alone.
-ghost use Rattle.facts.specs.Indexed.{IsIndexedAt};
-ghost use Rattle.std.specs.Prelude.{◌≡◌, ◌↔◌, ◌++◌, ◌∷◌, ℕ, List, map, length, IfSome, IfOk, IfErr, Ok, Some, Option as Optional, Result as Outcome};
-ghost use Rattle.wasm_encoder.specs.Command.{CommandTree, command_view};
-ghost use Rattle.wasm_encoder.specs.Ran.{Ran};
-ghost use Rattle.wenc_builder.specs.Item.{HasNoRaw};
+ghost use Rattle.facts.specs.Prelude.{IsIndexedAt, Fault as FaultSpec};
+ghost use Rattle.wasm_encoder.specs.Prelude.{CommandTree, command_view, Ran};
 ghost use Rattle.wenc_base.specs.declared.fault.Fault.TheVariants.{Unfinished};
-ghost use Rattle.wenc_base.specs.declared.fault.Fault.{Fault as FaultSpec};
-ghost use Rattle.wenc_builder.specs.Entry.{Entry, items as items_of};
+ghost use Rattle.wenc_builder.specs.Prelude.{HasNoRaw, Entry, items as items_of};
+ghost use Rattle.std.specs.Prelude.{◌≡◌, ◌↔◌, ◌++◌, ◌∷◌, ℕ, List, map, length, IfSome, IfOk, IfErr, Ok, Some, Option as Optional, Result as Outcome};
 
 use std::alloc::Allocator;
 use wasm_encoder::{Built, Command, build};

@@ -1,9 +1,8 @@
 //! Components read section by section, and sections item by item.
 ghost use Rattle.std.specs.Prelude.{◌≡◌, ◌-◌, ℕ, List, [], ◌∷◌, length, drop, IfOk, IfErr};
-ghost use Rattle.wenc_base.specs.Piece.{Wide};
-ghost use Rattle.wenc_builder.specs.Sections.{Section, section_piece};
-ghost use Rattle.wenc_list.specs.Cursor.{Opens};
-ghost use Rattle.wenc_list.specs.Listing.{AreWithin, IsFaultHere};
+ghost use Rattle.wenc_base.specs.Prelude.{Wide};
+ghost use Rattle.wenc_builder.specs.Prelude.{Section, section_piece};
+ghost use Rattle.wenc_list.specs.Prelude.{Opens, AreWithin, IsFaultHere};
 
 use std::alloc::Allocator;
 use wenc_list::laws::{what_was_taken, where_it_stands};

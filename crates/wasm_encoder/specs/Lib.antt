@@ -6,3 +6,4 @@ pub mod AllForms
 pub mod Nameless
 pub mod inside
 pub mod WrittenTypes
+pub mod Prelude

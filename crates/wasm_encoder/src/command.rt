@@ -2,20 +2,10 @@
 ghost use Rattle.std.specs.Prelude.{◌≡◌, ◌↔◌, ◌⊎◌, List, [], Ok, IfOk, IfErr, OnErr, IsOk, map};
 ghost use Rattle.std.specs.Option.{option_copied, option_map};
 ghost use Rattle.std.specs.String.{string_bytes};
-ghost use Rattle.wenc_base.specs.Fault.{IsMemory, NoCause};
-ghost use Rattle.wenc_base.specs.Piece.{Spelling};
-ghost use Rattle.wenc_builder.specs.Item.{Item, HasNoRaw};
-ghost use Rattle.wenc_builder.specs.Sections.{Section, runs, Reading, whole, IsEncodable};
-ghost use Rattle.wenc_builder.specs.Enters.{EntersWithoutIndex};
-ghost use Rattle.wenc_builder.specs.Entry.{Entry, items, core_type_entry, type_entry, custom_entry};
-ghost use Rattle.wenc_builder.specs.Holds.{Holds};
-ghost use Rattle.wenc_types.specs.CoreTypeTrees.{core_type_view};
-ghost use Rattle.wenc_types.specs.TypeTrees.{type_view};
-ghost use Rattle.wasm_encoder.specs.Cause.{led, first_cause};
-ghost use Rattle.wasm_encoder.specs.Command.{Add, command_view};
-ghost use Rattle.wasm_encoder.specs.inside.Steps.{commands_view};
-ghost use Rattle.wasm_encoder.specs.Ran.{Ran, IsRefusal, IsStopped, HasRun, RunsNext};
-ghost use Rattle.wasm_encoder.specs.inside.Steps.{StepsRun, StepsBack, indexed as indexed_of, without_index as without_index_of};
+ghost use Rattle.wasm_encoder.specs.Prelude.{led, first_cause, Add, command_view, commands_view, Ran, IsRefusal, IsStopped, HasRun, RunsNext, StepsRun, StepsBack, indexed as indexed_of, without_index as without_index_of};
+ghost use Rattle.wenc_base.specs.Prelude.{IsMemory, NoCause, Spelling};
+ghost use Rattle.wenc_builder.specs.Prelude.{Item, HasNoRaw, Section, runs, Reading, whole, IsEncodable, EntersWithoutIndex, Entry, items, core_type_entry, type_entry, custom_entry, Holds};
+ghost use Rattle.wenc_types.specs.Prelude.{core_type_view, type_view};
 
 use std::alloc::{Allocator, Global};
 use std::marker::Model;
@@ -394,8 +384,8 @@ pub struct Running<A: Allocator = Global> {
 }
 
 impl<A: Allocator> Model for Running<A> {
-    ghost use Rattle.wenc_builder.specs.Builder.{State};
-    ghost use Rattle.wasm_encoder.specs.inside.Steps.{HasRunSome};
+    ghost use Rattle.wasm_encoder.specs.Prelude.{HasRunSome};
+    ghost use Rattle.wenc_builder.specs.Prelude.{State};
 
     ghost Value = { State };
 

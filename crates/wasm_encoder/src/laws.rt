@@ -3,28 +3,14 @@
 //! that of its contents. A call of these does nothing.
 ghost use Rattle.std.specs.Prelude.{◌≡◌, ◌↔◌, ◌+◌, ℕ, ℤ, ◌^◌, ◌<◌, ◌++◌, ◌∷◌, [], List, FitsSigned, true, Ok};
 ghost use Rattle.std.specs.Int.{w64};
-ghost use Rattle.wenc_base.specs.Composites.{RecType, rec_type};
-ghost use Rattle.wenc_base.specs.Fault.{NoCause};
-ghost use Rattle.wenc_base.specs.FormLaws.{FormLaws};
-ghost use Rattle.wenc_base.specs.Forms.{name, counted};
-ghost use Rattle.wenc_base.specs.Holder.{HolderState, Contains, EncodeCause, is_finished, held_members, held_section, Accepted};
-ghost use Rattle.wenc_base.specs.Number.{unsigned_text, signed_text, IsUnsignedText, IsSignedText};
-ghost use Rattle.wenc_base.specs.Number.{u32 as number};
-ghost use Rattle.wenc_base.specs.Openings.{member_begun, member_appended, member_ended, member_given_up};
-ghost use Rattle.wenc_base.specs.Piece.{Spelling, Strict, Wide, ◌▸◌, refused_for, verbatim};
-ghost use Rattle.wenc_base.specs.Producers.{Producers, FieldCause, producers_field, producers_section, producers_held};
-ghost use Rattle.wenc_base.specs.declared.fault.Fault.{Fault};
+ghost use Rattle.wasm_encoder.specs.Prelude.{Fault, Sort, FormName, value_of, form_of};
+ghost use Rattle.wenc_base.specs.Prelude.{RecType, rec_type, NoCause, FormLaws, name, counted, HolderState, Contains, EncodeCause, is_finished, held_members, held_section, Accepted, unsigned_text, signed_text, IsUnsignedText, IsSignedText, u32 as number, member_begun, member_appended, member_ended, member_given_up, Spelling, Strict, Wide, ◌▸◌, refused_for, verbatim, Producers, FieldCause, producers_field, producers_section, producers_held};
 ghost use Rattle.wenc_base.specs.declared.fault.Fault.TheVariants.{Unfinished};
-ghost use Rattle.wenc_builder.specs.Item.{Item, HasNoRaw};
-ghost use Rattle.wenc_builder.specs.Sections.{Section, runs, component, Reading, whole, SectionsHaveNoRaw, AreEncodable, IsEncodable};
-ghost use Rattle.wenc_canon.specs.Canonicals.{Builtin, row, Values, Adds};
-ghost use Rattle.wenc_types.specs.CoreTypes.{ModuleDeclaration, ModuleRecType, module_type, CoreType, core_type};
+ghost use Rattle.wenc_builder.specs.Prelude.{Item, HasNoRaw, Section, runs, component, Reading, whole, SectionsHaveNoRaw, AreEncodable, IsEncodable};
+ghost use Rattle.wenc_canon.specs.Prelude.{Builtin, row, Values, Adds};
+ghost use Rattle.wenc_types.specs.Prelude.{ModuleDeclaration, ModuleRecType, module_type, CoreType, core_type, DefType, ComponentType, InstanceType, InstanceDeclaration, ComponentDeclaration, CoreTyped, Typed, components_of, instances_of, def_type, TypeState, NoneBegun, ModuleDeclares, ComponentDeclares, InstanceDeclares, type_begun, type_appended, type_ended, type_given_up};
 ghost use Rattle.wenc_types.specs.ComponentTypes as component;
-ghost use Rattle.wenc_types.specs.ComponentTypes.{DefType, ComponentType, InstanceType, InstanceDeclaration, ComponentDeclaration, CoreTyped, Typed, components_of, instances_of, def_type};
-ghost use Rattle.wenc_types.specs.Declarations.{TypeState, NoneBegun, ModuleDeclares, ComponentDeclares, InstanceDeclares, type_begun, type_appended, type_ended, type_given_up};
 ghost use Rattle.wenc_types.specs.declared.counts.Sort.TheVariants as sorts;
-ghost use Rattle.wenc_types.specs.declared.counts.Sort.{Sort};
-ghost use Rattle.wasm_encoder.specs.AllForms.{FormName, value_of, form_of};
 
 mod of_builders;
 mod of_holders;

@@ -1,13 +1,13 @@
 //! Listed items, as the commands that add them.
+ghost use Rattle.wasm_encoder.specs.Prelude.{command_view, command_of};
+ghost use Rattle.wenc_list.specs.Prelude.{item_view};
+
 use crate::command::Command;
 use std::alloc::Allocator;
 use wenc_list::ItemTree;
 
 impl<A: Allocator> From<ItemTree<A>> for Command<A> {
     ghost use Rattle.std.specs.Prelude.{◌≡◌};
-    ghost use Rattle.wenc_list.specs.Items.{item_view};
-    ghost use Rattle.wasm_encoder.specs.Command.{command_view};
-    ghost use Rattle.wasm_encoder.specs.ItemCommands.{command_of};
 
     ghost from_gives = { λ item command. command_view command ≡ command_of (item_view item) };
 

@@ -1,12 +1,9 @@
 //! A producers section, as the command that adds it.
 ghost use Rattle.std.specs.Prelude.{◌≡◌, List, Err, IfErr, IfOk, false};
-ghost use Rattle.wenc_base.specs.Fault.{IsWarranted};
-ghost use Rattle.wenc_base.specs.Forms.{list};
-ghost use Rattle.wenc_base.specs.Holder.{Contains, EncodeCause, held_text, is_finished};
-ghost use Rattle.wenc_base.specs.Producers.{Producers, producers_field, producers_label};
+ghost use Rattle.wasm_encoder.specs.Prelude.{Add, command_view};
+ghost use Rattle.wenc_base.specs.Prelude.{IsWarranted, list, Contains, EncodeCause, held_text, is_finished, Producers, producers_field, producers_label};
 ghost use Rattle.wenc_base.specs.declared.fault.Fault.TheVariants.{Unfinished};
-ghost use Rattle.wenc_builder.specs.Entry.{custom_entry};
-ghost use Rattle.wasm_encoder.specs.Command.{Add, command_view};
+ghost use Rattle.wenc_builder.specs.Prelude.{custom_entry};
 
 use crate::command::Command;
 use std::alloc::Allocator;

@@ -9,3 +9,4 @@ pub mod Run
 pub mod Listed
 pub mod ListRun
 pub mod inside
+pub mod Prelude

@@ -1,9 +1,8 @@
 //! Built-in canonical functions, by their words.
 ghost use Rattle.std.specs.Prelude.{◌≡◌, ◌∷◌, [], drop, option_map};
-ghost use Rattle.wenc_sections.specs.CanonTrees.{canon_view};
-ghost use Rattle.wenc_canon.specs.Canonicals.{Index, Flag, builtins};
-ghost use Rattle.wenc.specs.Builtins.{values_said, one_of, builtin_said};
-ghost use Rattle.wenc.specs.Words.{words_left};
+ghost use Rattle.wenc.specs.Prelude.{values_said, one_of, builtin_said, words_left};
+ghost use Rattle.wenc_canon.specs.Prelude.{Index, Flag, builtins};
+ghost use Rattle.wenc_sections.specs.Prelude.{canon_view};
 
 use crate::number::{flag, number};
 use crate::words::Words;

@@ -1,5 +1,5 @@
 //! An input, read to its end.
-ghost use Rattle.wenc.specs.inside.Steps.{ReadsWhole};
+ghost use Rattle.wenc.specs.Prelude.{ReadsWhole};
 
 use crate::failure::Failure;
 use std::alloc::Allocator;

@@ -1,6 +1,6 @@
 //! Sorts of items, by their words.
 ghost use Rattle.std.specs.Prelude.{◌≡◌};
-ghost use Rattle.wenc.specs.Fields.{kind, reference_word};
+ghost use Rattle.wenc.specs.Prelude.{kind, reference_word};
 
 use wasm_encoder::{ComponentExportKind, ComponentTypeRef, ComponentValType, TypeBounds};
 

@@ -1,9 +1,7 @@
 //! Parses a line of a script.
 ghost use Rattle.std.specs.Prelude.{◌≡◌, IfOk, option_map};
-ghost use Rattle.wasm_encoder.specs.Command.{command_view};
-ghost use Rattle.wenc.specs.Script.{import_command, export_command, alias_command, core_module_command, start_command, append_names_command, command_of, line_command};
-ghost use Rattle.wenc.specs.Words.{words_left};
-ghost use Rattle.wenc.specs.inside.Full.{unless_word_empty, kind_and_index};
+ghost use Rattle.wasm_encoder.specs.Prelude.{command_view};
+ghost use Rattle.wenc.specs.Prelude.{import_command, export_command, alias_command, core_module_command, start_command, append_names_command, command_of, line_command, words_left, unless_word_empty, kind_and_index};
 
 use crate::builtin::builtin;
 use crate::kind::{kind, reference};

@@ -1,10 +1,7 @@
 //! The subcommand `list`: the sections and counts of a component, given as bytes in hexadecimal.
 ghost use Rattle.std.specs.Prelude.{◌≡◌, ◌++◌, ◌⊎◌, IfOk, OnOk, MatchResult, string_bytes, Some};
+ghost use Rattle.wenc.specs.Prelude.{without_line_end, text_bytes, section_line, section_lines, with_space, counts_line, listing_text, place_line, fault_line, NotDecoded, ListsText, ReadsText, ReadsListing, ReportsUnlisted, EndsListing, Says};
 ghost use Rattle.wenc_list.specs.declared.fault.ListFault.TheVariants.{Memory};
-ghost use Rattle.wenc.specs.Listed.{without_line_end, text_bytes, section_line, section_lines, with_space, counts_line, listing_text, place_line, fault_line};
-ghost use Rattle.wenc.specs.inside.ListSteps.{NotDecoded, ListsText, ReadsText, ReadsListing, ReportsUnlisted};
-ghost use Rattle.wenc.specs.ListRun.{EndsListing};
-ghost use Rattle.wenc.specs.Run.{Says};
 
 use crate::failure::Failure;
 use crate::input::{MAX_READS, read_all};

@@ -1,6 +1,6 @@
 //! Numbers, flags and bytes, by their words.
 ghost use Rattle.std.specs.Prelude.{◌≡◌, IfOk, option_map};
-ghost use Rattle.wenc.specs.Fields.{number_word, flag_word, hex};
+ghost use Rattle.wenc.specs.Prelude.{number_word, flag_word, hex};
 
 use hex::FromHexError;
 use std::alloc::{AllocError, Global};

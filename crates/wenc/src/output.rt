@@ -2,8 +2,7 @@
 ghost use Rattle.std.specs.Prelude.{◌*◌, ◌≤◌, ◌++◌, length, OnOk};
 ghost use Rattle.std.specs.Io.KnownBytes.{Appends};
 ghost use Rattle.hex.specs.Hex.{encode_lower};
-ghost use Rattle.wenc.specs.Printed.{line_of};
-ghost use Rattle.wenc.specs.Run.{AppendsFront, Says};
+ghost use Rattle.wenc.specs.Prelude.{line_of, AppendsFront, Says};
 
 use crate::digits::encode;
 use crate::failure::Failure;

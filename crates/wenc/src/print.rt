@@ -1,7 +1,7 @@
 //! The lines of the commands' results.
 ghost use Rattle.std.specs.Prelude.{◌≡◌, ◌++◌, IfOk, OnOk};
 ghost use Rattle.std.specs.Fmt.{decimal};
-ghost use Rattle.wenc.specs.Printed.{answer_line, answer_lines, line_of};
+ghost use Rattle.wenc.specs.Prelude.{answer_line, answer_lines, line_of};
 
 use std::alloc::{AllocError, Allocator};
 use wasm_encoder::Fault;

@@ -2,10 +2,7 @@
 ghost use Rattle.std.specs.Prelude.{◌≡◌, ◌≢◌, ◌⊎◌, ◌↔◌, [], All, Any, IsOk, IsErr, IsTrue};
 ghost use Rattle.std.specs.Bool.{OnTrue, OnFalse};
 ghost use Rattle.std.specs.declared.alloc.Global.{Global};
-ghost use Rattle.wenc.specs.Listed.{IsList};
-ghost use Rattle.wenc.specs.ListRun.{EndsListing};
-ghost use Rattle.wenc.specs.Run.{EndsRun, Says, usage, fault_report};
-ghost use Rattle.wenc.specs.inside.Steps.{IsStatusOf, text_of, Translates, Reads, Reported};
+ghost use Rattle.wenc.specs.Prelude.{IsList, EndsListing, EndsRun, Says, usage, fault_report, IsStatusOf, text_of, Translates, Reads, Reported};
 
 use crate::failure::Failure;
 use crate::input::{MAX_READS, read_all};

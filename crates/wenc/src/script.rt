@@ -1,7 +1,5 @@
 //! A run of a script, line by line.
-ghost use Rattle.wenc.specs.Script.{script};
-ghost use Rattle.wenc.specs.Built.{Builds};
-ghost use Rattle.wenc.specs.inside.Lines.{IsTextInFront, RunsLine};
+ghost use Rattle.wenc.specs.Prelude.{script, Builds, IsTextInFront, RunsLine};
 
 use crate::failure::Failure;
 use crate::line::text_command;

@@ -1,7 +1,6 @@
 //! The words of a line.
 ghost use Rattle.std.specs.Prelude.{◌≡◌, ◌≢◌, ◌∷◌, [], length, MatchOption};
-ghost use Rattle.wenc.specs.Parts.{parted};
-ghost use Rattle.wenc.specs.Words.{words_left};
+ghost use Rattle.wenc.specs.Prelude.{parted, words_left};
 
 /// The remaining words of a line, separated by one space.
 #[derive(Clone, Copy)]

@@ -20,3 +20,4 @@ pub mod Readers
 pub mod inside
 pub mod reading
 pub mod laws
+pub mod Prelude

@@ -1,4 +1,6 @@
 //! Custom sections.
+ghost use Rattle.wenc_base.specs.Prelude.{custom, verbatim};
+
 use crate::encode::{Encode, Verbatim, extend_in_room};
 use crate::fault::Fault;
 use crate::holder::section_size;
@@ -28,8 +30,6 @@ pub struct CustomSection<'a> {
 }
 
 impl<'a> Encode for CustomSection<'a> {
-    ghost use Rattle.wenc_base.specs.Custom.{custom};
-
     ghost piece = { λ s. custom (record { label = s.name.now; bytes = s.data.now }) };
 
     #[tactic(auto, using(crate::proofs::Groups::size_of_u32))]
@@ -68,8 +68,6 @@ impl<'a> Section for CustomSection<'a> {
 pub struct RawCustomSection<'a>(pub &'a [u8]);
 
 impl<'a> Encode for RawCustomSection<'a> {
-    ghost use Rattle.wenc_base.specs.Piece.{verbatim};
-
     ghost piece = { λ s. verbatim s.0.now };
 
     fn encode<A: Allocator>(&self, sink: &mut Vec<u8, A>) -> Result<(), Fault> {

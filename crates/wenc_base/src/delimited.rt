@@ -1,10 +1,7 @@
 //! The trait `Delimited`: values that can be read back from their encoding.
 ghost use Rattle.std.specs.Cmp.{IsEquivalence};
 ghost use Rattle.std.specs.Prelude.{Bool, ℕ, ℤ, List};
-ghost use Rattle.wenc_base.specs.Delimited.{IsReadable, IsWritten, AlikeIsEqual};
-ghost use Rattle.wenc_base.specs.Piece.{Form};
-ghost use Rattle.wenc_base.specs.laws.Delimited.{itself};
-ghost use Rattle.wenc_base.specs.laws.Serves.{serves_itself};
+ghost use Rattle.wenc_base.specs.Prelude.{IsReadable, IsWritten, AlikeIsEqual, Form, itself, serves_itself, flag, flag_lawful, read_flag, u32 as number, u32_lawful, read_u32, u64 as long_number, u64_lawful, read_u64, i64 as signed_number, i64_lawful, read_signed, name, name_lawful, read_name, byte_list, byte_list_lawful, read_byte_list};
 
 mod made;
 
@@ -40,10 +37,6 @@ pub trait DelimitedEq: Delimited + Eq {
 }
 
 impl Delimited for bool {
-    ghost use Rattle.wenc_base.specs.Forms.{flag};
-    ghost use Rattle.wenc_base.specs.laws.Forms.{flag_lawful};
-    ghost use Rattle.wenc_base.specs.reading.Forms.{read_flag};
-
     ghost Seen = { Bool };
 
     ghost seen = { λ b. b };
@@ -60,10 +53,6 @@ impl DelimitedEq for bool {
 }
 
 impl Delimited for u32 {
-    ghost use Rattle.wenc_base.specs.Number.{u32 as number};
-    ghost use Rattle.wenc_base.specs.laws.Numbers.{u32_lawful};
-    ghost use Rattle.wenc_base.specs.reading.Numbers.{read_u32};
-
     ghost Seen = { ℕ };
 
     ghost seen = { λ n. n };
@@ -80,10 +69,6 @@ impl DelimitedEq for u32 {
 }
 
 impl Delimited for u64 {
-    ghost use Rattle.wenc_base.specs.Number.{u64 as long_number};
-    ghost use Rattle.wenc_base.specs.laws.Numbers.{u64_lawful};
-    ghost use Rattle.wenc_base.specs.reading.Numbers.{read_u64};
-
     ghost Seen = { ℕ };
 
     ghost seen = { λ n. n };
@@ -100,10 +85,6 @@ impl DelimitedEq for u64 {
 }
 
 impl Delimited for i64 {
-    ghost use Rattle.wenc_base.specs.Number.{i64 as signed_number};
-    ghost use Rattle.wenc_base.specs.laws.Numbers.{i64_lawful};
-    ghost use Rattle.wenc_base.specs.reading.Numbers.{read_signed};
-
     ghost Seen = { ℤ };
 
     ghost seen = { λ z. z };
@@ -120,10 +101,6 @@ impl DelimitedEq for i64 {
 }
 
 impl Delimited for &str {
-    ghost use Rattle.wenc_base.specs.Forms.{name};
-    ghost use Rattle.wenc_base.specs.laws.Forms.{name_lawful};
-    ghost use Rattle.wenc_base.specs.reading.Forms.{read_name};
-
     ghost Seen = { List ℕ };
 
     ghost seen = { λ s. s.now };
@@ -143,9 +120,6 @@ impl DelimitedEq for &str {
 
 impl<A: Allocator> Delimited for String<A> {
     ghost use Rattle.std.specs.String.{string_bytes};
-    ghost use Rattle.wenc_base.specs.Forms.{name};
-    ghost use Rattle.wenc_base.specs.laws.Forms.{name_lawful};
-    ghost use Rattle.wenc_base.specs.reading.Forms.{read_name};
 
     ghost Seen = { List ℕ };
 
@@ -166,10 +140,6 @@ impl<A: Allocator> DelimitedEq for String<A> {
 }
 
 impl Delimited for &[u8] {
-    ghost use Rattle.wenc_base.specs.Forms.{byte_list};
-    ghost use Rattle.wenc_base.specs.laws.Forms.{byte_list_lawful};
-    ghost use Rattle.wenc_base.specs.reading.Forms.{read_byte_list};
-
     ghost Seen = { List ℕ };
 
     ghost seen = { λ bytes. bytes.now };

@@ -1,10 +1,6 @@
 //! The trait `Encode`, which appends numbers and other values to a vector of bytes.
 ghost use Rattle.std.specs.Prelude.{◌≡◌, ◌+◌, ◌<◌, ◌≤◌, ◌^◌, ◌++◌, ◌∷◌, [], length, vec_len, vec_capacity, OnOk, true};
-ghost use Rattle.wenc_base.specs.Encode.{Appends};
-ghost use Rattle.wenc_base.specs.Fault.{size_cause};
-ghost use Rattle.wenc_base.specs.Forms.{AreBytes};
-ghost use Rattle.wenc_base.specs.Number.{number_size, unsigned_text, signed_text};
-ghost use Rattle.wenc_base.specs.Piece.{Piece, ◌▸◌};
+ghost use Rattle.wenc_base.specs.Prelude.{Appends, size_cause, AreBytes, number_size, unsigned_text, signed_text, Piece, ◌▸◌, nothing, flag, u64 as long_number, count, i64 as signed_number, name, byte_list, option, in_order, verbatim};
 
 mod front;
 mod lists;
@@ -49,8 +45,6 @@ pub trait Encode {
 
 /// Encodes to no bytes.
 impl Encode for () {
-    ghost use Rattle.wenc_base.specs.Piece.{nothing};
-
     ghost piece = { λ _. nothing };
 
     fn encode<A: Allocator>(&self, _sink: &mut Vec<u8, A>) -> Result<(), Fault> {
@@ -59,8 +53,6 @@ impl Encode for () {
 }
 
 impl Encode for bool {
-    ghost use Rattle.wenc_base.specs.Forms.{flag};
-
     ghost piece = { λ b. flag b };
 
     fn encode<A: Allocator>(&self, sink: &mut Vec<u8, A>) -> Result<(), Fault> {
@@ -70,7 +62,7 @@ impl Encode for bool {
 }
 
 impl Encode for u32 {
-    ghost use Rattle.wenc_base.specs.Number.{u32 as number};
+    ghost use Rattle.wenc_base.specs.Prelude.{u32 as number};
 
     ghost piece = { λ n. number n };
 
@@ -80,8 +72,6 @@ impl Encode for u32 {
 }
 
 impl Encode for u64 {
-    ghost use Rattle.wenc_base.specs.Number.{u64 as long_number};
-
     ghost piece = { λ n. long_number n };
 
     fn encode<A: Allocator>(&self, sink: &mut Vec<u8, A>) -> Result<(), Fault> {
@@ -91,8 +81,6 @@ impl Encode for u64 {
 
 /// Encodes as a 32-bit number. Fails with `TooMany` if the number is above 4294967295.
 impl Encode for usize {
-    ghost use Rattle.wenc_base.specs.Number.{count};
-
     ghost piece = { count };
 
     fn encode<A: Allocator>(&self, sink: &mut Vec<u8, A>) -> Result<(), Fault> {
@@ -104,8 +92,6 @@ impl Encode for usize {
 }
 
 impl Encode for i64 {
-    ghost use Rattle.wenc_base.specs.Number.{i64 as signed_number};
-
     ghost piece = { signed_number };
 
     #[tactic(auto, using(crate::proofs::Groups::signed_below, crate::proofs::Groups::signed_2, crate::proofs::Groups::signed_3))]
@@ -146,8 +132,6 @@ fn encode_long_signed<A: Allocator>(n: i64, sink: &mut Vec<u8, A>) -> Result<(),
 }
 
 impl Encode for &str {
-    ghost use Rattle.wenc_base.specs.Forms.{name};
-
     ghost piece = { λ s. name s.now };
 
     fn encode<A: Allocator>(&self, sink: &mut Vec<u8, A>) -> Result<(), Fault> {
@@ -157,7 +141,6 @@ impl Encode for &str {
 
 impl<A: Allocator> Encode for String<A> {
     ghost use Rattle.std.specs.String.{string_bytes};
-    ghost use Rattle.wenc_base.specs.Forms.{name};
 
     ghost piece = { λ s. name (string_bytes s) };
 
@@ -167,8 +150,6 @@ impl<A: Allocator> Encode for String<A> {
 }
 
 impl Encode for &[u8] {
-    ghost use Rattle.wenc_base.specs.Forms.{byte_list};
-
     ghost piece = { λ bytes. byte_list bytes.now };
 
     fn encode<A: Allocator>(&self, sink: &mut Vec<u8, A>) -> Result<(), Fault> {
@@ -417,8 +398,6 @@ pub struct Tagged<'a, T>(pub u8, pub &'a T);
 /// An error of the value takes precedence over an allocation failure for the byte, so that an
 /// unfinished value always fails as unfinished: without spare capacity, the value is written first.
 impl<'a, T: Encode> Encode for Tagged<'a, T> {
-    ghost use Rattle.wenc_base.specs.Piece.{◌▸◌};
-
     ghost piece = { λ t. t.0 ▸ T.piece t.1.now };
 
     ghost unfinished = { λ t. T.unfinished t.1.now };
@@ -464,7 +443,6 @@ fn encode_value_first<T: Encode, A: Allocator>(
 /// Encodes as the byte `00`, or as the byte `01` and the value.
 impl<T: Encode> Encode for Option<T> {
     ghost use Rattle.std.specs.Prelude.{Some};
-    ghost use Rattle.wenc_base.specs.Forms.{option};
 
     ghost piece = { option T.piece };
 
@@ -483,8 +461,6 @@ impl<T: Encode> Encode for Option<T> {
 
 /// Encodes one value, then the other. Fails with the first error met.
 impl<T: Encode, U: Encode> Encode for (T, U) {
-    ghost use Rattle.wenc_base.specs.Encode.{in_order};
-
     ghost piece = { λ p. in_order (T.piece p.0) (U.piece p.1) };
 
     ghost unfinished = { λ p. T.unfinished p.0 };
@@ -505,8 +481,6 @@ impl<T: Encode, U: Encode> Encode for (T, U) {
 
 /// Encodes three values in order. Fails with the first error met.
 impl<T: Encode, U: Encode, V: Encode> Encode for (T, U, V) {
-    ghost use Rattle.wenc_base.specs.Encode.{in_order};
-
     ghost piece = { λ t. in_order (T.piece t.0) (in_order (U.piece t.1) (V.piece t.2)) };
 
     ghost unfinished = { λ t. T.unfinished t.0 };
@@ -535,8 +509,6 @@ impl<'a, T: Encode> Encode for ByRef<'a, T> {
 pub struct Verbatim<'a>(pub &'a [u8]);
 
 impl<'a> Encode for Verbatim<'a> {
-    ghost use Rattle.wenc_base.specs.Piece.{verbatim};
-
     ghost piece = { λ v. verbatim v.0.now };
 
     fn encode<A: Allocator>(&self, sink: &mut Vec<u8, A>) -> Result<(), Fault> {

@@ -1,8 +1,6 @@
 //! Kinds of the exports and imports of core modules.
 ghost use Rattle.std.specs.Prelude.{◌≡◌};
-ghost use Rattle.wenc_base.specs.Exports.{export_kind_byte};
-ghost use Rattle.wenc_base.specs.laws.Delimited.{itself};
-ghost use Rattle.wenc_base.specs.laws.Serves.{serves_itself};
+ghost use Rattle.wenc_base.specs.Prelude.{export_kind_byte, itself, serves_itself, core_export_kind, core_export_kind_lawful, read_core_export_kind, ExportKind as Seen'};
 
 use crate::delimited::{Delimited, DelimitedEq};
 use crate::encode::Encode;
@@ -39,8 +37,6 @@ fn kind_byte(kind: ExportKind) -> u8
 }
 
 impl Encode for ExportKind {
-    ghost use Rattle.wenc_base.specs.Exports.{core_export_kind};
-
     ghost piece = { λ kind. core_export_kind kind };
 
     fn encode<A: Allocator>(&self, sink: &mut Vec<u8, A>) -> Result<(), Fault> {
@@ -50,11 +46,6 @@ impl Encode for ExportKind {
 }
 
 impl Delimited for ExportKind {
-    ghost use Rattle.wenc_base.specs.Exports.{core_export_kind};
-    ghost use Rattle.wenc_base.specs.laws.Exports.{core_export_kind_lawful};
-    ghost use Rattle.wenc_base.specs.reading.Exports.{read_core_export_kind};
-    ghost use Rattle.wenc_base.specs.declared.exports.ExportKind.{ExportKind as Seen'};
-
     ghost Seen = { Seen' };
 
     ghost seen = { λ kind. kind };

@@ -1,5 +1,6 @@
 //! Errors.
 ghost use Rattle.std.specs.Prelude.{◌≡◌, alloc_error};
+ghost use Rattle.wenc_base.specs.Prelude.{fault_number};
 ghost use Rattle.wenc_base.specs.declared.fault.Fault.TheVariants.{Memory};
 
 use std::alloc::{AllocError, AllocFailed};
@@ -27,8 +28,6 @@ pub enum Fault {
 }
 
 impl Fault {
-    ghost use Rattle.wenc_base.specs.Fault.{fault_number};
-
     /// Returns the number of the error, from 1 to 4 in the order of the variants.
     pub fn number(self) -> u8
         ensures { result ≡ fault_number self }

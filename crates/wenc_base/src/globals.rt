@@ -1,6 +1,5 @@
 //! Types of global variables.
-ghost use Rattle.wenc_base.specs.laws.Delimited.{itself};
-ghost use Rattle.wenc_base.specs.laws.Serves.{serves_itself};
+ghost use Rattle.wenc_base.specs.Prelude.{itself, serves_itself, global_type, global_type_lawful, read_global_type, GlobalType as Seen'};
 
 use crate::delimited::{Delimited, DelimitedEq};
 use crate::encode::Encode;
@@ -18,8 +17,6 @@ pub struct GlobalType {
 }
 
 impl Encode for GlobalType {
-    ghost use Rattle.wenc_base.specs.Entities.{global_type};
-
     ghost piece = { λ g. global_type g };
 
     fn encode<A: Allocator>(&self, sink: &mut Vec<u8, A>) -> Result<(), Fault> {
@@ -28,11 +25,6 @@ impl Encode for GlobalType {
 }
 
 impl Delimited for GlobalType {
-    ghost use Rattle.wenc_base.specs.Entities.{global_type};
-    ghost use Rattle.wenc_base.specs.laws.Entities.{global_type_lawful};
-    ghost use Rattle.wenc_base.specs.reading.Entities.{read_global_type};
-    ghost use Rattle.wenc_base.specs.declared.globals.GlobalType.{GlobalType as Seen'};
-
     ghost Seen = { Seen' };
 
     ghost seen = { λ x. x };

@@ -3,13 +3,7 @@
 ghost use Rattle.std.specs.Prelude.{◌≡◌, ◌+◌, ◌-◌, ◌<◌, ◌≤◌, ◌^◌, ◌⊎◌, length, OnOk, OnErr, IfOk, IfErr, true, false, take, drop};
 ghost use Rattle.std.specs.Iterator.{IsFinite};
 ghost use Rattle.std.specs.Iterator.Runs.{SomeRun, WholeRun};
-ghost use Rattle.wenc_base.specs.Encode.{Appends, Appended};
-ghost use Rattle.wenc_base.specs.Fault.{IsWarranted, IsMemory};
-ghost use Rattle.wenc_base.specs.Holder.{no_members, all_bytes, holding, is_finished, content_size, section_text, cut_to, OneMoreCause, AddsMember, AddsListed, listed, held_members, held_section, EncodeCause};
-ghost use Rattle.wenc_base.specs.Lender.{ExtendsListed};
-ghost use Rattle.wenc_base.specs.Openings.{member_appended, no_room_in_holder};
-ghost use Rattle.wenc_base.specs.Piece.{verbatim};
-ghost use Rattle.wenc_base.specs.declared.fault.Fault.{Fault as FaultSpec};
+ghost use Rattle.wenc_base.specs.Prelude.{Appends, Appended, IsWarranted, IsMemory, no_members, all_bytes, holding, is_finished, content_size, section_text, cut_to, OneMoreCause, AddsMember, AddsListed, listed, held_members, held_section, EncodeCause, ExtendsListed, member_appended, no_room_in_holder, verbatim, Fault as FaultSpec};
 ghost use Rattle.wenc_base.specs.declared.fault.Fault.TheVariants.{TooLarge, Unfinished};
 
 mod kept;
@@ -66,7 +60,7 @@ pub struct Holder<A: Allocator = Global> {
 
 impl<A: Allocator> Model for Holder<A> {
     ghost use Rattle.std.specs.Prelude.{◌<◌, ◌≤◌, ◌^◌, length, take, drop, IfSome};
-    ghost use Rattle.wenc_base.specs.Holder.{HolderState, content_size};
+    ghost use Rattle.wenc_base.specs.Prelude.{HolderState, content_size};
 
     ghost Value = { HolderState };
 

@@ -1,6 +1,5 @@
 //! Types of the imports and exports of core modules.
-ghost use Rattle.wenc_base.specs.laws.Delimited.{itself};
-ghost use Rattle.wenc_base.specs.laws.Serves.{serves_itself};
+ghost use Rattle.wenc_base.specs.Prelude.{itself, serves_itself, entity_type, entity_type_lawful, read_entity_type, EntityType as Seen'};
 
 use crate::delimited::{Delimited, DelimitedEq};
 use crate::encode::{Encode, Tagged};
@@ -28,8 +27,6 @@ pub enum EntityType {
 }
 
 impl Encode for EntityType {
-    ghost use Rattle.wenc_base.specs.Entities.{entity_type};
-
     ghost piece = { λ e. entity_type e };
 
     fn encode<A: Allocator>(&self, sink: &mut Vec<u8, A>) -> Result<(), Fault> {
@@ -44,11 +41,6 @@ impl Encode for EntityType {
 }
 
 impl Delimited for EntityType {
-    ghost use Rattle.wenc_base.specs.Entities.{entity_type};
-    ghost use Rattle.wenc_base.specs.laws.Entities.{entity_type_lawful};
-    ghost use Rattle.wenc_base.specs.reading.Entities.{read_entity_type};
-    ghost use Rattle.wenc_base.specs.declared.imports.EntityType.{EntityType as Seen'};
-
     ghost Seen = { Seen' };
 
     ghost seen = { λ x. x };

@@ -2,10 +2,7 @@
 //! builder that contains one.
 ghost use Rattle.std.specs.Iterator.{IsFinite};
 ghost use Rattle.std.specs.Prelude.{◌≡◌, ℕ, List, ◌++◌, Bool, true, false};
-ghost use Rattle.wenc_base.specs.Forms.{list};
-ghost use Rattle.wenc_base.specs.Lender.{Extends, ExtendsListed, Ends, EndsListed, MakesWhole};
-ghost use Rattle.wenc_base.specs.Piece.{behind_bytes};
-ghost use Rattle.wenc_base.specs.declared.fault.Fault.{Fault as FaultSpec};
+ghost use Rattle.wenc_base.specs.Prelude.{list, Extends, ExtendsListed, Ends, EndsListed, MakesWhole, behind_bytes, Fault as FaultSpec, is_finished, member_appended, member_ended, no_room_in_holder, is_opened, opened_is_unfinished, member_appended_twice};
 ghost use Rattle.wenc_base.specs.declared.fault.Fault.TheVariants.{Unfinished};
 
 use crate::encode::Encode;
@@ -109,10 +106,6 @@ pub trait Lender {
 }
 
 impl<A: Allocator> Lender for Holder<A> {
-    ghost use Rattle.wenc_base.specs.Holder.{is_finished};
-    ghost use Rattle.wenc_base.specs.Openings.{member_appended, member_ended, no_room_in_holder, is_opened};
-    ghost use Rattle.wenc_base.specs.laws.Holders.{opened_is_unfinished, member_appended_twice};
-
     ghost finished = { is_finished };
 
     ghost opened = { is_opened };

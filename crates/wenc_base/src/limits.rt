@@ -1,6 +1,6 @@
 //! Limits of tables and memories.
 ghost use Rattle.std.specs.Prelude.{◌≡◌, ◌≤◌, if◌then◌else◌};
-ghost use Rattle.wenc_base.specs.Entities.{limit_flags};
+ghost use Rattle.wenc_base.specs.Prelude.{limit_flags, limits};
 
 use crate::encode::{Encode, Tagged};
 use crate::fault::Fault;
@@ -21,8 +21,6 @@ pub struct Limits {
 }
 
 impl Encode for Limits {
-    ghost use Rattle.wenc_base.specs.Entities.{limits};
-
     ghost piece = { λ l. limits l.is_shared l.is_long l.minimum l.maximum };
 
     fn encode<A: Allocator>(&self, sink: &mut Vec<u8, A>) -> Result<(), Fault> {

@@ -1,6 +1,5 @@
 //! Types of memories.
-ghost use Rattle.wenc_base.specs.laws.Delimited.{itself};
-ghost use Rattle.wenc_base.specs.laws.Serves.{serves_itself};
+ghost use Rattle.wenc_base.specs.Prelude.{itself, serves_itself, memory_type, memory_type_lawful, read_memory_type, MemoryType as Seen'};
 
 use crate::delimited::{Delimited, DelimitedEq};
 use crate::encode::Encode;
@@ -23,8 +22,6 @@ pub struct MemoryType {
 }
 
 impl Encode for MemoryType {
-    ghost use Rattle.wenc_base.specs.Entities.{memory_type};
-
     ghost piece = { λ m. memory_type m };
 
     fn encode<A: Allocator>(&self, sink: &mut Vec<u8, A>) -> Result<(), Fault> {
@@ -39,11 +36,6 @@ impl Encode for MemoryType {
 }
 
 impl Delimited for MemoryType {
-    ghost use Rattle.wenc_base.specs.Entities.{memory_type};
-    ghost use Rattle.wenc_base.specs.laws.Entities.{memory_type_lawful};
-    ghost use Rattle.wenc_base.specs.reading.Entities.{read_memory_type};
-    ghost use Rattle.wenc_base.specs.declared.memories.MemoryType.{MemoryType as Seen'};
-
     ghost Seen = { Seen' };
 
     ghost seen = { λ x. x };

@@ -1,9 +1,6 @@
 //! Core modules, written section by section.
 ghost use Rattle.std.specs.Prelude.{◌≡◌, IfOk, IfErr, OnOk};
-ghost use Rattle.wenc_base.specs.Encode.{Appends};
-ghost use Rattle.wenc_base.specs.Fault.{IsMemory};
-ghost use Rattle.wenc_base.specs.Modules.{module_preamble};
-ghost use Rattle.wenc_base.specs.Piece.{◌▸◌};
+ghost use Rattle.wenc_base.specs.Prelude.{Appends, IsMemory, module_preamble, ◌▸◌};
 
 use crate::fault::Fault;
 use crate::section::Section;

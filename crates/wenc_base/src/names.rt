@@ -1,8 +1,6 @@
 //! Name maps.
 ghost use Rattle.std.specs.Prelude.{◌≡◌, ◌==◌, ◌<◌, ◌≤◌, ◌^◌, [], length, IfOk, IfErr};
-ghost use Rattle.wenc_base.specs.Fault.{IsMemory};
-ghost use Rattle.wenc_base.specs.Holder.{no_members, holding, held_text, cut_to, AddsMember};
-ghost use Rattle.wenc_base.specs.Names.{NameAssociation, name_association};
+ghost use Rattle.wenc_base.specs.Prelude.{IsMemory, no_members, holding, held_text, cut_to, AddsMember, NameAssociation, name_association, verbatim};
 
 use crate::encode::{
     Encode, Verbatim, extend_in_room, has_room, number_in_room, short_numbers_in_room,
@@ -33,7 +31,7 @@ pub struct NameMap<A: Allocator = Global> {
 
 impl<A: Allocator> Model for NameMap<A> {
     ghost use Rattle.std.specs.Prelude.{◌<◌, ◌^◌, [], length};
-    ghost use Rattle.wenc_base.specs.Holder.{HolderState, holding, content_size};
+    ghost use Rattle.wenc_base.specs.Prelude.{HolderState, holding, content_size};
 
     ghost Value = { HolderState };
 
@@ -171,8 +169,6 @@ impl<A: Allocator> NameMap<A> {
 /// Encodes the number of names, then each, preceded by its index. Fails only if an allocation
 /// fails.
 impl<A: Allocator> Encode for NameMap<A> {
-    ghost use Rattle.wenc_base.specs.Piece.{verbatim};
-
     ghost piece = { λ m. verbatim (held_text m) };
 
     fn encode<B: Allocator>(&self, sink: &mut Vec<u8, B>) -> Result<(), Fault> {

@@ -1,12 +1,7 @@
 //! The producers section: which tools made a module or a component.
 ghost use Rattle.std.specs.Prelude.{◌≡◌, ◌<◌, ◌+◌, ◌++◌, ◌^◌, List, false, length, IfOk, IfErr, OnOk};
-ghost use Rattle.wenc_base.specs.Encode.{Appends};
-ghost use Rattle.wenc_base.specs.Fault.{IsMemory};
-ghost use Rattle.wenc_base.specs.Forms.{list};
-ghost use Rattle.wenc_base.specs.Holder.{no_members, is_finished, held_members, Contains, AddsMember, EncodeCause, held_text};
-ghost use Rattle.wenc_base.specs.Piece.{refused_for};
+ghost use Rattle.wenc_base.specs.Prelude.{Appends, IsMemory, list, no_members, is_finished, held_members, Contains, AddsMember, EncodeCause, held_text, refused_for, Producer, Producers, producer, producers_field, producers_held, FieldCause, held_field};
 ghost use Rattle.wenc_base.specs.declared.fault.Fault.TheVariants.{Unfinished};
-ghost use Rattle.wenc_base.specs.Producers.{Producer, Producers, producer, producers_field, producers_held, FieldCause, held_field};
 
 use crate::encode::{ByRef, Encode};
 use crate::fault::Fault;
@@ -26,7 +21,7 @@ pub struct ProducersField<A: Allocator = Global> {
 }
 
 impl<A: Allocator> Model for ProducersField<A> {
-    ghost use Rattle.wenc_base.specs.Holder.{HolderState};
+    ghost use Rattle.wenc_base.specs.Prelude.{HolderState};
 
     ghost Value = { HolderState };
 
@@ -104,7 +99,7 @@ pub struct ProducersSection<A: Allocator = Global> {
 
 impl<A: Allocator> Model for ProducersSection<A> {
     ghost use Rattle.std.specs.Prelude.{◌<◌, ◌+◌, ◌^◌, length};
-    ghost use Rattle.wenc_base.specs.Holder.{HolderState, content_size};
+    ghost use Rattle.wenc_base.specs.Prelude.{HolderState, content_size};
 
     ghost Value = { HolderState };
 

@@ -1,4 +1,6 @@
 //! Sections of any id, given by their bytes.
+ghost use Rattle.wenc_base.specs.Prelude.{byte_list};
+
 use crate::encode::Encode;
 use crate::fault::Fault;
 use crate::section::Section;
@@ -17,8 +19,6 @@ pub struct RawSection<'a> {
 }
 
 impl<'a> Encode for RawSection<'a> {
-    ghost use Rattle.wenc_base.specs.Forms.{byte_list};
-
     ghost piece = { λ s. byte_list s.data.now };
 
     fn encode<A: Allocator>(&self, sink: &mut Vec<u8, A>) -> Result<(), Fault> {

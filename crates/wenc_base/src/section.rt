@@ -1,7 +1,6 @@
 //! The trait `Section`, and the ids of sections in core modules.
 ghost use Rattle.std.specs.Prelude.{◌≡◌, ℕ, OnOk};
-ghost use Rattle.wenc_base.specs.Encode.{Appends};
-ghost use Rattle.wenc_base.specs.Piece.{◌▸◌};
+ghost use Rattle.wenc_base.specs.Prelude.{Appends, ◌▸◌};
 
 use crate::encode::{Encode, Tagged};
 use crate::fault::Fault;

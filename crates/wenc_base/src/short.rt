@@ -1,6 +1,6 @@
 //! A few bytes on the stack.
 ghost use Rattle.std.specs.Prelude.{◌≡◌, ◌+◌, ◌-◌, ◌<◌, ◌≤◌, ◌++◌, ◌∷◌, [], length, if◌then◌else◌};
-ghost use Rattle.wenc_base.specs.Number.{groups, complement, turned, unsigned_text, signed_text};
+ghost use Rattle.wenc_base.specs.Prelude.{groups, complement, turned, unsigned_text, signed_text};
 
 use std::marker::Model;
 

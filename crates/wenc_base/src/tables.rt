@@ -1,6 +1,5 @@
 //! Types of tables.
-ghost use Rattle.wenc_base.specs.laws.Delimited.{itself};
-ghost use Rattle.wenc_base.specs.laws.Serves.{serves_itself};
+ghost use Rattle.wenc_base.specs.Prelude.{itself, serves_itself, table_type, table_type_lawful, read_table_type, TableType as Seen'};
 
 use crate::delimited::{Delimited, DelimitedEq};
 use crate::encode::Encode;
@@ -23,8 +22,6 @@ pub struct TableType {
 }
 
 impl Encode for TableType {
-    ghost use Rattle.wenc_base.specs.Entities.{table_type};
-
     ghost piece = { λ t. table_type t };
 
     fn encode<A: Allocator>(&self, sink: &mut Vec<u8, A>) -> Result<(), Fault> {
@@ -39,11 +36,6 @@ impl Encode for TableType {
 }
 
 impl Delimited for TableType {
-    ghost use Rattle.wenc_base.specs.Entities.{table_type};
-    ghost use Rattle.wenc_base.specs.laws.Entities.{table_type_lawful};
-    ghost use Rattle.wenc_base.specs.reading.Entities.{read_table_type};
-    ghost use Rattle.wenc_base.specs.declared.tables.TableType.{TableType as Seen'};
-
     ghost Seen = { Seen' };
 
     ghost seen = { λ x. x };

@@ -1,6 +1,5 @@
 //! Types of exception tags.
-ghost use Rattle.wenc_base.specs.laws.Delimited.{itself};
-ghost use Rattle.wenc_base.specs.laws.Serves.{serves_itself};
+ghost use Rattle.wenc_base.specs.Prelude.{itself, serves_itself, tag_type, tag_type_lawful, read_tag_type, TagType as Seen'};
 
 use crate::delimited::{Delimited, DelimitedEq};
 use crate::encode::{Encode, Tagged};
@@ -16,8 +15,6 @@ pub struct TagType {
 }
 
 impl Encode for TagType {
-    ghost use Rattle.wenc_base.specs.Entities.{tag_type};
-
     ghost piece = { λ t. tag_type t };
 
     fn encode<A: Allocator>(&self, sink: &mut Vec<u8, A>) -> Result<(), Fault> {
@@ -26,11 +23,6 @@ impl Encode for TagType {
 }
 
 impl Delimited for TagType {
-    ghost use Rattle.wenc_base.specs.Entities.{tag_type};
-    ghost use Rattle.wenc_base.specs.laws.Entities.{tag_type_lawful};
-    ghost use Rattle.wenc_base.specs.reading.Entities.{read_tag_type};
-    ghost use Rattle.wenc_base.specs.declared.tags.TagType.{TagType as Seen'};
-
     ghost Seen = { Seen' };
 
     ghost seen = { λ x. x };

@@ -1,8 +1,7 @@
 //! Core types: value types, reference types and heap types. The submodules have the types that core
 //! modules define.
 ghost use Rattle.std.specs.Prelude.{◌≡◌};
-ghost use Rattle.wenc_base.specs.laws.Delimited.{itself};
-ghost use Rattle.wenc_base.specs.laws.Serves.{serves_itself};
+ghost use Rattle.wenc_base.specs.Prelude.{itself, serves_itself, val_type, val_type_lawful, read_val_type, reference, reference_lawful, read_reference, heap_type_lawful, read_heap_type, abstract_byte, abstract_type, abstract_type_lawful, read_abstract};
 
 pub mod composite;
 pub mod encoder;
@@ -40,8 +39,6 @@ pub enum ValType {
 }
 
 impl Encode for ValType {
-    ghost use Rattle.wenc_base.specs.Types.{val_type};
-
     ghost piece = { λ t. val_type t };
 
     fn encode<A: Allocator>(&self, sink: &mut Vec<u8, A>) -> Result<(), Fault> {
@@ -59,10 +56,7 @@ impl Encode for ValType {
 }
 
 impl Delimited for ValType {
-    ghost use Rattle.wenc_base.specs.Types.{val_type};
-    ghost use Rattle.wenc_base.specs.laws.Types.{val_type_lawful};
-    ghost use Rattle.wenc_base.specs.reading.Types.{read_val_type};
-    ghost use Rattle.wenc_base.specs.declared.types.ValType.{ValType as Seen'};
+    ghost use Rattle.wenc_base.specs.Prelude.{ValType as Seen'};
 
     ghost Seen = { Seen' };
 
@@ -89,8 +83,6 @@ pub struct RefType {
 }
 
 impl Encode for RefType {
-    ghost use Rattle.wenc_base.specs.Types.{reference};
-
     ghost piece = { λ r. reference r };
 
     fn encode<A: Allocator>(&self, sink: &mut Vec<u8, A>) -> Result<(), Fault> {
@@ -107,10 +99,7 @@ impl Encode for RefType {
 }
 
 impl Delimited for RefType {
-    ghost use Rattle.wenc_base.specs.Types.{reference};
-    ghost use Rattle.wenc_base.specs.laws.Types.{reference_lawful};
-    ghost use Rattle.wenc_base.specs.reading.Types.{read_reference};
-    ghost use Rattle.wenc_base.specs.declared.types.RefType.{RefType as Seen'};
+    ghost use Rattle.wenc_base.specs.Prelude.{RefType as Seen'};
 
     ghost Seen = { Seen' };
 
@@ -137,7 +126,7 @@ pub enum HeapType {
 }
 
 impl Encode for HeapType {
-    ghost use Rattle.wenc_base.specs.Types.{heap_type};
+    ghost use Rattle.wenc_base.specs.Prelude.{heap_type};
 
     ghost piece = { λ h. heap_type h };
 
@@ -150,10 +139,7 @@ impl Encode for HeapType {
 }
 
 impl Delimited for HeapType {
-    ghost use Rattle.wenc_base.specs.Types.{heap_type};
-    ghost use Rattle.wenc_base.specs.laws.Types.{heap_type_lawful};
-    ghost use Rattle.wenc_base.specs.reading.Types.{read_heap_type};
-    ghost use Rattle.wenc_base.specs.declared.types.HeapType.{HeapType as Seen'};
+    ghost use Rattle.wenc_base.specs.Prelude.{heap_type, HeapType as Seen'};
 
     ghost Seen = { Seen' };
 
@@ -200,8 +186,6 @@ pub enum AbstractHeapType {
 }
 
 impl AbstractHeapType {
-    ghost use Rattle.wenc_base.specs.Types.{abstract_byte};
-
     fn byte(self) -> u8
         ensures { result ≡ abstract_byte self }
     {
@@ -223,8 +207,6 @@ impl AbstractHeapType {
 }
 
 impl Encode for AbstractHeapType {
-    ghost use Rattle.wenc_base.specs.Types.{abstract_type};
-
     ghost piece = { λ t. abstract_type t };
 
     fn encode<A: Allocator>(&self, sink: &mut Vec<u8, A>) -> Result<(), Fault> {
@@ -234,10 +216,7 @@ impl Encode for AbstractHeapType {
 }
 
 impl Delimited for AbstractHeapType {
-    ghost use Rattle.wenc_base.specs.Types.{abstract_type};
-    ghost use Rattle.wenc_base.specs.laws.Types.{abstract_type_lawful};
-    ghost use Rattle.wenc_base.specs.reading.Types.{read_abstract};
-    ghost use Rattle.wenc_base.specs.declared.types.AbstractHeapType.{AbstractHeapType as Seen'};
+    ghost use Rattle.wenc_base.specs.Prelude.{AbstractHeapType as Seen'};
 
     ghost Seen = { Seen' };
 

@@ -11,3 +11,4 @@ pub mod Names
 pub mod Producers
 pub mod inside
 pub mod laws
+pub mod Prelude

@@ -3,28 +3,12 @@ ghost use Rattle.std.specs.Prelude.{◌≡◌, ◌↔◌, [], ◌∷◌, ◌++�
 ghost use Rattle.std.specs.Iterator.{IsFinite};
 ghost use Rattle.std.specs.List.{AllByRecursion};
 ghost use Rattle.std.specs.Option.{option_copied};
-ghost use Rattle.wenc_base.specs.Fault.{IsMemory};
-ghost use Rattle.wenc_base.specs.Holder.{listed};
-ghost use Rattle.wenc_base.specs.Piece.{nothing, Spelling};
-ghost use Rattle.wenc_base.specs.Lender.{GivesUp};
+ghost use Rattle.wenc_base.specs.Prelude.{IsMemory, listed, nothing, Spelling, GivesUp};
 ghost use Rattle.wenc_base.specs.declared.fault.Fault.TheVariants.{Unfinished};
-ghost use Rattle.wenc_parts.specs.Imports.{extern_name_view};
-ghost use Rattle.wenc_parts.specs.Aliases.{alias_view};
-ghost use Rattle.wenc_sections.specs.CanonTrees.{canon_view};
-ghost use Rattle.wenc_builder.specs.Sections.{Section, runs, Reading, whole};
-ghost use Rattle.wenc_builder.specs.Entry.{Entry, items, module_entry, component_entry, canonical_entry, start_entry, custom_entry, raw_entry, StartIsNameless};
-ghost use Rattle.wenc_builder.specs.Entry.{import_entry, export_entry, alias_entry, alias_export_entry, core_alias_export_entry};
-ghost use Rattle.wenc_builder.specs.Builder.{builder_is_finished, sections_text, count_in, item_begun, item_ended, item_given_up};
-ghost use Rattle.wenc_builder.specs.Holds.{Holds};
-ghost use Rattle.wenc_builder.specs.Enters.{Enters, EntersListed, EntersWithoutIndex, Takes, TakesDraft};
-ghost use Rattle.wenc_builder.specs.inside.Takes.{TakesAlone, TakesNoIndex, AppendsListed, TakesListed, IsItemPiece};
-ghost use Rattle.wenc_builder.specs.Space.{indices_in, some_in, canonical_space};
+ghost use Rattle.wenc_builder.specs.Prelude.{Section, runs, Reading, whole, Entry, items, module_entry, component_entry, canonical_entry, start_entry, custom_entry, raw_entry, StartIsNameless, import_entry, export_entry, alias_entry, alias_export_entry, core_alias_export_entry, builder_is_finished, sections_text, count_in, item_begun, item_ended, item_given_up, Holds, Enters, EntersListed, EntersWithoutIndex, Takes, TakesDraft, TakesAlone, TakesNoIndex, AppendsListed, TakesListed, IsItemPiece, indices_in, some_in, canonical_space, is_whole, HasNoRaw, with_bytes, draft_of, kind_id, AddsNames, item_appended, builder_is_opened, no_room_in_section, opened_is_begun, still_begun, item_appended_twice};
+ghost use Rattle.wenc_parts.specs.Prelude.{extern_name_view, alias_view};
+ghost use Rattle.wenc_sections.specs.Prelude.{canon_view};
 ghost use Rattle.wenc_sections.specs.declared.space.Space.TheVariants as spaces;
-ghost use Rattle.wenc_builder.specs.LenderState.{is_whole};
-ghost use Rattle.wenc_builder.specs.Item.{HasNoRaw};
-ghost use Rattle.wenc_builder.specs.inside.Alone.{with_bytes};
-ghost use Rattle.wenc_builder.specs.inside.Layout.{draft_of, kind_id};
-ghost use Rattle.wenc_builder.specs.Names.{AddsNames};
 
 mod alone;
 mod buffer;
@@ -85,8 +69,7 @@ pub struct ComponentBuilder<A: Allocator = Global> {
 }
 
 impl<A: Allocator> Model for ComponentBuilder<A> {
-    ghost use Rattle.wenc_builder.specs.Builder.{State};
-    ghost use Rattle.wenc_builder.specs.inside.View.{IsBuilder, builder_view};
+    ghost use Rattle.wenc_builder.specs.Prelude.{State, IsBuilder, builder_view};
 
     ghost Value = { State };
 
@@ -681,10 +664,6 @@ impl<A: Allocator> ComponentBuilder<A> {
 /// item, whatever grows or finishes the builder fails with `Unfinished`; `discard_unfinished`
 /// discards the item.
 impl<A: Allocator> Lender for ComponentBuilder<A> {
-    ghost use Rattle.wenc_builder.specs.Builder.{builder_is_finished, item_appended, item_ended};
-    ghost use Rattle.wenc_builder.specs.LenderState.{builder_is_opened, is_whole, no_room_in_section};
-    ghost use Rattle.wenc_builder.specs.laws.LenderState.{opened_is_begun, still_begun, item_appended_twice};
-
     ghost finished = { builder_is_finished };
 
     ghost opened = { builder_is_opened };

@@ -2,3 +2,4 @@ pub mod Canonicals
 pub mod inside
 pub mod reading
 pub mod laws
+pub mod Prelude

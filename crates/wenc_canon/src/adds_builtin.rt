@@ -1,11 +1,8 @@
 //! The builtins of the component model, for each type to which they can be added.
 ghost use Rattle.std.specs.Iterator.{IsFinite};
 ghost use Rattle.std.specs.Prelude.{◌≡◌, ◌∷◌, [], List, Option, Result};
-ghost use Rattle.wenc_base.specs.declared.fault.Fault.{Fault as FaultSpec};
+ghost use Rattle.wenc_canon.specs.Prelude.{Fault as FaultSpec, Canonical, OfBuiltin, CoreType, Index, ◌is◌takes◌, CanonicalOption as OptionSpec, row_with, HasName, builtin_by, and_options, builtin_with};
 ghost use Rattle.wenc_canon.specs.Canonicals as canon;
-ghost use Rattle.wenc_canon.specs.Canonicals.{Canonical, OfBuiltin, CoreType, Index, ◌is◌takes◌};
-ghost use Rattle.wenc_canon.specs.declared.canonicals.CanonicalOption.{CanonicalOption as OptionSpec};
-ghost use Rattle.wenc_canon.specs.inside.Rows.{row_with, HasName, builtin_by, and_options, builtin_with};
 
 use crate::canonicals::CanonicalOption;
 use crate::fields::{Fields, NotCancellable};

@@ -1,15 +1,9 @@
 //! The section of canonical functions, and canonical options.
 ghost use Rattle.std.specs.Prelude.{◌≡◌, ◌==◌, false, OnOk, IfOk, IfErr};
 ghost use Rattle.std.specs.Iterator.{IsFinite};
-ghost use Rattle.wenc_base.specs.Fault.{IsMemory};
-ghost use Rattle.wenc_base.specs.Encode.{Appends};
-ghost use Rattle.wenc_base.specs.Holder.{no_members, is_finished, held_section, ContainsSome, AddsMember};
-ghost use Rattle.wenc_base.specs.Openings.{HasMembers};
-ghost use Rattle.wenc_base.specs.Piece.{HasForm};
-ghost use Rattle.wenc_base.specs.laws.Delimited.{itself};
-ghost use Rattle.wenc_base.specs.laws.Serves.{serves_itself};
-ghost use Rattle.wenc_canon.specs.Canonicals.{AddsWithOptions, Lift, Lower, canonical, ◌is◌takes◌};
-ghost use Rattle.wenc_canon.specs.inside.Rows.{row_with, builtin_by, and_options, builtin_with};
+ghost use Rattle.wenc_base.specs.Prelude.{IsMemory, Appends, no_members, is_finished, held_section, ContainsSome, AddsMember, HasMembers, HasForm, itself, serves_itself};
+ghost use Rattle.wenc_canon.specs.Prelude.{AddsWithOptions, Lift, Lower, canonical, ◌is◌takes◌, row_with, builtin_by, and_options, builtin_with, canonical_option, canonical_option_lawful, read_canonical_option, CanonicalOption as Seen'};
+ghost use Rattle.wenc_parts.specs.Prelude.{section_number};
 
 use crate::adds_builtin::{AddsBuiltin, AddsRow, AddsSlot, AddsSlotRow};
 use crate::fields::Fields;
@@ -46,8 +40,6 @@ pub enum CanonicalOption {
 }
 
 impl Encode for CanonicalOption {
-    ghost use Rattle.wenc_canon.specs.Canonicals.{canonical_option};
-
     ghost piece = { λ o. canonical_option o };
 
     fn encode<A: Allocator>(&self, sink: &mut Vec<u8, A>) -> Result<(), Fault> {
@@ -67,11 +59,6 @@ impl Encode for CanonicalOption {
 }
 
 impl Delimited for CanonicalOption {
-    ghost use Rattle.wenc_canon.specs.Canonicals.{canonical_option};
-    ghost use Rattle.wenc_canon.specs.laws.Canonicals.{canonical_option_lawful};
-    ghost use Rattle.wenc_canon.specs.reading.Canonicals.{read_canonical_option};
-    ghost use Rattle.wenc_canon.specs.declared.canonicals.CanonicalOption.{CanonicalOption as Seen'};
-
     ghost Seen = { Seen' };
 
     ghost seen = { λ o. o };
@@ -113,10 +100,8 @@ pub struct CanonicalFunctionSection<A: Allocator = Global> {
 }
 
 impl<A: Allocator> Model for CanonicalFunctionSection<A> {
-    ghost use Rattle.wenc_base.specs.Holder.{HolderState};
-    ghost use Rattle.wenc_base.specs.Openings.{HasMembers};
-    ghost use Rattle.wenc_base.specs.Piece.{HasForm};
-    ghost use Rattle.wenc_canon.specs.Canonicals.{canonical};
+    ghost use Rattle.wenc_base.specs.Prelude.{HolderState, HasMembers, HasForm};
+    ghost use Rattle.wenc_canon.specs.Prelude.{canonical};
 
     ghost Value = { HolderState };
 
@@ -231,9 +216,6 @@ impl<A: Allocator> CanonicalFunctionSection<A> {
 }
 
 impl<A: Allocator> AddsRow for CanonicalFunctionSection<A> {
-    ghost use Rattle.wenc_base.specs.Holder.{AddsMember};
-    ghost use Rattle.wenc_canon.specs.Canonicals.{AddsWithOptions, canonical};
-
     type Answer = ();
 
     ghost adds = { λ old new result function. AddsMember (canonical function) old new result };
@@ -283,7 +265,6 @@ impl<A: Allocator> Encode for CanonicalFunctionSection<A> {
 }
 
 impl<A: Allocator> ComponentSection for CanonicalFunctionSection<A> {
-    ghost use Rattle.wenc_parts.specs.SectionIds.{section_number};
     ghost use Rattle.wenc_parts.specs.declared.component.ComponentSectionId.TheVariants.{CanonicalFunction};
 
     ghost section_id = { λ _. section_number CanonicalFunction };

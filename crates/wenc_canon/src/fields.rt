@@ -1,9 +1,7 @@
 //! The fields after the opcodes of builtins.
 ghost use Rattle.std.specs.Prelude.{List};
-ghost use Rattle.wenc_base.specs.Delimited.{IsWritten};
-ghost use Rattle.wenc_base.specs.laws.Serves.{serves_itself};
-ghost use Rattle.wenc_canon.specs.Canonicals.{Field, Values, fields};
-ghost use Rattle.wenc_canon.specs.laws.Rows.{two_fields};
+ghost use Rattle.wenc_base.specs.Prelude.{IsWritten, serves_itself, byte};
+ghost use Rattle.wenc_canon.specs.Prelude.{Field, Values, fields, two_fields, Index, Flag, Zero, CoreType, Results};
 
 use std::alloc::Allocator;
 use wenc_base::{Encode, Fault, ValType};
@@ -27,8 +25,6 @@ pub trait Fields: Encode {
 pub struct NotCancellable;
 
 impl Encode for NotCancellable {
-    ghost use Rattle.wenc_base.specs.Piece.{byte};
-
     ghost piece = { λ _. byte 0x00 };
 
     fn encode<A: Allocator>(&self, sink: &mut Vec<u8, A>) -> Result<(), Fault> {
@@ -49,7 +45,6 @@ impl Fields for () {
 
 impl Fields for u32 {
     ghost use Rattle.std.specs.Prelude.{◌∷◌, []};
-    ghost use Rattle.wenc_canon.specs.Canonicals.{Index};
 
     ghost kinds = { Index ∷ [] };
 
@@ -60,7 +55,6 @@ impl Fields for u32 {
 
 impl Fields for bool {
     ghost use Rattle.std.specs.Prelude.{◌∷◌, []};
-    ghost use Rattle.wenc_canon.specs.Canonicals.{Flag};
 
     ghost kinds = { Flag ∷ [] };
 
@@ -71,7 +65,6 @@ impl Fields for bool {
 
 impl Fields for NotCancellable {
     ghost use Rattle.std.specs.Prelude.{◌∷◌, []};
-    ghost use Rattle.wenc_canon.specs.Canonicals.{Zero};
 
     ghost kinds = { Zero ∷ [] };
 
@@ -82,7 +75,6 @@ impl Fields for NotCancellable {
 
 impl Fields for (u32, u32) {
     ghost use Rattle.std.specs.Prelude.{◌∷◌, []};
-    ghost use Rattle.wenc_canon.specs.Canonicals.{Index};
 
     ghost kinds = { Index ∷ Index ∷ [] };
 
@@ -93,7 +85,6 @@ impl Fields for (u32, u32) {
 
 impl Fields for (u32, bool) {
     ghost use Rattle.std.specs.Prelude.{◌∷◌, []};
-    ghost use Rattle.wenc_canon.specs.Canonicals.{Flag, Index};
 
     ghost kinds = { Index ∷ Flag ∷ [] };
 
@@ -104,7 +95,6 @@ impl Fields for (u32, bool) {
 
 impl Fields for (ValType, u32) {
     ghost use Rattle.std.specs.Prelude.{◌∷◌, []};
-    ghost use Rattle.wenc_canon.specs.Canonicals.{CoreType, Index};
 
     ghost kinds = { CoreType ∷ Index ∷ [] };
 
@@ -115,7 +105,6 @@ impl Fields for (ValType, u32) {
 
 impl Fields for (NotCancellable, u32) {
     ghost use Rattle.std.specs.Prelude.{◌∷◌, []};
-    ghost use Rattle.wenc_canon.specs.Canonicals.{Index, Zero};
 
     ghost kinds = { Zero ∷ Index ∷ [] };
 
@@ -126,7 +115,6 @@ impl Fields for (NotCancellable, u32) {
 
 impl Fields for ResultList {
     ghost use Rattle.std.specs.Prelude.{◌∷◌, []};
-    ghost use Rattle.wenc_canon.specs.Canonicals.{Results};
 
     ghost kinds = { Results ∷ [] };
 

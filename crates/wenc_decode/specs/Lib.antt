@@ -1,3 +1,4 @@
 pub mod Depth
 pub mod inside
 pub mod laws
+pub mod Prelude

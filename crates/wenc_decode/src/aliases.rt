@@ -1,8 +1,6 @@
 //! Aliases. Each begins with a sort, and refers to an instance's export or an outer item.
-ghost use Rattle.wenc_parts.specs.Aliases.{alias_tree_view};
-ghost use Rattle.wenc_parts.specs.reading.Aliases.{read_alias, read_export, read_core_export, read_outer, read_export_or_outer, read_exported_alias, read_core_alias};
-ghost use Rattle.wenc_read.specs.Gives.{Gives};
-ghost use Rattle.wenc_read.specs.laws.Exact.{exact_by};
+ghost use Rattle.wenc_parts.specs.Prelude.{alias_tree_view, read_alias, read_export, read_core_export, read_outer, read_export_or_outer, read_exported_alias, read_core_alias, AliasOf, alias_sound, alias_lawful};
+ghost use Rattle.wenc_read.specs.Prelude.{Gives, exact_by};
 
 use crate::decode::Decode;
 use std::alloc::Allocator;
@@ -127,8 +125,7 @@ fn core<A: Allocator + Copy>(alloc: A, bytes: &[u8]) -> Result<(AliasTree<A>, &[
 }
 
 impl<A: Allocator + Copy> Decode<A> for AliasTree<A> {
-    ghost use Rattle.wenc_parts.specs.Aliases.{AliasOf, alias};
-    ghost use Rattle.wenc_parts.specs.laws.Aliases.{alias_sound, alias_lawful};
+    ghost use Rattle.wenc_parts.specs.Prelude.{alias};
 
     ghost Value = { AliasOf };
 

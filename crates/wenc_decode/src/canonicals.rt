@@ -1,11 +1,9 @@
 //! Canonical functions, each by its opcode.
-ghost use Rattle.wenc_base.specs.Readers.{pick, nowhere};
-ghost use Rattle.wenc_sections.specs.CanonTrees.{canon_view};
-ghost use Rattle.wenc_canon.specs.reading.Canonicals.{read_lifted, read_lowered, rows};
-ghost use Rattle.wenc_decode.specs.inside.Canonicals.{read_zero, stream_rows, future_rows, error_context_rows, thread_rows, forward_rows};
-ghost use Rattle.wenc_decode.specs.inside.Canonicals.{read_ty_and_options, read_waited_memory};
-ghost use Rattle.wenc_read.specs.Gives.{Gives};
-ghost use Rattle.wenc_read.specs.laws.Exact.{exact_by};
+ghost use Rattle.wenc_base.specs.Prelude.{pick, nowhere};
+ghost use Rattle.wenc_canon.specs.Prelude.{read_lifted, read_lowered, rows, read_canonical_option, canonical_option, canonical_option_sound, canonical_option_lawful, Canonical, canonical, read_canonical, canonical_sound, canonical_lawful};
+ghost use Rattle.wenc_decode.specs.Prelude.{read_zero, stream_rows, future_rows, error_context_rows, thread_rows, forward_rows, read_ty_and_options, read_waited_memory, CanonicalOption as Value'};
+ghost use Rattle.wenc_read.specs.Prelude.{Gives, exact_by};
+ghost use Rattle.wenc_sections.specs.Prelude.{canon_view};
 
 use crate::decode::Decode;
 use crate::pairs::both;
@@ -17,11 +15,6 @@ use wenc_read::{Refusal, byte};
 use wenc_sections::CanonTree;
 
 impl<A: Allocator + Copy> Decode<A> for CanonicalOption {
-    ghost use Rattle.wenc_canon.specs.declared.canonicals.CanonicalOption.{CanonicalOption as Value'};
-    ghost use Rattle.wenc_canon.specs.reading.Canonicals.{read_canonical_option};
-    ghost use Rattle.wenc_canon.specs.Canonicals.{canonical_option};
-    ghost use Rattle.wenc_canon.specs.laws.Canonicals.{canonical_option_sound, canonical_option_lawful};
-
     ghost Value = { Value' };
 
     ghost view = { λ o. o };
@@ -349,10 +342,6 @@ fn of_forward<A: Allocator + Copy>(
 }
 
 impl<A: Allocator + Copy> Decode<A> for CanonTree<A> {
-    ghost use Rattle.wenc_canon.specs.Canonicals.{Canonical, canonical};
-    ghost use Rattle.wenc_canon.specs.reading.Canonicals.{read_canonical};
-    ghost use Rattle.wenc_canon.specs.laws.Canonicals.{canonical_sound, canonical_lawful};
-
     ghost Value = { Canonical };
 
     ghost view = { canon_view };

@@ -1,9 +1,7 @@
 //! The types that core modules define, alone and in recursion groups.
 ghost use Rattle.std.specs.Prelude.{Some, false, true};
-ghost use Rattle.wenc_base.specs.Composites.{composite_view, sub_view, rec_type_view};
-ghost use Rattle.wenc_base.specs.reading.Composites.{read_composite, read_sub_type, read_group, read_closed, read_extension, sub_of};
-ghost use Rattle.wenc_read.specs.Gives.{Gives};
-ghost use Rattle.wenc_read.specs.laws.Exact.{exact_by};
+ghost use Rattle.wenc_base.specs.Prelude.{composite_view, sub_view, rec_type_view, read_composite, read_sub_type, read_group, read_closed, read_extension, sub_of, read_storage_type, storage_type, storage_type_sound, storage_type_lawful, read_field_type, field_type, field_type_sound, field_type_lawful, Composite, composite_type_sound, composite_type_lawful, sub_type, sub_type_sound, sub_type_lawful, RecType, rec_type, group_sound, group_lawful};
+ghost use Rattle.wenc_read.specs.Prelude.{Gives, exact_by};
 
 use crate::decode::Decode;
 use std::alloc::Allocator;
@@ -14,10 +12,7 @@ use wenc_base::{
 use wenc_read::{Refusal, byte};
 
 impl<A: Allocator + Copy> Decode<A> for StorageType {
-    ghost use Rattle.wenc_base.specs.declared.types.storage.StorageType.{StorageType as Value'};
-    ghost use Rattle.wenc_base.specs.reading.Composites.{read_storage_type};
-    ghost use Rattle.wenc_base.specs.Composites.{storage_type};
-    ghost use Rattle.wenc_base.specs.laws.Composites.{storage_type_sound, storage_type_lawful};
+    ghost use Rattle.wenc_decode.specs.Prelude.{StorageType as Value'};
 
     ghost Value = { Value' };
 
@@ -43,10 +38,7 @@ impl<A: Allocator + Copy> Decode<A> for StorageType {
 }
 
 impl<A: Allocator + Copy> Decode<A> for FieldType {
-    ghost use Rattle.wenc_base.specs.declared.types.storage.FieldType.{FieldType as Value'};
-    ghost use Rattle.wenc_base.specs.reading.Composites.{read_field_type};
-    ghost use Rattle.wenc_base.specs.Composites.{field_type};
-    ghost use Rattle.wenc_base.specs.laws.Composites.{field_type_sound, field_type_lawful};
+    ghost use Rattle.wenc_decode.specs.Prelude.{FieldType as Value'};
 
     ghost Value = { Value' };
 
@@ -70,8 +62,7 @@ impl<A: Allocator + Copy> Decode<A> for FieldType {
 }
 
 impl<A: Allocator + Copy> Decode<A> for CompositeType<A> {
-    ghost use Rattle.wenc_base.specs.Composites.{Composite, composite_type};
-    ghost use Rattle.wenc_base.specs.laws.Composites.{composite_type_sound, composite_type_lawful};
+    ghost use Rattle.wenc_base.specs.Prelude.{composite_type};
 
     ghost Value = { Composite };
 
@@ -106,8 +97,7 @@ impl<A: Allocator + Copy> Decode<A> for CompositeType<A> {
 }
 
 impl<A: Allocator + Copy> Decode<A> for SubType<A> {
-    ghost use Rattle.wenc_base.specs.Composites.{Sub, sub_type};
-    ghost use Rattle.wenc_base.specs.laws.Composites.{sub_type_sound, sub_type_lawful};
+    ghost use Rattle.wenc_base.specs.Prelude.{Sub};
 
     ghost Value = { Sub };
 
@@ -177,9 +167,6 @@ fn closed<A: Allocator + Copy>(alloc: A, bytes: &[u8]) -> Result<(SubType<A>, &[
 }
 
 impl<A: Allocator + Copy> Decode<A> for GroupTree<A> {
-    ghost use Rattle.wenc_base.specs.Composites.{RecType, rec_type};
-    ghost use Rattle.wenc_base.specs.laws.Composites.{group_sound, group_lawful};
-
     ghost Value = { RecType };
 
     ghost view = { rec_type_view };

@@ -1,9 +1,7 @@
 //! Core types in a component: recursion groups with guards, and module types.
-ghost use Rattle.wenc_decode.specs.inside.CoreTypes.{read_guarded};
-ghost use Rattle.wenc_types.specs.reading.CoreTypes.{read_outer_type};
-ghost use Rattle.wenc_read.specs.Gives.{Gives};
-ghost use Rattle.wenc_types.specs.CoreTypeTrees.{module_declaration_view, core_type_view};
-ghost use Rattle.wenc_read.specs.laws.Exact.{exact_by};
+ghost use Rattle.wenc_decode.specs.Prelude.{read_guarded};
+ghost use Rattle.wenc_read.specs.Prelude.{Gives, exact_by};
+ghost use Rattle.wenc_types.specs.Prelude.{read_outer_type, module_declaration_view, core_type_view, ModuleDeclaration, module_declaration, read_module_declaration, module_declaration_sound, module_declaration_lawful, CoreType, core_type, read_core_type, core_type_sound, core_type_lawful};
 
 use crate::composites::open;
 use crate::decode::Decode;
@@ -35,10 +33,6 @@ fn outer_type<A: Allocator + Copy>(
 }
 
 impl<A: Allocator + Copy> Decode<A> for ModuleDecl<A> {
-    ghost use Rattle.wenc_types.specs.CoreTypes.{ModuleDeclaration, module_declaration};
-    ghost use Rattle.wenc_types.specs.reading.CoreTypes.{read_module_declaration};
-    ghost use Rattle.wenc_types.specs.laws.CoreTypes.{module_declaration_sound, module_declaration_lawful};
-
     ghost Value = { ModuleDeclaration };
 
     ghost view = { module_declaration_view };
@@ -88,10 +82,6 @@ fn guarded<A: Allocator + Copy>(alloc: A, bytes: &[u8]) -> Result<(CoreTypeTree<
 }
 
 impl<A: Allocator + Copy> Decode<A> for CoreTypeTree<A> {
-    ghost use Rattle.wenc_types.specs.CoreTypes.{CoreType, core_type};
-    ghost use Rattle.wenc_types.specs.reading.CoreTypes.{read_core_type};
-    ghost use Rattle.wenc_types.specs.laws.CoreTypes.{core_type_sound, core_type_lawful};
-
     ghost Value = { CoreType };
 
     ghost view = { core_type_view };

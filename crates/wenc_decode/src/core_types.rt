@@ -1,12 +1,8 @@
 //! Value types of core modules.
 ghost use Rattle.std.specs.Prelude.{◌≡◌};
-ghost use Rattle.wenc_base.specs.Types.{abstract_byte};
-ghost use Rattle.wenc_base.specs.laws.Types.{abstract_types};
-ghost use Rattle.wenc_base.specs.reading.Types.{to as reference_to};
-ghost use Rattle.wenc_decode.specs.inside.CoreTypes.{read_referred};
-ghost use Rattle.wenc_decode.specs.inside.Tables.{find};
-ghost use Rattle.wenc_read.specs.Gives.{Gives};
-ghost use Rattle.wenc_read.specs.laws.Exact.{exact_by};
+ghost use Rattle.wenc_base.specs.Prelude.{abstract_byte, abstract_types, to as reference_to, read_heap_type, heap_type_sound, heap_type_lawful, read_reference, reference_sound, reference_lawful, read_val_type, val_type, val_type_sound, val_type_lawful};
+ghost use Rattle.wenc_decode.specs.Prelude.{read_referred, find};
+ghost use Rattle.wenc_read.specs.Prelude.{Gives, exact_by};
 
 use crate::decode::Decode;
 use std::alloc::Allocator;
@@ -35,10 +31,8 @@ fn abstract_of(byte: u8) -> Option<AbstractHeapType>
 }
 
 impl<A: Allocator + Copy> Decode<A> for HeapType {
-    ghost use Rattle.wenc_base.specs.declared.types.HeapType.{HeapType as Value'};
-    ghost use Rattle.wenc_base.specs.reading.Types.{read_heap_type};
-    ghost use Rattle.wenc_base.specs.Types.{heap_type};
-    ghost use Rattle.wenc_base.specs.laws.Types.{heap_type_sound, heap_type_lawful};
+    ghost use Rattle.wenc_base.specs.Prelude.{heap_type};
+    ghost use Rattle.wenc_decode.specs.Prelude.{HeapType as Value'};
 
     ghost Value = { Value' };
 
@@ -63,10 +57,8 @@ impl<A: Allocator + Copy> Decode<A> for HeapType {
 }
 
 impl<A: Allocator + Copy> Decode<A> for RefType {
-    ghost use Rattle.wenc_base.specs.declared.types.RefType.{RefType as Value'};
-    ghost use Rattle.wenc_base.specs.reading.Types.{read_reference};
-    ghost use Rattle.wenc_base.specs.Types.{reference};
-    ghost use Rattle.wenc_base.specs.laws.Types.{reference_sound, reference_lawful};
+    ghost use Rattle.wenc_base.specs.Prelude.{reference};
+    ghost use Rattle.wenc_decode.specs.Prelude.{RefType as Value'};
 
     ghost Value = { Value' };
 
@@ -113,10 +105,7 @@ fn reference<A: Allocator + Copy>(
 }
 
 impl<A: Allocator + Copy> Decode<A> for ValType {
-    ghost use Rattle.wenc_base.specs.declared.types.ValType.{ValType as Value'};
-    ghost use Rattle.wenc_base.specs.reading.Types.{read_val_type};
-    ghost use Rattle.wenc_base.specs.Types.{val_type};
-    ghost use Rattle.wenc_base.specs.laws.Types.{val_type_sound, val_type_lawful};
+    ghost use Rattle.wenc_decode.specs.Prelude.{ValType as Value'};
 
     ghost Value = { Value' };
 

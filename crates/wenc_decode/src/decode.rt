@@ -1,10 +1,7 @@
 //! The trait `Decode`, and the parts of every form: numbers, flags, strings, lists and options.
 ghost use Rattle.std.specs.Prelude.{◌≡◌, ◌≤◌, ◌<◌, List, length, map};
-ghost use Rattle.wenc_base.specs.Piece.{Form};
-ghost use Rattle.wenc_base.specs.Readers.{Reader, times};
-ghost use Rattle.wenc_read.specs.Exact.{IsExact};
-ghost use Rattle.wenc_read.specs.Gives.{Gives};
-ghost use Rattle.wenc_read.specs.laws.Exact.{exact_by};
+ghost use Rattle.wenc_base.specs.Prelude.{Form, Reader, times, read_u32, u32 as number, u32_sound, u32_lawful, read_flag, flag, flag_sound, flag_lawful, read_name, name, name_sound, name_lawful, read_list, list, read_option, option};
+ghost use Rattle.wenc_read.specs.Prelude.{IsExact, Gives, exact_by, list_exact, option_exact};
 
 use std::alloc::Allocator;
 use wenc_read::{Refusal, byte, flag_of, name_of, u32_of};
@@ -42,10 +39,7 @@ pub trait Decode<A: Allocator + Copy>: Sized + Drop {
 }
 
 impl<A: Allocator + Copy> Decode<A> for u32 {
-    ghost use Rattle.wenc_base.specs.reading.Numbers.{read_u32};
     ghost use Rattle.std.specs.Prelude.{ℕ};
-    ghost use Rattle.wenc_base.specs.Number.{u32 as number};
-    ghost use Rattle.wenc_base.specs.laws.Numbers.{u32_sound, u32_lawful};
 
     ghost Value = { ℕ };
 
@@ -65,9 +59,6 @@ impl<A: Allocator + Copy> Decode<A> for u32 {
 
 impl<A: Allocator + Copy> Decode<A> for bool {
     ghost use Rattle.std.specs.Prelude.{Bool};
-    ghost use Rattle.wenc_base.specs.reading.Forms.{read_flag};
-    ghost use Rattle.wenc_base.specs.Forms.{flag};
-    ghost use Rattle.wenc_base.specs.laws.Forms.{flag_sound, flag_lawful};
 
     ghost Value = { Bool };
 
@@ -87,9 +78,6 @@ impl<A: Allocator + Copy> Decode<A> for bool {
 impl<A: Allocator + Copy> Decode<A> for String<A> {
     ghost use Rattle.std.specs.Prelude.{ℕ};
     ghost use Rattle.std.specs.String.{string_bytes};
-    ghost use Rattle.wenc_base.specs.reading.Forms.{read_name};
-    ghost use Rattle.wenc_base.specs.Forms.{name};
-    ghost use Rattle.wenc_base.specs.laws.Forms.{name_sound, name_lawful};
 
     ghost Value = { List ℕ };
 
@@ -137,10 +125,6 @@ fn members<'a, A: Allocator + Copy, T: Decode<A>>(
 
 /// A list: the number of values, then the values.
 impl<A: Allocator + Copy, T: Decode<A>> Decode<A> for Vec<T, A> {
-    ghost use Rattle.wenc_base.specs.reading.Forms.{read_list};
-    ghost use Rattle.wenc_base.specs.Forms.{list};
-    ghost use Rattle.wenc_read.specs.laws.Exact.{list_exact};
-
     ghost Value = { List T.Value };
 
     ghost view = { λ x. map T.view x.items };
@@ -160,9 +144,6 @@ impl<A: Allocator + Copy, T: Decode<A>> Decode<A> for Vec<T, A> {
 /// An option: a byte `00`, or a byte `01` and a value.
 impl<A: Allocator + Copy, T: Decode<A>> Decode<A> for Option<T> {
     ghost use Rattle.std.specs.Prelude.{Option as OptionOf, option_map};
-    ghost use Rattle.wenc_base.specs.reading.Forms.{read_option};
-    ghost use Rattle.wenc_base.specs.Forms.{option};
-    ghost use Rattle.wenc_read.specs.laws.Exact.{option_exact};
 
     ghost Value = { OptionOf T.Value };
 

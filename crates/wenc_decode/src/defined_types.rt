@@ -1,9 +1,8 @@
 //! Defined value types.
-ghost use Rattle.wenc_base.specs.Readers.{pick, nowhere};
-ghost use Rattle.wenc_decode.specs.inside.Types.{read_defined_row, handle_rows};
-ghost use Rattle.wenc_read.specs.Gives.{Gives};
-ghost use Rattle.wenc_types.specs.TypeTrees.{defined_view};
-ghost use Rattle.wenc_read.specs.laws.Exact.{exact_by};
+ghost use Rattle.wenc_base.specs.Prelude.{pick, nowhere};
+ghost use Rattle.wenc_decode.specs.Prelude.{read_defined_row, handle_rows, defined_sound};
+ghost use Rattle.wenc_read.specs.Prelude.{Gives, exact_by};
+ghost use Rattle.wenc_types.specs.Prelude.{defined_view, LabelledType, labelled_type, labelled_type_view, read_labelled_type, named_sound, labelled_type_lawful, Case, case, case_view, read_case, case_sound, case_lawful, DefValType, def_val_type, read_defined, defined_type_lawful};
 
 use crate::decode::Decode;
 use crate::types::primitive_of;
@@ -14,11 +13,6 @@ use wenc_types::{CaseTree, DefinedTree};
 
 /// A field or a parameter.
 impl<A: Allocator + Copy> Decode<A> for (String<A>, ComponentValType) {
-    ghost use Rattle.wenc_types.specs.DefinedTypes.{LabelledType, labelled_type};
-    ghost use Rattle.wenc_types.specs.TypeTrees.{labelled_type_view};
-    ghost use Rattle.wenc_types.specs.reading.DefinedTypes.{read_labelled_type};
-    ghost use Rattle.wenc_types.specs.laws.DefinedTypes.{named_sound, labelled_type_lawful};
-
     ghost Value = { LabelledType };
 
     ghost view = { labelled_type_view };
@@ -41,11 +35,6 @@ impl<A: Allocator + Copy> Decode<A> for (String<A>, ComponentValType) {
 }
 
 impl<A: Allocator + Copy> Decode<A> for CaseTree<A> {
-    ghost use Rattle.wenc_types.specs.DefinedTypes.{Case, case};
-    ghost use Rattle.wenc_types.specs.TypeTrees.{case_view};
-    ghost use Rattle.wenc_types.specs.reading.DefinedTypes.{read_case};
-    ghost use Rattle.wenc_types.specs.laws.DefinedTypes.{case_sound, case_lawful};
-
     ghost Value = { Case };
 
     ghost view = { case_view };
@@ -154,11 +143,6 @@ fn other_defined<A: Allocator + Copy>(
 }
 
 impl<A: Allocator + Copy> Decode<A> for DefinedTree<A> {
-    ghost use Rattle.wenc_types.specs.DefinedTypes.{DefValType, def_val_type};
-    ghost use Rattle.wenc_types.specs.reading.DefinedTypes.{read_defined};
-    ghost use Rattle.wenc_types.specs.laws.DefinedTypes.{defined_type_lawful};
-    ghost use Rattle.wenc_decode.specs.laws.TypeTrees.{defined_sound};
-
     ghost Value = { DefValType };
 
     ghost view = { defined_view };

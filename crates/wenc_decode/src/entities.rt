@@ -1,7 +1,7 @@
 //! Types of the imports and exports of core modules.
-ghost use Rattle.wenc_decode.specs.inside.Entities.{read_maximum, read_bounds, memory_so, table_so};
-ghost use Rattle.wenc_read.specs.Gives.{Gives};
-ghost use Rattle.wenc_read.specs.laws.Exact.{exact_by};
+ghost use Rattle.wenc_base.specs.Prelude.{read_memory_type, memory_type, memory_type_sound, memory_type_lawful, read_table_type, table_type, table_type_sound, table_type_lawful, read_global_type, global_type, global_type_sound, global_type_lawful, read_tag_type, tag_type, tag_type_sound, tag_type_lawful, read_entity_type, entity_type, entity_type_sound, entity_type_lawful, read_core_export_kind, core_export_kind, core_export_kind_sound, core_export_kind_lawful};
+ghost use Rattle.wenc_decode.specs.Prelude.{read_maximum, read_bounds, memory_so, table_so};
+ghost use Rattle.wenc_read.specs.Prelude.{Gives, exact_by};
 
 use crate::decode::Decode;
 use std::alloc::Allocator;
@@ -43,10 +43,7 @@ fn memory(
 }
 
 impl<A: Allocator + Copy> Decode<A> for MemoryType {
-    ghost use Rattle.wenc_base.specs.declared.memories.MemoryType.{MemoryType as Value'};
-    ghost use Rattle.wenc_base.specs.reading.Entities.{read_memory_type};
-    ghost use Rattle.wenc_base.specs.Entities.{memory_type};
-    ghost use Rattle.wenc_base.specs.laws.Entities.{memory_type_sound, memory_type_lawful};
+    ghost use Rattle.wenc_decode.specs.Prelude.{MemoryType as Value'};
 
     ghost Value = { Value' };
 
@@ -96,10 +93,7 @@ fn table(
 }
 
 impl<A: Allocator + Copy> Decode<A> for TableType {
-    ghost use Rattle.wenc_base.specs.declared.tables.TableType.{TableType as Value'};
-    ghost use Rattle.wenc_base.specs.reading.Entities.{read_table_type};
-    ghost use Rattle.wenc_base.specs.Entities.{table_type};
-    ghost use Rattle.wenc_base.specs.laws.Entities.{table_type_sound, table_type_lawful};
+    ghost use Rattle.wenc_decode.specs.Prelude.{TableType as Value'};
 
     ghost Value = { Value' };
 
@@ -125,10 +119,7 @@ impl<A: Allocator + Copy> Decode<A> for TableType {
 }
 
 impl<A: Allocator + Copy> Decode<A> for GlobalType {
-    ghost use Rattle.wenc_base.specs.declared.globals.GlobalType.{GlobalType as Value'};
-    ghost use Rattle.wenc_base.specs.reading.Entities.{read_global_type};
-    ghost use Rattle.wenc_base.specs.Entities.{global_type};
-    ghost use Rattle.wenc_base.specs.laws.Entities.{global_type_sound, global_type_lawful};
+    ghost use Rattle.wenc_decode.specs.Prelude.{GlobalType as Value'};
 
     ghost Value = { Value' };
 
@@ -148,10 +139,7 @@ impl<A: Allocator + Copy> Decode<A> for GlobalType {
 }
 
 impl<A: Allocator + Copy> Decode<A> for TagType {
-    ghost use Rattle.wenc_base.specs.declared.tags.TagType.{TagType as Value'};
-    ghost use Rattle.wenc_base.specs.reading.Entities.{read_tag_type};
-    ghost use Rattle.wenc_base.specs.Entities.{tag_type};
-    ghost use Rattle.wenc_base.specs.laws.Entities.{tag_type_sound, tag_type_lawful};
+    ghost use Rattle.wenc_decode.specs.Prelude.{TagType as Value'};
 
     ghost Value = { Value' };
 
@@ -176,10 +164,7 @@ impl<A: Allocator + Copy> Decode<A> for TagType {
 }
 
 impl<A: Allocator + Copy> Decode<A> for EntityType {
-    ghost use Rattle.wenc_base.specs.declared.imports.EntityType.{EntityType as Value'};
-    ghost use Rattle.wenc_base.specs.reading.Entities.{read_entity_type};
-    ghost use Rattle.wenc_base.specs.Entities.{entity_type};
-    ghost use Rattle.wenc_base.specs.laws.Entities.{entity_type_sound, entity_type_lawful};
+    ghost use Rattle.wenc_decode.specs.Prelude.{EntityType as Value'};
 
     ghost Value = { Value' };
 
@@ -220,10 +205,7 @@ impl<A: Allocator + Copy> Decode<A> for EntityType {
 }
 
 impl<A: Allocator + Copy> Decode<A> for ExportKind {
-    ghost use Rattle.wenc_base.specs.declared.exports.ExportKind.{ExportKind as Value'};
-    ghost use Rattle.wenc_base.specs.reading.Exports.{read_core_export_kind};
-    ghost use Rattle.wenc_base.specs.Exports.{core_export_kind};
-    ghost use Rattle.wenc_base.specs.laws.Exports.{core_export_kind_sound, core_export_kind_lawful};
+    ghost use Rattle.wenc_decode.specs.Prelude.{ExportKind as Value'};
 
     ghost Value = { Value' };
 

@@ -1,5 +1,7 @@
 //! Sorts of items.
-ghost use Rattle.wenc_read.specs.laws.Exact.{exact_by};
+ghost use Rattle.wenc_decode.specs.Prelude.{ComponentExportKind as Value'};
+ghost use Rattle.wenc_parts.specs.Prelude.{read_component_export_kind, component_export_kind, component_export_kind_sound, component_export_kind_lawful};
+ghost use Rattle.wenc_read.specs.Prelude.{exact_by};
 
 use crate::decode::Decode;
 use std::alloc::Allocator;
@@ -7,11 +9,6 @@ use wenc_parts::ComponentExportKind;
 use wenc_read::{Refusal, byte};
 
 impl<A: Allocator + Copy> Decode<A> for ComponentExportKind {
-    ghost use Rattle.wenc_parts.specs.declared.exports.ComponentExportKind.{ComponentExportKind as Value'};
-    ghost use Rattle.wenc_parts.specs.reading.Exports.{read_component_export_kind};
-    ghost use Rattle.wenc_parts.specs.Exports.{component_export_kind};
-    ghost use Rattle.wenc_parts.specs.laws.Exports.{component_export_kind_sound, component_export_kind_lawful};
-
     ghost Value = { Value' };
 
     ghost view = { λ k. k };

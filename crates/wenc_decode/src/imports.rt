@@ -1,5 +1,6 @@
 //! The `externdesc` of imports and exports.
-ghost use Rattle.wenc_read.specs.laws.Exact.{exact_by};
+ghost use Rattle.wenc_parts.specs.Prelude.{read_type_bounds, type_bounds, type_bounds_sound, type_bounds_lawful, read_type_reference, type_reference, type_reference_sound, type_reference_lawful};
+ghost use Rattle.wenc_read.specs.Prelude.{exact_by};
 
 use crate::decode::Decode;
 use std::alloc::Allocator;
@@ -7,10 +8,7 @@ use wenc_parts::{ComponentTypeRef, ComponentValType, TypeBounds};
 use wenc_read::{Refusal, byte};
 
 impl<A: Allocator + Copy> Decode<A> for TypeBounds {
-    ghost use Rattle.wenc_parts.specs.declared.imports.TypeBounds.{TypeBounds as Value'};
-    ghost use Rattle.wenc_parts.specs.reading.Imports.{read_type_bounds};
-    ghost use Rattle.wenc_parts.specs.Imports.{type_bounds};
-    ghost use Rattle.wenc_parts.specs.laws.Imports.{type_bounds_sound, type_bounds_lawful};
+    ghost use Rattle.wenc_decode.specs.Prelude.{TypeBounds as Value'};
 
     ghost Value = { Value' };
 
@@ -37,10 +35,7 @@ impl<A: Allocator + Copy> Decode<A> for TypeBounds {
 }
 
 impl<A: Allocator + Copy> Decode<A> for ComponentTypeRef {
-    ghost use Rattle.wenc_parts.specs.declared.imports.ComponentTypeRef.{ComponentTypeRef as Value'};
-    ghost use Rattle.wenc_parts.specs.reading.Imports.{read_type_reference};
-    ghost use Rattle.wenc_parts.specs.Imports.{type_reference};
-    ghost use Rattle.wenc_parts.specs.laws.Imports.{type_reference_sound, type_reference_lawful};
+    ghost use Rattle.wenc_decode.specs.Prelude.{ComponentTypeRef as Value'};
 
     ghost Value = { Value' };
 

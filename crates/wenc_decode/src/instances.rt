@@ -1,8 +1,11 @@
 //! Instances of core modules and of components, by arguments or by inline exports.
 ghost use Rattle.std.specs.Prelude.{ℕ, List};
 ghost use Rattle.std.specs.String.{string_bytes};
-ghost use Rattle.wenc_sections.specs.Instances.{named_pair, named_triple};
-ghost use Rattle.wenc_read.specs.laws.Exact.{exact_by};
+ghost use Rattle.wenc_base.specs.Prelude.{read_name, pair, name as name_form, name_sound, name_lawful, read_core_export_kind, read_u32, core_export_kind, core_export_kind_sound, core_export_kind_lawful, u32 as number, u32_sound, u32_lawful};
+ghost use Rattle.wenc_decode.specs.Prelude.{ModuleArg as Value'};
+ghost use Rattle.wenc_parts.specs.Prelude.{read_module_argument, module_argument, module_argument_sound, module_argument_lawful, read_component_export_kind, component_export_kind, component_export_kind_sound, component_export_kind_lawful, ExternName, name_tree_view, read_extern_name, extern_name, extern_name_sound, extern_name_lawful};
+ghost use Rattle.wenc_read.specs.Prelude.{exact_by};
+ghost use Rattle.wenc_sections.specs.Prelude.{named_pair, named_triple, read_pair, pair_sound, pair_lawful, read_triple, triple, triple_sound, triple_lawful, core_instance_tree_view, CoreInstance, core_instance, read_core_instance, core_instance_sound, core_instance_lawful, instance_tree_view, read_instance, instance_sound, instance_lawful};
 
 use crate::decode::Decode;
 use std::alloc::Allocator;
@@ -12,11 +15,6 @@ use wenc_read::{Refusal, byte};
 use wenc_sections::{CoreInstanceTree, InstanceTree};
 
 impl<A: Allocator + Copy> Decode<A> for ModuleArg {
-    ghost use Rattle.wenc_parts.specs.declared.instances.ModuleArg.{ModuleArg as Value'};
-    ghost use Rattle.wenc_parts.specs.reading.Instances.{read_module_argument};
-    ghost use Rattle.wenc_parts.specs.Instances.{module_argument};
-    ghost use Rattle.wenc_parts.specs.laws.Instances.{module_argument_sound, module_argument_lawful};
-
     ghost Value = { Value' };
 
     ghost view = { λ a. a };
@@ -42,17 +40,6 @@ impl<A: Allocator + Copy> Decode<A> for ModuleArg {
 
 /// A named argument of a core module.
 impl<A: Allocator + Copy> Decode<A> for (String<A>, ModuleArg) {
-    ghost use Rattle.wenc_base.specs.reading.Forms.{read_name};
-    ghost use Rattle.wenc_sections.specs.reading.Pairs.{read_pair};
-    ghost use Rattle.wenc_parts.specs.declared.instances.ModuleArg.{ModuleArg as Value'};
-    ghost use Rattle.wenc_parts.specs.reading.Instances.{read_module_argument};
-    ghost use Rattle.wenc_base.specs.Delimited.{pair};
-    ghost use Rattle.wenc_base.specs.Forms.{name as name_form};
-    ghost use Rattle.wenc_base.specs.laws.Forms.{name_sound, name_lawful};
-    ghost use Rattle.wenc_parts.specs.Instances.{module_argument};
-    ghost use Rattle.wenc_parts.specs.laws.Instances.{module_argument_sound, module_argument_lawful};
-    ghost use Rattle.wenc_sections.specs.laws.Pairs.{pair_sound, pair_lawful};
-
     ghost Value = { List ℕ × Value' };
 
     ghost view = { named_pair string_bytes };
@@ -77,19 +64,7 @@ impl<A: Allocator + Copy> Decode<A> for (String<A>, ModuleArg) {
 
 /// A named inline export of a core instance.
 impl<A: Allocator + Copy> Decode<A> for (String<A>, ExportKind, u32) {
-    ghost use Rattle.wenc_base.specs.declared.exports.ExportKind.{ExportKind as Kind};
-    ghost use Rattle.wenc_base.specs.reading.Exports.{read_core_export_kind};
-    ghost use Rattle.wenc_base.specs.reading.Forms.{read_name};
-    ghost use Rattle.wenc_sections.specs.reading.Pairs.{read_triple};
-    ghost use Rattle.wenc_base.specs.reading.Numbers.{read_u32};
-    ghost use Rattle.wenc_base.specs.Forms.{name as name_form};
-    ghost use Rattle.wenc_base.specs.laws.Forms.{name_sound, name_lawful};
-    ghost use Rattle.wenc_base.specs.Exports.{core_export_kind};
-    ghost use Rattle.wenc_base.specs.laws.Exports.{core_export_kind_sound, core_export_kind_lawful};
-    ghost use Rattle.wenc_base.specs.Number.{u32 as number};
-    ghost use Rattle.wenc_base.specs.laws.Numbers.{u32_sound, u32_lawful};
-    ghost use Rattle.wenc_sections.specs.Pairs.{triple};
-    ghost use Rattle.wenc_sections.specs.laws.Pairs.{triple_sound, triple_lawful};
+    ghost use Rattle.wenc_decode.specs.Prelude.{ExportKind as Kind};
 
     ghost Value = { List ℕ × Kind × ℕ };
 
@@ -115,11 +90,6 @@ impl<A: Allocator + Copy> Decode<A> for (String<A>, ExportKind, u32) {
 }
 
 impl<A: Allocator + Copy> Decode<A> for CoreInstanceTree<A> {
-    ghost use Rattle.wenc_sections.specs.InstanceTrees.{core_instance_tree_view};
-    ghost use Rattle.wenc_sections.specs.Instances.{CoreInstance, core_instance};
-    ghost use Rattle.wenc_sections.specs.reading.Items.{read_core_instance};
-    ghost use Rattle.wenc_sections.specs.laws.Items.{core_instance_sound, core_instance_lawful};
-
     ghost Value = { CoreInstance };
 
     ghost view = { core_instance_tree_view };
@@ -150,19 +120,7 @@ impl<A: Allocator + Copy> Decode<A> for CoreInstanceTree<A> {
 
 /// A named argument of a component.
 impl<A: Allocator + Copy> Decode<A> for (String<A>, ComponentExportKind, u32) {
-    ghost use Rattle.wenc_base.specs.reading.Forms.{read_name};
-    ghost use Rattle.wenc_sections.specs.reading.Pairs.{read_triple};
-    ghost use Rattle.wenc_base.specs.reading.Numbers.{read_u32};
-    ghost use Rattle.wenc_parts.specs.declared.exports.ComponentExportKind.{ComponentExportKind as Kind};
-    ghost use Rattle.wenc_parts.specs.reading.Exports.{read_component_export_kind};
-    ghost use Rattle.wenc_base.specs.Forms.{name as name_form};
-    ghost use Rattle.wenc_base.specs.laws.Forms.{name_sound, name_lawful};
-    ghost use Rattle.wenc_parts.specs.Exports.{component_export_kind};
-    ghost use Rattle.wenc_parts.specs.laws.Exports.{component_export_kind_sound, component_export_kind_lawful};
-    ghost use Rattle.wenc_base.specs.Number.{u32 as number};
-    ghost use Rattle.wenc_base.specs.laws.Numbers.{u32_sound, u32_lawful};
-    ghost use Rattle.wenc_sections.specs.Pairs.{triple};
-    ghost use Rattle.wenc_sections.specs.laws.Pairs.{triple_sound, triple_lawful};
+    ghost use Rattle.wenc_decode.specs.Prelude.{ComponentExportKind as Kind};
 
     ghost Value = { List ℕ × Kind × ℕ };
 
@@ -189,20 +147,7 @@ impl<A: Allocator + Copy> Decode<A> for (String<A>, ComponentExportKind, u32) {
 
 /// A named inline export of an instance.
 impl<A: Allocator + Copy> Decode<A> for (NameTree<A>, ComponentExportKind, u32) {
-    ghost use Rattle.wenc_sections.specs.reading.Pairs.{read_triple};
-    ghost use Rattle.wenc_base.specs.reading.Numbers.{read_u32};
-    ghost use Rattle.wenc_parts.specs.Imports.{ExternName, name_tree_view};
-    ghost use Rattle.wenc_parts.specs.declared.exports.ComponentExportKind.{ComponentExportKind as Kind};
-    ghost use Rattle.wenc_parts.specs.reading.Exports.{read_component_export_kind};
-    ghost use Rattle.wenc_parts.specs.reading.Imports.{read_extern_name};
-    ghost use Rattle.wenc_parts.specs.Imports.{extern_name};
-    ghost use Rattle.wenc_parts.specs.laws.Imports.{extern_name_sound, extern_name_lawful};
-    ghost use Rattle.wenc_parts.specs.Exports.{component_export_kind};
-    ghost use Rattle.wenc_parts.specs.laws.Exports.{component_export_kind_sound, component_export_kind_lawful};
-    ghost use Rattle.wenc_base.specs.Number.{u32 as number};
-    ghost use Rattle.wenc_base.specs.laws.Numbers.{u32_sound, u32_lawful};
-    ghost use Rattle.wenc_sections.specs.Pairs.{triple};
-    ghost use Rattle.wenc_sections.specs.laws.Pairs.{triple_sound, triple_lawful};
+    ghost use Rattle.wenc_decode.specs.Prelude.{ComponentExportKind as Kind};
 
     ghost Value = { ExternName × Kind × ℕ };
 
@@ -228,10 +173,7 @@ impl<A: Allocator + Copy> Decode<A> for (NameTree<A>, ComponentExportKind, u32) 
 }
 
 impl<A: Allocator + Copy> Decode<A> for InstanceTree<A> {
-    ghost use Rattle.wenc_sections.specs.InstanceTrees.{instance_tree_view};
-    ghost use Rattle.wenc_sections.specs.Instances.{Instance, instance};
-    ghost use Rattle.wenc_sections.specs.reading.Items.{read_instance};
-    ghost use Rattle.wenc_sections.specs.laws.Items.{instance_sound, instance_lawful};
+    ghost use Rattle.wenc_sections.specs.Prelude.{Instance, instance};
 
     ghost Value = { Instance };
 

@@ -1,11 +1,9 @@
 //! Laws about the definitions. A call of one does nothing.
 ghost use Rattle.std.specs.Prelude.{◌≡◌, ◌≤◌, ◌<◌, ℕ, List, Ok, Err};
-ghost use Rattle.wenc_base.specs.Piece.{Wide};
-ghost use Rattle.wenc_base.specs.Readers.{Deep};
-ghost use Rattle.wenc_decode.specs.Depth.{OpensTypes};
-ghost use Rattle.wenc_read.specs.Exact.{IsExact};
-ghost use Rattle.wenc_types.specs.ComponentTypes.{DefType, def_type, depth};
-ghost use Rattle.wenc_types.specs.reading.ComponentTypes.{read_type};
+ghost use Rattle.wenc_base.specs.Prelude.{Wide, Deep};
+ghost use Rattle.wenc_decode.specs.Prelude.{OpensTypes};
+ghost use Rattle.wenc_read.specs.Prelude.{IsExact};
+ghost use Rattle.wenc_types.specs.Prelude.{DefType, def_type, depth, read_type};
 
 use crate::decode::Decode;
 use std::alloc::Allocator;

@@ -1,5 +1,6 @@
 //! Names of imports and exports.
-ghost use Rattle.wenc_read.specs.laws.Exact.{exact_by};
+ghost use Rattle.wenc_parts.specs.Prelude.{ExternName, name_tree_view, extern_name, read_extern_name, extern_name_sound, extern_name_lawful};
+ghost use Rattle.wenc_read.specs.Prelude.{exact_by};
 
 use crate::decode::Decode;
 use std::alloc::Allocator;
@@ -7,10 +8,6 @@ use wenc_parts::NameTree;
 use wenc_read::{Refusal, extern_name_of};
 
 impl<A: Allocator + Copy> Decode<A> for NameTree<A> {
-    ghost use Rattle.wenc_parts.specs.Imports.{ExternName, name_tree_view, extern_name};
-    ghost use Rattle.wenc_parts.specs.reading.Imports.{read_extern_name};
-    ghost use Rattle.wenc_parts.specs.laws.Imports.{extern_name_sound, extern_name_lawful};
-
     ghost Value = { ExternName };
 
     ghost view = { name_tree_view };

@@ -1,6 +1,6 @@
 //! Two values, one after the other.
-ghost use Rattle.wenc_sections.specs.reading.Pairs.{read_pair};
-ghost use Rattle.wenc_read.specs.Gives.{Gives};
+ghost use Rattle.wenc_read.specs.Prelude.{Gives};
+ghost use Rattle.wenc_sections.specs.Prelude.{read_pair};
 
 use crate::decode::Decode;
 use std::alloc::Allocator;

@@ -1,9 +1,8 @@
 //! Value types of components, and the results of functions.
 ghost use Rattle.std.specs.Prelude.{◌≡◌};
-ghost use Rattle.wenc_decode.specs.inside.Tables.{find};
-ghost use Rattle.wenc_decode.specs.inside.Types.{primitive_types};
-ghost use Rattle.wenc_parts.specs.Types.{primitive_byte};
-ghost use Rattle.wenc_read.specs.laws.Exact.{exact_by};
+ghost use Rattle.wenc_decode.specs.Prelude.{find, primitive_types, ComponentValType as Value', ComponentValType as ValueType};
+ghost use Rattle.wenc_parts.specs.Prelude.{primitive_byte, read_value_type, value_type, value_type_sound, value_type_lawful, read_result_list, result_list, result_list_sound, result_list_lawful};
+ghost use Rattle.wenc_read.specs.Prelude.{exact_by};
 
 use crate::decode::Decode;
 use std::alloc::Allocator;
@@ -34,11 +33,6 @@ pub(crate) fn primitive_of(byte: u8) -> Option<PrimitiveValType>
 }
 
 impl<A: Allocator + Copy> Decode<A> for ComponentValType {
-    ghost use Rattle.wenc_parts.specs.declared.types.ComponentValType.{ComponentValType as Value'};
-    ghost use Rattle.wenc_parts.specs.reading.Types.{read_value_type};
-    ghost use Rattle.wenc_parts.specs.Types.{value_type};
-    ghost use Rattle.wenc_parts.specs.laws.Types.{value_type_sound, value_type_lawful};
-
     ghost Value = { Value' };
 
     ghost view = { λ t. t };
@@ -65,10 +59,6 @@ impl<A: Allocator + Copy> Decode<A> for ComponentValType {
 
 impl<A: Allocator + Copy> Decode<A> for ResultList {
     ghost use Rattle.std.specs.Prelude.{Option as OptionOf};
-    ghost use Rattle.wenc_parts.specs.declared.types.ComponentValType.{ComponentValType as ValueType};
-    ghost use Rattle.wenc_parts.specs.reading.Types.{read_result_list};
-    ghost use Rattle.wenc_parts.specs.Types.{result_list};
-    ghost use Rattle.wenc_parts.specs.laws.Types.{result_list_sound, result_list_lawful};
 
     ghost Value = { OptionOf ValueType };
 

@@ -5,3 +5,4 @@ pub mod Names
 pub mod Unread
 pub mod inside
 pub mod laws
+pub mod Prelude

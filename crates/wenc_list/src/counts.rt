@@ -1,9 +1,8 @@
 //! The number of indices that items take in each index space.
 ghost use Rattle.std.specs.Prelude.{◌≡◌, ◌+◌, ◌<◌, ◌^◌, map, slice_index};
-ghost use Rattle.wenc_sections.specs.Space.{space_number};
-ghost use Rattle.wenc_builder.specs.Space.{some_in, number_in, defined_in, next_index};
-ghost use Rattle.wenc_sections.specs.declared.space.Space.{Space as SpaceSpec};
-ghost use Rattle.wenc_list.specs.Items.{item_view};
+ghost use Rattle.wenc_builder.specs.Prelude.{some_in, number_in, defined_in, next_index};
+ghost use Rattle.wenc_list.specs.Prelude.{Space as SpaceSpec, item_view};
+ghost use Rattle.wenc_sections.specs.Prelude.{space_number};
 
 use crate::item::ItemTree;
 use std::alloc::Allocator;

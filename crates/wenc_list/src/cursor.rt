@@ -1,13 +1,10 @@
 //! Readers of a component section by section, and of a section item by item.
 ghost use Rattle.std.specs.Prelude.{◌≡◌, ◌≢◌, ◌-◌, ◌<◌, ◌≤◌, [], ◌∷◌, length, IfOk, IfErr, MatchOption};
-ghost use Rattle.wenc_base.specs.Piece.{Wide};
-ghost use Rattle.wenc_builder.specs.Sections.{preamble};
-ghost use Rattle.wenc_list.specs.Cursor.{Opens, HasTaken, IsSpent, IsFaultIn};
-ghost use Rattle.wenc_list.specs.Items.{item_view};
-ghost use Rattle.wenc_list.specs.Listing.{IsFaultHere, HasNoHeader};
-ghost use Rattle.wenc_list.specs.inside.Contents.{fault_of_content, read_count};
+ghost use Rattle.wenc_base.specs.Prelude.{Wide};
+ghost use Rattle.wenc_builder.specs.Prelude.{preamble};
+ghost use Rattle.wenc_list.specs.Prelude.{Opens, HasTaken, IsSpent, IsFaultIn, item_view, IsFaultHere, HasNoHeader, fault_of_content, read_count};
 ghost use Rattle.wenc_list.specs.declared.fault.ListFault.TheVariants.{Memory, NotAComponent};
-ghost use Rattle.wenc_read.specs.Gives.{GivesAlways};
+ghost use Rattle.wenc_read.specs.Prelude.{GivesAlways};
 
 use crate::fault::ListFault;
 use crate::item::ItemTree;

@@ -1,7 +1,8 @@
 //! The items of sections: the trees that commands are made of.
 ghost use Rattle.std.specs.Prelude.{◌≡◌};
-ghost use Rattle.wenc_builder.specs.Space.{canonical_space};
-ghost use Rattle.wenc_sections.specs.CanonTrees.{canon_view};
+ghost use Rattle.wenc_builder.specs.Prelude.{canonical_space, indices_in, defines};
+ghost use Rattle.wenc_list.specs.Prelude.{item_view};
+ghost use Rattle.wenc_sections.specs.Prelude.{canon_view};
 
 use std::alloc::{Allocator, Global};
 use wenc_builder::Space;
@@ -78,8 +79,6 @@ fn canon_space<A: Allocator>(canon: &CanonTree<A>) -> Space
 
 impl<A: Allocator> ItemTree<A> {
     ghost use Rattle.std.specs.Prelude.{option_map};
-    ghost use Rattle.wenc_builder.specs.Space.{indices_in, defines};
-    ghost use Rattle.wenc_list.specs.Items.{item_view};
 
     /// Returns the index space in which the item takes indices, and their number; `None` for a
     /// custom section.

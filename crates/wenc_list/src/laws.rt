@@ -1,15 +1,9 @@
 //! Laws about the definitions. A call of one does nothing.
 ghost use Rattle.std.specs.Prelude.{◌≡◌, ◌⊎◌, ℕ, ◌-◌, ◌<◌, ◌≤◌, List, [], ◌∷◌, ◌++◌, length, map, take, drop, remove, slice_get, slice_range};
-ghost use Rattle.wenc_base.specs.Piece.{Wide, EndsWith};
-ghost use Rattle.wenc_builder.specs.Item.{Item};
-ghost use Rattle.wenc_builder.specs.Sections.{Section, Reading, section_piece, preamble};
-ghost use Rattle.wenc_list.specs.Cursor.{Opens, HasTaken, IsSpent, IsFaultIn};
-ghost use Rattle.wenc_list.specs.Items.{item_section, section_view};
-ghost use Rattle.wenc_list.specs.Listing.{AreWithin, ArePlaced, IsFaultOf, IsFaultHere};
-ghost use Rattle.wenc_list.specs.declared.cursor.SectionItems.{SectionItems};
+ghost use Rattle.wenc_base.specs.Prelude.{Wide, EndsWith};
+ghost use Rattle.wenc_builder.specs.Prelude.{Item, Section, Reading, section_piece, preamble};
+ghost use Rattle.wenc_list.specs.Prelude.{Opens, HasTaken, IsSpent, IsFaultIn, item_section, section_view, AreWithin, ArePlaced, IsFaultOf, IsFaultHere, SectionItems, ListFault, ListedSection};
 ghost use Rattle.wenc_list.specs.declared.fault.ListFault.TheVariants.{Memory, TooDeep};
-ghost use Rattle.wenc_list.specs.declared.fault.ListFault.{ListFault};
-ghost use Rattle.wenc_list.specs.declared.listing.ListedSection.{ListedSection};
 
 mod of_names;
 

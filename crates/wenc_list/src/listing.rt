@@ -1,13 +1,10 @@
 //! A whole component: its header, and its sections up to the end.
 ghost use Rattle.std.specs.Prelude.{◌≡◌, ◌≤◌, ℕ, List, [], map, length, slice_index, IfOk, IfErr, Err, MatchResult};
-ghost use Rattle.wenc_base.specs.Piece.{Wide};
-ghost use Rattle.wenc_builder.specs.Sections.{Section, Reading};
-ghost use Rattle.wenc_sections.specs.Space.{space_number};
-ghost use Rattle.wenc_sections.specs.declared.space.Space.{Space};
-ghost use Rattle.wenc_list.specs.Items.{item_view, section_view};
-ghost use Rattle.wenc_list.specs.Listing.{AreWithin, AreFrom, ArePlaced, count_of_sections, IsFaultOf, IsMemoryOrTooDeep, HasNoHeader, IsFaultBehind};
-ghost use Rattle.wenc_list.specs.inside.Taken.{TakesAll, FaultsIn};
+ghost use Rattle.wenc_base.specs.Prelude.{Wide};
+ghost use Rattle.wenc_builder.specs.Prelude.{Section, Reading};
+ghost use Rattle.wenc_list.specs.Prelude.{Space, item_view, section_view, AreWithin, AreFrom, ArePlaced, count_of_sections, IsFaultOf, IsMemoryOrTooDeep, HasNoHeader, IsFaultBehind, TakesAll, FaultsIn};
 ghost use Rattle.wenc_list.specs.declared.fault.ListFault.TheVariants.{Memory, NotAComponent};
+ghost use Rattle.wenc_sections.specs.Prelude.{space_number};
 
 use crate::counts::count;
 use crate::cursor::{SectionItems, Sections};

@@ -1,8 +1,7 @@
 //! Reads an item of a section.
 ghost use Rattle.std.specs.Prelude.{◌≡◌, ◌⊎◌};
-ghost use Rattle.wenc_list.specs.inside.Contents.{read_core_instance_item, read_core_type_item, read_instance_item, read_alias_item, read_type_item, read_canonical_item, read_import_item, read_export_item, read_item_in};
-ghost use Rattle.wenc_list.specs.Items.{item_view};
-ghost use Rattle.wenc_read.specs.Gives.{Gives, GivesNested};
+ghost use Rattle.wenc_list.specs.Prelude.{read_core_instance_item, read_core_type_item, read_instance_item, read_alias_item, read_type_item, read_canonical_item, read_import_item, read_export_item, read_item_in, item_view};
+ghost use Rattle.wenc_read.specs.Prelude.{Gives, GivesNested};
 
 use crate::item::ItemTree;
 use crate::sections::copied;

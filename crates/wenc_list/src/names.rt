@@ -1,12 +1,9 @@
 //! The subsections of a name section, and the sections of a core module.
 ghost use Rattle.std.specs.Prelude.{ℕ, List, MatchOption};
 ghost use Rattle.std.specs.String.{string_bytes};
-ghost use Rattle.wenc_base.specs.Modules.{module_preamble};
-ghost use Rattle.wenc_base.specs.Piece.{Wide};
-ghost use Rattle.wenc_base.specs.Readers.{done};
-ghost use Rattle.wenc_base.specs.reading.Forms.{read_name};
-ghost use Rattle.wenc_list.specs.Names.{names_view, read_part, read_core_sort, read_sort, read_item_names, read_names_in, read_names};
-ghost use Rattle.wenc_read.specs.Gives.{Gives, GivesAlways};
+ghost use Rattle.wenc_base.specs.Prelude.{module_preamble, Wide, done, read_name, NameAssociation, name_association, name_association_lawful};
+ghost use Rattle.wenc_list.specs.Prelude.{names_view, read_part, read_core_sort, read_sort, read_item_names, read_names_in, read_names, item_name_view, read_item_name, item_name_sound};
+ghost use Rattle.wenc_read.specs.Prelude.{Gives, GivesAlways, exact_by};
 
 use std::alloc::{Allocator, Global};
 use wenc_decode::Decode;
@@ -23,12 +20,6 @@ pub struct ItemName<A: Allocator = Global> {
 }
 
 impl<A: Allocator + Copy> Decode<A> for ItemName<A> {
-    ghost use Rattle.wenc_base.specs.Names.{NameAssociation, name_association};
-    ghost use Rattle.wenc_base.specs.laws.Names.{name_association_lawful};
-    ghost use Rattle.wenc_list.specs.Names.{item_name_view, read_item_name};
-    ghost use Rattle.wenc_list.specs.laws.Names.{item_name_sound};
-    ghost use Rattle.wenc_read.specs.laws.Exact.{exact_by};
-
     ghost Value = { NameAssociation };
 
     ghost view = { item_name_view };

@@ -1,8 +1,7 @@
 //! Sections, and the bytes in them.
-ghost use Rattle.wenc_base.specs.Forms.{AreBytes};
-ghost use Rattle.wenc_base.specs.reading.Forms.{read_raw};
-ghost use Rattle.wenc_list.specs.inside.Contents.{read_frame};
-ghost use Rattle.wenc_read.specs.Gives.{Gives, GivesAlways};
+ghost use Rattle.wenc_base.specs.Prelude.{AreBytes, read_raw};
+ghost use Rattle.wenc_list.specs.Prelude.{read_frame};
+ghost use Rattle.wenc_read.specs.Prelude.{Gives, GivesAlways};
 
 use std::alloc::Allocator;
 use wenc_read::{Refusal, byte, u32_of};

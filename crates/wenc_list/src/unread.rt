@@ -1,9 +1,7 @@
 //! The first item of a section that can't be read.
 ghost use Rattle.std.specs.Prelude.{List, drop, length, IsSome, IfOk, IfErr, MatchOption};
-ghost use Rattle.wenc_builder.specs.Item.{Item};
-ghost use Rattle.wenc_list.specs.Cursor.{HasTaken, IsSpent, IsFaultIn};
-ghost use Rattle.wenc_list.specs.Unread.{IsUnread, IsReadHere, IsNamed};
-ghost use Rattle.wenc_list.specs.inside.Unread.{IsUnreadOf};
+ghost use Rattle.wenc_builder.specs.Prelude.{Item};
+ghost use Rattle.wenc_list.specs.Prelude.{HasTaken, IsSpent, IsFaultIn, IsUnread, IsReadHere, IsNamed, IsUnreadOf};
 
 use crate::cursor::{SectionItems, counted};
 use crate::fault::ListFault;

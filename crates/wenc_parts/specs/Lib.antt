@@ -8,3 +8,4 @@ pub mod Aliases
 pub mod inside
 pub mod reading
 pub mod laws
+pub mod Prelude

@@ -1,7 +1,7 @@
 //! Aliases of the exports of instances, and of the items of enclosing components.
 ghost use Rattle.std.specs.Prelude.{◌≡◌};
-ghost use Rattle.wenc_base.specs.laws.Delimited.{itself};
-ghost use Rattle.wenc_base.specs.laws.Serves.{serves_itself};
+ghost use Rattle.wenc_base.specs.Prelude.{itself, serves_itself};
+ghost use Rattle.wenc_parts.specs.Prelude.{outer_kind, outer_kind_lawful, read_outer_kind, ComponentOuterAliasKind as Seen', alias, alias_view, AliasOf, alias_lawful, read_alias, alias_tree_view};
 
 use crate::component::{COMPONENT_SORT, CORE_MODULE_SORT, CORE_SORT, CORE_TYPE_SORT, TYPE_SORT};
 use crate::exports::ComponentExportKind;
@@ -23,8 +23,6 @@ pub enum ComponentOuterAliasKind {
 }
 
 impl Encode for ComponentOuterAliasKind {
-    ghost use Rattle.wenc_parts.specs.Aliases.{outer_kind};
-
     ghost piece = { λ k. outer_kind k };
 
     fn encode<A: Allocator>(&self, sink: &mut Vec<u8, A>) -> Result<(), Fault> {
@@ -40,11 +38,6 @@ impl Encode for ComponentOuterAliasKind {
 }
 
 impl Delimited for ComponentOuterAliasKind {
-    ghost use Rattle.wenc_parts.specs.Aliases.{outer_kind};
-    ghost use Rattle.wenc_parts.specs.laws.Aliases.{outer_kind_lawful};
-    ghost use Rattle.wenc_parts.specs.reading.Aliases.{read_outer_kind};
-    ghost use Rattle.wenc_parts.specs.declared.aliases.ComponentOuterAliasKind.{ComponentOuterAliasKind as Seen'};
-
     ghost Seen = { Seen' };
 
     ghost seen = { λ x. x };
@@ -101,8 +94,6 @@ pub enum Alias<'a> {
 }
 
 impl<'a> Encode for Alias<'a> {
-    ghost use Rattle.wenc_parts.specs.Aliases.{alias, alias_view};
-
     ghost piece = { λ a. alias (alias_view a) };
 
     fn encode<A: Allocator>(&self, sink: &mut Vec<u8, A>) -> Result<(), Fault> {
@@ -125,10 +116,6 @@ impl<'a> Encode for Alias<'a> {
 }
 
 impl<'a> Delimited for Alias<'a> {
-    ghost use Rattle.wenc_parts.specs.Aliases.{AliasOf, alias, alias_view};
-    ghost use Rattle.wenc_parts.specs.laws.Aliases.{alias_lawful};
-    ghost use Rattle.wenc_parts.specs.reading.Aliases.{read_alias};
-
     ghost Seen = { AliasOf };
 
     ghost seen = { alias_view };
@@ -173,8 +160,6 @@ pub enum AliasTree<A: Allocator = Global> {
 }
 
 impl<A: Allocator> AliasTree<A> {
-    ghost use Rattle.wenc_parts.specs.Aliases.{alias_view, alias_tree_view};
-
     /// Borrows the alias. Does not allocate.
     pub fn as_alias(&self) -> Alias<'_>
         ensures { alias_view result ≡ alias_tree_view self.now }

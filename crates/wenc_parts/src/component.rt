@@ -1,13 +1,8 @@
 //! `Component`, the trait `ComponentSection` of its sections, section ids, and the bytes of sorts.
 ghost use Rattle.std.specs.Prelude.{◌≡◌, ℕ, IfOk, IfErr, OnOk};
-ghost use Rattle.wenc_base.specs.laws.Delimited.{itself};
-ghost use Rattle.wenc_base.specs.Encode.{Appends};
-ghost use Rattle.wenc_base.specs.Fault.{IsMemory};
-ghost use Rattle.wenc_base.specs.Piece.{◌▸◌};
-ghost use Rattle.wenc_parts.specs.Component.{preamble};
-ghost use Rattle.wenc_parts.specs.SectionIds.{section_number};
+ghost use Rattle.wenc_base.specs.Prelude.{itself, Appends, IsMemory, ◌▸◌, serves_itself};
+ghost use Rattle.wenc_parts.specs.Prelude.{preamble, section_number, section_lawful, read_section, ComponentSectionId as Seen'};
 ghost use Rattle.wenc_parts.specs.declared.component.ComponentSectionId.TheVariants.{CoreCustom};
-ghost use Rattle.wenc_base.specs.laws.Serves.{serves_itself};
 
 use std::alloc::{Allocator, Global};
 use std::marker::Model;
@@ -143,7 +138,7 @@ impl From<ComponentSectionId> for u8 {
 }
 
 impl Encode for ComponentSectionId {
-    ghost use Rattle.wenc_parts.specs.SectionIds.{section_id};
+    ghost use Rattle.wenc_parts.specs.Prelude.{section_id};
 
     ghost piece = { λ id. section_id id };
 
@@ -154,10 +149,7 @@ impl Encode for ComponentSectionId {
 }
 
 impl Delimited for ComponentSectionId {
-    ghost use Rattle.wenc_parts.specs.SectionIds.{section_id};
-    ghost use Rattle.wenc_parts.specs.laws.SectionIds.{section_lawful};
-    ghost use Rattle.wenc_parts.specs.reading.SectionIds.{read_section};
-    ghost use Rattle.wenc_parts.specs.declared.component.ComponentSectionId.{ComponentSectionId as Seen'};
+    ghost use Rattle.wenc_parts.specs.Prelude.{section_id};
 
     ghost Seen = { Seen' };
 

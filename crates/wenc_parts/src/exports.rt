@@ -1,6 +1,6 @@
 //! Sorts of the exports of components.
-ghost use Rattle.wenc_base.specs.laws.Delimited.{itself};
-ghost use Rattle.wenc_base.specs.laws.Serves.{serves_itself};
+ghost use Rattle.wenc_base.specs.Prelude.{itself, serves_itself};
+ghost use Rattle.wenc_parts.specs.Prelude.{component_export_kind, component_export_kind_lawful, read_component_export_kind, ComponentExportKind as Seen'};
 
 use crate::component::{
     COMPONENT_SORT, CORE_MODULE_SORT, CORE_SORT, FUNCTION_SORT, INSTANCE_SORT, TYPE_SORT,
@@ -27,8 +27,6 @@ pub enum ComponentExportKind {
 }
 
 impl Encode for ComponentExportKind {
-    ghost use Rattle.wenc_parts.specs.Exports.{component_export_kind};
-
     ghost piece = { λ k. component_export_kind k };
 
     fn encode<A: Allocator>(&self, sink: &mut Vec<u8, A>) -> Result<(), Fault> {
@@ -49,11 +47,6 @@ impl Encode for ComponentExportKind {
 }
 
 impl Delimited for ComponentExportKind {
-    ghost use Rattle.wenc_parts.specs.Exports.{component_export_kind};
-    ghost use Rattle.wenc_parts.specs.laws.Exports.{component_export_kind_lawful};
-    ghost use Rattle.wenc_parts.specs.reading.Exports.{read_component_export_kind};
-    ghost use Rattle.wenc_parts.specs.declared.exports.ComponentExportKind.{ComponentExportKind as Seen'};
-
     ghost Seen = { Seen' };
 
     ghost seen = { λ x. x };

@@ -1,12 +1,10 @@
 //! Names of imports and exports, and type references.
 ghost use Rattle.std.specs.Prelude.{◌≡◌, ◌≢◌, ◌++◌, ℕ, List, length, OnOk, IfOk, IfErr};
-ghost use Rattle.wenc_base.specs.Encode.{Appends};
-ghost use Rattle.wenc_base.specs.laws.Delimited.{itself};
-ghost use Rattle.wenc_base.specs.Fault.{IsMemory};
+ghost use Rattle.wenc_base.specs.Prelude.{Appends, itself, IsMemory, serves_itself};
+ghost use Rattle.wenc_parts.specs.Prelude.{type_bounds, type_bounds_lawful, read_type_bounds, component_export_kind, kind_of, type_reference, type_reference_lawful, read_type_reference, extern_name, extern_name_view, name_options, ExternName, extern_name_lawful, read_extern_name, option_entry, plain_name, name_tree_view};
 ghost use Rattle.std.specs.Cow.{cow_str_bytes};
 ghost use Rattle.std.specs.Option.{option_map};
 ghost use Rattle.std.specs.String.{string_bytes};
-ghost use Rattle.wenc_base.specs.laws.Serves.{serves_itself};
 
 use crate::exports::ComponentExportKind;
 use crate::types::ComponentValType;
@@ -24,8 +22,6 @@ pub enum TypeBounds {
 }
 
 impl Encode for TypeBounds {
-    ghost use Rattle.wenc_parts.specs.Imports.{type_bounds};
-
     ghost piece = { λ b. type_bounds b };
 
     fn encode<A: Allocator>(&self, sink: &mut Vec<u8, A>) -> Result<(), Fault> {
@@ -40,10 +36,7 @@ impl Encode for TypeBounds {
 }
 
 impl Delimited for TypeBounds {
-    ghost use Rattle.wenc_parts.specs.Imports.{type_bounds};
-    ghost use Rattle.wenc_parts.specs.laws.Imports.{type_bounds_lawful};
-    ghost use Rattle.wenc_parts.specs.reading.Imports.{read_type_bounds};
-    ghost use Rattle.wenc_parts.specs.declared.imports.TypeBounds.{TypeBounds as Seen'};
+    ghost use Rattle.wenc_parts.specs.Prelude.{TypeBounds as Seen'};
 
     ghost Seen = { Seen' };
 
@@ -79,9 +72,6 @@ pub enum ComponentTypeRef {
 }
 
 impl ComponentTypeRef {
-    ghost use Rattle.wenc_parts.specs.Exports.{component_export_kind};
-    ghost use Rattle.wenc_parts.specs.Imports.{kind_of, type_reference};
-
     /// Returns the sort of the item, whose encoding begins that of the reference.
     #[tactic(auto, using(crate::specs::laws::Imports::kind_begins))]
     pub fn kind(&self) -> ComponentExportKind
@@ -102,8 +92,6 @@ impl ComponentTypeRef {
 }
 
 impl Encode for ComponentTypeRef {
-    ghost use Rattle.wenc_parts.specs.Imports.{type_reference};
-
     ghost piece = { λ r. type_reference r };
 
     #[inline(always)]
@@ -121,10 +109,7 @@ impl Encode for ComponentTypeRef {
 }
 
 impl Delimited for ComponentTypeRef {
-    ghost use Rattle.wenc_parts.specs.Imports.{type_reference};
-    ghost use Rattle.wenc_parts.specs.laws.Imports.{type_reference_lawful};
-    ghost use Rattle.wenc_parts.specs.reading.Imports.{read_type_reference};
-    ghost use Rattle.wenc_parts.specs.declared.imports.ComponentTypeRef.{ComponentTypeRef as Seen'};
+    ghost use Rattle.wenc_parts.specs.Prelude.{ComponentTypeRef as Seen'};
 
     ghost Seen = { Seen' };
 
@@ -161,8 +146,6 @@ pub struct ComponentExternName<'a, A: Allocator = Global> {
 }
 
 impl<'a, A: Allocator> ComponentExternName<'a, A> {
-    ghost use Rattle.wenc_parts.specs.Imports.{extern_name, extern_name_view, name_options};
-
     fn option_count(&self) -> u32
         ensures { result ≡ length (name_options (extern_name_view self.now)) }
     {
@@ -211,8 +194,6 @@ impl<'a, A: Allocator> ComponentExternName<'a, A> {
 }
 
 impl<'a, A: Allocator> Encode for ComponentExternName<'a, A> {
-    ghost use Rattle.wenc_parts.specs.Imports.{extern_name, extern_name_view};
-
     ghost piece = { λ n. extern_name (extern_name_view n) };
 
     #[tactic(auto, using(crate::proofs::Names::plain_serves))]
@@ -226,10 +207,6 @@ impl<'a, A: Allocator> Encode for ComponentExternName<'a, A> {
 }
 
 impl<'a, A: Allocator> Delimited for ComponentExternName<'a, A> {
-    ghost use Rattle.wenc_parts.specs.Imports.{ExternName, extern_name, extern_name_view};
-    ghost use Rattle.wenc_parts.specs.laws.Imports.{extern_name_lawful};
-    ghost use Rattle.wenc_parts.specs.reading.Imports.{read_extern_name};
-
     ghost Seen = { ExternName };
 
     ghost seen = { extern_name_view };
@@ -246,8 +223,6 @@ impl<'a, A: Allocator> Delimited for ComponentExternName<'a, A> {
 struct OptionEntry<'a, 'b, A: Allocator>(u8, &'b Option<CowStr<'a, A>>);
 
 impl<'a, 'b, A: Allocator> Encode for OptionEntry<'a, 'b, A> {
-    ghost use Rattle.wenc_parts.specs.inside.NameOptions.{option_entry};
-
     ghost piece = { λ o. option_entry o.0 (option_map cow_str_bytes o.1.now) };
 
     fn encode<B: Allocator>(&self, sink: &mut Vec<u8, B>) -> Result<(), Fault> {
@@ -259,8 +234,6 @@ impl<'a, 'b, A: Allocator> Encode for OptionEntry<'a, 'b, A> {
 }
 
 impl<'a> From<&'a str> for ComponentExternName<'a> {
-    ghost use Rattle.wenc_parts.specs.Imports.{extern_name_view, plain_name};
-
     ghost from_gives = { λ s n. extern_name_view n ≡ plain_name s.now };
 
     fn from(name: &'a str) -> ComponentExternName<'a> {
@@ -275,7 +248,6 @@ impl<'a> From<&'a str> for ComponentExternName<'a> {
 
 impl<'a> From<&'a String> for ComponentExternName<'a> {
     ghost use Rattle.std.specs.String.{string_bytes};
-    ghost use Rattle.wenc_parts.specs.Imports.{extern_name_view, plain_name};
 
     ghost from_gives = { λ s n. extern_name_view n ≡ plain_name (string_bytes s.now) };
 
@@ -286,7 +258,6 @@ impl<'a> From<&'a String> for ComponentExternName<'a> {
 
 impl<'a> From<String> for ComponentExternName<'a> {
     ghost use Rattle.std.specs.String.{string_bytes};
-    ghost use Rattle.wenc_parts.specs.Imports.{extern_name_view, plain_name};
 
     ghost from_gives = { λ s n. extern_name_view n ≡ plain_name (string_bytes s) };
 
@@ -322,7 +293,6 @@ pub struct NameTree<A: Allocator = Global> {
 
 impl<A: Allocator> From<String<A>> for NameTree<A> {
     ghost use Rattle.std.specs.String.{string_bytes};
-    ghost use Rattle.wenc_parts.specs.Imports.{name_tree_view, plain_name};
 
     ghost from_gives = { λ s n. name_tree_view n ≡ plain_name (string_bytes s) };
 
@@ -335,8 +305,6 @@ impl<A: Allocator> From<String<A>> for NameTree<A> {
 }
 
 impl<A: Allocator> NameTree<A> {
-    ghost use Rattle.wenc_parts.specs.Imports.{extern_name_view, name_tree_view};
-
     /// Borrows the name. Does not allocate.
     pub fn as_name(&self) -> ComponentExternName<'_>
         ensures { extern_name_view result ≡ name_tree_view self.now }

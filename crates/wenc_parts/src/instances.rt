@@ -1,6 +1,6 @@
 //! Arguments for the imports of core modules.
-ghost use Rattle.wenc_base.specs.laws.Delimited.{itself};
-ghost use Rattle.wenc_base.specs.laws.Serves.{serves_itself};
+ghost use Rattle.wenc_base.specs.Prelude.{itself, serves_itself};
+ghost use Rattle.wenc_parts.specs.Prelude.{module_argument, module_argument_lawful, read_module_argument, ModuleArg as Seen'};
 
 use crate::component::CORE_INSTANCE_SORT;
 use std::alloc::Allocator;
@@ -15,8 +15,6 @@ pub enum ModuleArg {
 }
 
 impl Encode for ModuleArg {
-    ghost use Rattle.wenc_parts.specs.Instances.{module_argument};
-
     ghost piece = { λ a. module_argument a };
 
     fn encode<A: Allocator>(&self, sink: &mut Vec<u8, A>) -> Result<(), Fault> {
@@ -27,11 +25,6 @@ impl Encode for ModuleArg {
 }
 
 impl Delimited for ModuleArg {
-    ghost use Rattle.wenc_parts.specs.Instances.{module_argument};
-    ghost use Rattle.wenc_parts.specs.laws.Instances.{module_argument_lawful};
-    ghost use Rattle.wenc_parts.specs.reading.Instances.{read_module_argument};
-    ghost use Rattle.wenc_parts.specs.declared.instances.ModuleArg.{ModuleArg as Seen'};
-
     ghost Seen = { Seen' };
 
     ghost seen = { λ x. x };

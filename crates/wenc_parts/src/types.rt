@@ -1,7 +1,7 @@
 //! Value types of components, and the results of functions.
 ghost use Rattle.std.specs.Prelude.{◌≡◌};
-ghost use Rattle.wenc_base.specs.laws.Delimited.{itself};
-ghost use Rattle.wenc_base.specs.laws.Serves.{serves_itself};
+ghost use Rattle.wenc_base.specs.Prelude.{itself, serves_itself};
+ghost use Rattle.wenc_parts.specs.Prelude.{primitive_byte, primitive, primitive_lawful, read_primitive, value_type, value_type_lawful, read_value_type, result_list, result_list_lawful, read_result_list, ComponentValType as ValueType, same_result_list};
 
 use std::alloc::Allocator;
 use wenc_base::{Delimited, DelimitedEq, Encode, Fault, Tagged, encode_byte};
@@ -40,8 +40,6 @@ pub enum PrimitiveValType {
 }
 
 impl PrimitiveValType {
-    ghost use Rattle.wenc_parts.specs.Types.{primitive_byte};
-
     fn byte(self) -> u8
         ensures { result ≡ primitive_byte self }
     {
@@ -65,8 +63,6 @@ impl PrimitiveValType {
 }
 
 impl Encode for PrimitiveValType {
-    ghost use Rattle.wenc_parts.specs.Types.{primitive};
-
     ghost piece = { λ p. primitive p };
 
     fn encode<A: Allocator>(&self, sink: &mut Vec<u8, A>) -> Result<(), Fault> {
@@ -75,10 +71,7 @@ impl Encode for PrimitiveValType {
 }
 
 impl Delimited for PrimitiveValType {
-    ghost use Rattle.wenc_parts.specs.Types.{primitive};
-    ghost use Rattle.wenc_parts.specs.laws.Types.{primitive_lawful};
-    ghost use Rattle.wenc_parts.specs.reading.Types.{read_primitive};
-    ghost use Rattle.wenc_parts.specs.declared.types.PrimitiveValType.{PrimitiveValType as Seen'};
+    ghost use Rattle.wenc_parts.specs.Prelude.{PrimitiveValType as Seen'};
 
     ghost Seen = { Seen' };
 
@@ -105,8 +98,6 @@ pub enum ComponentValType {
 }
 
 impl Encode for ComponentValType {
-    ghost use Rattle.wenc_parts.specs.Types.{value_type};
-
     ghost piece = { λ t. value_type t };
 
     #[inline(always)]
@@ -119,10 +110,7 @@ impl Encode for ComponentValType {
 }
 
 impl Delimited for ComponentValType {
-    ghost use Rattle.wenc_parts.specs.Types.{value_type};
-    ghost use Rattle.wenc_parts.specs.laws.Types.{value_type_lawful};
-    ghost use Rattle.wenc_parts.specs.reading.Types.{read_value_type};
-    ghost use Rattle.wenc_parts.specs.declared.types.ComponentValType.{ComponentValType as Seen'};
+    ghost use Rattle.wenc_parts.specs.Prelude.{ComponentValType as Seen'};
 
     ghost Seen = { Seen' };
 
@@ -145,8 +133,6 @@ impl DelimitedEq for ComponentValType {
 pub struct ResultList(pub Option<ComponentValType>);
 
 impl Encode for ResultList {
-    ghost use Rattle.wenc_parts.specs.Types.{result_list};
-
     ghost piece = { λ r. result_list r.0 };
 
     fn encode<A: Allocator>(&self, sink: &mut Vec<u8, A>) -> Result<(), Fault> {
@@ -158,11 +144,7 @@ impl Encode for ResultList {
 }
 
 impl Delimited for ResultList {
-    ghost use Rattle.wenc_parts.specs.Types.{result_list};
-    ghost use Rattle.wenc_parts.specs.laws.Types.{result_list_lawful};
-    ghost use Rattle.wenc_parts.specs.reading.Types.{read_result_list};
     ghost use Rattle.std.specs.Prelude.{Option as Optional};
-    ghost use Rattle.wenc_parts.specs.declared.types.ComponentValType.{ComponentValType as ValueType};
 
     ghost Seen = { Optional ValueType };
 
@@ -176,8 +158,6 @@ impl Delimited for ResultList {
 }
 
 impl DelimitedEq for ResultList {
-    ghost use Rattle.wenc_parts.specs.laws.Types.{same_result_list};
-
     ghost alike = { λ laws a b same. itself _ laws a b (same_result_list a b same) };
 }
 

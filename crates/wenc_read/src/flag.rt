@@ -1,6 +1,6 @@
 //! Flags.
-ghost use Rattle.wenc_base.specs.reading.Forms.{read_flag};
-ghost use Rattle.wenc_read.specs.Gives.{GivesAlways};
+ghost use Rattle.wenc_base.specs.Prelude.{read_flag};
+ghost use Rattle.wenc_read.specs.Prelude.{GivesAlways};
 
 use crate::number::byte;
 use crate::refusal::Refusal;

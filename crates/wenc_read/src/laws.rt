@@ -1,13 +1,7 @@
 //! A law about the definitions. A call of it does nothing.
-ghost use Rattle.wenc_base.specs.Forms.{flag, name as string};
-ghost use Rattle.wenc_base.specs.Number.{index, u32 as number, u64 as long_number};
-ghost use Rattle.wenc_base.specs.Piece.{byte as one_byte};
-ghost use Rattle.wenc_base.specs.Readers.{read_byte};
-ghost use Rattle.wenc_base.specs.reading.Forms.{read_flag, read_name};
-ghost use Rattle.wenc_base.specs.reading.Numbers.{read_index, read_u32, read_u64};
-ghost use Rattle.wenc_parts.specs.Imports.{extern_name};
-ghost use Rattle.wenc_parts.specs.reading.Imports.{read_extern_name};
-ghost use Rattle.wenc_read.specs.Exact.{IsExact};
+ghost use Rattle.wenc_base.specs.Prelude.{flag, name as string, index, u32 as number, u64 as long_number, byte as one_byte, read_byte, read_flag, read_name, read_index, read_u32, read_u64};
+ghost use Rattle.wenc_parts.specs.Prelude.{extern_name, read_extern_name};
+ghost use Rattle.wenc_read.specs.Prelude.{IsExact};
 
 /// The readers of this crate's functions are exact: what a function returns is read widely, with
 /// the bytes that follow, and what is read so it returns, unless an allocation fails.

@@ -1,8 +1,7 @@
 //! Numbers.
 ghost use Rattle.std.specs.Prelude.{◌≡◌, ◌^◌, ◌≤◌, ◌<◌, ◌+◌, ◌-◌, ◌*◌};
-ghost use Rattle.wenc_base.specs.reading.Numbers.{read_groups, read_u32, read_u64, read_index};
-ghost use Rattle.wenc_base.specs.Readers.{read_byte};
-ghost use Rattle.wenc_read.specs.Gives.{GivesAlways};
+ghost use Rattle.wenc_base.specs.Prelude.{read_groups, read_u32, read_u64, read_index, read_byte};
+ghost use Rattle.wenc_read.specs.Prelude.{GivesAlways};
 
 use crate::refusal::Refusal;
 

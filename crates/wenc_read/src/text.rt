@@ -1,7 +1,7 @@
 //! Strings.
 ghost use Rattle.std.specs.String.{string_bytes};
-ghost use Rattle.wenc_base.specs.reading.Forms.{read_name};
-ghost use Rattle.wenc_read.specs.Gives.{Gives};
+ghost use Rattle.wenc_base.specs.Prelude.{read_name};
+ghost use Rattle.wenc_read.specs.Prelude.{Gives};
 
 use crate::number::u32_of;
 use crate::refusal::Refusal;

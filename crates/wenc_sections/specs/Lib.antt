@@ -10,3 +10,4 @@ pub mod Pairs
 pub mod inside
 pub mod reading
 pub mod laws
+pub mod Prelude

@@ -1,6 +1,6 @@
 //! The section of aliases.
-ghost use Rattle.wenc_base.specs.Holder.{AddsMember};
-ghost use Rattle.wenc_parts.specs.Aliases.{alias as alias_form, alias_view};
+ghost use Rattle.wenc_base.specs.Prelude.{AddsMember, HasForm};
+ghost use Rattle.wenc_parts.specs.Prelude.{alias as alias_form, alias_view};
 
 use crate::counted::{Counted, CountedKind};
 use std::alloc::{Allocator, Global};
@@ -11,9 +11,8 @@ use wenc_parts::{Alias, ComponentSectionId};
 pub struct Aliases;
 
 impl CountedKind for Aliases {
-    ghost use Rattle.wenc_base.specs.Piece.{HasForm};
-    ghost use Rattle.wenc_parts.specs.declared.component.ComponentSectionId.{ComponentSectionId};
-    ghost use Rattle.wenc_parts.specs.Aliases.{alias};
+    ghost use Rattle.wenc_parts.specs.Prelude.{alias};
+    ghost use Rattle.wenc_sections.specs.Prelude.{ComponentSectionId};
 
     ghost ID = { ComponentSectionId.Alias };
 

@@ -1,9 +1,8 @@
 //! Canonical functions, as trees.
 ghost use Rattle.std.specs.Prelude.{OnOk};
-ghost use Rattle.wenc_base.specs.Encode.{Appends, Serves};
-ghost use Rattle.wenc_base.specs.laws.Serves.{serves_itself};
-ghost use Rattle.wenc_canon.specs.Canonicals.{Lift, Lower, canonical};
-ghost use Rattle.wenc_canon.specs.inside.Rows.{row_first_byte, row_then};
+ghost use Rattle.wenc_base.specs.Prelude.{Appends, Serves, serves_itself};
+ghost use Rattle.wenc_canon.specs.Prelude.{Lift, Lower, canonical, row_first_byte, row_then, builtin_name, Canonical, canonical_lawful, read_canonical};
+ghost use Rattle.wenc_sections.specs.Prelude.{canon_view, operand_behind};
 
 use std::alloc::{Allocator, Global};
 use wenc_base::{Delimited, Encode, Fault, Tagged, ValType};
@@ -209,9 +208,6 @@ pub enum CanonTree<A: Allocator = Global> {
 
 impl<A: Allocator> CanonTree<A> {
     ghost use Rattle.std.specs.Prelude.{◌≡◌};
-    ghost use Rattle.wenc_sections.specs.CanonTrees.{canon_view};
-    ghost use Rattle.wenc_sections.specs.inside.Operands.{operand_behind};
-    ghost use Rattle.wenc_canon.specs.Canonicals.{builtin_name};
 
     /// Returns the name of the function, without the number of a slot.
     pub fn name(&self) -> &'static str
@@ -368,8 +364,6 @@ enum Operands<'a, A: Allocator> {
 }
 
 impl<'a, A: Allocator> Operands<'a, A> {
-    ghost use Rattle.wenc_sections.specs.inside.Operands.{operand_behind};
-
     /// Appends this opcode, then the operands.
     fn encode_behind<B: Allocator>(&self, opcode: u8, sink: &mut Vec<u8, B>) -> Result<(), Fault>
         ensures appended { let p = operand_behind opcode self.now in
@@ -397,8 +391,6 @@ impl<'a, A: Allocator> Operands<'a, A> {
 }
 
 impl<A: Allocator> Encode for CanonTree<A> {
-    ghost use Rattle.wenc_sections.specs.CanonTrees.{canon_view};
-
     ghost piece = { λ t. canonical (canon_view t) };
 
     fn encode<B: Allocator>(&self, sink: &mut Vec<u8, B>) -> Result<(), Fault> {
@@ -407,11 +399,6 @@ impl<A: Allocator> Encode for CanonTree<A> {
 }
 
 impl<A: Allocator> Delimited for CanonTree<A> {
-    ghost use Rattle.wenc_canon.specs.Canonicals.{Canonical};
-    ghost use Rattle.wenc_sections.specs.CanonTrees.{canon_view};
-    ghost use Rattle.wenc_canon.specs.laws.Canonicals.{canonical_lawful};
-    ghost use Rattle.wenc_canon.specs.reading.Canonicals.{read_canonical};
-
     ghost Seen = { Canonical };
 
     ghost seen = { canon_view };

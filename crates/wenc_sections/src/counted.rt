@@ -1,11 +1,8 @@
 //! Sections that consist of a count and items of one kind.
 ghost use Rattle.std.specs.Prelude.{◌≡◌, ◌==◌, ℕ, List, false, OnOk, IfOk, IfErr};
-ghost use Rattle.wenc_base.specs.Encode.{Appends};
-ghost use Rattle.wenc_base.specs.Fault.{IsMemory};
-ghost use Rattle.wenc_base.specs.Holder.{no_members, is_finished, held_section, ContainsSome};
-ghost use Rattle.wenc_base.specs.Openings.{HasMembers};
-ghost use Rattle.wenc_parts.specs.SectionIds.{section_number};
-ghost use Rattle.wenc_parts.specs.declared.component.ComponentSectionId.{ComponentSectionId};
+ghost use Rattle.wenc_base.specs.Prelude.{Appends, IsMemory, no_members, is_finished, held_section, ContainsSome, HasMembers};
+ghost use Rattle.wenc_parts.specs.Prelude.{section_number};
+ghost use Rattle.wenc_sections.specs.Prelude.{ComponentSectionId};
 
 mod lender;
 
@@ -47,8 +44,7 @@ pub struct Counted<K: CountedKind, A: Allocator = Global> {
 }
 
 impl<K: CountedKind, A: Allocator> Model for Counted<K, A> {
-    ghost use Rattle.wenc_base.specs.Holder.{HolderState};
-    ghost use Rattle.wenc_base.specs.Openings.{HasMembers};
+    ghost use Rattle.wenc_base.specs.Prelude.{HolderState, HasMembers};
 
     ghost Value = { HolderState };
 

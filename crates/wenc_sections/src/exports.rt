@@ -1,7 +1,7 @@
 //! The section of exports.
-ghost use Rattle.wenc_base.specs.Holder.{AddsMember};
-ghost use Rattle.wenc_parts.specs.Imports.{extern_name_view};
-ghost use Rattle.wenc_sections.specs.Exports.{export_item};
+ghost use Rattle.wenc_base.specs.Prelude.{AddsMember, HasForm};
+ghost use Rattle.wenc_parts.specs.Prelude.{extern_name_view};
+ghost use Rattle.wenc_sections.specs.Prelude.{export_item};
 
 use crate::counted::{Counted, CountedKind};
 use std::alloc::{Allocator, Global};
@@ -12,8 +12,7 @@ use wenc_parts::{ComponentExportKind, ComponentExternName, ComponentSectionId, C
 pub struct Exports;
 
 impl CountedKind for Exports {
-    ghost use Rattle.wenc_base.specs.Piece.{HasForm};
-    ghost use Rattle.wenc_parts.specs.declared.component.ComponentSectionId.{ComponentSectionId};
+    ghost use Rattle.wenc_sections.specs.Prelude.{ComponentSectionId};
 
     ghost ID = { ComponentSectionId.Export };
 

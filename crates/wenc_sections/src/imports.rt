@@ -1,7 +1,7 @@
 //! The section of imports.
-ghost use Rattle.wenc_base.specs.Holder.{AddsMember};
-ghost use Rattle.wenc_parts.specs.Imports.{extern_name_view};
-ghost use Rattle.wenc_sections.specs.Imports.{import_item};
+ghost use Rattle.wenc_base.specs.Prelude.{AddsMember, HasForm};
+ghost use Rattle.wenc_parts.specs.Prelude.{extern_name_view};
+ghost use Rattle.wenc_sections.specs.Prelude.{import_item};
 
 use crate::counted::{Counted, CountedKind};
 use std::alloc::{Allocator, Global};
@@ -12,8 +12,7 @@ use wenc_parts::{ComponentExternName, ComponentSectionId, ComponentTypeRef};
 pub struct Imports;
 
 impl CountedKind for Imports {
-    ghost use Rattle.wenc_base.specs.Piece.{HasForm};
-    ghost use Rattle.wenc_parts.specs.declared.component.ComponentSectionId.{ComponentSectionId};
+    ghost use Rattle.wenc_sections.specs.Prelude.{ComponentSectionId};
 
     ghost ID = { ComponentSectionId.Import };
 

@@ -1,10 +1,7 @@
 //! Instances with owned names, for commands.
 ghost use Rattle.std.specs.Prelude.{◌≡◌, ◌++◌, ℕ, List, OnOk, OnErr, IfErr};
-ghost use Rattle.wenc_base.specs.Encode.{Appends, list_in_order};
-ghost use Rattle.wenc_base.specs.inside.Written.{Written};
-ghost use Rattle.wenc_base.specs.Fault.{IsWarranted, member_cause};
-ghost use Rattle.wenc_base.specs.laws.Serves.{serves_itself};
-ghost use Rattle.wenc_sections.specs.inside.InstanceTrees.{inline_export_tree};
+ghost use Rattle.wenc_base.specs.Prelude.{Appends, list_in_order, Written, IsWarranted, member_cause, serves_itself};
+ghost use Rattle.wenc_sections.specs.Prelude.{inline_export_tree, core_instance_tree_view, core_instance, CoreInstance, core_instance_lawful, read_core_instance, instance_tree_view, instance, Instance, instance_lawful, read_instance};
 
 use crate::instances::{CORE_EXPORTS, CORE_INSTANTIATE, EXPORTS, INSTANTIATE};
 use std::alloc::{Allocator, Global};
@@ -37,9 +34,6 @@ pub enum CoreInstanceTree<A: Allocator = Global> {
 }
 
 impl<A: Allocator> Encode for CoreInstanceTree<A> {
-    ghost use Rattle.wenc_sections.specs.InstanceTrees.{core_instance_tree_view};
-    ghost use Rattle.wenc_sections.specs.Instances.{core_instance};
-
     ghost piece = { λ t. core_instance (core_instance_tree_view t) };
 
     fn encode<B: Allocator>(&self, sink: &mut Vec<u8, B>) -> Result<(), Fault> {
@@ -55,11 +49,6 @@ impl<A: Allocator> Encode for CoreInstanceTree<A> {
 }
 
 impl<A: Allocator> Delimited for CoreInstanceTree<A> {
-    ghost use Rattle.wenc_sections.specs.InstanceTrees.{core_instance_tree_view};
-    ghost use Rattle.wenc_sections.specs.Instances.{CoreInstance, core_instance};
-    ghost use Rattle.wenc_sections.specs.laws.Items.{core_instance_lawful};
-    ghost use Rattle.wenc_sections.specs.reading.Items.{read_core_instance};
-
     ghost Seen = { CoreInstance };
 
     ghost seen = { core_instance_tree_view };
@@ -98,9 +87,6 @@ pub enum InstanceTree<A: Allocator = Global> {
 }
 
 impl<A: Allocator> Encode for InstanceTree<A> {
-    ghost use Rattle.wenc_sections.specs.InstanceTrees.{instance_tree_view};
-    ghost use Rattle.wenc_sections.specs.Instances.{instance};
-
     ghost piece = { λ t. instance (instance_tree_view t) };
 
     fn encode<B: Allocator>(&self, sink: &mut Vec<u8, B>) -> Result<(), Fault> {
@@ -116,11 +102,6 @@ impl<A: Allocator> Encode for InstanceTree<A> {
 }
 
 impl<A: Allocator> Delimited for InstanceTree<A> {
-    ghost use Rattle.wenc_sections.specs.InstanceTrees.{instance_tree_view};
-    ghost use Rattle.wenc_sections.specs.Instances.{Instance, instance};
-    ghost use Rattle.wenc_sections.specs.laws.Items.{instance_lawful};
-    ghost use Rattle.wenc_sections.specs.reading.Items.{read_instance};
-
     ghost Seen = { Instance };
 
     ghost seen = { instance_tree_view };

@@ -1,11 +1,9 @@
 //! The sections of core instances and of component instances.
 ghost use Rattle.std.specs.Prelude.{map};
 ghost use Rattle.std.specs.Iterator.{IsFinite};
-ghost use Rattle.wenc_base.specs.Holder.{AddsListed};
-ghost use Rattle.wenc_parts.specs.Imports.{extern_name_view};
-ghost use Rattle.wenc_sections.specs.Instances.{CoreInstantiate, CoreExports, core_instance};
-ghost use Rattle.wenc_sections.specs.Instances.{Instantiate, Exports, instance};
-ghost use Rattle.wenc_sections.specs.Instances.{named_pair, named_triple};
+ghost use Rattle.wenc_base.specs.Prelude.{AddsListed, HasForm};
+ghost use Rattle.wenc_parts.specs.Prelude.{extern_name_view};
+ghost use Rattle.wenc_sections.specs.Prelude.{CoreInstantiate, CoreExports, core_instance, Instantiate, Exports, instance, named_pair, named_triple};
 
 use crate::counted::{Counted, CountedKind};
 use std::alloc::{Allocator, Global};
@@ -31,8 +29,7 @@ pub const EXPORTS: u8 = 0x01;
 pub struct CoreInstances;
 
 impl CountedKind for CoreInstances {
-    ghost use Rattle.wenc_base.specs.Piece.{HasForm};
-    ghost use Rattle.wenc_parts.specs.declared.component.ComponentSectionId.{ComponentSectionId};
+    ghost use Rattle.wenc_sections.specs.Prelude.{ComponentSectionId};
 
     ghost ID = { ComponentSectionId.CoreInstance };
 
@@ -106,8 +103,7 @@ impl<A: Allocator> Counted<CoreInstances, A> {
 pub struct Instances;
 
 impl CountedKind for Instances {
-    ghost use Rattle.wenc_base.specs.Piece.{HasForm};
-    ghost use Rattle.wenc_parts.specs.declared.component.ComponentSectionId.{ComponentSectionId};
+    ghost use Rattle.wenc_sections.specs.Prelude.{ComponentSectionId};
 
     ghost ID = { ComponentSectionId.Instance };
 

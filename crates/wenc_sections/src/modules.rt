@@ -1,5 +1,6 @@
 //! The section of a core module.
-ghost use Rattle.wenc_base.specs.laws.Serves.{serves_itself};
+ghost use Rattle.wenc_base.specs.Prelude.{serves_itself, byte_list, byte_list_lawful, read_byte_list};
+ghost use Rattle.wenc_parts.specs.Prelude.{section_number};
 
 use std::alloc::{Allocator, Global};
 use wenc_base::{Delimited, Encode, Fault, Module};
@@ -24,8 +25,6 @@ use wenc_parts::{ComponentSection, ComponentSectionId};
 pub struct ModuleSection<'a, A: Allocator = Global>(pub &'a Module<A>);
 
 impl<'a, A: Allocator> Encode for ModuleSection<'a, A> {
-    ghost use Rattle.wenc_base.specs.Forms.{byte_list};
-
     ghost piece = { λ s. byte_list s.0.now };
 
     fn encode<B: Allocator>(&self, sink: &mut Vec<u8, B>) -> Result<(), Fault> {
@@ -35,9 +34,6 @@ impl<'a, A: Allocator> Encode for ModuleSection<'a, A> {
 
 impl<'a, A: Allocator> Delimited for ModuleSection<'a, A> {
     ghost use Rattle.std.specs.Prelude.{List, ℕ};
-    ghost use Rattle.wenc_base.specs.Forms.{byte_list};
-    ghost use Rattle.wenc_base.specs.laws.Forms.{byte_list_lawful};
-    ghost use Rattle.wenc_base.specs.reading.Forms.{read_byte_list};
 
     ghost Seen = { List ℕ };
 
@@ -51,8 +47,7 @@ impl<'a, A: Allocator> Delimited for ModuleSection<'a, A> {
 }
 
 impl<'a, A: Allocator> ComponentSection for ModuleSection<'a, A> {
-    ghost use Rattle.wenc_parts.specs.SectionIds.{section_number};
-    ghost use Rattle.wenc_parts.specs.declared.component.ComponentSectionId.{ComponentSectionId};
+    ghost use Rattle.wenc_sections.specs.Prelude.{ComponentSectionId};
 
     ghost section_id = { λ _. section_number ComponentSectionId.CoreModule };
 

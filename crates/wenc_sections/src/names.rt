@@ -1,10 +1,8 @@
 //! The name section and its subsections.
 ghost use Rattle.std.specs.Prelude.{◌≡◌, ◌==◌, ◌+◌, ◌<◌, ◌^◌, [], length, IfOk, IfErr};
-ghost use Rattle.wenc_base.specs.Encode.{Appends};
-ghost use Rattle.wenc_base.specs.Fault.{IsMemory};
-ghost use Rattle.wenc_base.specs.declared.fault.Fault.{Fault as FaultSpec};
-ghost use Rattle.wenc_sections.specs.Names.{item_sort, ComponentName, RawNames, subsection, names_label, RoomCause, AppendsSubsection, AppendsNames};
-ghost use Rattle.wenc_base.specs.laws.Serves.{serves_itself};
+ghost use Rattle.wenc_base.specs.Prelude.{Appends, IsMemory, serves_itself};
+ghost use Rattle.wenc_parts.specs.Prelude.{section_number};
+ghost use Rattle.wenc_sections.specs.Prelude.{Fault as FaultSpec, item_sort, ComponentName, RawNames, subsection, names_label, RoomCause, AppendsSubsection, AppendsNames, held_subsection, names_section, names_section_lawful, read_names_section};
 
 use crate::space::Space;
 use std::alloc::{Allocator, Global};
@@ -59,8 +57,6 @@ fn sort_bytes(space: Space) -> &'static [u8]
 pub struct NamesOf<'a, A: Allocator = Global>(pub Space, pub &'a NameMap<A>);
 
 impl<'a, A: Allocator> Encode for NamesOf<'a, A> {
-    ghost use Rattle.wenc_sections.specs.Names.{held_subsection};
-
     ghost piece = { λ n. held_subsection n.0 n.1.now };
 
     fn encode<B: Allocator>(&self, sink: &mut Vec<u8, B>) -> Result<(), Fault> {
@@ -288,8 +284,6 @@ impl<A: Allocator> ComponentNameSection<A> {
 
 /// Encoding fails only if an allocation fails.
 impl<A: Allocator> Encode for ComponentNameSection<A> {
-    ghost use Rattle.wenc_sections.specs.Names.{names_section};
-
     ghost piece = { λ s. names_section s };
 
     fn encode<B: Allocator>(&self, sink: &mut Vec<u8, B>) -> Result<(), Fault> {
@@ -299,9 +293,6 @@ impl<A: Allocator> Encode for ComponentNameSection<A> {
 
 impl<A: Allocator> Delimited for ComponentNameSection<A> {
     ghost use Rattle.std.specs.Prelude.{List, ℕ};
-    ghost use Rattle.wenc_sections.specs.Names.{names_section};
-    ghost use Rattle.wenc_sections.specs.laws.Names.{names_section_lawful};
-    ghost use Rattle.wenc_sections.specs.reading.Names.{read_names_section};
 
     ghost Seen = { List ℕ };
 
@@ -315,8 +306,7 @@ impl<A: Allocator> Delimited for ComponentNameSection<A> {
 }
 
 impl<A: Allocator> ComponentSection for ComponentNameSection<A> {
-    ghost use Rattle.wenc_parts.specs.SectionIds.{section_number};
-    ghost use Rattle.wenc_parts.specs.declared.component.ComponentSectionId.{ComponentSectionId};
+    ghost use Rattle.wenc_sections.specs.Prelude.{ComponentSectionId};
 
     ghost section_id = { λ _. section_number ComponentSectionId.CoreCustom };
 

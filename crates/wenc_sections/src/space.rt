@@ -1,4 +1,7 @@
 //! The index spaces, by name and number.
+ghost use Rattle.wenc_parts.specs.Prelude.{alias_view};
+ghost use Rattle.wenc_sections.specs.Prelude.{space_number, alias_space, kind_space, core_kind_space, outer_kind_space};
+
 use wenc_base::ExportKind;
 use wenc_parts::{Alias, ComponentExportKind, ComponentOuterAliasKind};
 
@@ -36,8 +39,6 @@ pub enum Space {
 
 impl Space {
     ghost use Rattle.std.specs.Prelude.{◌≡◌, ◌<◌};
-    ghost use Rattle.wenc_parts.specs.Aliases.{alias_view};
-    ghost use Rattle.wenc_sections.specs.Space.{space_number, alias_space};
 
     /// Returns the space in which an alias defines an item.
     pub fn of_alias(alias: &Alias<'_>) -> Space
@@ -76,7 +77,6 @@ impl Space {
 
 impl From<ComponentExportKind> for Space {
     ghost use Rattle.std.specs.Prelude.{◌≡◌};
-    ghost use Rattle.wenc_sections.specs.Space.{kind_space};
 
     ghost from_gives = { λ k s. s ≡ kind_space k };
 
@@ -94,7 +94,6 @@ impl From<ComponentExportKind> for Space {
 
 impl From<ExportKind> for Space {
     ghost use Rattle.std.specs.Prelude.{◌≡◌};
-    ghost use Rattle.wenc_sections.specs.Space.{core_kind_space};
 
     ghost from_gives = { λ k s. s ≡ core_kind_space k };
 
@@ -111,7 +110,6 @@ impl From<ExportKind> for Space {
 
 impl From<ComponentOuterAliasKind> for Space {
     ghost use Rattle.std.specs.Prelude.{◌≡◌};
-    ghost use Rattle.wenc_sections.specs.Space.{outer_kind_space};
 
     ghost from_gives = { λ k s. s ≡ outer_kind_space k };
 

@@ -1,5 +1,7 @@
 //! The start section: the function that is called when the component is instantiated.
-ghost use Rattle.wenc_base.specs.laws.Serves.{serves_itself};
+ghost use Rattle.wenc_base.specs.Prelude.{serves_itself};
+ghost use Rattle.wenc_parts.specs.Prelude.{section_number};
+ghost use Rattle.wenc_sections.specs.Prelude.{started, start, start_lawful, read_start};
 
 use std::alloc::Allocator;
 use std::convert::AsSlice;
@@ -32,8 +34,6 @@ pub struct ComponentStartSection<A> {
 }
 
 impl<A: AsSlice<u32>> Encode for ComponentStartSection<A> {
-    ghost use Rattle.wenc_sections.specs.Start.{started, start};
-
     ghost piece = { λ s. start (started s.function_index (A.items s.args) s.results) };
 
     fn encode<B: Allocator>(&self, sink: &mut Vec<u8, B>) -> Result<(), Fault> {
@@ -43,9 +43,7 @@ impl<A: AsSlice<u32>> Encode for ComponentStartSection<A> {
 }
 
 impl<A: AsSlice<u32>> Delimited for ComponentStartSection<A> {
-    ghost use Rattle.wenc_sections.specs.Start.{Start, started, start};
-    ghost use Rattle.wenc_sections.specs.laws.Items.{start_lawful};
-    ghost use Rattle.wenc_sections.specs.reading.Items.{read_start};
+    ghost use Rattle.wenc_sections.specs.Prelude.{Start};
 
     ghost Seen = { Start };
 
@@ -59,8 +57,7 @@ impl<A: AsSlice<u32>> Delimited for ComponentStartSection<A> {
 }
 
 impl<A: AsSlice<u32>> ComponentSection for ComponentStartSection<A> {
-    ghost use Rattle.wenc_parts.specs.SectionIds.{section_number};
-    ghost use Rattle.wenc_parts.specs.declared.component.ComponentSectionId.{ComponentSectionId};
+    ghost use Rattle.wenc_sections.specs.Prelude.{ComponentSectionId};
 
     ghost section_id = { λ _. section_number ComponentSectionId.Start };
 

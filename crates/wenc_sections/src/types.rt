@@ -1,14 +1,9 @@
 //! The sections of core types and of types.
 ghost use Rattle.std.specs.Borrow.{sem};
 ghost use Rattle.std.specs.Prelude.{◌≡◌, [], List, false, IfOk, IfErr, Err};
-ghost use Rattle.wenc_base.specs.Holder.{is_finished, held_members, AddCause, AddsMember, EncodeCause};
-ghost use Rattle.wenc_base.specs.Lender.{Lends};
-ghost use Rattle.wenc_base.specs.Openings.{member_begun};
-ghost use Rattle.wenc_base.specs.Piece.{◌▸◌, refused_for};
+ghost use Rattle.wenc_base.specs.Prelude.{is_finished, held_members, AddCause, AddsMember, EncodeCause, Lends, member_begun, ◌▸◌, refused_for, HasForm};
 ghost use Rattle.wenc_base.specs.declared.fault.Fault.TheVariants.{Unfinished};
-ghost use Rattle.wenc_types.specs.ComponentTypes.{InstanceDeclaration, ComponentDeclaration, ComponentType as ComponentTypeSpec, InstanceType as InstanceTypeSpec, ResourceType, components_of, instances_of, def_type};
-ghost use Rattle.wenc_types.specs.Declarations.{ComponentDeclares, InstanceDeclares};
-ghost use Rattle.wenc_types.specs.Loans.{unchanged_on_err};
+ghost use Rattle.wenc_types.specs.Prelude.{InstanceDeclaration, ComponentDeclaration, ComponentType as ComponentTypeSpec, InstanceType as InstanceTypeSpec, ResourceType, components_of, instances_of, def_type, ComponentDeclares, InstanceDeclares, unchanged_on_err, core_type};
 ghost use Rattle.wenc_types.specs.declared.func_type.FuncStage.TheVariants as stages;
 
 use crate::counted::{Counted, CountedKind, EncoderKind};
@@ -24,9 +19,7 @@ use wenc_types::{
 pub struct CoreTypes;
 
 impl CountedKind for CoreTypes {
-    ghost use Rattle.wenc_base.specs.Piece.{HasForm};
-    ghost use Rattle.wenc_parts.specs.declared.component.ComponentSectionId.{ComponentSectionId};
-    ghost use Rattle.wenc_types.specs.CoreTypes.{core_type};
+    ghost use Rattle.wenc_sections.specs.Prelude.{ComponentSectionId};
 
     ghost ID = { ComponentSectionId.CoreType };
 
@@ -78,8 +71,7 @@ impl<A: Allocator> Counted<CoreTypes, A> {
 pub struct ComponentTypes;
 
 impl CountedKind for ComponentTypes {
-    ghost use Rattle.wenc_base.specs.Piece.{HasForm};
-    ghost use Rattle.wenc_parts.specs.declared.component.ComponentSectionId.{ComponentSectionId};
+    ghost use Rattle.wenc_sections.specs.Prelude.{ComponentSectionId};
 
     ghost ID = { ComponentSectionId.«Type» };
 

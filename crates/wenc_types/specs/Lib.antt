@@ -9,3 +9,4 @@ pub mod TypeTrees
 pub mod inside
 pub mod reading
 pub mod laws
+pub mod Prelude

@@ -1,12 +1,11 @@
 //! Types of components.
 ghost use Rattle.std.specs.Prelude.{◌≡◌, IfOk};
-ghost use Rattle.wenc_parts.specs.Aliases.{alias_view, InstanceExport, Outer};
-ghost use Rattle.wenc_parts.specs.Imports.{extern_name_view};
+ghost use Rattle.wenc_base.specs.Prelude.{serves_itself};
+ghost use Rattle.wenc_parts.specs.Prelude.{alias_view, InstanceExport, Outer, extern_name_view};
 ghost use Rattle.wenc_parts.specs.declared.aliases.ComponentOuterAliasKind.TheVariants as outers;
 ghost use Rattle.wenc_parts.specs.declared.exports.ComponentExportKind.TheVariants as kinds;
 ghost use Rattle.wenc_parts.specs.declared.imports.ComponentTypeRef.TheVariants as references;
-ghost use Rattle.wenc_types.specs.ComponentTypes.{Imported, Declared, Aliased, Exported};
-ghost use Rattle.wenc_types.specs.Declarations.{AddsToComponent, indexed_outcome};
+ghost use Rattle.wenc_types.specs.Prelude.{Imported, Declared, Aliased, Exported, AddsToComponent, indexed_outcome, ComponentDeclaration, component_declaration, component_sort, is_declaration};
 
 use crate::counts::{sort_of_alias, sort_of_kind};
 use crate::declarations::{Declarations, DeclaredKind, DeclaringKind};
@@ -21,9 +20,6 @@ use wenc_parts::{
 pub struct ComponentTypes;
 
 impl DeclaredKind for ComponentTypes {
-    ghost use Rattle.wenc_types.specs.ComponentTypes.{ComponentDeclaration, component_declaration};
-    ghost use Rattle.wenc_types.specs.Declarations.{component_sort};
-
     ghost LEAD = { 0x41 };
 
     const LEAD: u8 = 0x41;
@@ -37,10 +33,6 @@ impl DeclaredKind for ComponentTypes {
 
 impl DeclaringKind for ComponentTypes {
     ghost use Rattle.std.proofs.Common.{refl};
-    ghost use Rattle.wenc_base.specs.laws.Serves.{serves_itself};
-    ghost use Rattle.wenc_types.specs.ComponentTypes.{component_declaration, Declared};
-    ghost use Rattle.wenc_types.specs.Declarations.{component_sort};
-    ghost use Rattle.wenc_types.specs.laws.Declarations.{is_declaration};
 
     ghost declares = { λ d. is_declaration component_declaration component_sort (Declared d)
         serves_itself refl };

@@ -1,12 +1,8 @@
 //! The encoder of a component's core types.
 ghost use Rattle.std.specs.Prelude.{◌≡◌, List, true, false, Err};
-ghost use Rattle.wenc_base.specs.Holder.{is_finished, held_members, EncodeCause};
-ghost use Rattle.wenc_base.specs.Lender.{Ends, MakesWhole};
-ghost use Rattle.wenc_base.specs.Piece.{◌▸◌, refused_for};
+ghost use Rattle.wenc_base.specs.Prelude.{is_finished, held_members, EncodeCause, Ends, MakesWhole, ◌▸◌, refused_for};
 ghost use Rattle.wenc_base.specs.declared.fault.Fault.TheVariants.{Unfinished};
-ghost use Rattle.wenc_types.specs.CoreTypes.{CoreType, ModuleDeclaration, Module, core_type};
-ghost use Rattle.wenc_types.specs.CoreTypeTrees.{core_type_view};
-ghost use Rattle.wenc_types.specs.Declarations.{ModuleDeclares};
+ghost use Rattle.wenc_types.specs.Prelude.{CoreType, ModuleDeclaration, Module, core_type, core_type_view, ModuleDeclares};
 
 use crate::core_type_tree::CoreTypeTree;
 use crate::module_type::ModuleType;

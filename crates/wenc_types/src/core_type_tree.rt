@@ -1,6 +1,7 @@
 //! Core types of components, as trees.
 ghost use Rattle.std.specs.Prelude.{refl};
-ghost use Rattle.wenc_base.specs.laws.Serves.{serves_itself};
+ghost use Rattle.wenc_base.specs.Prelude.{serves_itself};
+ghost use Rattle.wenc_types.specs.Prelude.{core_type, core_type_view, CoreType, core_type_lawful, read_core_type, alike_by, composite_sees, group_sees, declaration_sees, core_type_sees, module_declaration, module_declaration_view, ModuleDeclaration, module_declaration_lawful, read_module_declaration};
 
 use std::alloc::{Allocator, Global};
 use wenc_base::{
@@ -34,9 +35,6 @@ pub enum CoreTypeTree<A: Allocator = Global> {
 }
 
 impl<A: Allocator> Encode for CoreTypeTree<A> {
-    ghost use Rattle.wenc_types.specs.CoreTypes.{core_type};
-    ghost use Rattle.wenc_types.specs.CoreTypeTrees.{core_type_view};
-
     ghost piece = { λ t. core_type (core_type_view t) };
 
     fn encode<B: Allocator>(&self, sink: &mut Vec<u8, B>) -> Result<(), Fault> {
@@ -48,11 +46,6 @@ impl<A: Allocator> Encode for CoreTypeTree<A> {
 }
 
 impl<A: Allocator> Delimited for CoreTypeTree<A> {
-    ghost use Rattle.wenc_types.specs.CoreTypes.{CoreType, core_type};
-    ghost use Rattle.wenc_types.specs.CoreTypeTrees.{core_type_view};
-    ghost use Rattle.wenc_types.specs.laws.CoreTypes.{core_type_lawful};
-    ghost use Rattle.wenc_types.specs.reading.CoreTypes.{read_core_type};
-
     ghost Seen = { CoreType };
 
     ghost seen = { core_type_view };
@@ -65,8 +58,6 @@ impl<A: Allocator> Delimited for CoreTypeTree<A> {
 }
 
 impl<A: Allocator> DelimitedEq for CoreTypeTree<A> {
-    ghost use Rattle.wenc_types.specs.laws.CoreTypes.{alike_by, composite_sees, group_sees, declaration_sees, core_type_sees};
-
     ghost alike = { alike_by _ _ (core_type_sees _ _
         (declaration_sees _
         (λ m n k l t e f. rw (e, f) refl)
@@ -112,9 +103,6 @@ pub enum ModuleDecl<A: Allocator = Global> {
 }
 
 impl<A: Allocator> Encode for ModuleDecl<A> {
-    ghost use Rattle.wenc_types.specs.CoreTypes.{module_declaration};
-    ghost use Rattle.wenc_types.specs.CoreTypeTrees.{module_declaration_view};
-
     ghost piece = { λ d. module_declaration (module_declaration_view d) };
 
     fn encode<B: Allocator>(&self, sink: &mut Vec<u8, B>) -> Result<(), Fault> {
@@ -133,11 +121,6 @@ impl<A: Allocator> Encode for ModuleDecl<A> {
 }
 
 impl<A: Allocator> Delimited for ModuleDecl<A> {
-    ghost use Rattle.wenc_types.specs.CoreTypes.{ModuleDeclaration, module_declaration};
-    ghost use Rattle.wenc_types.specs.CoreTypeTrees.{module_declaration_view};
-    ghost use Rattle.wenc_types.specs.laws.CoreTypes.{module_declaration_lawful};
-    ghost use Rattle.wenc_types.specs.reading.CoreTypes.{read_module_declaration};
-
     ghost Seen = { ModuleDeclaration };
 
     ghost seen = { module_declaration_view };
@@ -150,8 +133,6 @@ impl<A: Allocator> Delimited for ModuleDecl<A> {
 }
 
 impl<A: Allocator> DelimitedEq for ModuleDecl<A> {
-    ghost use Rattle.wenc_types.specs.laws.CoreTypes.{alike_by, composite_sees, group_sees, declaration_sees};
-
     ghost alike = { alike_by _ _ (declaration_sees _
         (λ m n k l t e f. rw (e, f) refl)
         (group_sees _ _

@@ -1,8 +1,7 @@
 //! The number of declarations by sort: core types, types and instances.
 ghost use Rattle.std.specs.Prelude.{◌≡◌, ◌<◌};
-ghost use Rattle.wenc_parts.specs.Aliases.{alias_view};
-ghost use Rattle.wenc_types.specs.Declarations.{sort_of_kind, sort_of_alias, one_more, one_less, no_counts};
-ghost use Rattle.wenc_types.specs.inside.TypeState.{total};
+ghost use Rattle.wenc_parts.specs.Prelude.{alias_view};
+ghost use Rattle.wenc_types.specs.Prelude.{sort_of_kind, sort_of_alias, one_more, one_less, no_counts, total};
 
 use wenc_parts::{Alias, ComponentExportKind, ComponentOuterAliasKind};
 

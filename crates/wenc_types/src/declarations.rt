@@ -1,16 +1,9 @@
 //! Declarations, of which the types of modules, components and instances consist.
 ghost use Rattle.std.specs.Borrow.{sem};
 ghost use Rattle.std.specs.Prelude.{◌≡◌, ◌==◌, ◌∷◌, ℕ, [], Option as Optional, Some, OnOk, OnErr, IfOk, IfErr, true, false};
-ghost use Rattle.wenc_base.specs.Encode.{Appends, Serves};
-ghost use Rattle.wenc_base.specs.Fault.{IsMemory, IsWarranted, NoCause};
-ghost use Rattle.wenc_base.specs.Holder.{is_finished, held_members, held_text, EncodeCause, AddCause};
-ghost use Rattle.wenc_base.specs.Lender.{Lends, GivesUp};
-ghost use Rattle.wenc_base.specs.Piece.{◌▸◌, Form};
+ghost use Rattle.wenc_base.specs.Prelude.{Appends, Serves, IsMemory, IsWarranted, NoCause, is_finished, held_members, held_text, EncodeCause, AddCause, Lends, GivesUp, ◌▸◌, Form, no_room_in_holder, is_opened, member_text, opened_is_unfinished};
 ghost use Rattle.wenc_base.specs.declared.fault.Fault.TheVariants.{Unfinished};
-ghost use Rattle.wenc_types.specs.ComponentTypes.{InstanceDeclaration, instance_declaration};
-ghost use Rattle.wenc_types.specs.Declarations.{instance_sort, no_declarations, lead_of, type_begun, type_given_up, NoneBegun, DeclaresSome, IsDeclaration, AddsDeclaration};
-ghost use Rattle.wenc_types.specs.Loans.{unchanged_on_err};
-ghost use Rattle.wenc_types.specs.declared.counts.Sort.{Sort as SortSpec};
+ghost use Rattle.wenc_types.specs.Prelude.{InstanceDeclaration, instance_declaration, instance_sort, no_declarations, lead_of, type_begun, type_given_up, NoneBegun, DeclaresSome, IsDeclaration, AddsDeclaration, unchanged_on_err, Sort as SortSpec, type_appended, type_ended, type_appended_twice};
 ghost use Rattle.wenc_types.specs.declared.counts.Sort.TheVariants as sorts;
 ghost use Rattle.wenc_types.specs.declared.func_type.FuncStage.TheVariants as stages;
 
@@ -80,8 +73,7 @@ pub struct Declarations<K: DeclaredKind, A: Allocator = Global> {
 }
 
 impl<K: DeclaredKind, A: Allocator> Model for Declarations<K, A> {
-    ghost use Rattle.wenc_types.specs.Declarations.{TypeState};
-    ghost use Rattle.wenc_types.specs.inside.TypeState.{IsTypeState};
+    ghost use Rattle.wenc_types.specs.Prelude.{TypeState, IsTypeState};
 
     ghost Value = { TypeState };
 
@@ -326,11 +318,6 @@ impl<K: DeclaredKind, A: Allocator> Encode for Declarations<K, A> {
 }
 
 impl<K: DeclaredKind, A: Allocator> Lender for Declarations<K, A> {
-    ghost use Rattle.wenc_base.specs.Openings.{no_room_in_holder, is_opened, member_text};
-    ghost use Rattle.wenc_base.specs.laws.Holders.{opened_is_unfinished};
-    ghost use Rattle.wenc_types.specs.Declarations.{IsDeclaration, type_appended, type_ended};
-    ghost use Rattle.wenc_types.specs.laws.Declarations.{type_appended_twice};
-
     ghost finished = { λ t. is_finished t.held };
 
     ghost opened = { λ t. is_opened t.held };

@@ -1,6 +1,7 @@
 //! Defined types, as trees.
 ghost use Rattle.std.specs.Prelude.{refl};
-ghost use Rattle.wenc_base.specs.laws.Serves.{serves_itself};
+ghost use Rattle.wenc_base.specs.Prelude.{serves_itself};
+ghost use Rattle.wenc_types.specs.Prelude.{def_val_type, defined_view, DefValType, defined_type_lawful, read_defined, labelled_type_view, case_view, alike_by, each_sees, named_sees, case_sees, defined_sees, case, Case, case_lawful, read_case};
 
 use std::alloc::{Allocator, Global};
 use wenc_base::{Delimited, DelimitedEq, Encode, Fault, Tagged};
@@ -68,9 +69,6 @@ pub enum DefinedTree<A: Allocator = Global> {
 }
 
 impl<A: Allocator> Encode for DefinedTree<A> {
-    ghost use Rattle.wenc_types.specs.DefinedTypes.{def_val_type};
-    ghost use Rattle.wenc_types.specs.TypeTrees.{defined_view};
-
     ghost piece = { λ t. def_val_type (defined_view t) };
 
     fn encode<B: Allocator>(&self, sink: &mut Vec<u8, B>) -> Result<(), Fault> {
@@ -97,11 +95,6 @@ impl<A: Allocator> Encode for DefinedTree<A> {
 }
 
 impl<A: Allocator> Delimited for DefinedTree<A> {
-    ghost use Rattle.wenc_types.specs.DefinedTypes.{DefValType, def_val_type};
-    ghost use Rattle.wenc_types.specs.TypeTrees.{defined_view};
-    ghost use Rattle.wenc_types.specs.laws.DefinedTypes.{defined_type_lawful};
-    ghost use Rattle.wenc_types.specs.reading.DefinedTypes.{read_defined};
-
     ghost Seen = { DefValType };
 
     ghost seen = { defined_view };
@@ -115,9 +108,6 @@ impl<A: Allocator> Delimited for DefinedTree<A> {
 
 impl<A: Allocator> DelimitedEq for DefinedTree<A> {
     ghost use Rattle.std.specs.String.{string_bytes};
-    ghost use Rattle.wenc_types.specs.TypeTrees.{labelled_type_view, case_view};
-    ghost use Rattle.wenc_types.specs.laws.CoreTypes.{alike_by, each_sees};
-    ghost use Rattle.wenc_types.specs.laws.TypeTrees.{named_sees, case_sees, defined_sees};
 
     ghost alike = { alike_by _ _ (defined_sees _
         (λ v w. each_sees _ labelled_type_view (named_sees _ (λ m n t e. rw e refl)) v.items
@@ -140,9 +130,6 @@ pub struct CaseTree<A: Allocator = Global> {
 }
 
 impl<A: Allocator> Encode for CaseTree<A> {
-    ghost use Rattle.wenc_types.specs.DefinedTypes.{case};
-    ghost use Rattle.wenc_types.specs.TypeTrees.{case_view};
-
     ghost piece = { λ c. case (case_view c) };
 
     fn encode<B: Allocator>(&self, sink: &mut Vec<u8, B>) -> Result<(), Fault> {
@@ -152,11 +139,6 @@ impl<A: Allocator> Encode for CaseTree<A> {
 }
 
 impl<A: Allocator> Delimited for CaseTree<A> {
-    ghost use Rattle.wenc_types.specs.DefinedTypes.{Case, case};
-    ghost use Rattle.wenc_types.specs.TypeTrees.{case_view};
-    ghost use Rattle.wenc_types.specs.laws.DefinedTypes.{case_lawful};
-    ghost use Rattle.wenc_types.specs.reading.DefinedTypes.{read_case};
-
     ghost Seen = { Case };
 
     ghost seen = { case_view };
@@ -169,8 +151,5 @@ impl<A: Allocator> Delimited for CaseTree<A> {
 }
 
 impl<A: Allocator> DelimitedEq for CaseTree<A> {
-    ghost use Rattle.wenc_types.specs.laws.CoreTypes.{alike_by};
-    ghost use Rattle.wenc_types.specs.laws.TypeTrees.{case_sees};
-
     ghost alike = { alike_by _ _ (case_sees _ (λ m n t e. rw e refl)) };
 }

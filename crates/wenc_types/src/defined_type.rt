@@ -1,9 +1,8 @@
 //! The encoder of defined types.
 ghost use Rattle.std.specs.Iterator.{IsFinite};
 ghost use Rattle.std.specs.Prelude.{◌≡◌, true, false, map};
-ghost use Rattle.wenc_base.specs.Lender.{Ends, EndsListed, MakesWhole};
-ghost use Rattle.wenc_types.specs.DefinedTypes.{DefValType, Primitive, Record, Variant, ListOf, MapOf, FixedLengthList, Tuple, Flags, Enumeration, OptionOf, ResultOf, Own, Borrow, Future, Stream, def_val_type, lent_labelled_type, lent_case};
-ghost use Rattle.wenc_types.specs.TypeTrees.{defined_view};
+ghost use Rattle.wenc_base.specs.Prelude.{Ends, EndsListed, MakesWhole};
+ghost use Rattle.wenc_types.specs.Prelude.{DefValType, Primitive, Record, Variant, ListOf, MapOf, FixedLengthList, Tuple, Flags, Enumeration, OptionOf, ResultOf, Own, Borrow, Future, Stream, def_val_type, lent_labelled_type, lent_case, defined_view, case};
 
 use crate::defined_tree::DefinedTree;
 use std::alloc::Allocator;
@@ -212,8 +211,6 @@ struct Case<'a> {
 }
 
 impl<'a> Encode for Case<'a> {
-    ghost use Rattle.wenc_types.specs.DefinedTypes.{case};
-
     ghost piece = { λ c. case (record { name = c.name.now; ty = c.ty }) };
 
     /// The last byte says that the case refines no other.

@@ -1,12 +1,9 @@
 //! The encoder of function types.
 ghost use Rattle.std.specs.Iterator.{IsFinite};
 ghost use Rattle.std.specs.Prelude.{◌≡◌, ◌∷◌, [], true, false, map, OnOk, OnErr};
-ghost use Rattle.wenc_base.specs.Forms.{list};
-ghost use Rattle.wenc_base.specs.Lender.{Extends, ExtendsListed, Ends, MakesWhole};
-ghost use Rattle.wenc_base.specs.Piece.{byte, behind_bytes};
-ghost use Rattle.wenc_parts.specs.Types.{result_list};
-ghost use Rattle.wenc_types.specs.DefinedTypes.{Function, async_byte, function_type, labelled_type, lent_labelled_type};
-ghost use Rattle.wenc_types.specs.FuncStages.{BeforeParams, lead_from, params_from, goes_on, RestMakesWhole};
+ghost use Rattle.wenc_base.specs.Prelude.{list, Extends, ExtendsListed, Ends, MakesWhole, byte, behind_bytes};
+ghost use Rattle.wenc_parts.specs.Prelude.{result_list};
+ghost use Rattle.wenc_types.specs.Prelude.{Function, async_byte, function_type, labelled_type, lent_labelled_type, BeforeParams, lead_from, params_from, goes_on, RestMakesWhole};
 ghost use Rattle.wenc_types.specs.declared.func_type.FuncStage.TheVariants as stages;
 
 use wenc_base::{Fault, Lender, Verbatim};

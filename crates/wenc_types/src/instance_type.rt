@@ -1,12 +1,11 @@
 //! Types of instances.
 ghost use Rattle.std.specs.Prelude.{◌≡◌, IfOk};
-ghost use Rattle.wenc_parts.specs.Aliases.{alias_view, InstanceExport, Outer};
-ghost use Rattle.wenc_parts.specs.Imports.{extern_name_view};
+ghost use Rattle.wenc_base.specs.Prelude.{serves_itself};
+ghost use Rattle.wenc_parts.specs.Prelude.{alias_view, InstanceExport, Outer, extern_name_view};
 ghost use Rattle.wenc_parts.specs.declared.aliases.ComponentOuterAliasKind.TheVariants as outers;
 ghost use Rattle.wenc_parts.specs.declared.exports.ComponentExportKind.TheVariants as kinds;
 ghost use Rattle.wenc_parts.specs.declared.imports.ComponentTypeRef.TheVariants as references;
-ghost use Rattle.wenc_types.specs.ComponentTypes.{Aliased, Exported};
-ghost use Rattle.wenc_types.specs.Declarations.{AddsToInstance, indexed_outcome};
+ghost use Rattle.wenc_types.specs.Prelude.{Aliased, Exported, AddsToInstance, indexed_outcome, InstanceDeclaration, instance_declaration, instance_sort, is_declaration};
 
 use crate::counts::{sort_of_alias, sort_of_kind};
 use crate::declarations::{Declarations, DeclaredKind, DeclaringKind};
@@ -21,9 +20,6 @@ use wenc_parts::{
 pub struct InstanceTypes;
 
 impl DeclaredKind for InstanceTypes {
-    ghost use Rattle.wenc_types.specs.ComponentTypes.{InstanceDeclaration, instance_declaration};
-    ghost use Rattle.wenc_types.specs.Declarations.{instance_sort};
-
     ghost LEAD = { 0x42 };
 
     const LEAD: u8 = 0x42;
@@ -37,10 +33,6 @@ impl DeclaredKind for InstanceTypes {
 
 impl DeclaringKind for InstanceTypes {
     ghost use Rattle.std.proofs.Common.{refl};
-    ghost use Rattle.wenc_base.specs.laws.Serves.{serves_itself};
-    ghost use Rattle.wenc_types.specs.ComponentTypes.{instance_declaration};
-    ghost use Rattle.wenc_types.specs.Declarations.{instance_sort};
-    ghost use Rattle.wenc_types.specs.laws.Declarations.{is_declaration};
 
     ghost declares = { λ d. is_declaration instance_declaration instance_sort d
         serves_itself refl };

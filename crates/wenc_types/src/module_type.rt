@@ -1,11 +1,8 @@
 //! Types of core modules.
 ghost use Rattle.std.specs.Borrow.{sem};
 ghost use Rattle.std.specs.Prelude.{◌≡◌, false, OnOk, IfOk};
-ghost use Rattle.wenc_base.specs.Holder.{is_finished, AddCause};
-ghost use Rattle.wenc_base.specs.Lender.{Lends};
-ghost use Rattle.wenc_types.specs.CoreTypes.{ModuleImport, ModuleOuter, ModuleExport};
-ghost use Rattle.wenc_types.specs.Declarations.{AddsToModule, NoneBegun, indexed_outcome, lead_of, type_begun};
-ghost use Rattle.wenc_types.specs.Loans.{unchanged_on_err};
+ghost use Rattle.wenc_base.specs.Prelude.{is_finished, AddCause, Lends};
+ghost use Rattle.wenc_types.specs.Prelude.{ModuleImport, ModuleOuter, ModuleExport, AddsToModule, NoneBegun, indexed_outcome, lead_of, type_begun, unchanged_on_err, ModuleDeclaration, module_declaration, module_sort};
 ghost use Rattle.wenc_types.specs.declared.counts.Sort.TheVariants as sorts;
 
 use crate::counts::Sort;
@@ -17,9 +14,6 @@ use wenc_base::{CoreTypeEncoder, EntityType, Fault, Tagged, Verbatim};
 pub struct ModuleTypes;
 
 impl DeclaredKind for ModuleTypes {
-    ghost use Rattle.wenc_types.specs.CoreTypes.{ModuleDeclaration, module_declaration};
-    ghost use Rattle.wenc_types.specs.Declarations.{module_sort};
-
     ghost LEAD = { 0x50 };
 
     const LEAD: u8 = 0x50;

@@ -1,12 +1,8 @@
 //! The encoder of a component's types.
 ghost use Rattle.std.specs.Prelude.{◌≡◌, List, true, false, Err};
-ghost use Rattle.wenc_base.specs.Holder.{is_finished, held_members, EncodeCause};
-ghost use Rattle.wenc_base.specs.Lender.{Ends, MakesWhole};
-ghost use Rattle.wenc_base.specs.Piece.{◌▸◌, refused_for};
+ghost use Rattle.wenc_base.specs.Prelude.{is_finished, held_members, EncodeCause, Ends, MakesWhole, ◌▸◌, refused_for};
 ghost use Rattle.wenc_base.specs.declared.fault.Fault.TheVariants.{Unfinished};
-ghost use Rattle.wenc_types.specs.ComponentTypes.{DefType, InstanceDeclaration, ComponentDeclaration, ComponentType as ComponentTypeSpec, InstanceType as InstanceTypeSpec, ResourceType, components_of, instances_of, def_type};
-ghost use Rattle.wenc_types.specs.Declarations.{ComponentDeclares, InstanceDeclares};
-ghost use Rattle.wenc_types.specs.TypeTrees.{type_view};
+ghost use Rattle.wenc_types.specs.Prelude.{DefType, InstanceDeclaration, ComponentDeclaration, ComponentType as ComponentTypeSpec, InstanceType as InstanceTypeSpec, ResourceType, components_of, instances_of, def_type, ComponentDeclares, InstanceDeclares, type_view};
 ghost use Rattle.wenc_types.specs.declared.func_type.FuncStage.TheVariants as stages;
 
 use crate::component_type::ComponentType;

@@ -1,11 +1,8 @@
 //! Types of components, as trees.
 ghost use Rattle.std.specs.Prelude.{OnOk};
-ghost use Rattle.wenc_base.specs.Encode.{Appends, list_in_order};
-ghost use Rattle.wenc_base.specs.Piece.{◌▸◌, ◌⨾◌};
-ghost use Rattle.wenc_parts.specs.Imports.{extern_name, name_tree_view, type_reference};
-ghost use Rattle.wenc_types.specs.DefinedTypes.{function_type};
-ghost use Rattle.wenc_types.specs.TypeTrees.{function_view};
-ghost use Rattle.wenc_base.specs.laws.Serves.{serves_itself};
+ghost use Rattle.wenc_base.specs.Prelude.{Appends, list_in_order, ◌▸◌, ◌⨾◌, serves_itself};
+ghost use Rattle.wenc_parts.specs.Prelude.{extern_name, name_tree_view, type_reference};
+ghost use Rattle.wenc_types.specs.Prelude.{function_type, function_view, def_type, type_view, instance_declaration, instance_declaration_view, component_declaration, component_declaration_view, DefType, type_lawful, read_type, InstanceDeclaration, instance_declaration_lawful, read_instance_declaration, ComponentDeclaration, component_declaration_lawful, read_component_declaration};
 
 use crate::core_type_tree::CoreTypeTree;
 use crate::defined_tree::DefinedTree;
@@ -98,9 +95,6 @@ pub enum ComponentDecl<A: Allocator = Global> {
 }
 
 impl<A: Allocator> Encode for TypeTree<A> {
-    ghost use Rattle.wenc_types.specs.ComponentTypes.{def_type};
-    ghost use Rattle.wenc_types.specs.TypeTrees.{type_view};
-
     ghost piece = { λ t. def_type (type_view t) };
 
     #[cycle(encode)]
@@ -120,9 +114,6 @@ impl<A: Allocator> Encode for TypeTree<A> {
 }
 
 impl<A: Allocator> Encode for InstanceDecl<A> {
-    ghost use Rattle.wenc_types.specs.ComponentTypes.{instance_declaration};
-    ghost use Rattle.wenc_types.specs.TypeTrees.{instance_declaration_view};
-
     ghost piece = { λ d. instance_declaration (instance_declaration_view d) };
 
     #[cycle(encode)]
@@ -137,9 +128,6 @@ impl<A: Allocator> Encode for InstanceDecl<A> {
 }
 
 impl<A: Allocator> Encode for ComponentDecl<A> {
-    ghost use Rattle.wenc_types.specs.ComponentTypes.{component_declaration};
-    ghost use Rattle.wenc_types.specs.TypeTrees.{component_declaration_view};
-
     ghost piece = { λ d. component_declaration (component_declaration_view d) };
 
     #[cycle(encode)]
@@ -152,11 +140,6 @@ impl<A: Allocator> Encode for ComponentDecl<A> {
 }
 
 impl<A: Allocator> Delimited for TypeTree<A> {
-    ghost use Rattle.wenc_types.specs.ComponentTypes.{DefType, def_type};
-    ghost use Rattle.wenc_types.specs.TypeTrees.{type_view};
-    ghost use Rattle.wenc_types.specs.laws.ComponentTypes.{type_lawful};
-    ghost use Rattle.wenc_types.specs.reading.ComponentTypes.{read_type};
-
     ghost Seen = { DefType };
 
     ghost seen = { type_view };
@@ -169,11 +152,6 @@ impl<A: Allocator> Delimited for TypeTree<A> {
 }
 
 impl<A: Allocator> Delimited for InstanceDecl<A> {
-    ghost use Rattle.wenc_types.specs.ComponentTypes.{InstanceDeclaration, instance_declaration};
-    ghost use Rattle.wenc_types.specs.TypeTrees.{instance_declaration_view};
-    ghost use Rattle.wenc_types.specs.laws.ComponentTypes.{instance_declaration_lawful};
-    ghost use Rattle.wenc_types.specs.reading.ComponentTypes.{read_type, read_instance_declaration};
-
     ghost Seen = { InstanceDeclaration };
 
     ghost seen = { instance_declaration_view };
@@ -189,11 +167,6 @@ impl<A: Allocator> Delimited for InstanceDecl<A> {
 }
 
 impl<A: Allocator> Delimited for ComponentDecl<A> {
-    ghost use Rattle.wenc_types.specs.ComponentTypes.{ComponentDeclaration, component_declaration};
-    ghost use Rattle.wenc_types.specs.TypeTrees.{component_declaration_view};
-    ghost use Rattle.wenc_types.specs.laws.ComponentTypes.{component_declaration_lawful};
-    ghost use Rattle.wenc_types.specs.reading.ComponentTypes.{read_type, read_component_declaration};
-
     ghost Seen = { ComponentDeclaration };
 
     ghost seen = { component_declaration_view };

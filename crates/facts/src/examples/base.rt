@@ -1,8 +1,7 @@
 //! Examples of `wenc_base`.
 ghost use Rattle.std.specs.Prelude.{◌≡◌, ◌++◌, ◌∷◌, [], IfOk, codes};
-ghost use Rattle.wenc_base.specs.Custom.{custom as custom_form};
-ghost use Rattle.wenc_base.specs.Modules.{module_preamble};
-ghost use Rattle.wenc_parts.specs.Component.{preamble};
+ghost use Rattle.wenc_base.specs.Prelude.{custom as custom_form, module_preamble};
+ghost use Rattle.wenc_parts.specs.Prelude.{preamble};
 
 use std::alloc::Allocator;
 use wasm_encoder::{

@@ -1,13 +1,9 @@
 //! Examples of `wenc_builder`, and of commands.
 ghost use Rattle.std.specs.Prelude.{◌≡◌, ◌∷◌, [], List, IfOk, None, Ok, codes};
-ghost use Rattle.wasm_encoder.specs.Command.{command_view};
-ghost use Rattle.wasm_encoder.specs.Ran.{Ran};
-ghost use Rattle.wenc_builder.specs.Entry.{Entry, import_entry, export_entry, items};
-ghost use Rattle.wenc_builder.specs.Sections.{whole};
-ghost use Rattle.wenc_parts.specs.declared.exports.ComponentExportKind.{ComponentExportKind};
-ghost use Rattle.wenc_parts.specs.declared.imports.ComponentTypeRef.{ComponentTypeRef};
-ghost use Rattle.wenc_parts.specs.declared.imports.TypeBounds.{TypeBounds};
-ghost use Rattle.wenc_parts.specs.Imports.{plain_name};
+ghost use Rattle.facts.specs.Prelude.{ComponentExportKind, ComponentTypeRef, TypeBounds};
+ghost use Rattle.wasm_encoder.specs.Prelude.{command_view, Ran};
+ghost use Rattle.wenc_builder.specs.Prelude.{Entry, import_entry, export_entry, items, whole};
+ghost use Rattle.wenc_parts.specs.Prelude.{plain_name};
 
 use std::alloc::{Allocator, Global};
 use wasm_encoder::command::Running;

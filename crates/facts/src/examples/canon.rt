@@ -1,6 +1,6 @@
 //! Examples of `wenc_canon`.
 ghost use Rattle.std.specs.Prelude.{◌≡◌, ◌++◌, IfOk};
-ghost use Rattle.wenc_canon.specs.Canonicals.{canonical, OfBuiltin, ResourceDrop};
+ghost use Rattle.wenc_canon.specs.Prelude.{canonical, OfBuiltin, ResourceDrop};
 
 use std::alloc::Allocator;
 use wasm_encoder::{

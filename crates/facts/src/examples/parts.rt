@@ -1,7 +1,6 @@
 //! Examples of `wenc_parts`.
 ghost use Rattle.std.specs.Prelude.{◌≡◌, ◌∷◌, [], Some, None, codes};
-ghost use Rattle.wenc_parts.specs.Aliases.{alias as alias_form, alias_view};
-ghost use Rattle.wenc_parts.specs.Imports.{extern_name_view};
+ghost use Rattle.wenc_parts.specs.Prelude.{alias as alias_form, alias_view, extern_name_view};
 
 use std::borrow::CowStr;
 use wasm_encoder::{Alias, ComponentExternName, ComponentOuterAliasKind};

@@ -1,18 +1,9 @@
 //! Examples of `wenc_sections`: components by hand.
 ghost use Rattle.std.specs.Prelude.{◌≡◌, ◌++◌, ◌∷◌, [], IfOk, OnOk, None, codes};
-ghost use Rattle.wenc_base.specs.Custom.{custom};
-ghost use Rattle.wenc_base.specs.Forms.{byte_list, counted};
-ghost use Rattle.wenc_base.specs.Modules.{module_preamble};
-ghost use Rattle.wenc_parts.specs.Aliases.{alias as alias_form, alias_view, Outer};
-ghost use Rattle.wenc_parts.specs.Imports.{plain_name};
-ghost use Rattle.wenc_parts.specs.declared.aliases.ComponentOuterAliasKind.{ComponentOuterAliasKind};
-ghost use Rattle.wenc_parts.specs.declared.exports.ComponentExportKind.{ComponentExportKind};
-ghost use Rattle.wenc_parts.specs.declared.imports.ComponentTypeRef.{ComponentTypeRef};
-ghost use Rattle.wenc_parts.specs.declared.imports.TypeBounds.{TypeBounds};
-ghost use Rattle.wenc_parts.specs.Component.{preamble};
-ghost use Rattle.wenc_sections.specs.Exports.{export_item};
-ghost use Rattle.wenc_sections.specs.Imports.{import_item};
-ghost use Rattle.wenc_sections.specs.Start.{started, start as start_form};
+ghost use Rattle.facts.specs.Prelude.{ComponentOuterAliasKind, ComponentExportKind, ComponentTypeRef, TypeBounds};
+ghost use Rattle.wenc_base.specs.Prelude.{custom, byte_list, counted, module_preamble};
+ghost use Rattle.wenc_parts.specs.Prelude.{alias as alias_form, alias_view, Outer, plain_name, preamble};
+ghost use Rattle.wenc_sections.specs.Prelude.{export_item, import_item, started, start as start_form};
 
 use std::alloc::Allocator;
 use wasm_encoder::laws::sections_are_their_items;

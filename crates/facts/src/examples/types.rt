@@ -1,9 +1,8 @@
 //! Examples of `wenc_types`: types by calls and encoders.
 ghost use Rattle.std.specs.Prelude.{◌∷◌, [], None, IfOk};
-ghost use Rattle.wenc_base.specs.Holder.{Contains};
-ghost use Rattle.wenc_base.specs.declared.types.ValType.{ValType};
-ghost use Rattle.wenc_types.specs.ComponentTypes.{ResourceType, DefinedType, def_type};
-ghost use Rattle.wenc_types.specs.DefinedTypes.{Own};
+ghost use Rattle.facts.specs.Prelude.{ValType};
+ghost use Rattle.wenc_base.specs.Prelude.{Contains};
+ghost use Rattle.wenc_types.specs.Prelude.{ResourceType, DefinedType, def_type, Own};
 
 use std::alloc::Allocator;
 use wasm_encoder::laws::openings_are_members;

@@ -2,9 +2,8 @@
 ghost use Rattle.std.specs.Prelude.{◌≡◌, ◌++◌, ℕ, List, true};
 ghost use Rattle.std.specs.Cmp.Lexicographic.{pointwise};
 ghost use Rattle.std.specs.Option.{option_eq};
-ghost use Rattle.wenc_base.specs.FormLaws.{FormLaws};
-ghost use Rattle.wenc_base.specs.Forms.{list, option};
-ghost use Rattle.facts.specs.Own.{light};
+ghost use Rattle.facts.specs.Prelude.{light};
+ghost use Rattle.wenc_base.specs.Prelude.{FormLaws, list, option};
 
 use crate::strangers::own::Light;
 use wasm_encoder::laws::{texts_tell_equals, values_are_lawful};

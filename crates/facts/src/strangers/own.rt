@@ -1,9 +1,8 @@
 //! Types and sections of another crate, which the crates below don't know.
 ghost use Rattle.std.specs.Prelude.{◌≡◌, ◌++◌, OnOk, true};
-ghost use Rattle.wenc_base.specs.Forms.{list, option};
-ghost use Rattle.wenc_base.specs.Piece.{◌⨾◌, nothing, refused_for, verbatim};
+ghost use Rattle.facts.specs.Prelude.{light, read_light, light_lawful, light_written, Light as Seen', light_alike};
+ghost use Rattle.wenc_base.specs.Prelude.{list, option, ◌⨾◌, nothing, refused_for, verbatim};
 ghost use Rattle.wenc_base.specs.declared.fault.Fault.TheVariants.{TooLarge, Unfinished};
-ghost use Rattle.facts.specs.Own.{light};
 
 use std::alloc::Allocator;
 use wenc_base::{Delimited, DelimitedEq, Encode, Fault, Section};
@@ -30,9 +29,6 @@ impl Encode for Light {
 }
 
 impl Delimited for Light {
-    ghost use Rattle.facts.specs.Own.{read_light, light_lawful, light_written};
-    ghost use Rattle.facts.specs.declared.strangers.own.Light.{Light as Seen'};
-
     ghost Seen = { Seen' };
 
     ghost seen = { λ l. l };
@@ -45,8 +41,6 @@ impl Delimited for Light {
 }
 
 impl DelimitedEq for Light {
-    ghost use Rattle.facts.specs.Own.{light_alike};
-
     ghost alike = { light_alike _ };
 }
 

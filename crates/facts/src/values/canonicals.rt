@@ -1,11 +1,9 @@
 //! Worked rows of canonical functions.
 ghost use Rattle.std.specs.Prelude.{◌≡◌, [], ◌∷◌, Some, None, true};
-ghost use Rattle.wenc_base.specs.Piece.{Wide};
-ghost use Rattle.wenc_base.specs.declared.types.ValType.{ValType};
-ghost use Rattle.wenc_canon.specs.declared.canonicals.CanonicalOption.{CanonicalOption};
+ghost use Rattle.facts.specs.Prelude.{ValType, CanonicalOption};
+ghost use Rattle.wenc_base.specs.Prelude.{Wide, counted};
+ghost use Rattle.wenc_canon.specs.Prelude.{canonical, Lift, Lower, OfBuiltin};
 ghost use Rattle.wenc_canon.specs.Canonicals as rows;
-ghost use Rattle.wenc_base.specs.Forms.{counted};
-ghost use Rattle.wenc_canon.specs.Canonicals.{canonical, Lift, Lower, OfBuiltin};
 
 /// Shows the encodings of rows and of a section, and a spelling that is read.
 #[tactic(auto, unfolding(wenc_base::specs::Number::groups))]

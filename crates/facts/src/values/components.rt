@@ -1,10 +1,8 @@
 //! Worked components: neighbours of one kind share a section.
 ghost use Rattle.std.specs.Prelude.{◌≡◌, ◌∷◌, [], None};
-ghost use Rattle.wenc_builder.specs.Entry.{import_entry, export_entry, alias_export_entry, items};
-ghost use Rattle.wenc_builder.specs.Sections.{Run, runs, whole};
-ghost use Rattle.wenc_parts.specs.Imports.{plain_name};
-ghost use Rattle.wenc_parts.specs.declared.exports.ComponentExportKind.{ComponentExportKind};
-ghost use Rattle.wenc_parts.specs.declared.imports.ComponentTypeRef.{ComponentTypeRef};
+ghost use Rattle.facts.specs.Prelude.{ComponentExportKind, ComponentTypeRef};
+ghost use Rattle.wenc_builder.specs.Prelude.{import_entry, export_entry, alias_export_entry, items, Run, runs, whole};
+ghost use Rattle.wenc_parts.specs.Prelude.{plain_name};
 
 /// Shows the encodings of a component without items, and of one that imports a function and exports
 /// it again.

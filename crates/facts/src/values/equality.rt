@@ -2,11 +2,10 @@
 //! their numbers.
 ghost use Rattle.std.specs.Prelude.{◌≡◌, ◌↔◌, IsTrue, nat_lt};
 ghost use Rattle.std.specs.Ordering.{nat_cmp};
-ghost use Rattle.wenc_base.specs.Composites.{func_type_view, structure_view, composite_view, sub_view, rec_type_view};
-ghost use Rattle.wenc_sections.specs.CanonTrees.{canon_view};
-ghost use Rattle.wenc_parts.specs.SectionIds.{section_number};
-ghost use Rattle.wenc_types.specs.CoreTypeTrees.{core_type_view, module_declaration_view};
-ghost use Rattle.wenc_types.specs.TypeTrees.{case_view, defined_view};
+ghost use Rattle.wenc_base.specs.Prelude.{func_type_view, structure_view, composite_view, sub_view, rec_type_view};
+ghost use Rattle.wenc_parts.specs.Prelude.{section_number};
+ghost use Rattle.wenc_sections.specs.Prelude.{canon_view};
+ghost use Rattle.wenc_types.specs.Prelude.{core_type_view, module_declaration_view, case_view, defined_view};
 
 use std::alloc::Allocator;
 use std::cmp::Ordering;

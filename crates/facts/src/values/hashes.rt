@@ -1,9 +1,6 @@
 //! Hashes agree with equality.
 ghost use Rattle.std.specs.Prelude.{◌≡◌, IsTrue};
-ghost use Rattle.wenc_parts.specs.declared.imports.ComponentTypeRef.{ComponentTypeRef as TypeRefSpec};
-ghost use Rattle.wenc_parts.specs.declared.imports.TypeBounds.{TypeBounds as BoundsSpec};
-ghost use Rattle.wenc_parts.specs.declared.types.ComponentValType.{ComponentValType as ValueSpec};
-ghost use Rattle.wenc_parts.specs.declared.types.PrimitiveValType.{PrimitiveValType as PrimitiveSpec};
+ghost use Rattle.facts.specs.Prelude.{ComponentTypeRef as TypeRefSpec, TypeBounds as BoundsSpec, ComponentValType as ValueSpec, PrimitiveValType as PrimitiveSpec};
 
 use std::hash::Hash;
 use wenc_parts::{ComponentTypeRef, ComponentValType, PrimitiveValType, TypeBounds};

@@ -1,8 +1,6 @@
 //! Worked numbers and core value types.
 ghost use Rattle.std.specs.Prelude.{◌≡◌, ℕ, negsuc, true, false, ◌∷◌, [], List};
-ghost use Rattle.wenc_base.specs.Number.{unsigned_text, signed_text, index, u32 as number};
-ghost use Rattle.wenc_base.specs.Piece.{Strict, Wide};
-ghost use Rattle.wenc_base.specs.Types.{reference_to};
+ghost use Rattle.wenc_base.specs.Prelude.{unsigned_text, signed_text, index, u32 as number, Strict, Wide, reference_to};
 ghost use Rattle.wenc_base.specs.declared.types.AbstractHeapType.TheVariants.{Func, Any};
 ghost use Rattle.wenc_base.specs.declared.types.HeapType.TheVariants.{Abstract, Concrete};
 

@@ -1,13 +1,9 @@
 //! Worked parts.
 ghost use Rattle.std.specs.Prelude.{◌≡◌, [], ◌∷◌, Some, None};
-ghost use Rattle.wenc_base.specs.declared.exports.ExportKind.{ExportKind};
-ghost use Rattle.wenc_base.specs.Piece.{Wide};
-ghost use Rattle.wenc_parts.specs.declared.aliases.ComponentOuterAliasKind.{ComponentOuterAliasKind};
-ghost use Rattle.wenc_parts.specs.declared.imports.ComponentTypeRef.{ComponentTypeRef};
+ghost use Rattle.facts.specs.Prelude.{ExportKind, ComponentOuterAliasKind, ComponentTypeRef};
+ghost use Rattle.wenc_base.specs.Prelude.{Wide};
+ghost use Rattle.wenc_parts.specs.Prelude.{value_type, plain_name, extern_name, type_reference, alias, CoreInstanceExport, Outer};
 ghost use Rattle.wenc_parts.specs.declared.types.ComponentValType.TheVariants as values;
-ghost use Rattle.wenc_parts.specs.Types.{value_type};
-ghost use Rattle.wenc_parts.specs.Imports.{plain_name, extern_name, type_reference};
-ghost use Rattle.wenc_parts.specs.Aliases.{alias, CoreInstanceExport, Outer};
 
 /// Shows the encodings of parts, and spellings that are read.
 #[tactic(auto, unfolding(wenc_base::specs::Number::groups))]

@@ -1,17 +1,12 @@
 //! Worked types of components: their encodings, and how deep they nest.
 ghost use Rattle.std.specs.Prelude.{◌≡◌, true, false, [], ◌∷◌, Some, None};
-ghost use Rattle.wenc_base.specs.Composites.{Func, Single};
-ghost use Rattle.wenc_base.specs.declared.types.ValType.{ValType};
-ghost use Rattle.wenc_parts.specs.Aliases.{Outer};
-ghost use Rattle.wenc_parts.specs.Imports.{plain_name};
-ghost use Rattle.wenc_parts.specs.declared.aliases.ComponentOuterAliasKind.{ComponentOuterAliasKind};
+ghost use Rattle.facts.specs.Prelude.{ValType, ComponentOuterAliasKind, TypeBounds};
+ghost use Rattle.wenc_base.specs.Prelude.{Func, Single};
+ghost use Rattle.wenc_parts.specs.Prelude.{Outer, plain_name};
 ghost use Rattle.wenc_parts.specs.declared.imports.ComponentTypeRef.TheVariants as references;
-ghost use Rattle.wenc_parts.specs.declared.imports.TypeBounds.{TypeBounds};
 ghost use Rattle.wenc_parts.specs.declared.types.ComponentValType.TheVariants.{Primitive as primitive};
 ghost use Rattle.wenc_parts.specs.declared.types.PrimitiveValType.TheVariants.{String, U8, U32};
-ghost use Rattle.wenc_types.specs.ComponentTypes.{DefinedType, FunctionType, ComponentType, InstanceType, ResourceType, CoreTyped, Typed, Aliased, Exported, Imported, Declared, no_instance, and_instance, no_component, and_component, def_type, depth};
-ghost use Rattle.wenc_types.specs.CoreTypes.{Grouped};
-ghost use Rattle.wenc_types.specs.DefinedTypes.{Record, Variant, OptionOf, ResultOf, MapOf, FixedLengthList, Own, def_val_type, function_type};
+ghost use Rattle.wenc_types.specs.Prelude.{DefinedType, FunctionType, ComponentType, InstanceType, ResourceType, CoreTyped, Typed, Aliased, Exported, Imported, Declared, no_instance, and_instance, no_component, and_component, def_type, depth, Grouped, Record, Variant, OptionOf, ResultOf, MapOf, FixedLengthList, Own, def_val_type, function_type};
 
 /// Shows the encodings of value types and function types.
 #[tactic(auto, unfolding(wenc_base::specs::Number::groups))]

@@ -2,27 +2,11 @@
 ghost use Rattle.std.specs.List.{AllByRecursion};
 ghost use Rattle.std.specs.List.Sorted.{IsStrictlyIncreasing};
 ghost use Rattle.std.specs.Prelude.{◌≡◌, ◌↔◌, ◌+◌, ◌<◌, ◌≤◌, ◌^◌, ◌++◌, ◌∷◌, [], ℕ, List, length, map, true, IsOk, Ok, Option, Result, Some};
-ghost use Rattle.wenc_base.specs.Fault.{NoCause};
-ghost use Rattle.wenc_base.specs.declared.fault.Fault.{Fault};
-ghost use Rattle.wenc_builder.specs.Builder.{State, Draft, draft_in, builder_is_finished, item_begun, item_appended, item_ended, item_given_up, count_in};
-ghost use Rattle.wenc_builder.specs.Enters.{Enters, EntersWithoutIndex};
-ghost use Rattle.wenc_builder.specs.Entry.{Entry, items as items_of, names, StartIsNameless};
-ghost use Rattle.wenc_builder.specs.Holds.{Holds};
-ghost use Rattle.wenc_builder.specs.Item.{Item, collected, HasNoRaw};
-ghost use Rattle.wenc_builder.specs.Sections.{Section, Run, runs, whole};
-ghost use Rattle.wenc_builder.specs.Space.{defines, some_in, next_index};
-ghost use Rattle.wenc_sections.specs.declared.space.Space.{Space};
-ghost use Rattle.wenc_parts.specs.Types.{value_type, primitive};
-ghost use Rattle.wenc_parts.specs.declared.component.ComponentSectionId.{ComponentSectionId};
+ghost use Rattle.wasm_encoder.specs.Prelude.{Fault, Space, ComponentSectionId, PrimitiveValType, added, led, first_cause, CommandTree, Commands, command_view, commands_listed, command_of, AddsNameless, Ran, AreEntered, Command};
+ghost use Rattle.wenc_base.specs.Prelude.{NoCause};
+ghost use Rattle.wenc_builder.specs.Prelude.{State, Draft, draft_in, builder_is_finished, item_begun, item_appended, item_ended, item_given_up, count_in, Enters, EntersWithoutIndex, Entry, items as items_of, names, StartIsNameless, Holds, Item, collected, HasNoRaw, Section, Run, runs, whole, defines, some_in, next_index};
+ghost use Rattle.wenc_parts.specs.Prelude.{value_type, primitive};
 ghost use Rattle.wenc_parts.specs.declared.types.ComponentValType.TheVariants as value_types;
-ghost use Rattle.wenc_parts.specs.declared.types.PrimitiveValType.{PrimitiveValType};
-ghost use Rattle.wasm_encoder.specs.Cause.{added, led, first_cause};
-ghost use Rattle.wasm_encoder.specs.Command.{CommandTree, Commands, command_view, commands_listed};
-ghost use Rattle.wasm_encoder.specs.ItemCommands.{command_of};
-ghost use Rattle.wasm_encoder.specs.Nameless.{AddsNameless};
-ghost use Rattle.wasm_encoder.specs.Ran.{Ran};
-ghost use Rattle.wasm_encoder.specs.WrittenTypes.{AreEntered};
-ghost use Rattle.wasm_encoder.specs.declared.command.Command.{Command};
 
 use std::alloc::Allocator;
 

@@ -1,9 +1,7 @@
 //! Laws about the contents of sections.
 ghost use Rattle.std.specs.Prelude.{◌++◌, List, ℕ};
-ghost use Rattle.wasm_encoder.specs.AllForms.{FormName, value_of, form_of};
-ghost use Rattle.wenc_base.specs.Forms.{counted};
-ghost use Rattle.wenc_base.specs.Holder.{HolderState, Contains, ContainsSome, held_section};
-ghost use Rattle.wenc_base.specs.Piece.{HasForm, Spelling};
+ghost use Rattle.wasm_encoder.specs.Prelude.{FormName, value_of, form_of};
+ghost use Rattle.wenc_base.specs.Prelude.{counted, HolderState, Contains, ContainsSome, held_section, HasForm, Spelling};
 
 /// A finished section has some members, which the contract of its `encode` states by their
 /// encodings: these are the encodings of a list of encodable values, which the section contains.

@@ -1,11 +1,10 @@
 //! What is listed of a component that was built.
 ghost use Rattle.std.specs.Prelude.{◌≡◌, ◌↔◌, ◌⊎◌, ℕ, List};
-ghost use Rattle.wenc_base.specs.Piece.{Wide};
-ghost use Rattle.wenc_builder.specs.Item.{Item, HasNoRaw};
-ghost use Rattle.wenc_builder.specs.Sections.{Section, runs, Reading, whole, IsEncodable};
-ghost use Rattle.wenc_list.specs.Listing.{AreWithin, IsFaultOf};
+ghost use Rattle.wasm_encoder.specs.Prelude.{ListFault};
+ghost use Rattle.wenc_base.specs.Prelude.{Wide};
+ghost use Rattle.wenc_builder.specs.Prelude.{Item, HasNoRaw, Section, runs, Reading, whole, IsEncodable};
+ghost use Rattle.wenc_list.specs.Prelude.{AreWithin, IsFaultOf};
 ghost use Rattle.wenc_list.specs.declared.fault.ListFault.TheVariants.{Memory, TooDeep};
-ghost use Rattle.wenc_list.specs.declared.fault.ListFault.{ListFault};
 
 use super::one_reading;
 use wenc_list::laws::faults_of_what_is_read;

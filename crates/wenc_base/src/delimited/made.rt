@@ -1,13 +1,10 @@
 //! `Delimited` for options, lists, pairs and triples of delimited values.
 ghost use Rattle.std.specs.Prelude.{Option as Optional, option_map, List, map};
-ghost use Rattle.wenc_base.specs.laws.Serves.{option_serves, list_serves, order_serves};
+ghost use Rattle.wenc_base.specs.Prelude.{option_serves, list_serves, order_serves, option, option_readable, option_equal, list, list_readable, list_equal, pair, pair_readable, pair_equal};
 
 use super::{Delimited, DelimitedEq};
 
 impl<T: Delimited> Delimited for Option<T> {
-    ghost use Rattle.wenc_base.specs.Forms.{option};
-    ghost use Rattle.wenc_base.specs.laws.Delimited.{option_readable};
-
     ghost Seen = { Optional T.Seen };
 
     ghost seen = { option_map T.seen };
@@ -20,15 +17,10 @@ impl<T: Delimited> Delimited for Option<T> {
 }
 
 impl<T: DelimitedEq> DelimitedEq for Option<T> {
-    ghost use Rattle.wenc_base.specs.laws.Delimited.{option_equal};
-
     ghost alike = { λ _. option_equal T.eq T.seen (T.alike T.Eq.laws) };
 }
 
 impl<T: Delimited> Delimited for &[T] {
-    ghost use Rattle.wenc_base.specs.Forms.{list};
-    ghost use Rattle.wenc_base.specs.laws.Delimited.{list_readable};
-
     ghost Seen = { List T.Seen };
 
     ghost seen = { λ values. map T.seen values.now };
@@ -41,15 +33,10 @@ impl<T: Delimited> Delimited for &[T] {
 }
 
 impl<T: DelimitedEq> DelimitedEq for &[T] {
-    ghost use Rattle.wenc_base.specs.laws.Delimited.{list_equal};
-
     ghost alike = { λ _ a b. list_equal T.eq T.seen (T.alike T.Eq.laws) a.now b.now };
 }
 
 impl<T: Delimited, U: Delimited> Delimited for (T, U) {
-    ghost use Rattle.wenc_base.specs.Delimited.{pair};
-    ghost use Rattle.wenc_base.specs.laws.Delimited.{pair_readable};
-
     ghost Seen = { T.Seen × U.Seen };
 
     ghost seen = { λ p. (T.seen p.0, U.seen p.1) };
@@ -62,16 +49,11 @@ impl<T: Delimited, U: Delimited> Delimited for (T, U) {
 }
 
 impl<T: DelimitedEq, U: DelimitedEq> DelimitedEq for (T, U) {
-    ghost use Rattle.wenc_base.specs.laws.Delimited.{pair_equal};
-
     ghost alike = { λ _. pair_equal T.eq U.eq T.seen U.seen (T.alike T.Eq.laws)
         (U.alike U.Eq.laws) };
 }
 
 impl<T: Delimited, U: Delimited, V: Delimited> Delimited for (T, U, V) {
-    ghost use Rattle.wenc_base.specs.Delimited.{pair};
-    ghost use Rattle.wenc_base.specs.laws.Delimited.{pair_readable};
-
     ghost Seen = { T.Seen × (U.Seen × V.Seen) };
 
     ghost seen = { λ t. (T.seen t.0, (U.seen t.1, V.seen t.2)) };

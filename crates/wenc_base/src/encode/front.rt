@@ -1,7 +1,6 @@
 //! Numbers inserted before bytes that are already written.
 ghost use Rattle.std.specs.Prelude.{◌≡◌, ℕ, ◌+◌, ◌<◌, ◌≤◌, ◌++◌, List, length, take, drop, OnOk, OnErr, IfErr};
-ghost use Rattle.wenc_base.specs.Fault.{IsMemory};
-ghost use Rattle.wenc_base.specs.Number.{unsigned_text};
+ghost use Rattle.wenc_base.specs.Prelude.{IsMemory, unsigned_text};
 
 use super::Encode;
 use crate::fault::Fault;

@@ -2,9 +2,7 @@
 ghost use Rattle.std.specs.Prelude.{◌≡◌, ◌<◌, ◌++◌, List, ℕ, length, ◌^◌, OnOk, OnErr, IfOk, IfErr};
 ghost use Rattle.std.specs.Iterator.{IsFinite};
 ghost use Rattle.std.specs.Iterator.Runs.{SomeRun, WholeRun};
-ghost use Rattle.wenc_base.specs.Encode.{Appended, list_in_order, drawn_in_order};
-ghost use Rattle.wenc_base.specs.inside.Written.{Written};
-ghost use Rattle.wenc_base.specs.Fault.{IsWarranted, member_cause};
+ghost use Rattle.wenc_base.specs.Prelude.{Appended, list_in_order, drawn_in_order, Written, IsWarranted, member_cause};
 
 use super::front::put_number_over;
 use crate::encode::Encode;

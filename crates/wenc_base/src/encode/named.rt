@@ -1,8 +1,6 @@
 //! The trait `Named`: strings that are encoded as names.
 ghost use Rattle.std.specs.Prelude.{ℕ, List};
-ghost use Rattle.wenc_base.specs.Encode.{Serves};
-ghost use Rattle.wenc_base.specs.Forms.{name};
-ghost use Rattle.wenc_base.specs.laws.Serves.{serves_itself};
+ghost use Rattle.wenc_base.specs.Prelude.{Serves, name, serves_itself};
 
 use crate::encode::Encode;
 use crate::fault::Fault;

@@ -1,5 +1,5 @@
 //! Values preceded by their size.
-ghost use Rattle.wenc_base.specs.Encode.{sized_in_order};
+ghost use Rattle.wenc_base.specs.Prelude.{sized_in_order};
 
 use super::Encode;
 use super::front::put_number;

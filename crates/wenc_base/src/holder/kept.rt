@@ -1,9 +1,6 @@
 //! The kept prefix of a holder: bytes before its members.
 ghost use Rattle.std.specs.Prelude.{◌≡◌, ◌+◌, ◌-◌, ◌<◌, ◌≤◌, ◌^◌, ◌++◌, [], true, false, length, take, drop, vec_len, vec_capacity, OnOk, OnErr, IfOk, IfErr};
-ghost use Rattle.wenc_base.specs.Encode.{Appends};
-ghost use Rattle.wenc_base.specs.Fault.{IsMemory, IsWarranted, either, NoCause};
-ghost use Rattle.wenc_base.specs.Forms.{AreBytes};
-ghost use Rattle.wenc_base.specs.Holder.{is_finished, holding, gone_back, content_size, all_bytes, with_kept, filled, EncodeCause};
+ghost use Rattle.wenc_base.specs.Prelude.{Appends, IsMemory, IsWarranted, either, NoCause, AreBytes, is_finished, holding, gone_back, content_size, all_bytes, with_kept, filled, EncodeCause};
 ghost use Rattle.wenc_base.specs.declared.fault.Fault.TheVariants.{Unfinished};
 
 use super::Holder;

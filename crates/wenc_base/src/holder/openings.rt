@@ -1,12 +1,8 @@
 //! Members that are written in several calls.
 ghost use Rattle.std.specs.Prelude.{◌≡◌, ◌≤◌, ◌<◌, ◌^◌, [], false, length, take, drop, OnOk, OnErr, IfErr};
+ghost use Rattle.wenc_base.specs.Prelude.{list, verbatim, behind_bytes, is_finished, content_size, AddCause, ExtendsListed, GivesUp, member_appended, member_ended, member_given_up, no_room_in_holder, is_opened, BeginsMember, AppendsToMember};
 ghost use Rattle.wenc_base.specs.declared.fault.Fault.TheVariants.{TooLarge, Unfinished};
 ghost use Rattle.std.specs.Iterator.{IsFinite};
-ghost use Rattle.wenc_base.specs.Forms.{list};
-ghost use Rattle.wenc_base.specs.Piece.{verbatim, behind_bytes};
-ghost use Rattle.wenc_base.specs.Holder.{is_finished, content_size, AddCause};
-ghost use Rattle.wenc_base.specs.Lender.{ExtendsListed, GivesUp};
-ghost use Rattle.wenc_base.specs.Openings.{member_appended, member_ended, member_given_up, no_room_in_holder, is_opened, BeginsMember, AppendsToMember};
 
 use super::{Holder, next_count, size_fits};
 use crate::encode::{Encode, Verbatim};

@@ -2,9 +2,7 @@
 ghost use Rattle.std.specs.Prelude.{◌≡◌, IfOk, IfErr, refl};
 ghost use Rattle.std.specs.Iterator.{IsFinite};
 ghost use Rattle.std.specs.Iterator.Runs.{WholeRun};
-ghost use Rattle.wenc_base.specs.Composites.{params_of, results_of};
-ghost use Rattle.wenc_base.specs.Fault.{IsMemory};
-ghost use Rattle.wenc_base.specs.laws.Serves.{serves_itself};
+ghost use Rattle.wenc_base.specs.Prelude.{params_of, results_of, IsMemory, serves_itself, composite_type, func_type_view, Composite, composite_type_lawful, read_composite, same_params, same_results, array_view, same_element, structure_view, same_fields, composite_view, by_kind};
 
 use super::ValType;
 use super::storage::FieldType;
@@ -77,8 +75,6 @@ impl<A: Allocator> FuncType<A> {
 
 /// Encodes as a composite type.
 impl<A: Allocator> Encode for FuncType<A> {
-    ghost use Rattle.wenc_base.specs.Composites.{composite_type, func_type_view};
-
     ghost piece = { λ f. composite_type (func_type_view f) };
 
     fn encode<B: Allocator>(&self, sink: &mut Vec<u8, B>) -> Result<(), Fault> {
@@ -87,10 +83,6 @@ impl<A: Allocator> Encode for FuncType<A> {
 }
 
 impl<A: Allocator> Delimited for FuncType<A> {
-    ghost use Rattle.wenc_base.specs.Composites.{Composite, composite_type, func_type_view};
-    ghost use Rattle.wenc_base.specs.laws.Composites.{composite_type_lawful};
-    ghost use Rattle.wenc_base.specs.reading.Composites.{read_composite};
-
     ghost Seen = { Composite };
 
     ghost seen = { func_type_view };
@@ -103,8 +95,6 @@ impl<A: Allocator> Delimited for FuncType<A> {
 }
 
 impl<A: Allocator> DelimitedEq for FuncType<A> {
-    ghost use Rattle.wenc_base.specs.laws.Composites.{same_params, same_results};
-
     ghost alike = { λ laws a b e. rw (same_params a b e, same_results a b e) (laws.refl b) };
 }
 
@@ -115,8 +105,6 @@ pub struct ArrayType(pub FieldType);
 
 /// Encodes as a composite type.
 impl Encode for ArrayType {
-    ghost use Rattle.wenc_base.specs.Composites.{composite_type, array_view};
-
     ghost piece = { λ a. composite_type (array_view a) };
 
     fn encode<A: Allocator>(&self, sink: &mut Vec<u8, A>) -> Result<(), Fault> {
@@ -125,10 +113,6 @@ impl Encode for ArrayType {
 }
 
 impl Delimited for ArrayType {
-    ghost use Rattle.wenc_base.specs.Composites.{Composite, composite_type, array_view};
-    ghost use Rattle.wenc_base.specs.laws.Composites.{composite_type_lawful};
-    ghost use Rattle.wenc_base.specs.reading.Composites.{read_composite};
-
     ghost Seen = { Composite };
 
     ghost seen = { array_view };
@@ -141,8 +125,6 @@ impl Delimited for ArrayType {
 }
 
 impl DelimitedEq for ArrayType {
-    ghost use Rattle.wenc_base.specs.laws.Composites.{same_element};
-
     ghost alike = { λ laws a b e. rw (same_element a b e) (laws.refl b) };
 }
 
@@ -156,8 +138,6 @@ pub struct StructType<A: Allocator = Global> {
 
 /// Encodes as a composite type.
 impl<A: Allocator> Encode for StructType<A> {
-    ghost use Rattle.wenc_base.specs.Composites.{composite_type, structure_view};
-
     ghost piece = { λ s. composite_type (structure_view s) };
 
     fn encode<B: Allocator>(&self, sink: &mut Vec<u8, B>) -> Result<(), Fault> {
@@ -166,10 +146,6 @@ impl<A: Allocator> Encode for StructType<A> {
 }
 
 impl<A: Allocator> Delimited for StructType<A> {
-    ghost use Rattle.wenc_base.specs.Composites.{Composite, composite_type, structure_view};
-    ghost use Rattle.wenc_base.specs.laws.Composites.{composite_type_lawful};
-    ghost use Rattle.wenc_base.specs.reading.Composites.{read_composite};
-
     ghost Seen = { Composite };
 
     ghost seen = { structure_view };
@@ -182,8 +158,6 @@ impl<A: Allocator> Delimited for StructType<A> {
 }
 
 impl<A: Allocator> DelimitedEq for StructType<A> {
-    ghost use Rattle.wenc_base.specs.laws.Composites.{same_fields};
-
     ghost alike = { λ laws a b e. rw (same_fields a b e) (laws.refl b) };
 }
 
@@ -201,8 +175,6 @@ pub enum CompositeType<A: Allocator = Global> {
 }
 
 impl<A: Allocator> Encode for CompositeType<A> {
-    ghost use Rattle.wenc_base.specs.Composites.{composite_type, composite_view};
-
     ghost piece = { λ c. composite_type (composite_view c) };
 
     fn encode<B: Allocator>(&self, sink: &mut Vec<u8, B>) -> Result<(), Fault> {
@@ -215,10 +187,6 @@ impl<A: Allocator> Encode for CompositeType<A> {
 }
 
 impl<A: Allocator> Delimited for CompositeType<A> {
-    ghost use Rattle.wenc_base.specs.Composites.{Composite, composite_type, composite_view};
-    ghost use Rattle.wenc_base.specs.laws.Composites.{composite_type_lawful};
-    ghost use Rattle.wenc_base.specs.reading.Composites.{read_composite};
-
     ghost Seen = { Composite };
 
     ghost seen = { composite_view };
@@ -232,7 +200,6 @@ impl<A: Allocator> Delimited for CompositeType<A> {
 
 impl<A: Allocator> DelimitedEq for CompositeType<A> {
     ghost use Rattle.wenc_base.specs.declared.types.composite.CompositeType.TheVariants as composites;
-    ghost use Rattle.wenc_base.specs.laws.Composites.{by_kind, same_params, same_results, same_element, same_fields};
 
     ghost alike = { λ laws. by_kind _
         (λ f g e. rw (same_params f g e, same_results f g e) (laws.refl (composites.Func g)))

@@ -1,11 +1,7 @@
 //! The encoder of core types.
 ghost use Rattle.std.specs.Iterator.{IsFinite};
 ghost use Rattle.std.specs.Prelude.{◌≡◌, true, false, map};
-ghost use Rattle.wenc_base.specs.Composites.{RecType, Single, Rec, Struct, Array, composite_type, func_type_view, sub_view, rec_type, rec_type_view, standing};
-ghost use Rattle.wenc_base.specs.Forms.{list};
-ghost use Rattle.wenc_base.specs.Lender.{Ends, EndsListed, EndsLists, MakesWhole};
-ghost use Rattle.wenc_base.specs.Piece.{◌▸◌};
-ghost use Rattle.wenc_base.specs.Types.{val_type};
+ghost use Rattle.wenc_base.specs.Prelude.{RecType, Single, Rec, Struct, Array, composite_type, func_type_view, sub_view, rec_type, rec_type_view, standing, list, Ends, EndsListed, EndsLists, MakesWhole, ◌▸◌, val_type};
 
 use super::guard::Guarded;
 use super::{ArrayType, FieldType, FuncType, GroupTree, StorageType, SubType, ValType};

@@ -1,6 +1,6 @@
 //! Groups of types that a module defines together.
 ghost use Rattle.std.specs.Prelude.{refl};
-ghost use Rattle.wenc_base.specs.laws.Serves.{serves_itself};
+ghost use Rattle.wenc_base.specs.Prelude.{serves_itself, rec_type, rec_type_view, RecType, group_lawful, read_group, by_group, by_parts, by_kind, plain, same_params, same_results, same_element, same_fields, last_of_three};
 
 use super::sub::SubType;
 use crate::delimited::{Delimited, DelimitedEq};
@@ -20,8 +20,6 @@ pub enum GroupTree<A: Allocator = Global> {
 }
 
 impl<A: Allocator> Encode for GroupTree<A> {
-    ghost use Rattle.wenc_base.specs.Composites.{rec_type, rec_type_view};
-
     ghost piece = { λ g. rec_type (rec_type_view g) };
 
     fn encode<B: Allocator>(&self, sink: &mut Vec<u8, B>) -> Result<(), Fault> {
@@ -33,10 +31,6 @@ impl<A: Allocator> Encode for GroupTree<A> {
 }
 
 impl<A: Allocator> Delimited for GroupTree<A> {
-    ghost use Rattle.wenc_base.specs.Composites.{RecType, rec_type, rec_type_view};
-    ghost use Rattle.wenc_base.specs.laws.Composites.{group_lawful};
-    ghost use Rattle.wenc_base.specs.reading.Composites.{read_group};
-
     ghost Seen = { RecType };
 
     ghost seen = { rec_type_view };
@@ -51,7 +45,6 @@ impl<A: Allocator> Delimited for GroupTree<A> {
 impl<A: Allocator> DelimitedEq for GroupTree<A> {
     ghost use Rattle.wenc_base.specs.declared.types.composite.CompositeType.TheVariants as composites;
     ghost use Rattle.wenc_base.specs.declared.types.groups.GroupTree.TheVariants as groups;
-    ghost use Rattle.wenc_base.specs.laws.Composites.{by_group, by_parts, by_kind, plain, same_params, same_results, same_element, same_fields, last_of_three};
 
     ghost alike = { λ laws. by_group _
         (by_parts _

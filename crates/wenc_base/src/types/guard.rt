@@ -1,5 +1,5 @@
 //! Core types in a component, some of which are preceded by a byte `00`.
-ghost use Rattle.wenc_base.specs.Composites.{Single, standing, sub_view, rec_type_view};
+ghost use Rattle.wenc_base.specs.Prelude.{Single, standing, sub_view, rec_type_view};
 
 use super::{GroupTree, SubType};
 use crate::encode::{Encode, Tagged};

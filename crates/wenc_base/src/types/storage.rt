@@ -1,6 +1,5 @@
 //! Storage types of structure fields and array elements.
-ghost use Rattle.wenc_base.specs.laws.Delimited.{itself};
-ghost use Rattle.wenc_base.specs.laws.Serves.{serves_itself};
+ghost use Rattle.wenc_base.specs.Prelude.{itself, serves_itself, storage_type, storage_type_lawful, read_storage_type, field_type, field_type_lawful, read_field_type};
 
 use super::ValType;
 use crate::delimited::{Delimited, DelimitedEq};
@@ -21,8 +20,6 @@ pub enum StorageType {
 }
 
 impl Encode for StorageType {
-    ghost use Rattle.wenc_base.specs.Composites.{storage_type};
-
     ghost piece = { λ t. storage_type t };
 
     fn encode<A: Allocator>(&self, sink: &mut Vec<u8, A>) -> Result<(), Fault> {
@@ -37,10 +34,7 @@ impl Encode for StorageType {
 }
 
 impl Delimited for StorageType {
-    ghost use Rattle.wenc_base.specs.Composites.{storage_type};
-    ghost use Rattle.wenc_base.specs.laws.Composites.{storage_type_lawful};
-    ghost use Rattle.wenc_base.specs.reading.Composites.{read_storage_type};
-    ghost use Rattle.wenc_base.specs.declared.types.storage.StorageType.{StorageType as Seen'};
+    ghost use Rattle.wenc_base.specs.Prelude.{StorageType as Seen'};
 
     ghost Seen = { Seen' };
 
@@ -68,8 +62,6 @@ pub struct FieldType {
 }
 
 impl Encode for FieldType {
-    ghost use Rattle.wenc_base.specs.Composites.{field_type};
-
     ghost piece = { λ f. field_type f };
 
     fn encode<A: Allocator>(&self, sink: &mut Vec<u8, A>) -> Result<(), Fault> {
@@ -78,10 +70,7 @@ impl Encode for FieldType {
 }
 
 impl Delimited for FieldType {
-    ghost use Rattle.wenc_base.specs.Composites.{field_type};
-    ghost use Rattle.wenc_base.specs.laws.Composites.{field_type_lawful};
-    ghost use Rattle.wenc_base.specs.reading.Composites.{read_field_type};
-    ghost use Rattle.wenc_base.specs.declared.types.storage.FieldType.{FieldType as Seen'};
+    ghost use Rattle.wenc_base.specs.Prelude.{FieldType as Seen'};
 
     ghost Seen = { Seen' };
 

@@ -1,10 +1,6 @@
 //! Subtypes: composite types with the type that they extend.
 ghost use Rattle.std.specs.Prelude.{OnOk, Some};
-ghost use Rattle.wenc_base.specs.Encode.{Appends};
-ghost use Rattle.wenc_base.specs.Forms.{option};
-ghost use Rattle.wenc_base.specs.Number.{u32 as number};
-ghost use Rattle.wenc_base.specs.Piece.{◌▸◌, ◌⨾◌};
-ghost use Rattle.wenc_base.specs.laws.Serves.{serves_itself};
+ghost use Rattle.wenc_base.specs.Prelude.{Appends, option, u32 as number, ◌▸◌, ◌⨾◌, serves_itself, sub_type, sub_view, Sub, sub_type_lawful, read_sub_type, by_parts, by_kind, plain, same_params, same_results, same_element, same_fields, last_of_three};
 
 use super::composite::CompositeType;
 use crate::delimited::{Delimited, DelimitedEq};
@@ -26,8 +22,6 @@ pub struct SubType<A: Allocator = Global> {
 }
 
 impl<A: Allocator> Encode for SubType<A> {
-    ghost use Rattle.wenc_base.specs.Composites.{sub_type, sub_view};
-
     ghost piece = { λ s. sub_type (sub_view s) };
 
     fn encode<B: Allocator>(&self, sink: &mut Vec<u8, B>) -> Result<(), Fault> {
@@ -42,10 +36,6 @@ impl<A: Allocator> Encode for SubType<A> {
 }
 
 impl<A: Allocator> Delimited for SubType<A> {
-    ghost use Rattle.wenc_base.specs.Composites.{Sub, sub_type, sub_view};
-    ghost use Rattle.wenc_base.specs.laws.Composites.{sub_type_lawful};
-    ghost use Rattle.wenc_base.specs.reading.Composites.{read_sub_type};
-
     ghost Seen = { Sub };
 
     ghost seen = { sub_view };
@@ -59,7 +49,6 @@ impl<A: Allocator> Delimited for SubType<A> {
 
 impl<A: Allocator> DelimitedEq for SubType<A> {
     ghost use Rattle.wenc_base.specs.declared.types.composite.CompositeType.TheVariants as composites;
-    ghost use Rattle.wenc_base.specs.laws.Composites.{by_parts, by_kind, plain, same_params, same_results, same_element, same_fields, last_of_three};
 
     ghost alike = { λ laws. by_parts _
         (by_kind _
@@ -86,8 +75,6 @@ fn encode_extension<T: Encode, A: Allocator>(
 }
 
 impl<A: Allocator> Encode for &SubType<A> {
-    ghost use Rattle.wenc_base.specs.Composites.{sub_type, sub_view};
-
     ghost piece = { λ s. sub_type (sub_view s.now) };
 
     fn encode<B: Allocator>(&self, sink: &mut Vec<u8, B>) -> Result<(), Fault> {

@@ -1,5 +1,6 @@
 //! Sections of their own: bytes that are there already, and what comes before them after the id.
 ghost use Rattle.std.specs.Prelude.{◌≡◌, length};
+ghost use Rattle.wenc_builder.specs.Prelude.{custom_lead};
 
 use std::alloc::Allocator;
 use std::marker::Model;
@@ -50,7 +51,7 @@ impl<'a> Ready<'a> {
 pub struct Size(pub usize);
 
 impl Encode for Size {
-    ghost use Rattle.wenc_base.specs.Number.{size};
+    ghost use Rattle.wenc_base.specs.Prelude.{size};
 
     ghost piece = { λ s. size s.0 };
 
@@ -68,8 +69,6 @@ impl Encode for Size {
 pub struct CustomLead<'a>(pub &'a CustomSection<'a>);
 
 impl<'a> Encode for CustomLead<'a> {
-    ghost use Rattle.wenc_builder.specs.inside.Alone.{custom_lead};
-
     ghost piece = { λ l. custom_lead l.0.now.name.now l.0.now.data.now };
 
     fn encode<A: Allocator>(&self, sink: &mut Vec<u8, A>) -> Result<(), Fault> {

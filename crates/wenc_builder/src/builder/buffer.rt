@@ -1,15 +1,9 @@
 //! The bytes of a component, whose last section may be open.
 ghost use Rattle.std.specs.Prelude.{◌≡◌, ◌-◌, ◌≤◌, ◌++◌, length, take, OnOk, OnErr, IfOk, IfErr, is_none, None, Err, false};
 ghost use Rattle.std.specs.Iterator.{IsFinite};
-ghost use Rattle.wenc_base.specs.Forms.{AreBytes, list};
-ghost use Rattle.wenc_base.specs.Fault.{IsMemory, IsWarranted, NoCause};
-ghost use Rattle.wenc_base.specs.Piece.{behind_bytes};
-ghost use Rattle.wenc_base.specs.Lender.{Extends, ExtendsListed};
+ghost use Rattle.wenc_base.specs.Prelude.{AreBytes, list, IsMemory, IsWarranted, NoCause, behind_bytes, Extends, ExtendsListed};
 ghost use Rattle.wenc_base.specs.declared.fault.Fault.TheVariants.{Unfinished};
-ghost use Rattle.wenc_builder.specs.Builder.{sections_text};
-ghost use Rattle.wenc_builder.specs.Cause.{SectionCause, NoRoom};
-ghost use Rattle.wenc_builder.specs.inside.Layout.{kind_id, OpensAnother, nothing_buffered, buffer_begun, section_begun, buffer_appended, section_appended, buffer_ended, buffer_given_up, StandsAlone};
-ghost use Rattle.wenc_builder.specs.inside.Alone.{with_bytes};
+ghost use Rattle.wenc_builder.specs.Prelude.{sections_text, SectionCause, NoRoom, kind_id, OpensAnother, nothing_buffered, buffer_begun, section_begun, buffer_appended, section_appended, buffer_ended, buffer_given_up, StandsAlone, with_bytes};
 
 use super::alone::Ready;
 use super::earlier::Earlier;
@@ -34,11 +28,9 @@ pub struct Buffer<A: Allocator = Global> {
 }
 
 impl<A: Allocator> Model for Buffer<A> {
-    ghost use Rattle.wenc_builder.specs.inside.Layout.{Buffered};
+    ghost use Rattle.wenc_builder.specs.Prelude.{Buffered, buffer_view, IsLaidOut};
 
     ghost Value = { Buffered };
-
-    ghost use Rattle.wenc_builder.specs.inside.Layout.{buffer_view, IsLaidOut};
 
     ghost view = { λ b. buffer_view b.holder b.closed_len b.kind b.earlier };
 

@@ -1,4 +1,6 @@
 //! Methods that add built-in canonical functions.
+ghost use Rattle.wenc_builder.specs.Prelude.{Enters, EntersListed, canonical_tree_entry};
+
 use super::ComponentBuilder;
 use super::kind::Kind;
 use std::alloc::Allocator;
@@ -9,8 +11,6 @@ use wenc_sections::Space;
 
 impl<A: Allocator> AddsRow for ComponentBuilder<A> {
     ghost use Rattle.std.specs.Prelude.{None};
-    ghost use Rattle.wenc_builder.specs.Enters.{Enters, EntersListed};
-    ghost use Rattle.wenc_builder.specs.Entry.{canonical_tree_entry};
 
     type Answer = u32;
 

@@ -1,4 +1,6 @@
 //! The section before an item that opens another one.
+ghost use Rattle.wenc_builder.specs.Prelude.{kept_before, SectionIsIn};
+
 use super::flush::GAP;
 use super::kind::Kind;
 
@@ -18,7 +20,6 @@ pub struct Earlier {
 
 impl Earlier {
     ghost use Rattle.std.specs.Prelude.{◌≡◌};
-    ghost use Rattle.wenc_builder.specs.inside.Layout.{kept_before, SectionIsIn};
 
     /// Returns the number of bytes before its items.
     pub fn kept(self) -> usize

@@ -1,9 +1,8 @@
 //! Methods that lift and lower functions.
 ghost use Rattle.std.specs.Iterator.{IsFinite};
 ghost use Rattle.std.specs.Option.{option_copied};
-ghost use Rattle.wenc_builder.specs.Enters.{EntersListed};
-ghost use Rattle.wenc_builder.specs.Entry.{canonical_entry};
-ghost use Rattle.wenc_canon.specs.Canonicals.{Lift, Lower};
+ghost use Rattle.wenc_builder.specs.Prelude.{EntersListed, canonical_entry};
+ghost use Rattle.wenc_canon.specs.Prelude.{Lift, Lower};
 
 use super::ComponentBuilder;
 use super::kind::Kind;

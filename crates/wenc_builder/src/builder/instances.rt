@@ -2,11 +2,9 @@
 ghost use Rattle.std.specs.Iterator.{IsFinite};
 ghost use Rattle.std.specs.Option.{option_copied};
 ghost use Rattle.std.specs.Prelude.{map};
-ghost use Rattle.wenc_builder.specs.Enters.{EntersListed};
-ghost use Rattle.wenc_builder.specs.Entry.{core_instance_entry, instance_entry};
-ghost use Rattle.wenc_parts.specs.Imports.{extern_name_view};
-ghost use Rattle.wenc_sections.specs.Instances.{CoreInstantiate, CoreExports, named_pair};
-ghost use Rattle.wenc_sections.specs.Instances.{Instantiate, Exports, named_triple};
+ghost use Rattle.wenc_builder.specs.Prelude.{EntersListed, core_instance_entry, instance_entry};
+ghost use Rattle.wenc_parts.specs.Prelude.{extern_name_view};
+ghost use Rattle.wenc_sections.specs.Prelude.{CoreInstantiate, CoreExports, named_pair, Instantiate, Exports, named_triple};
 
 use super::ComponentBuilder;
 use super::kind::Kind;

@@ -1,4 +1,6 @@
 //! The kinds of sections that collect items.
+ghost use Rattle.wenc_builder.specs.Prelude.{kind_id};
+
 use wenc_parts::ComponentSectionId;
 
 /// The kinds of items whose neighbours share a section.
@@ -16,7 +18,6 @@ pub enum Kind {
 
 impl Kind {
     ghost use Rattle.std.specs.Prelude.{◌≡◌};
-    ghost use Rattle.wenc_builder.specs.inside.Layout.{kind_id};
 
     /// Returns the id of the kind's sections.
     pub fn id(self) -> u8

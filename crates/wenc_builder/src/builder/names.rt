@@ -1,9 +1,7 @@
 //! The subsections of debug names.
 ghost use Rattle.std.specs.Prelude.{◌≡◌, ◌++◌, ℕ, List, map, OnOk, OnErr, IfErr};
-ghost use Rattle.wenc_base.specs.inside.Written.{Written};
-ghost use Rattle.wenc_base.specs.Fault.{IsWarranted, member_cause};
-ghost use Rattle.wenc_base.specs.Piece.{each};
-ghost use Rattle.wenc_builder.specs.Names.{space_names, none_named};
+ghost use Rattle.wenc_base.specs.Prelude.{Written, IsWarranted, member_cause, each};
+ghost use Rattle.wenc_builder.specs.Prelude.{space_names, none_named};
 
 use super::spaces::SPACES;
 use std::alloc::{Allocator, Global};

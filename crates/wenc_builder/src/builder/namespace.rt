@@ -1,12 +1,8 @@
 //! An index space: the number of its items, and their debug names.
 ghost use Rattle.std.specs.Option.{option_copied};
 ghost use Rattle.std.specs.Prelude.{◌≡◌, ◌≤◌, [], length, take, OnOk, OnErr, IfErr};
-ghost use Rattle.wenc_base.specs.Fault.{IsWarranted};
-ghost use Rattle.wenc_base.specs.Holder.{holding};
-ghost use Rattle.wenc_base.specs.declared.fault.Fault.{Fault as FaultSpec};
-ghost use Rattle.wenc_builder.specs.Builder.{no_names, namespace_with};
-ghost use Rattle.wenc_builder.specs.Cause.{SpaceCause};
-ghost use Rattle.wenc_builder.specs.inside.Spaces.{space_view};
+ghost use Rattle.wenc_base.specs.Prelude.{IsWarranted, holding};
+ghost use Rattle.wenc_builder.specs.Prelude.{Fault as FaultSpec, no_names, namespace_with, SpaceCause, space_view};
 
 use std::alloc::{Allocator, Global};
 use std::marker::Model;
@@ -20,8 +16,7 @@ pub struct Namespace<A: Allocator = Global> {
 }
 
 impl<A: Allocator> Model for Namespace<A> {
-    ghost use Rattle.wenc_builder.specs.Builder.{Namespace};
-    ghost use Rattle.wenc_builder.specs.inside.Spaces.{NamesFit, space_view};
+    ghost use Rattle.wenc_builder.specs.Prelude.{Namespace, NamesFit, space_view};
 
     ghost Value = { Namespace };
 

@@ -1,11 +1,8 @@
 //! The method that adds a producers section.
 ghost use Rattle.std.specs.Prelude.{◌≡◌, List, OnErr, Err, true, false};
-ghost use Rattle.wenc_base.specs.Holder.{Contains, held_text, is_finished};
-ghost use Rattle.wenc_base.specs.Producers.{Producers, producers_field, producers_label};
+ghost use Rattle.wenc_base.specs.Prelude.{Contains, held_text, is_finished, Producers, producers_field, producers_label};
 ghost use Rattle.wenc_base.specs.declared.fault.Fault.TheVariants.{Unfinished};
-ghost use Rattle.wenc_builder.specs.Enters.{EntersWithoutIndex};
-ghost use Rattle.wenc_builder.specs.Entry.{custom_entry};
-ghost use Rattle.wenc_builder.specs.Producers.{producers_entry};
+ghost use Rattle.wenc_builder.specs.Prelude.{EntersWithoutIndex, custom_entry, producers_entry};
 
 use super::ComponentBuilder;
 use super::alone::Ready;

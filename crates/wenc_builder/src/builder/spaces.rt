@@ -1,12 +1,8 @@
 //! The index spaces of a component.
 ghost use Rattle.std.specs.Prelude.{◌≡◌, ◌<◌, length, map, OnOk, OnErr, IfOk, IfErr, is_none, None, false};
 ghost use Rattle.std.specs.Option.{option_copied};
-ghost use Rattle.wenc_base.specs.Fault.{IsMemory, IsWarranted};
-ghost use Rattle.wenc_base.specs.declared.fault.Fault.{Fault as FaultSpec};
-ghost use Rattle.wenc_builder.specs.Builder.{namespace_at};
-ghost use Rattle.wenc_builder.specs.Cause.{SpaceCause};
-ghost use Rattle.wenc_builder.specs.Names.{by_space, names_held};
-ghost use Rattle.wenc_builder.specs.inside.Spaces.{empty_spaces, space_begun, spaces_begun, spaces_ended, spaces_given_up, count_at};
+ghost use Rattle.wenc_base.specs.Prelude.{IsMemory, IsWarranted};
+ghost use Rattle.wenc_builder.specs.Prelude.{Fault as FaultSpec, namespace_at, SpaceCause, by_space, names_held, empty_spaces, space_begun, spaces_begun, spaces_ended, spaces_given_up, count_at};
 
 use super::names::{SpaceNames, Subsections};
 use super::namespace::Namespace;
@@ -39,11 +35,9 @@ pub struct Spaces<A: Allocator = Global> {
 }
 
 impl<A: Allocator> Model for Spaces<A> {
-    ghost use Rattle.wenc_builder.specs.inside.Spaces.{Spaced};
+    ghost use Rattle.wenc_builder.specs.Prelude.{Spaced, spaced_view, CanUndo};
 
     ghost Value = { Spaced };
-
-    ghost use Rattle.wenc_builder.specs.inside.Spaces.{spaced_view, CanUndo};
 
     ghost view = { λ s. spaced_view s.spaces.items s.undo };
 

@@ -2,16 +2,11 @@
 ghost use Rattle.std.specs.Borrow.{sem};
 ghost use Rattle.std.specs.Option.{option_copied};
 ghost use Rattle.std.specs.Prelude.{◌≡◌, [], List, false, Err, IfOk, OnErr};
-ghost use Rattle.wenc_base.specs.Holder.{is_finished, held_members};
-ghost use Rattle.wenc_base.specs.Piece.{◌▸◌};
+ghost use Rattle.wenc_base.specs.Prelude.{is_finished, held_members, ◌▸◌};
 ghost use Rattle.wenc_base.specs.declared.fault.Fault.TheVariants.{Unfinished};
-ghost use Rattle.wenc_builder.specs.Builder.{draft_in};
-ghost use Rattle.wenc_builder.specs.Enters.{BeginsItem, Enters, TakesDraft};
+ghost use Rattle.wenc_builder.specs.Prelude.{draft_in, BeginsItem, Enters, TakesDraft, type_entry};
 ghost use Rattle.wenc_parts.specs.declared.component.ComponentSectionId.TheVariants as ids;
-ghost use Rattle.wenc_builder.specs.Entry.{type_entry};
-ghost use Rattle.wenc_types.specs.ComponentTypes.{InstanceDeclaration, ComponentDeclaration, InstanceType, ComponentType as ComponentTypeSpec, ResourceType, instances_of, components_of};
-ghost use Rattle.wenc_types.specs.Declarations.{InstanceDeclares, ComponentDeclares};
-ghost use Rattle.wenc_types.specs.Loans.{unchanged_on_err};
+ghost use Rattle.wenc_types.specs.Prelude.{InstanceDeclaration, ComponentDeclaration, InstanceType, ComponentType as ComponentTypeSpec, ResourceType, instances_of, components_of, InstanceDeclares, ComponentDeclares, unchanged_on_err};
 ghost use Rattle.wenc_types.specs.declared.func_type.FuncStage.TheVariants as stages;
 
 use super::ComponentBuilder;

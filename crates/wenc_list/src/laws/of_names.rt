@@ -1,6 +1,6 @@
 //! A law of names and of parts.
-ghost use Rattle.wenc_list.specs.Names.{part, subsection_by_id, read_names, read_part};
-ghost use Rattle.wenc_read.specs.Exact.{IsExactAt};
+ghost use Rattle.wenc_list.specs.Prelude.{part, subsection_by_id, read_names, read_part};
+ghost use Rattle.wenc_read.specs.Prelude.{IsExactAt};
 
 use crate::sections::are_bytes;
 

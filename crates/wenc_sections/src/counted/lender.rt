@@ -1,8 +1,6 @@
 //! Sections whose items are written by encoders.
 ghost use Rattle.std.specs.Prelude.{◌≡◌, true};
-ghost use Rattle.wenc_base.specs.Holder.{is_finished, ContainsSome};
-ghost use Rattle.wenc_base.specs.Lender.{GivesUp};
-ghost use Rattle.wenc_base.specs.Openings.{member_given_up};
+ghost use Rattle.wenc_base.specs.Prelude.{is_finished, ContainsSome, GivesUp, member_given_up, member_appended, member_text, member_ended, no_room_in_holder, is_opened, opened_is_unfinished, member_appended_twice};
 
 use super::{Counted, CountedKind};
 use std::alloc::Allocator;
@@ -33,9 +31,6 @@ impl<K: EncoderKind, A: Allocator> Counted<K, A> {
 }
 
 impl<K: EncoderKind, A: Allocator> Lender for Counted<K, A> {
-    ghost use Rattle.wenc_base.specs.Openings.{member_appended, member_text, member_ended, no_room_in_holder, is_opened};
-    ghost use Rattle.wenc_base.specs.laws.Holders.{opened_is_unfinished, member_appended_twice};
-
     ghost finished = { is_finished };
 
     ghost opened = { is_opened };

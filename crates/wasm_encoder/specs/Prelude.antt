@@ -1,0 +1,18 @@
+-- The names that clauses cite, re-exported from the files that define them.
+pub use Rattle.wasm_encoder.specs.Command.{Add, CommandTree, Commands, command_view}
+pub use Rattle.wasm_encoder.specs.Command.{commands_listed}
+pub use Rattle.wasm_encoder.specs.ItemCommands.{command_of}
+pub use Rattle.wasm_encoder.specs.Cause.{added, first_cause, led}
+pub use Rattle.wasm_encoder.specs.Ran.{HasRun, IsRefusal, IsStopped, Ran, RunsNext}
+pub use Rattle.wasm_encoder.specs.AllForms.{FormName, form_of, value_of}
+pub use Rattle.wasm_encoder.specs.Nameless.{AddsNameless}
+pub use Rattle.wasm_encoder.specs.inside.Steps.{HasRunSome, StepsBack, StepsRun, commands_view}
+pub use Rattle.wasm_encoder.specs.inside.Steps.{indexed, without_index}
+pub use Rattle.wasm_encoder.specs.WrittenTypes.{AreEntered}
+pub use Rattle.wasm_encoder.specs.declared.command.Command.{Command}
+pub use Rattle.wenc_base.specs.declared.fault.Fault.{Fault}
+pub use Rattle.wenc_list.specs.declared.fault.ListFault.{ListFault}
+pub use Rattle.wenc_parts.specs.declared.component.ComponentSectionId.{ComponentSectionId}
+pub use Rattle.wenc_parts.specs.declared.types.PrimitiveValType.{PrimitiveValType}
+pub use Rattle.wenc_sections.specs.declared.space.Space.{Space}
+pub use Rattle.wenc_types.specs.declared.counts.Sort.{Sort}

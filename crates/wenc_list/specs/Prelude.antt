@@ -1,0 +1,22 @@
+-- The names that clauses cite, re-exported from the files that define them.
+pub use Rattle.wenc_list.specs.Cursor.{HasTaken, IsFaultIn, IsSpent, Opens}
+pub use Rattle.wenc_list.specs.Items.{item_section, item_view, section_view}
+pub use Rattle.wenc_list.specs.Listing.{AreFrom, ArePlaced, AreWithin, HasNoHeader, IsFaultBehind}
+pub use Rattle.wenc_list.specs.Listing.{IsFaultHere, IsFaultOf, IsMemoryOrTooDeep}
+pub use Rattle.wenc_list.specs.Listing.{count_of_sections}
+pub use Rattle.wenc_list.specs.Names.{item_name_view, names_view, part, read_core_sort}
+pub use Rattle.wenc_list.specs.Names.{read_item_name, read_item_names, read_names, read_names_in}
+pub use Rattle.wenc_list.specs.Names.{read_part, read_sort, subsection_by_id}
+pub use Rattle.wenc_list.specs.Unread.{IsNamed, IsReadHere, IsUnread}
+pub use Rattle.wenc_list.specs.inside.Contents.{fault_of_content, read_alias_item}
+pub use Rattle.wenc_list.specs.inside.Contents.{read_canonical_item, read_core_instance_item}
+pub use Rattle.wenc_list.specs.inside.Contents.{read_core_type_item, read_count, read_export_item}
+pub use Rattle.wenc_list.specs.inside.Contents.{read_frame, read_import_item, read_instance_item}
+pub use Rattle.wenc_list.specs.inside.Contents.{read_item_in, read_type_item}
+pub use Rattle.wenc_list.specs.inside.Taken.{FaultsIn, TakesAll}
+pub use Rattle.wenc_list.specs.inside.Unread.{IsUnreadOf}
+pub use Rattle.wenc_list.specs.laws.Names.{item_name_sound}
+pub use Rattle.wenc_list.specs.declared.cursor.SectionItems.{SectionItems}
+pub use Rattle.wenc_list.specs.declared.fault.ListFault.{ListFault}
+pub use Rattle.wenc_list.specs.declared.listing.ListedSection.{ListedSection}
+pub use Rattle.wenc_sections.specs.declared.space.Space.{Space}

@@ -1,0 +1,53 @@
+-- The names that clauses cite, re-exported from the files that define them.
+pub use Rattle.wenc_types.specs.CoreTypes.{CoreType, Grouped, Module, ModuleDeclaration}
+pub use Rattle.wenc_types.specs.CoreTypes.{ModuleExport, ModuleImport, ModuleOuter, ModuleRecType}
+pub use Rattle.wenc_types.specs.CoreTypes.{core_type, module_declaration, module_type}
+pub use Rattle.wenc_types.specs.DefinedTypes.{Borrow, Case, DefValType, Enumeration}
+pub use Rattle.wenc_types.specs.DefinedTypes.{FixedLengthList, Flags, Function, Future}
+pub use Rattle.wenc_types.specs.DefinedTypes.{LabelledType, ListOf, MapOf, OptionOf, Own, Primitive}
+pub use Rattle.wenc_types.specs.DefinedTypes.{Record, ResultOf, Stream, Tuple, Variant, async_byte}
+pub use Rattle.wenc_types.specs.DefinedTypes.{case, def_val_type, function_type, labelled_type}
+pub use Rattle.wenc_types.specs.DefinedTypes.{lent_case, lent_labelled_type}
+pub use Rattle.wenc_types.specs.ComponentTypes.{Aliased, ComponentDeclaration, ComponentType}
+pub use Rattle.wenc_types.specs.ComponentTypes.{CoreTyped, Declared, DefType, DefinedType, Exported}
+pub use Rattle.wenc_types.specs.ComponentTypes.{FunctionType, Imported, InstanceDeclaration}
+pub use Rattle.wenc_types.specs.ComponentTypes.{InstanceType, ResourceType, Typed, and_component}
+pub use Rattle.wenc_types.specs.ComponentTypes.{and_instance, component_declaration, components_of}
+pub use Rattle.wenc_types.specs.ComponentTypes.{def_type, depth, instance_declaration, instances_of}
+pub use Rattle.wenc_types.specs.ComponentTypes.{no_component, no_instance}
+pub use Rattle.wenc_types.specs.Declarations.{AddsDeclaration, AddsToComponent, AddsToInstance}
+pub use Rattle.wenc_types.specs.Declarations.{AddsToModule, ComponentDeclares, DeclaresSome}
+pub use Rattle.wenc_types.specs.Declarations.{InstanceDeclares, IsDeclaration, ModuleDeclares}
+pub use Rattle.wenc_types.specs.Declarations.{NoneBegun, TypeState, component_sort, indexed_outcome}
+pub use Rattle.wenc_types.specs.Declarations.{instance_sort, lead_of, module_sort, no_counts}
+pub use Rattle.wenc_types.specs.Declarations.{no_declarations, one_less, one_more, sort_of_alias}
+pub use Rattle.wenc_types.specs.Declarations.{sort_of_kind, type_appended, type_begun, type_ended}
+pub use Rattle.wenc_types.specs.Declarations.{type_given_up}
+pub use Rattle.wenc_types.specs.FuncStages.{BeforeParams, RestMakesWhole, goes_on, lead_from}
+pub use Rattle.wenc_types.specs.FuncStages.{params_from}
+pub use Rattle.wenc_types.specs.Loans.{unchanged_on_err}
+pub use Rattle.wenc_types.specs.CoreTypeTrees.{core_type_view, module_declaration_view}
+pub use Rattle.wenc_types.specs.TypeTrees.{case_view, component_declaration_view, defined_view}
+pub use Rattle.wenc_types.specs.TypeTrees.{function_view, instance_declaration_view}
+pub use Rattle.wenc_types.specs.TypeTrees.{labelled_type_view, type_view}
+pub use Rattle.wenc_types.specs.inside.TypeState.{IsTypeState, total}
+pub use Rattle.wenc_types.specs.reading.ComponentTypes.{read_component_declaration}
+pub use Rattle.wenc_types.specs.reading.ComponentTypes.{read_component_type, read_exported}
+pub use Rattle.wenc_types.specs.reading.ComponentTypes.{read_imported, read_instance_declaration}
+pub use Rattle.wenc_types.specs.reading.ComponentTypes.{read_instance_type, read_resource_type}
+pub use Rattle.wenc_types.specs.reading.ComponentTypes.{read_type}
+pub use Rattle.wenc_types.specs.reading.CoreTypes.{read_core_type, read_module_declaration}
+pub use Rattle.wenc_types.specs.reading.CoreTypes.{read_outer_type}
+pub use Rattle.wenc_types.specs.reading.DefinedTypes.{read_case, read_defined, read_labelled_type}
+pub use Rattle.wenc_types.specs.reading.DefinedTypes.{read_signature}
+pub use Rattle.wenc_types.specs.laws.ComponentTypes.{component_declaration_lawful}
+pub use Rattle.wenc_types.specs.laws.ComponentTypes.{instance_declaration_lawful, type_lawful}
+pub use Rattle.wenc_types.specs.laws.CoreTypes.{alike_by, composite_sees, core_type_lawful}
+pub use Rattle.wenc_types.specs.laws.CoreTypes.{core_type_sees, core_type_sound, declaration_sees}
+pub use Rattle.wenc_types.specs.laws.CoreTypes.{each_sees, group_sees, module_declaration_lawful}
+pub use Rattle.wenc_types.specs.laws.CoreTypes.{module_declaration_sound}
+pub use Rattle.wenc_types.specs.laws.Declarations.{is_declaration, type_appended_twice}
+pub use Rattle.wenc_types.specs.laws.DefinedTypes.{case_lawful, case_sound, defined_type_lawful}
+pub use Rattle.wenc_types.specs.laws.DefinedTypes.{labelled_type_lawful, named_sound}
+pub use Rattle.wenc_types.specs.laws.TypeTrees.{case_sees, defined_sees, named_sees}
+pub use Rattle.wenc_types.specs.declared.counts.Sort.{Sort}
