@@ -1,4 +1,4 @@
--- Where the item of a command stands that ran.
+-- The index of the item of a command that ran.
 use Rattle.std.specs.Prelude.{◌≡◌, ℕ, List, [], ◌∷◌, ◌++◌, Some}
 use Rattle.wenc_builder.specs.Entry.{Entry, items}
 use Rattle.wenc_builder.specs.Space.{Indices, defines, next_index}

@@ -69,12 +69,12 @@ rec_type (Rec types) = 0x4e ▸ list sub_type types
 
 -- ---- in a component
 
--- A byte stands before a type that others may extend, since it begins as a module type does.
+-- A byte comes before a type that others may extend, since it begins as a module type does.
 abbrev pub guard_before : Bool → Piece → Piece
 guard_before true p = p
 guard_before false p = 0x00 ▸ p
 
--- with that byte before a type that stands alone, or without
+-- with that byte before a type that is in no group, or without
 abbrev pub standing : Bool → Form RecType
 standing true (Single s) = guard_before s.is_final (sub_type s)
 standing guard g = rec_type g

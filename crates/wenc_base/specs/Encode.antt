@@ -7,8 +7,7 @@ use Rattle.wenc_base.specs.Piece.{Piece, Form, ◌⨾◌, refused_for}
 use Rattle.wenc_base.specs.declared.fault.Fault.{Fault}
 use Rattle.wenc_base.specs.declared.fault.Fault.TheVariants.{Unfinished}
 
--- A call appends this text, against which nothing stands, or is refused for a cause and changes
--- nothing.
+-- A call appends this text, which has no cause, or fails for a cause and changes nothing.
 pub record Appends (text : List ℕ) (cause : Fault → Type 0) (unfinished : Type 0)
     (old new : List ℕ) (outcome : Result (Unit {0}) Fault) : Type 0 where
   pub ok : OnOk outcome (new ≡ old ++ text)
@@ -17,7 +16,7 @@ pub record Appends (text : List ℕ) (cause : Fault → Type 0) (unfinished : Ty
   pub warranted : IfErr outcome (IsWarranted cause)
   pub unfinished_first : unfinished → outcome ≡ Err Unfinished
 
--- The text of this piece was appended; it fits, and nothing stands against it.
+-- The text of this piece was appended; it fits, and has no cause.
 pub record Appended (old : List ℕ) (p : Piece) (new : List ℕ) : Type 0 where
   pub items : new ≡ old ++ p.text
   pub fits : p.Fits

@@ -3,19 +3,19 @@ use Rattle.std.specs.Prelude.{ℕ, ◌≤◌, ◌^◌, ◌⊎◌, List, [], ◌�
 use Rattle.wenc_base.specs.declared.fault.Fault.{Fault}
 use Rattle.wenc_base.specs.declared.fault.Fault.TheVariants.{Memory, TooMany, TooLarge, Unfinished}
 
--- the number by which a fault is told
+-- the number of a fault
 abbrev pub fault_number : Fault → ℕ
 fault_number (Memory e) = 1
 fault_number TooMany = 2
 fault_number TooLarge = 3
 fault_number Unfinished = 4
 
--- A call may answer this fault: for want of memory, or with this cause.
+-- A call may fail with this fault: for want of memory, or with this cause.
 abbrev pub IsWarranted : (Fault → Type 0) → Fault → Type 0
 IsWarranted cause (Memory e) = Unit {0}
 IsWarranted cause fault = cause fault
 
--- nothing stands against it
+-- it has no cause
 abbrev pub NoCause : (Fault → Type 0) → Type 0
 NoCause cause = (fault : Fault) → cause fault → ⊥
 

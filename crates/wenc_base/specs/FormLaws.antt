@@ -29,7 +29,7 @@ abbrev pub WideReadsStrict : {A : Type 0} → Form A → Type 0
 WideReadsStrict {A} form = (v : A) (bytes rest : List ℕ) → (form v).Reads Strict bytes rest
     → (form v).Reads Wide bytes rest
 
--- Nothing stands against a value that fits.
+-- A value that fits has no cause.
 abbrev pub FitsIsFree : {A : Type 0} → Form A → Type 0
 FitsIsFree {A} form = (v : A) → (form v).Fits → NoCause (form v).Cause
 

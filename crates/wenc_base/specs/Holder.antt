@@ -106,7 +106,7 @@ AddCause h text cause fault =
     (OneMoreCause h.count (length (h.body ++ text)) fault ⊎
     ((fault ≡ Unfinished) × (is_finished h ≡ false)))
 
--- This piece was added as a member, fits, and nothing stood against it.
+-- This piece was added as a member, fits, and has no cause.
 pub record Accepted (p : Piece) (old new : HolderState) : Type 0 where
   pub state : new ≡ with_member old p.text
   pub fits : p.Fits

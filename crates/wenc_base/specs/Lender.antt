@@ -1,4 +1,4 @@
--- What an encoder does to what it was lent.
+-- What an encoder does to its parent.
 use Rattle.std.specs.Prelude.{◌≡◌, ℕ, List, Option, Bool, false, IsTrue, ◌↔◌, ◌⊎◌, Result, Err}
 use Rattle.std.specs.Prelude.{OnOk, OnErr, IfOk, IfErr}
 use Rattle.std.specs.Iterator.Runs.{SomeRun, WholeRun}
@@ -17,7 +17,7 @@ pub record Extends {T : Type 0} (old new next : T) (outcome : Result (Unit {0}) 
   pub err : OnErr outcome (new ≡ old)
   pub warranted : IfErr outcome (IsWarranted (either p.Cause refuses))
 
--- This piece was added, which left `next`; it fits, and nothing stood against it.
+-- This piece was added, which left `next`; it fits, and has no cause.
 pub record Extended {T : Type 0} (new : T) (next : List ℕ → T)
     (refuses : List ℕ → Fault → Type 0) (p : Piece) : Type 0 where
   pub state : new ≡ next p.text
@@ -79,7 +79,7 @@ pub record EndsLists {T S R B C : Type 0} (appended : T → List ℕ → T) (end
       (either (more_piece last.items).Cause
       (refuses (appended old (piece run.items).text) (more_piece last.items).text)) fault)))
 
--- A call begins a member and lends what has it to an encoder, or is refused for a cause.
+-- A call begins a member and returns an encoder, which borrows the parent, or fails for a cause.
 pub record Lends {T E : Type 0} (lent : E → T) (next : T) (finished : Bool)
     (outcome : Result E Fault) (cause : Fault → Type 0) : Type 0 where
   pub begun : IfOk outcome (λ e. lent e ≡ next)

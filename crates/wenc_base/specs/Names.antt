@@ -11,7 +11,7 @@ pub record NameAssociation : Type 0 where
   pub index : ℕ
   pub name : List ℕ
 
--- as it stands in a name map
+-- as it is in a name map
 abbrev pub name_association : Form NameAssociation
 name_association n = u32 n.index ⨾ name_form n.name
 

@@ -36,7 +36,7 @@ signed_text (negsuc n) = turned true (groups 64 9 n)
 -- ---- reading
 
 -- The bytes are n in groups of seven bits, the lowest ones first, and then the rest. The last group
--- is below top, and at most room others stand before it.
+-- is below top, and at most room others come before it.
 pub data ReadsGroups (top : ℕ) : ℕ → ℕ → List ℕ → List ℕ → Type 0 where
   last : {room b : ℕ} {rest : List ℕ} → b < top → ReadsGroups top room b (b ∷ rest) rest
   more : {room n b high : ℕ} {bytes rest : List ℕ} → 128 ≤ b → b < 256

@@ -102,7 +102,7 @@ ReadsEach Reads [] bytes rest = bytes ≡ rest
 ReadsEach Reads (v ∷ vs) bytes rest =
     (middle : List ℕ) × Reads v bytes middle × ReadsEach Reads vs middle rest
 
--- what stands against one of the values
+-- the cause of one of the values
 abbrev pub AnyCause : {A : Type 0} → (A → Fault → Type 0) → List A → Fault → Type 0
 AnyCause cause [] fault = ⊥
 AnyCause cause (v ∷ vs) fault = cause v fault ⊎ AnyCause cause vs fault

@@ -49,7 +49,7 @@ collected other = None
 abbrev pub unread : List ℕ → Piece
 unread bytes = record (verbatim bytes) { Reads = λ mode all rest. ⊥ }
 
--- an item as it stands in its section or, where it is one, as that section
+-- an item as it is in its section or, where it is one, as that section
 abbrev pub item : Form Item
 item (ModuleItem bytes) = section_number ids.CoreModule ▸ byte_list bytes
 item (CoreInstanceItem i) = core_instance i

@@ -2,7 +2,7 @@
 ghost use Rattle.std.specs.Prelude.{◌≡◌, ◌==◌, false, OnOk, IfOk, IfErr};
 ghost use Rattle.std.specs.Iterator.{IsFinite};
 ghost use Rattle.wenc_base.specs.Prelude.{IsMemory, Appends, no_members, is_finished, held_section, ContainsSome, AddsMember, HasMembers, HasForm, itself, serves_itself};
-ghost use Rattle.wenc_canon.specs.Prelude.{AddsWithOptions, Lift, Lower, canonical, ◌is◌takes◌, row_with, builtin_by, and_options, builtin_with, canonical_option, canonical_option_lawful, read_canonical_option, CanonicalOption as Seen'};
+ghost use Rattle.wenc_canon.specs.Prelude.{AddsWithOptions, Lift, Lower, canonical, canonical_option, canonical_option_lawful, read_canonical_option, CanonicalOption as Seen'};
 ghost use Rattle.wenc_parts.specs.Prelude.{section_number};
 
 use crate::adds_builtin::{AddsBuiltin, AddsRow, AddsSlot, AddsSlotRow};

@@ -1,4 +1,4 @@
--- Where types of components and of instances stand too deep in one another.
+-- Where types of components and of instances are nested too deep.
 use Rattle.std.specs.Prelude.{◌≡◌, ◌⊎◌, ℕ, zero, suc, ◌<◌, List, ◌∷◌, length}
 use Rattle.wenc_base.specs.Number.{u32}
 use Rattle.wenc_base.specs.Piece.{Form, Wide, each}

@@ -20,7 +20,7 @@ use Rattle.wenc_list.specs.declared.fault.ListFault.TheVariants as faults
 abbrev pub to_the_end : Piece → Piece
 to_the_end p = record p { Reads = λ mode bytes rest. (rest ≡ []) × p.Reads mode bytes [] }
 
--- an item as it stands in the content of the section with this id
+-- an item as it is in the content of the section with this id
 abbrev pub item_in : ℕ → Form Item
 item_in id (CustomItem c) =
     only_where (id ≡ 0) (to_the_end (name c.label ⨾ raw AreBytes c.bytes))

@@ -1,4 +1,4 @@
--- What stands after an id and a size, in a section of names and in a core module (component model,
+-- What comes after an id and a size, in a section of names and in a core module (component model,
 -- binary format, "Name Section"; WebAssembly 3.0, binary format, "Sections").
 use Rattle.std.specs.Prelude.{ℕ, ◌≤◌, List, [], ◌∷◌, map, length, take, drop, Result, Ok, Err}
 use Rattle.std.specs.Prelude.{nat_eq, nat_lt, if◌then◌else◌}

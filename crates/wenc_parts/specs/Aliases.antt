@@ -25,7 +25,7 @@ outer_kind CoreType = 0x00 ▸ byte 0x10
 outer_kind OuterType = byte 0x03
 outer_kind Component = byte 0x04
 
--- what stands for an item of another scope
+-- what an alias refers to
 pub data AliasOf : Type 0 where
   -- the export of this name of a component instance
   InstanceExport : (instance : ℕ) (kind : ComponentExportKind) (name : List ℕ) → AliasOf

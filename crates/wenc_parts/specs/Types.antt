@@ -36,7 +36,7 @@ abbrev pub value_type : Form ComponentValType
 value_type (Primitive p) = primitive p
 value_type (TypeIndex n) = index n
 
--- the type of the value that a function answers, or that there is none
+-- the type of the value that a function returns, or that there is none
 abbrev pub result_list : Form (Option ComponentValType)
 result_list (Some t) = 0x00 ▸ value_type t
 result_list None = 0x01 ▸ byte 0x00

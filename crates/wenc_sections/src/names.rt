@@ -1,6 +1,6 @@
 //! The name section and its subsections.
 ghost use Rattle.std.specs.Prelude.{◌≡◌, ◌==◌, ◌+◌, ◌<◌, ◌^◌, [], length, IfOk, IfErr};
-ghost use Rattle.wenc_base.specs.Prelude.{Appends, IsMemory, serves_itself};
+ghost use Rattle.wenc_base.specs.Prelude.{IsMemory, serves_itself};
 ghost use Rattle.wenc_parts.specs.Prelude.{section_number};
 ghost use Rattle.wenc_sections.specs.Prelude.{Fault as FaultSpec, item_sort, ComponentName, RawNames, subsection, names_label, RoomCause, AppendsSubsection, AppendsNames, held_subsection, names_section, names_section_lawful, read_names_section};
 

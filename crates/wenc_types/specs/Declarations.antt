@@ -146,7 +146,7 @@ abbrev pub AddsToComponent : TypeState → TypeState → Result (Unit {0}) Fault
     → ComponentDeclaration → Type 0
 AddsToComponent = AddsDeclaration component_declaration component_sort
 
--- how a call ended that answers an index when it is accepted
+-- how a call ended that returns an index if it succeeds
 abbrev pub indexed_outcome : Result ℕ Fault → Result (Unit {0}) Fault
 indexed_outcome (Ok index) = Ok tt
 indexed_outcome (Err fault) = Err fault

@@ -59,7 +59,7 @@ def_val_type (Stream ty) = 0x66 ▸ option value_type ty
 def_val_type (Future ty) = 0x65 ▸ option value_type ty
 def_val_type (MapOf key value) = 0x63 ▸ (value_type key ⨾ value_type value)
 
--- a function: whether it is asynchronous, its parameters, and what it answers
+-- a function: whether it is asynchronous, its parameters, and its result
 pub record Function : Type 0 where
   pub is_async : Bool
   pub params : List LabelledType

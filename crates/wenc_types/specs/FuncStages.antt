@@ -15,14 +15,14 @@ BeforeParams Tagged = Unit {0}
 BeforeParams Params = ⊥
 BeforeParams Done = ⊥
 
--- what stands in front of the parameters, from this stage on
+-- what comes before the parameters, from this stage on
 abbrev pub lead_from : FuncStage → List ℕ
 lead_from Start = 0x40 ∷ []
 lead_from Tagged = []
 lead_from Params = []
 lead_from Done = []
 
--- the parameters, after what stands in front of them
+-- the parameters, after what comes before them
 abbrev pub params_from : FuncStage → Form (List LabelledType)
 params_from stage params = behind_bytes (lead_from stage) (list labelled_type params)
 
@@ -33,7 +33,7 @@ goes_on Tagged finished = not finished
 goes_on Params finished = not finished
 goes_on Done finished = true
 
--- parameters, then what the function answers
+-- parameters, then the function's result
 abbrev pub params_and_answer : Form (List LabelledType × Option ComponentValType)
 params_and_answer p = list labelled_type p.0 ⨾ result_list p.1
 

@@ -4,7 +4,7 @@ use Rattle.std.specs.Prelude.{◌≡◌, ℕ, List, ◌++◌}
 use Rattle.wenc_base.specs.Fault.{NoCause, member_cause}
 use Rattle.wenc_base.specs.Piece.{Form}
 
--- After what stood there at the start come the texts of these values, which fit and have no cause.
+-- After the bytes at the start come the texts of these values, which fit and have no cause.
 pub record Written {A : Type 0} (form : Form A) (start : List ℕ) (vs : List A)
     (now : List ℕ) : Type 0 where
   pub items : now ≡ start ++ flat_map (λ v. (form v).text) vs

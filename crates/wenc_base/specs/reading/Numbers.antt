@@ -26,7 +26,7 @@ read_u32 = read_groups 128 (2 ^ 32) 4
 abbrev pub read_u64 : Reader ℕ
 read_u64 = read_groups 128 (2 ^ 64) 9
 
--- an index that stands where a signed number of 33 bits may
+-- an index in place of a signed number of 33 bits
 abbrev pub read_index : Reader ℕ
 read_index = read_groups 64 (2 ^ 32) 4
 
