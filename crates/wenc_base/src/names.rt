@@ -95,7 +95,7 @@ impl<A: Allocator> NameMap<A> {
         };
         // 32 bits: a slice has less than 2^31 bytes.
         let more = encoding_size(idx) + encoding_size(len) + name.len();
-        // 32 bits: where the sum saturates it is too large for a section.
+        // A sum that saturates, on 32 bits, is too large for a section.
         let count = next_count(self.count, body.saturating_add(more))?;
         self.names.try_reserve(more)?;
         number_in_room(idx, &mut self.names);
