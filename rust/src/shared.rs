@@ -202,6 +202,7 @@ where
 /// Whether an iterator is large enough to hold values, as that of an array does. What takes such a
 /// list is compiled for it, where its values are known; another list goes by a pointer.
 pub(crate) const fn holds_values<I: Iterator>() -> bool {
+    // 32 bits: rustc computes it, and refuses a sum that wraps.
     size_of::<I>() >= size_of::<I::Item>() + 2 * size_of::<usize>()
 }
 

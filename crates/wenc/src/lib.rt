@@ -3,7 +3,6 @@
 #![tactic(auto)]
 
 pub mod builtin;
-pub mod digits;
 pub mod failure;
 pub mod input;
 pub mod kind;

@@ -4,9 +4,9 @@ ghost use Rattle.std.specs.Io.KnownBytes.{Appends};
 ghost use Rattle.hex.specs.Hex.{encode_lower};
 ghost use Rattle.wenc.specs.Prelude.{line_of, AppendsFront, Says};
 
-use crate::digits::encode;
 use crate::failure::Failure;
 use crate::status::TRANSFER_FAILED;
+use hex::encode_to_slice;
 use std::io::Write;
 
 /// The number of bytes that are written in hexadecimal at a time.
@@ -38,9 +38,12 @@ fn write_piece<W: Write>(writer: &mut W, buffer: &mut [u8], piece: &[u8]) -> Res
     ensures front { AppendsFront (W.contents writer.old) (W.contents writer.new)
         (encode_lower piece.now) }
 {
+    // 32 bits: `buffer` has more bytes.
     let text = &mut buffer[..2 * piece.len()];
-    encode(piece, text);
-    write_text(writer, text)
+    match encode_to_slice(piece, text) {
+        Ok(()) => write_text(writer, text),
+        Err(_) => unreachable!(),
+    }
 }
 
 /// Writes bytes in hexadecimal, piece by piece.

@@ -60,6 +60,7 @@ pub fn build<A: Allocator + Copy>(alloc: A, names: Global, text: &[u8]) -> Resul
     let mut last = front;
     while let Some((line, behind)) = last.split_once('\n') {
         run_line(&mut running, &mut answers, names, line, number)?;
+        // 32 bits: a text has less lines than bytes.
         number += 1;
         last = behind;
     }

@@ -43,7 +43,9 @@ impl<'a> Encode for CustomSection<'a> {
         lead.unsigned(u64::from(size));
         lead.unsigned(u64::from(name_len));
         let lead = lead.as_slice();
-        sink.try_reserve(lead.len() + name.len() + self.data.len())?;
+        // 32 bits: name and data have less than 2^31 bytes each. A sum that saturates is more than
+        // can be reserved.
+        sink.try_reserve((lead.len() + name.len()).saturating_add(self.data.len()))?;
         extend_in_room(sink, lead);
         extend_in_room(sink, name);
         extend_in_room(sink, self.data);

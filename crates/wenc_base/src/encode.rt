@@ -181,6 +181,7 @@ fn encode_short_bytes<A: Allocator>(bytes: &[u8], sink: &mut Vec<u8, A>) -> Resu
         (size_cause (length bytes.now)) ⊥ sink.old.items sink.new.items result }
     ensures fits { OnOk result ((length bytes.now < 2 ^ 32) × AreBytes bytes.now) }
 {
+    // 32 bits: at most 128.
     if bytes.len() >= 1 << 7 || !has_room(sink, 1 + bytes.len()) {
         return encode_long_bytes(bytes, sink);
     }
@@ -200,6 +201,7 @@ fn encode_long_bytes<A: Allocator>(bytes: &[u8], sink: &mut Vec<u8, A>) -> Resul
     let Ok(len) = u32::try_from(bytes.len()) else {
         return Err(Fault::TooLarge);
     };
+    // 32 bits: a slice has less than 2^31 bytes.
     sink.try_reserve(encoding_size(len) + bytes.len())?;
     number_in_room(len, sink);
     extend_in_room(sink, bytes);
@@ -376,7 +378,10 @@ fn push_in_room<A: Allocator>(sink: &mut Vec<u8, A>, byte: u8)
     ensures len { vec_len sink.new ≡ vec_len sink.old + 1 }
     ensures capacity { vec_capacity sink.old ≤ vec_capacity sink.new }
 {
-    let _ = sink.push(byte);
+    match sink.push(byte) {
+        Ok(()) => (),
+        Err(_) => unreachable!(),
+    }
 }
 
 /// Appends bytes within the capacity, without allocating. The spare capacity of `sink` has to
@@ -388,7 +393,10 @@ pub fn extend_in_room<A: Allocator>(sink: &mut Vec<u8, A>, bytes: &[u8])
     ensures len { vec_len sink.new ≡ vec_len sink.old + length bytes.now }
     ensures capacity { vec_capacity sink.old ≤ vec_capacity sink.new }
 {
-    let _ = sink.extend_from_slice(bytes);
+    match sink.extend_from_slice(bytes) {
+        Ok(()) => (),
+        Err(_) => unreachable!(),
+    }
 }
 
 /// A byte that says what follows, such as an opcode, then a value.

@@ -287,6 +287,7 @@ impl<A: Allocator> Holder<A> {
         requires within { (len ≤ self.old.count) × (bytes ≤ length self.old.body) }
         ensures { self.new ≡ cut_to self.old len bytes }
     {
+        // 32 bits: an offset in the vector.
         self.bytes.truncate(self.kept + bytes);
         self.count = len;
     }
@@ -311,6 +312,7 @@ impl<A: Allocator> Holder<A> {
         lead.unsigned(u64::from(size));
         lead.unsigned(u64::from(self.count));
         let lead = lead.as_slice();
+        // 32 bits: a slice has less than 2^31 bytes.
         sink.try_reserve(lead.len() + body.len())?;
         extend_in_room(sink, lead);
         extend_in_room(sink, body);

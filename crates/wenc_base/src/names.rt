@@ -70,6 +70,7 @@ impl<A: Allocator> NameMap<A> {
             && name.len() < 1 << 7
             && (self.names.len() as u64) < NEARLY_FULL
             && self.count < u32::MAX
+            // 32 bits: less than 132.
             && has_room(&self.names, 4 + name.len())
         {
             short_numbers_in_room(idx, name.len() as u8, &mut self.names);
@@ -92,8 +93,10 @@ impl<A: Allocator> NameMap<A> {
         let Ok(len) = u32::try_from(name.len()) else {
             return Err(Fault::TooLarge);
         };
+        // 32 bits: a slice has less than 2^31 bytes.
         let more = encoding_size(idx) + encoding_size(len) + name.len();
-        let count = next_count(self.count, body + more)?;
+        // A sum that saturates, on 32 bits, is too large for a section.
+        let count = next_count(self.count, body.saturating_add(more))?;
         self.names.try_reserve(more)?;
         number_in_room(idx, &mut self.names);
         number_in_room(len, &mut self.names);
@@ -114,6 +117,7 @@ impl<A: Allocator> NameMap<A> {
         ensures is { result ≡ length (held_text self.now) }
         ensures fits { result < 2 ^ 32 }
     {
+        // 32 bits: a vector has less than 2^31 bytes.
         encoding_size(self.count) + self.names.len()
     }
 

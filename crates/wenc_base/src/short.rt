@@ -47,6 +47,7 @@ impl Short {
         ensures { self.new ≡ self.old ++ byte ∷ [] }
     {
         self.bytes[self.len] = byte;
+        // 32 bits: at most 11.
         self.len += 1;
     }
 

@@ -36,3 +36,4 @@ pub use names::{ComponentNameSection, NamesOf};
 pub use space::Space;
 pub use start::ComponentStartSection;
 pub use types::{ComponentTypeSection, CoreTypeSection};
+pub use wenc_parts::Component;

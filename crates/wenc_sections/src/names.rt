@@ -61,6 +61,7 @@ impl<'a, A: Allocator> Encode for NamesOf<'a, A> {
 
     fn encode<B: Allocator>(&self, sink: &mut Vec<u8, B>) -> Result<(), Fault> {
         let sort = sort_bytes(self.0);
+        // 32 bits: a map has less than 2^31 bytes of names, and `sort` two.
         let Ok(size) = u32::try_from(sort.len() + self.1.size()) else {
             return Err(Fault::TooLarge);
         };

@@ -8,7 +8,7 @@ pub const ALLOCATING: [&str; 1] = ["collect"];
 pub const HANDED: [&str; 2] = ["format", "vec"];
 
 /// Macros that mean the same there and here.
-pub const PLAIN: [&str; 4] = ["concat", "matches", "write", "writeln"];
+pub const PLAIN: [&str; 5] = ["concat", "matches", "unreachable", "write", "writeln"];
 
 /// Macros of the sources that other files of their crate use.
 pub const SHARED: [&str; 1] = ["given"];

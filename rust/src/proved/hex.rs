@@ -10,6 +10,8 @@ pub enum FromHexError {
     InvalidHexCharacter,
     /// One has no neighbour.
     OddLength,
+    /// There is no room for two digits a byte, or more than that.
+    InvalidStringLength,
     /// Memory was refused.
     OutOfMemory,
 }
@@ -36,4 +38,19 @@ pub fn decode<A: Allocator>(
         let _ = bytes.push(byte as u8);
     }
     Ok(bytes)
+}
+
+/// Writes bytes in hexadecimal into `output`, which has to have two bytes for each.
+pub fn encode_to_slice(input: impl AsRef<[u8]>, output: &mut [u8]) -> Result<(), FromHexError> {
+    let input = input.as_ref();
+    if output.len() % 2 != 0 || output.len() / 2 != input.len() {
+        return Err(FromHexError::InvalidStringLength);
+    }
+    // Looks nothing up, so the compiler can vectorize it.
+    let digit = |number: u8| if number < 10 { b'0' + number } else { b'a' - 10 + number };
+    for (pair, byte) in output.chunks_exact_mut(2).zip(input) {
+        pair[0] = digit(byte >> 4);
+        pair[1] = digit(byte & 0x0f);
+    }
+    Ok(())
 }

@@ -302,3 +302,32 @@ fn a_section_by_hand_has_no_half_of_a_function() {
         }
     }
 }
+
+/// A sum of three lengths, two of which may be of bytes that overlap, is longer than an address of
+/// 32 bits reaches. Here it is 4 below, 0, 4 and 8 above 2^32.
+#[cfg(target_pointer_width = "32")]
+#[test]
+fn a_custom_section_too_large_for_32_bits_is_refused() {
+    let zeros = vec![0; (1 << 31) - 1];
+    let name = std::str::from_utf8(&zeros).expect("zeros are a text");
+    let refused = [
+        ((1 << 31) - 13, Error::NoMemory),
+        ((1 << 31) - 9, Error::NoMemory),
+        ((1 << 31) - 5, Error::NoMemory),
+        ((1 << 31) - 1, Error::TooLarge),
+    ];
+    for (len, error) in refused {
+        let section = CustomSection { name: name.into(), data: zeros[..len].into() };
+        let mut sink = vec![0xee];
+        let encode = AssertUnwindSafe(|| section.encode(&mut sink));
+        assert!(catch_unwind(encode).is_err(), "{len}");
+        assert_eq!(sink, [0xee]);
+        let mut component = Component::new();
+        let add = AssertUnwindSafe(|| component.section(&section).as_slice().len());
+        assert!(catch_unwind(add).is_err(), "{len}");
+        assert_eq!(component.as_slice(), Component::new().as_slice());
+        let mut b = ComponentBuilder::default();
+        assert_eq!(b.try_custom_section(&section), Err(error), "{len}");
+        assert_eq!(behind_header(b), "");
+    }
+}

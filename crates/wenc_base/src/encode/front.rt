@@ -76,6 +76,7 @@ fn put_long_number_over<A: Allocator>(
     ensures err { OnErr result (sink.new.items ≡ take start sink.old.items) }
     ensures warranted { IfErr result IsMemory }
 {
+    // 32 bits: an offset in a vector, which has less than 2^31 bytes.
     match put_number(number, start + 1, sink) {
         Ok(()) => {
             sink.remove(start);

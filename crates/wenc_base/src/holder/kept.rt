@@ -81,6 +81,7 @@ impl<A: Allocator> Holder<A> {
         ensures err { OnErr result (self.new ≡ self.old) }
         ensures refused { IfErr result IsMemory }
     {
+        // 32 bits: each slice has less than 2^31 bytes.
         self.bytes.try_reserve(lead.len() + bytes.len())?;
         fill(&mut self.bytes, start, end, head);
         extend_in_room(&mut self.bytes, lead);
@@ -156,6 +157,7 @@ fn move_up(bytes: &mut [u8], start: usize, end: usize, head: &[u8])
     ensures { take (length bytes.old - (end - start - length head.now)) bytes.new
         ≡ take start bytes.old ++ (head.now ++ drop end bytes.old) }
 {
+    // 32 bits: an offset in the slice.
     let to = start + head.len();
     bytes[start..to].copy_from_slice(head);
     bytes.copy_within(end.., to);

@@ -34,6 +34,7 @@ impl<A: Allocator> Holder<A> {
             return Err(Fault::Unfinished);
         }
         let member_start = self.bytes.len() - self.kept;
+        // 32 bits: the vector and the slice have less than 2^31 bytes each.
         let lead_end = member_start + lead.len();
         let next = next_count(self.count, lead_end)?;
         if !lead.is_empty() {
@@ -138,6 +139,7 @@ impl<A: Allocator> Holder<A> {
     {
         match self.opening {
             Some(opening) => {
+                // 32 bits: an offset in the vector.
                 self.bytes.truncate(self.kept + opening.member_start);
                 self.count = self.count.saturating_sub(1);
                 self.opening = None;

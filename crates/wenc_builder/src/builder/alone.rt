@@ -42,6 +42,7 @@ impl<'a> Ready<'a> {
     pub fn len(&self) -> usize
         ensures { result ≡ length self.now }
     {
+        // 32 bits: `head` fits the gap, and `first` and `more` have less than 2^31 bytes each.
         self.first.len() - self.gap + self.head.as_slice().len() + self.more.len()
     }
 }

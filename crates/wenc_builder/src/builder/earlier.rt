@@ -28,6 +28,7 @@ impl Earlier {
     {
         match self.kind {
             None => self.closed_len,
+            // 32 bits: an offset in the holder's bytes.
             Some(_) => self.closed_len + GAP,
         }
     }

@@ -18,6 +18,7 @@ pub fn section_head(kind: Kind, count: u32, body: usize) -> Short
     requires { number_size count + body < 2 ^ 32 }
     ensures { result ≡ head_text (kind_id kind) count (number_size count + body) }
 {
+    // 32 bits: a vector has less than 2^31 bytes.
     let size = encoding_size(count) + body;
     let mut head = Short::new();
     head.push(kind.id());
@@ -60,6 +61,7 @@ pub fn close_earlier<A: Allocator>(holder: &mut Holder<A>, earlier: &Earlier) ->
     match earlier.kind {
         None => earlier.closed_len,
         Some(kind) => {
+            // 32 bits: an offset in the holder's bytes.
             let start = earlier.closed_len + GAP;
             let body = earlier.items_end - start;
             if earlier.count < 1 << 7 && body < 127 {
@@ -84,6 +86,7 @@ fn close_long<A: Allocator>(holder: &mut Holder<A>, kind: Kind, earlier: &Earlie
     ensures holder { holder.new ≡ with_kept holder.old (kept_with holder.old.kept earlier.now) }
     ensures len { result ≡ length (closed_with holder.old.kept earlier.now) }
 {
+    // 32 bits: an offset in the holder's bytes.
     let start = earlier.closed_len + GAP;
     let head = section_head(kind, earlier.count, earlier.items_end - start);
     let head = head.as_slice();
