@@ -1,6 +1,7 @@
 pub mod Called
 pub mod Nested
 pub mod Typed
+pub mod Entered
 pub mod Run
 pub mod AllLawful
 pub mod Neighbours

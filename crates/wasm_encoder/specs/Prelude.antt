@@ -8,7 +8,9 @@ pub use Rattle.wasm_encoder.specs.AllForms.{FormName, form_of, value_of}
 pub use Rattle.wasm_encoder.specs.Nameless.{AddsNameless}
 pub use Rattle.wasm_encoder.specs.inside.Steps.{HasRunSome, StepsBack, StepsRun, commands_view}
 pub use Rattle.wasm_encoder.specs.inside.Steps.{indexed, without_index}
-pub use Rattle.wasm_encoder.specs.WrittenTypes.{AreEntered}
+pub use Rattle.wasm_encoder.specs.WrittenTypes.{AreEntered, CoreFunctionsAreEntered}
+pub use Rattle.wasm_encoder.specs.WrittenTypes.{FunctionsAreEntered, IsEntered, ListedAreEntered}
+pub use Rattle.wasm_encoder.specs.WrittenTypes.{core_function_entry, function_entry}
 pub use Rattle.wasm_encoder.specs.declared.command.Command.{Command}
 pub use Rattle.wenc_base.specs.declared.fault.Fault.{Fault}
 pub use Rattle.wenc_list.specs.declared.fault.ListFault.{ListFault}

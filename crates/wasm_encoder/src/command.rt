@@ -1,10 +1,11 @@
 //! Commands: the calls of a builder as data, and runs of them.
 ghost use Rattle.std.specs.Prelude.{◌≡◌, ◌↔◌, ◌⊎◌, List, [], Ok, IfOk, IfErr, OnErr, IsOk, map};
+ghost use Rattle.std.specs.List.{AllByRecursion};
 ghost use Rattle.std.specs.Option.{option_copied, option_map};
 ghost use Rattle.std.specs.String.{string_bytes};
 ghost use Rattle.wasm_encoder.specs.Prelude.{led, first_cause, Add, command_view, commands_view, Ran, IsRefusal, IsStopped, HasRun, RunsNext, StepsRun, StepsBack, indexed as indexed_of, without_index as without_index_of};
 ghost use Rattle.wenc_base.specs.Prelude.{IsMemory, NoCause, Spelling};
-ghost use Rattle.wenc_builder.specs.Prelude.{Item, HasNoRaw, Section, runs, Reading, whole, IsEncodable, EntersWithoutIndex, Entry, items, core_type_entry, type_entry, custom_entry, Holds};
+ghost use Rattle.wenc_builder.specs.Prelude.{Item, HasNoRaw, Section, runs, Reading, whole, IsEncodable, EntersWithoutIndex, Entry, items, core_type_entry, type_entry, custom_entry, Holds, StartIsNameless};
 ghost use Rattle.wenc_types.specs.Prelude.{core_type_view, type_view};
 
 use std::alloc::{Allocator, Global};
@@ -307,13 +308,14 @@ pub struct Built<A: Allocator = Global> {
     pub bytes: Vec<u8, A>,
 }
 
-/// Makes the calls that the commands describe, in order, on a new builder, keeps each result, and
-/// finishes. A refused command adds nothing, and the commands after it still run.
+/// Makes the calls that the commands describe, in order, on a new builder, and finishes. Returns
+/// the bytes, and one result per command. A refused command adds nothing, and the commands after it
+/// still run, unless it is that of a type, which may end the run.
 ///
 /// # Errors
 ///
-/// Fails with `Memory` if the allocation of the builder or of the results fails, and if a type
-/// fails while it is written: with that fault, and no further command runs.
+/// Fails with `Memory`, or with the fault for which a type is refused, after the commands before
+/// that type ran.
 ///
 /// ```
 /// let import = Command::Import {
@@ -447,6 +449,9 @@ impl<A: Allocator + Copy> Running<A> {
         ensures ok { IsOk result }
         ensures held { (es : List Entry) → Holds self es
             → IfOk result (λ v. v.items ≡ whole (items es)) }
+        ensures some { IfOk result (λ v.
+            ∥ ((es : List Entry) × Holds self es × (v.items ≡ whole (items es))
+            × AllByRecursion StartIsNameless es) ∥₁) }
         // If no item is raw, the bytes have one reading, strictly and widely: the sections into
         // which the items are cut.
         ensures one_reading { IfOk result (λ v. (es : List Entry) → Holds self es

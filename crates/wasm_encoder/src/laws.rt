@@ -17,8 +17,9 @@ mod of_holders;
 mod of_listings;
 
 pub use of_builders::{
-    an_item_becomes_its_command, counts_never_fall, encoded_types_are_entries,
-    held_items_tell_bytes, indices_are_no_primitives, named_indices_ascend, neighbours_differ,
+    an_item_becomes_its_command, core_functions_are_entries, counts_never_fall,
+    encoded_types_are_entries, functions_are_entries, held_items_tell_bytes,
+    indices_are_no_primitives, listed_types_are_entries, named_indices_ascend, neighbours_differ,
     nested_runs, one_item_counts_once, one_kind_is_one_section,
 };
 pub use of_holders::{sections_are_read, what_is_finished_has_some};

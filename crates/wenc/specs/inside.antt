@@ -1,4 +1,5 @@
--- What private functions and proofs need alone: no contract of a public call reaches it.
+-- What private functions and proofs need, and of public calls those alone of which the program is
+-- made: `translate`, `report`, `read_all` and `list_text`.
 pub mod Steps
 pub mod ListSteps
 pub mod Lines

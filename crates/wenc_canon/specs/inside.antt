@@ -1,2 +1,3 @@
--- What private functions and proofs need alone: no contract of a public call reaches it.
+-- What private functions and proofs need, and of public calls those alone by which section and
+-- builder add a row: `AddsRow` and `AddsSlotRow`.
 pub mod Rows

@@ -20,7 +20,7 @@ use Rattle.wenc_list.specs.inside.Taken.{TakesAll, FaultsIn}
 use Rattle.wenc_list.specs.inside.Unread.{Stops, IsUnreadOf}
 use Rattle.wenc_list.proofs.Listed.{never_framed}
 use Rattle.wenc_list.proofs.SectionLaws.{is_framed, same_frame, frame_finds, section_framed}
-use Rattle.wenc_list.proofs.Taken.{frame_leaves, at_place, taken_fault, taken_read, taken_within}
+use Rattle.wenc_list.proofs.Taken.{frame_leaves, at_place, labelled_other, taken_fault, taken_read, taken_within}
 
 -- ---- a section
 
@@ -40,6 +40,14 @@ unlabelled_here all bytes s rest place o t id content after f l =
     let fault = taken_fault all bytes rest s t.xs t.left (faults.BadSection place) o t.taken t.cause in
     absurd (fault.2 id content after f l)
 
+-- where bytes come behind the last item it isn't one without a name
+behind_labelled : (all : ℕ) (bytes : List ℕ) (s left : SectionItems) (rest : List ℕ) (xs : List Item) → (o : Opens all bytes s rest) → HasTaken s xs left → left.left ≡ 0 → 0 < length left.rest.now → IsLabelled s.id o.content
+behind_labelled all bytes s left rest xs o t none_left more =
+    let fault = taken_fault all bytes rest s xs left (faults.BadItem left.place) o t (refl, inr (none_left, more)) in
+    let f = fault.2 in
+    let same = same_frame bytes f.id s.id f.content o.content f.rest rest (frame_finds bytes f.id f.content f.rest f.framed) o.framed in
+    rw (same.id_is, same.content_is) at f.labelled
+
 pub of_section : (all : ℕ) (bytes : List ℕ) (s : SectionItems) (rest : List ℕ) (unread : Option Unread) → Opens all bytes s rest → IsUnreadOf s unread → MatchOption unread (IsReadHere bytes) (IsUnread all bytes)
 of_section all bytes s rest None o (inl h) = all_read_here all bytes s rest h.0 o h.1
 of_section all bytes s rest None o (inr h) = unlabelled_here all bytes s rest h.0 o h.1
@@ -49,6 +57,7 @@ of_section all bytes s rest (Some (parts.Item number here)) o h = record {
   content = o.content;
   rest = rest;
   framed = o.framed;
+  labelled = labelled_other s.id o.content (λ e. h.next.1 (h.taken.same_id ∙ e));
   cause = record {
     count = s.left;
     behind = s.rest.now;
@@ -56,7 +65,7 @@ of_section all bytes s rest (Some (parts.Item number here)) o h = record {
     left = h.left.rest.now;
     before = record { items = h.xs; read = h.taken.read; within = h.taken.within; are = h.are };
     is_place = omega (arith, h.is_place, h.taken.same_end, o.is_end);
-    next = (omega (arith, h.taken.counted, h.are, h.next.0), subst (λ (id : ℕ). IsNoItem id h.left.rest.now) h.taken.same_id h.next.1);
+    next = (omega (arith, h.taken.counted, h.are, h.next.0), subst (λ (id : ℕ). IsNoItem id h.left.rest.now) h.taken.same_id h.next.2);
   };
 }
 of_section all bytes s rest (Some (parts.Behind here)) o h = record {
@@ -64,6 +73,7 @@ of_section all bytes s rest (Some (parts.Behind here)) o h = record {
   content = o.content;
   rest = rest;
   framed = o.framed;
+  labelled = behind_labelled all bytes s h.1.left rest h.1.xs o h.1.taken h.1.next.0 h.1.next.1;
   cause = (
     h.0,
     record {

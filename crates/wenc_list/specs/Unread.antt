@@ -45,12 +45,14 @@ IsUnreadIn id content ends (parts.Behind here) =
     (number : ℕ) × StopsInside id content ends number here
     (λ count left. (number ≡ count) × (0 < length left))
 
--- this is the first of the section that begins here that isn't read, of so many bytes in all
+-- this is the first that isn't read of the section that begins here, of so many bytes in all; that
+-- is no custom section without a name
 pub record IsUnread (all : ℕ) (bytes : List ℕ) (unread : Unread) : Type 0 where
   pub id : ℕ
   pub content : List ℕ
   pub rest : List ℕ
   pub framed : IsFramed bytes id content rest
+  pub labelled : IsLabelled id content
   pub cause : IsUnreadIn id content (all - length rest) unread
 
 -- Where a section begins here, and isn't a custom one without a name, it is read within depth 100.

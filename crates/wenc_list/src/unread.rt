@@ -90,7 +90,8 @@ pub fn first_unread<A: Allocator + Copy>(
     place: usize,
 ) -> Result<Option<Unread>, AllocError>
     // The returned part is the first that can't be read: all items before it can. `None` says that
-    // a section which begins there can be read.
+    // a section which begins there can be read, if it isn't a custom section without a name: of
+    // such a section no part is returned.
     ensures unread { let here = drop place bytes.now in
         IfOk result (λ u. MatchOption u (IsReadHere here) (IsUnread (length bytes.now) here)) }
     // Where `list` may fail with `BadItem` or `TooDeep` at this byte offset, there is such a part.

@@ -2,13 +2,15 @@
 ghost use Rattle.std.specs.List.{AllByRecursion};
 ghost use Rattle.std.specs.List.Sorted.{IsStrictlyIncreasing};
 ghost use Rattle.std.specs.Prelude.{◌≡◌, ◌↔◌, ◌+◌, ◌<◌, ◌≤◌, ◌^◌, ◌++◌, ◌∷◌, [], ℕ, List, length, map, true, IsOk, Ok, Option, Result, Some};
-ghost use Rattle.wasm_encoder.specs.Prelude.{Fault, Space, ComponentSectionId, PrimitiveValType, added, led, first_cause, CommandTree, Commands, command_view, commands_listed, command_of, AddsNameless, Ran, AreEntered, Command};
+ghost use Rattle.wasm_encoder.specs.Prelude.{Fault, Space, ComponentSectionId, PrimitiveValType, added, led, first_cause, CommandTree, Commands, command_view, commands_listed, command_of, AddsNameless, Ran, AreEntered, ListedAreEntered, CoreFunctionsAreEntered, FunctionsAreEntered, Command};
 ghost use Rattle.wenc_base.specs.Prelude.{NoCause};
 ghost use Rattle.wenc_builder.specs.Prelude.{State, Draft, draft_in, builder_is_finished, item_begun, item_appended, item_ended, item_given_up, count_in, Enters, EntersWithoutIndex, Entry, items as items_of, names, StartIsNameless, Holds, Item, collected, HasNoRaw, Section, Run, runs, whole, defines, some_in, next_index};
 ghost use Rattle.wenc_parts.specs.Prelude.{value_type, primitive};
 ghost use Rattle.wenc_parts.specs.declared.types.ComponentValType.TheVariants as value_types;
 
 use std::alloc::Allocator;
+use wenc_base::ValType;
+use wenc_parts::ComponentValType;
 
 /// No two neighbours among the sections into which items are cut collect items of one kind.
 pub fn neighbours_differ()
@@ -134,4 +136,25 @@ pub fn encoded_types_are_entries()
     ensures written_given_up { (old lent new : State) (es : List Entry) (d : Draft) (text : List ℕ)
         → lent ≡ item_appended (item_begun old d) text → new ≡ item_given_up lent
         → Holds old es → Holds new es }
+{}
+
+/// A type that an accepted call began on a builder, and that an encoder's accepted call wrote from
+/// the values of an iterator, as `record` or `rec`, is one entry more in every list that the
+/// builder held, made of all that the iterator yielded.
+pub fn listed_types_are_entries<T, I: Iterator<Item = T>>()
+    ensures { ListedAreEntered I.next_gives }
+{}
+
+/// The same of a core function, from the parameters and the results that two iterators yielded.
+pub fn core_functions_are_entries<P, R>()
+where
+    P: Iterator<Item = ValType>,
+    R: Iterator<Item = ValType>,
+    ensures { CoreFunctionsAreEntered P.next_gives R.next_gives }
+{}
+
+/// The same of a function, from the calls of its encoder: `params` and `result`, or `async_` before
+/// these.
+pub fn functions_are_entries<'a, P: Iterator<Item = (&'a str, ComponentValType)>>()
+    ensures { FunctionsAreEntered P.next_gives }
 {}

@@ -24,7 +24,8 @@ IsUnreadOf first None =
     ⊎ ((place : ℕ) × FaultsIn first (faults.BadSection place))
 IsUnreadOf first (Some (parts.Count here)) = ⊥
 IsUnreadOf first (Some (parts.Item number here)) =
-    Stops first number here (λ left. (0 < left.left) × IsNoItem left.id left.rest.now)
+    Stops first number here
+    (λ left. (0 < left.left) × (left.id ≡ 0 → ⊥) × IsNoItem left.id left.rest.now)
 IsUnreadOf first (Some (parts.Behind here)) =
     (number : ℕ) × Stops first number here
     (λ left. (left.left ≡ 0) × (0 < length left.rest.now))

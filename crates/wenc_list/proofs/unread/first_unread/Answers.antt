@@ -1,7 +1,7 @@
 use Rattle.std.proofs.Common.{inl, sym, length, length-drop, drop, arith}
 use Rattle.wenc_list.specs.Unread.{IsUnread}
 use Rattle.wenc_list.proofs.SectionLaws.{is_framed}
-use Rattle.wenc_list.proofs.Taken.{section_leaves, count_holds, no_count, uncounted}
+use Rattle.wenc_list.proofs.Taken.{section_leaves, count_holds, no_count, collects_other, labelled_other, uncounted}
 use Rattle.wenc_list.proofs.Walked.{unframed, all_of_section, named_tells, named_none}
 use Rattle.wenc_list.proofs.unread.first_unread.Goals as goal
 
@@ -36,6 +36,7 @@ returns-in-Err-counted-clause-unread g c =
       content = content;
       rest = c.in-Ok.rest.now;
       framed = rw c.split_at.ensures.back at (is_framed c.split_at.result.1.now id content c.in-Ok.rest.now c.in-Ok.ensures);
+      labelled = labelled_other id content (collects_other id collecting);
       cause = record {
         collecting = collecting;
         is_place = rw (sym c.saturating_sub-ends.ensures) c.saturating_sub-place.ensures;
