@@ -16,13 +16,13 @@ use crate::proved::rt_std::alloc::Global;
 use crate::proved::rt_std::vec::Vec;
 use crate::proved::wenc_base::Fault;
 
-/// The values as the proved code takes them, or the first error.
+/// The values as the proved code takes them, or the first error. Nothing is reserved by the length
+/// that the iterator claims, which may be any.
 pub(super) fn converted<T, U>(
-    values: impl IntoIterator<Item = T, IntoIter: ExactSizeIterator>,
+    values: impl IntoIterator<Item = T>,
     convert: impl Fn(T) -> Result<U, Error>,
 ) -> Result<Vec<U>, Error> {
-    let values = values.into_iter();
-    let mut converted = Vec::with_capacity(Global, values.len()).map_err(Fault::from)?;
+    let mut converted = Vec::new(Global);
     for value in values {
         converted.push(convert(value)?).map_err(Fault::from)?;
     }

@@ -5,13 +5,14 @@ use super::vec::Vec;
 
 /// Rattle's `collect`, by another name, since Rust's iterators have a `collect` already.
 pub trait CollectUsing: Iterator {
-    /// What comes, in its order.
+    /// What comes, in its order. Nothing is reserved by the length that the iterator claims, which
+    /// may be any.
     #[inline]
     fn collect_using<A: Allocator>(self, alloc: A) -> Result<Vec<Self::Item, A>, AllocError>
     where
         Self: Sized,
     {
-        let mut all = Vec::with_capacity(alloc, self.size_hint().0)?;
+        let mut all = Vec::new(alloc);
         for one in self {
             all.push(one)?;
         }
