@@ -119,17 +119,16 @@ pub(crate) trait Public<T> {
 macro_rules! encoders {
     ($(
         $(#[$meta:meta])*
-        $name:ident by $by:ident over $section:ident $(and $case:ident $lender:ident)*
-        $(, $field:ident: $ty:ty = $start:expr)?;
+        $name:ident by $by:ident over $section:ident $(and $case:ident $lender:ident)*;
     )*) => {
         $($crate::shared::encoders! {
-            @with [$(#[$meta])*] $name $by [$($field: $ty = $start)?]
+            @with [$(#[$meta])*] $name $by
             Builder ComponentBuilder, Section $section, Component ComponentType,
             Instance InstanceType $(, $case $lender)*
         })*
     };
     (
-        @with [$(#[$meta:meta])*] $name:ident $by:ident [$($field:ident: $ty:ty = $start:expr)?]
+        @with [$(#[$meta:meta])*] $name:ident $by:ident
         $($case:ident $lender:ident),*
     ) => {
         enum $by<'a> {
@@ -141,7 +140,6 @@ macro_rules! encoders {
         $(#[$meta])*
         pub struct $name<'a> {
             by: $by<'a>,
-            $($field: $ty,)?
         }
 
         impl core::fmt::Debug for $name<'_> {
@@ -150,24 +148,14 @@ macro_rules! encoders {
             }
         }
 
-        $crate::shared::encoders! {
-            @from $name $by [$($field = $start)?] $($case $lender),*
-        }
-    };
-    (@from $name:ident $by:ident $starting:tt $($case:ident $lender:ident),*) => {
-        $($crate::shared::encoders! { @one $name $by $starting $case $lender })*
-    };
-    (
-        @one $name:ident $by:ident [$($field:ident = $start:expr)?] $case:ident $lender:ident
-    ) => {
-        impl<'a> $crate::shared::Public<$name<'a>>
+        $(impl<'a> $crate::shared::Public<$name<'a>>
             for $crate::proved::wasm_encoder::$name<'a, $crate::proved::wasm_encoder::$lender>
         {
             #[inline]
             fn public(self) -> $name<'a> {
-                $name { by: $by::$case(self), $($field: $start,)? }
+                $name { by: $by::$case(self) }
             }
-        }
+        })*
     };
 }
 

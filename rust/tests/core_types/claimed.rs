@@ -2,7 +2,6 @@
 //! that of the values.
 
 use crate::shapes::{field, function, sub, text};
-use wenc::tree::{CoreFuncType, CoreValType, Global};
 use wenc::{CoreTypeEncoder, CoreTypeSection, InstanceType, ModuleType, StorageType, ValType};
 
 /// An iterator that claims this length, until its end.
@@ -79,15 +78,4 @@ fn groups() {
         },
         &[0x4e, 3, 0x60, 1, 0x7f, 0, 0x60, 1, 0x7e, 0, 0x60, 1, 0x7d, 0],
     );
-}
-
-#[test]
-fn functions_of_trees() {
-    for claimed in CLAIMED {
-        let [i32, i64] = [CoreValType::I32, CoreValType::I64];
-        let params = Claiming(claimed, [i32, i64, i32].into_iter());
-        let results = Claiming(claimed, [i64].into_iter());
-        let ty = CoreFuncType::new(Global, params, results).expect("there is memory");
-        assert_eq!((ty.params(), ty.results()), (&[i32, i64, i32][..], &[i64][..]), "{claimed}");
-    }
 }

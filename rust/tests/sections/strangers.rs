@@ -124,12 +124,16 @@ fn strangers_that_panic_leave_what_is_there() {
         }
         let mut component = Component::new();
         component.section(&Own(1));
-        assert!(panics(|| drop(component.section(&stranger))));
+        assert!(panics(|| {
+            component.section(&stranger);
+        }));
         assert_eq!(component.as_slice(), [&Component::HEADER[..], &[99, 1, 1]].concat());
         component.section(&Own(2));
         assert_eq!(component.finish(), [&Component::HEADER[..], &[99, 1, 1, 99, 1, 2]].concat());
         let mut module = Module::new();
-        assert!(panics(|| drop(module.section(&stranger))));
+        assert!(panics(|| {
+            module.section(&stranger);
+        }));
         assert_eq!(module.section(&Own(2)).as_slice()[..8], Module::HEADER);
         assert_eq!(module.finish()[8..], [77, 1, 2]);
     }
