@@ -9,8 +9,9 @@ use alloc::vec::Vec;
 use core::cell::Cell;
 use core::mem::take;
 
-/// A value with an encoding in the binary format. A type of your own may implement it, for a section
-/// of your own: what encodes it gives it an empty sink, and appends that to its own.
+/// A value with an encoding in the binary format. A type of your own may implement it, for a
+/// section of your own: a component to which that is appended, and a list or an `Option` of such
+/// values, has it encode to an empty sink, and appends that.
 ///
 /// ```
 /// use wenc::{ComponentValType, Encode};
@@ -29,7 +30,8 @@ pub trait Encode {
     /// unfinished, a core type isn't in WebAssembly 3.0, or an allocation fails.
     fn encode(&self, sink: &mut Vec<u8>);
 
-    /// Whether `encode` is this crate's, which leaves what the sink has as it is.
+    /// Whether `encode` is this crate's, which leaves what the sink has as it is. An implementation
+    /// of yours can't say so.
     #[doc(hidden)]
     #[inline]
     fn appends(&self) -> Appends {
@@ -37,7 +39,7 @@ pub trait Encode {
     }
 }
 
-/// Of `Encode::appends`, which only this crate can implement: no other can name or make it.
+/// What [`Encode::appends`] returns, so that no other crate can implement it: none can name this.
 pub struct Appends(pub(crate) bool);
 
 /// The `appends` of this crate's implementations.
