@@ -46,7 +46,7 @@ const WRITTEN: [(Stranger, &[u8]); 11] = [
     (Stranger(|sink| sink.push(u8::try_from(sink.len()).expect("a byte"))), &[0]),
     // strangers in it: the first writes what it likes, and the others spoil what they find
     (Stranger(|sink| [Stranger(|sink| sink.push(5)); 2].encode(sink)), &[2, 5, 5]),
-    (Stranger(|sink| (&[Some(Stranger(|sink| *sink = vec![6]))][..]).encode(sink)), &[1, 1, 6]),
+    (Stranger(|sink| [Some(Stranger(|sink| *sink = vec![6]))][..].encode(sink)), &[1, 1, 6]),
     (
         Stranger(|sink| {
             sink.push(3);
@@ -82,9 +82,11 @@ const PANICKING: [Stranger; 6] = [
     }),
 ];
 
-/// Encodes after other bytes, in each way in which this crate calls a user's `encode`: what is in
-/// front of the stranger's bytes, how often these come, and the call.
-const WAYS: [(&[u8], usize, fn(Stranger, &mut Vec<u8>)); 8] = [
+/// A way in which this crate calls a user's `encode`: what is in front of the stranger's bytes, how
+/// often these come, and the call.
+type Way = (&'static [u8], usize, fn(Stranger, &mut Vec<u8>));
+
+const WAYS: [Way; 8] = [
     (&[99], 1, |stranger, sink| stranger.append_to_component(sink)),
     (&[99], 1, |stranger, sink| stranger.append_to(sink)),
     (&[99], 1, |stranger, sink| (&stranger as &dyn ComponentSection).append_to_component(sink)),
