@@ -28,6 +28,7 @@ use crate::encode::{Encode, Foreign, append};
 use crate::error::or_panic;
 use crate::proved::wasm_encoder as proved;
 use alloc::vec::Vec;
+use core::cell::Cell;
 use core::fmt;
 
 pub use proved::ComponentSectionId;
@@ -79,14 +80,13 @@ pub trait ComponentSection: Encode {
 /// itself: if that fails, the section is written first and then moved up.
 fn append_section<S: ComponentSection + ?Sized>(section: &S, dst: &mut Vec<u8>) {
     let _ = dst.try_reserve(1);
-    or_panic(append(dst, |sink| {
-        proved::ComponentSection::append_to_component(&Foreign(section), sink)
-    }));
+    let section = Foreign { value: section, own: &Cell::default() };
+    or_panic(append(dst, |sink| proved::ComponentSection::append_to_component(&section, sink)));
 }
 
 impl<S: ComponentSection + ?Sized> proved::ComponentSection for Foreign<'_, S> {
     fn id(&self) -> u8 {
-        self.0.id()
+        self.value.id()
     }
 }
 

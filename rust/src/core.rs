@@ -30,6 +30,7 @@ use crate::error::or_panic;
 use crate::proved::wasm_encoder as proved;
 use crate::proved::wenc_base::Verbatim;
 use alloc::vec::Vec;
+use core::cell::Cell;
 
 /// A section of a core module ([WebAssembly 3.0, binary format, "Sections"][sections]). A type of
 /// your own may implement it too.
@@ -78,12 +79,13 @@ pub trait Section: Encode {
 /// itself, as for a section of a component.
 fn append_section<S: Section + ?Sized>(section: &S, dst: &mut Vec<u8>) {
     let _ = dst.try_reserve(1);
-    or_panic(append(dst, |sink| proved::Section::append_to(&Foreign(section), sink)));
+    let section = Foreign { value: section, own: &Cell::default() };
+    or_panic(append(dst, |sink| proved::Section::append_to(&section, sink)));
 }
 
 impl<S: Section + ?Sized> proved::Section for Foreign<'_, S> {
     fn id(&self) -> u8 {
-        self.0.id()
+        self.value.id()
     }
 }
 

@@ -6,10 +6,12 @@ use crate::proved::rt_std::alloc::Allocator;
 use crate::proved::rt_std::vec::Vec as ProvedVec;
 use crate::proved::wenc_base::{self as proved, Fault};
 use alloc::vec::Vec;
+use core::cell::Cell;
 use core::mem::take;
 
-/// A value with an encoding in the binary format. A type of your own may implement it, for a section
-/// of your own.
+/// A value with an encoding in the binary format. A type of your own may implement it, for a
+/// section of your own: a component to which that is appended, and a list or an `Option` of such
+/// values, has it encode to an empty sink, and appends that.
 ///
 /// ```
 /// use wenc::{ComponentValType, Encode};
@@ -20,15 +22,37 @@ use core::mem::take;
 /// assert_eq!(sink, [0xc0, 0x00, 0x01, b'f']);
 /// ```
 pub trait Encode {
-    /// Appends the bytes of the value to the sink. An implementation removes none.
+    /// Appends the bytes of the value to the sink.
     ///
     /// # Panics
     ///
     /// Panics, with the sink unchanged, if a length exceeds 4294967295, a type or a section is
-    /// unfinished, a core type isn't in WebAssembly 3.0, or an allocation fails. What encodes other
-    /// values, as a slice, panics too if one of these removes bytes from the sink.
+    /// unfinished, a core type isn't in WebAssembly 3.0, or an allocation fails.
     fn encode(&self, sink: &mut Vec<u8>);
+
+    /// Whether `encode` is this crate's, which leaves what the sink has as it is. An implementation
+    /// of yours can't say so.
+    #[doc(hidden)]
+    #[inline]
+    fn appends(&self) -> Appends {
+        Appends(false)
+    }
 }
+
+/// What [`Encode::appends`] returns, so that no other crate can implement it: none can name this.
+pub struct Appends(pub(crate) bool);
+
+/// The `appends` of this crate's implementations.
+macro_rules! appends {
+    () => {
+        #[inline]
+        fn appends(&self) -> $crate::encode::Appends {
+            $crate::encode::Appends(true)
+        }
+    };
+}
+
+pub(crate) use appends;
 
 /// A sink that was taken from its owner and is given back on drop, truncated to what it had before
 /// if a user's `Encode` panicked.
@@ -74,16 +98,27 @@ pub(crate) fn append_proved<T: proved::Encode>(sink: &mut Vec<u8>, value: &T) {
     or_panic(result);
 }
 
-/// A value that a user's `Encode` encodes, as the proved code takes it.
+/// A value that an `Encode` encodes, as the proved code takes it. That of a user gets a sink of its
+/// own, where it reaches no other bytes.
 #[derive(Clone, Copy)]
-pub(crate) struct Foreign<'a, T: ?Sized>(pub &'a T);
+pub(crate) struct Foreign<'a, T: ?Sized> {
+    pub value: &'a T,
+    /// The user's sink, from one value to the next.
+    pub own: &'a Cell<Vec<u8>>,
+}
 
 impl<T: Encode + ?Sized> proved::Encode for Foreign<'_, T> {
     #[inline]
     fn encode<A: Allocator>(&self, sink: &mut ProvedVec<u8, A>) -> Result<(), Fault> {
-        let start = sink.inner.len();
-        self.0.encode(&mut sink.inner);
-        assert!(sink.inner.len() >= start, "`Encode::encode` removed bytes from its sink");
+        if self.value.appends().0 {
+            self.value.encode(&mut sink.inner);
+            return Ok(());
+        }
+        let mut own = self.own.take();
+        own.clear();
+        self.value.encode(&mut own);
+        sink.extend_from_slice(&own)?;
+        self.own.set(own);
         Ok(())
     }
 }
@@ -103,20 +138,32 @@ impl<T: Encode + ?Sized> Encode for &T {
     fn encode(&self, sink: &mut Vec<u8>) {
         T::encode(self, sink);
     }
+
+    #[inline]
+    fn appends(&self) -> Appends {
+        T::appends(self)
+    }
 }
 
 /// Encodes a list: the number of values, then each.
 impl<T: Encode> Encode for [T] {
     fn encode(&self, sink: &mut Vec<u8>) {
-        or_panic(append(sink, |sink| proved::encode_list(self.iter().map(Foreign), sink)));
+        let own = Cell::default();
+        let values = self.iter().map(|value| Foreign { value, own: &own });
+        or_panic(append(sink, |sink| proved::encode_list(values, sink)));
     }
+
+    appends! {}
 }
 
 impl<T: Encode> Encode for Option<T> {
     fn encode(&self, sink: &mut Vec<u8>) {
-        let foreign = self.as_ref().map(Foreign);
-        or_panic(append(sink, |sink| proved::Encode::encode(&foreign, sink)));
+        let own = Cell::default();
+        let value = self.as_ref().map(|value| Foreign { value, own: &own });
+        or_panic(append(sink, |sink| proved::Encode::encode(&value, sink)));
     }
+
+    appends! {}
 }
 
 /// Encodes a list of bytes.
@@ -125,6 +172,8 @@ impl Encode for [u8] {
     fn encode(&self, sink: &mut Vec<u8>) {
         append_proved(sink, &self);
     }
+
+    appends! {}
 }
 
 impl Encode for str {
@@ -132,6 +181,8 @@ impl Encode for str {
     fn encode(&self, sink: &mut Vec<u8>) {
         append_proved(sink, &self);
     }
+
+    appends! {}
 }
 
 impl Encode for usize {
@@ -139,6 +190,8 @@ impl Encode for usize {
     fn encode(&self, sink: &mut Vec<u8>) {
         or_panic(u32::try_from(*self).map_err(|_| Error::TooMany)).encode(sink);
     }
+
+    appends! {}
 }
 
 /// Writes values as the proved code writes what follows the arrow.
@@ -150,6 +203,8 @@ macro_rules! encode {
                 let $value = self;
                 $crate::encode::append_proved(sink, &$proved);
             }
+
+            $crate::encode::appends! {}
         })*
     };
 }

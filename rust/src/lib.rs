@@ -62,8 +62,9 @@
 //! ```
 //!
 //! An encoder that is dropped before its last call leaves its parent unfinished: calls that add to
-//! the parent or take it fail until `discard_unfinished`. So does an iterator, a name or an `Into` of
-//! the caller's that panics during a call. Finished output never contains a partial item.
+//! the parent or take it fail until `discard_unfinished`. So may an iterator, a name or an `Into` of
+//! the caller's that panics during a call; else what has the call is unchanged. Finished output never
+//! contains a partial item.
 //!
 //! # The standard
 //!

@@ -2,7 +2,7 @@
 
 use crate::component::{ComponentSection, ComponentSectionId};
 use crate::cursor::SectionReader;
-use crate::encode::{Encode, append, encode};
+use crate::encode::{Encode, append, appends, encode};
 use crate::error::{Error, or_panic};
 use crate::list::ListedSection;
 use crate::proved::rt_std::alloc::Global;
@@ -39,6 +39,8 @@ impl Encode for ListedSection {
         }
         section.encode(sink);
     }
+
+    appends! {}
 }
 
 impl ComponentSection for ListedSection {
@@ -191,6 +193,8 @@ impl Encode for ItemSection {
     fn encode(&self, sink: &mut Vec<u8>) {
         or_panic(append(sink, |sink| self.append(sink)));
     }
+
+    appends! {}
 }
 
 impl ComponentSection for ItemSection {

@@ -1,9 +1,10 @@
 //! What sections and types by hand have in common.
 
-use crate::ComponentValType;
 use crate::proved::rt_std::alloc::Allocator;
 use crate::proved::rt_std::vec::Vec as ProvedVec;
 use crate::proved::wenc_base::{self as proved, Fault};
+use crate::{ComponentValType, Error};
+use core::mem::forget;
 
 /// Items or declarations that the proved code holds: what upstream derives (`Clone`, `Debug`,
 /// `Default`), over calls that are handed an allocator and may be refused.
@@ -65,6 +66,49 @@ macro_rules! lenders {
 
 pub(crate) use lenders;
 
+/// A section each of whose items is added by one call.
+pub(crate) trait AddsWhole {
+    /// Discards the item that a call has begun and not ended, if there is one.
+    fn discard_unfinished(&mut self);
+}
+
+/// Sections each of whose items is added by one call.
+macro_rules! adding_whole {
+    ($($name:ident)*) => {
+        $(impl $crate::shared::AddsWhole for $name {
+            fn discard_unfinished(&mut self) {
+                let mut items = core::mem::take(self).0.into_holder();
+                items.discard_unfinished();
+                self.0 = $crate::proved::wasm_encoder::$name::from_holder(items);
+            }
+        })*
+    };
+}
+
+pub(crate) use adding_whole;
+
+/// Adds an item to a section, or leaves it unchanged, also where an iterator of the caller panics.
+#[inline]
+pub(crate) fn add_whole<S: AddsWhole>(
+    section: &mut S,
+    add: impl FnOnce(&mut S) -> Result<(), Fault>,
+) -> Result<&mut S, Error> {
+    struct Adding<'a, S: AddsWhole>(&'a mut S);
+
+    impl<S: AddsWhole> Drop for Adding<'_, S> {
+        #[cold]
+        fn drop(&mut self) {
+            self.0.discard_unfinished();
+        }
+    }
+
+    let adding = Adding(&mut *section);
+    let result = add(adding.0);
+    forget(adding);
+    result?;
+    Ok(section)
+}
+
 /// A proved encoder as the public one. As a `From` of the public one it would be shown there.
 pub(crate) trait Public<T> {
     /// The encoder.
@@ -75,17 +119,16 @@ pub(crate) trait Public<T> {
 macro_rules! encoders {
     ($(
         $(#[$meta:meta])*
-        $name:ident by $by:ident over $section:ident $(and $case:ident $lender:ident)*
-        $(, $field:ident: $ty:ty = $start:expr)?;
+        $name:ident by $by:ident over $section:ident $(and $case:ident $lender:ident)*;
     )*) => {
         $($crate::shared::encoders! {
-            @with [$(#[$meta])*] $name $by [$($field: $ty = $start)?]
+            @with [$(#[$meta])*] $name $by
             Builder ComponentBuilder, Section $section, Component ComponentType,
             Instance InstanceType $(, $case $lender)*
         })*
     };
     (
-        @with [$(#[$meta:meta])*] $name:ident $by:ident [$($field:ident: $ty:ty = $start:expr)?]
+        @with [$(#[$meta:meta])*] $name:ident $by:ident
         $($case:ident $lender:ident),*
     ) => {
         enum $by<'a> {
@@ -97,7 +140,6 @@ macro_rules! encoders {
         $(#[$meta])*
         pub struct $name<'a> {
             by: $by<'a>,
-            $($field: $ty,)?
         }
 
         impl core::fmt::Debug for $name<'_> {
@@ -106,24 +148,14 @@ macro_rules! encoders {
             }
         }
 
-        $crate::shared::encoders! {
-            @from $name $by [$($field = $start)?] $($case $lender),*
-        }
-    };
-    (@from $name:ident $by:ident $starting:tt $($case:ident $lender:ident),*) => {
-        $($crate::shared::encoders! { @one $name $by $starting $case $lender })*
-    };
-    (
-        @one $name:ident $by:ident [$($field:ident = $start:expr)?] $case:ident $lender:ident
-    ) => {
-        impl<'a> $crate::shared::Public<$name<'a>>
+        $(impl<'a> $crate::shared::Public<$name<'a>>
             for $crate::proved::wasm_encoder::$name<'a, $crate::proved::wasm_encoder::$lender>
         {
             #[inline]
             fn public(self) -> $name<'a> {
-                $name { by: $by::$case(self), $($field: $start,)? }
+                $name { by: $by::$case(self) }
             }
-        }
+        })*
     };
 }
 

@@ -1,5 +1,7 @@
 //! Core types: their bytes, what isn't supported, and what is left when one isn't ended.
 
+#[path = "core_types/claimed.rs"]
+mod claimed;
 #[path = "core_types/entities.rs"]
 mod entities;
 #[path = "core_types/panicking.rs"]

@@ -15,6 +15,8 @@ mod declarations;
 mod members;
 #[path = "refused/names.rs"]
 mod names;
+#[path = "refused/reading.rs"]
+mod reading;
 #[allow(dead_code, reason = "some are for others")]
 #[path = "core_types/shapes.rs"]
 mod shapes;
@@ -305,6 +307,51 @@ fn a_section_comes_without_room_for_its_id() {
     module.section(&raw);
     assert_eq!(GRANTED.take(), None, "no request was refused");
     assert_eq!(module.as_slice(), wanted);
+}
+
+/// Sections and values of this crate are written to the sink itself: where that has room, nothing is
+/// asked for.
+#[test]
+fn own_sections_are_written_in_place() {
+    let (module, nested) = (Module::new(), Component::new());
+    let import = b"\0asm\x0d\0\x01\0\x0a\x06\x01\0\x01f\x01\0";
+    let read = Sections::new(import).expect("a component").next().expect("one").expect("a section");
+    let mut items = ItemSection::new(read.id());
+    items.raw(&import[11..]).expect("there is memory");
+    let sections: [&dyn ComponentSection; 18] = [
+        &CanonicalFunctionSection::new(),
+        &ComponentAliasSection::new(),
+        &ComponentExportSection::new(),
+        &ComponentImportSection::new(),
+        &ComponentInstanceSection::new(),
+        &ComponentNameSection::new(),
+        &ComponentStartSection { function_index: 0, args: [1], results: 0 },
+        &ComponentTypeSection::new(),
+        &CoreTypeSection::new(),
+        &CustomSection { name: NAME.into(), data: b"x".as_slice().into() },
+        &InstanceSection::new(),
+        &ModuleSection(&module),
+        &NestedComponentSection(&nested),
+        &ProducersSection::new(),
+        &RawCustomSection(b"\x02\x01x"),
+        &RawSection { id: 0, data: b"\x01x" },
+        &read,
+        &items,
+    ];
+    let mut sink = Vec::with_capacity(1000);
+    for (at, section) in sections.into_iter().enumerate() {
+        GRANTED.set(Some(9));
+        section.append_to_component(&mut sink);
+        assert_eq!(GRANTED.take(), Some(9), "section {at}");
+    }
+    let (texts, numbers) = (["a", "b"], [Some([1_usize, 2].as_slice()), None]);
+    GRANTED.set(Some(9));
+    texts.as_slice().encode(&mut sink);
+    [&numbers.as_slice(); 2].as_slice().encode(&mut sink);
+    [STRING].as_slice().encode(&mut sink);
+    assert_eq!(GRANTED.take(), Some(9));
+    let list = [2, 1, 2, 1, 2, 0];
+    assert!(sink.ends_with(&[&[2, 1, b'a', 1, b'b', 2][..], &list, &list, &[1, 0x73]].concat()));
 }
 
 #[test]

@@ -334,6 +334,20 @@ fn what_is_one_item_has_just_one() {
 }
 
 #[test]
+fn what_is_one_item_has_just_one_tree() {
+    for (id, bytes) in (0..).zip(EACH.map(component)) {
+        let is_one = [0, 1, 4, 9].contains(&id);
+        let [section] = sections(&bytes).collect::<Vec<_>>().try_into().expect("there is one");
+        let (_, item) = section.items().next().expect("there is one").expect("it is read");
+        let mut section = ItemSection::new(id);
+        section.item(&item).expect("there is room");
+        assert_eq!(section.item(&item).err(), is_one.then_some(Error::TooMany), "{item:?}");
+        assert_eq!(section.len(), if is_one { 1 } else { 2 });
+        assert_eq!(Component::new().section(&section).as_slice() == bytes, is_one, "{item:?}");
+    }
+}
+
+#[test]
 #[should_panic(expected = "unfinished")]
 fn what_is_one_item_is_not_written_without_it() {
     Component::new().section(&ItemSection::new(ComponentSectionId::Start));

@@ -1,5 +1,9 @@
 //! Sections by hand: the bytes of each, a user's own, and what panics leave behind.
 
+#[path = "sections/panicking.rs"]
+mod panicking;
+#[path = "sections/strangers.rs"]
+mod strangers;
 #[path = "sections/worked.rs"]
 mod worked;
 
@@ -328,98 +332,6 @@ fn a_section_that_panics_leaves_what_it_was_appended_to() {
     assert!(panics(|| [Panicking].as_slice().encode(&mut sink)));
     assert!(panics(|| Some(Panicking).encode(&mut sink)));
     assert_eq!(sink, [4]);
-}
-
-/// A value whose `encode` removes what the sink had before it.
-struct Cutting;
-
-impl Encode for Cutting {
-    fn encode(&self, sink: &mut Vec<u8>) {
-        sink.clear();
-    }
-}
-
-#[test]
-#[should_panic = "`Encode::encode` removed bytes from its sink"]
-fn a_list_whose_values_cut_the_sink() {
-    [Cutting].as_slice().encode(&mut vec![4]);
-}
-
-#[test]
-#[should_panic = "`Encode::encode` removed bytes from its sink"]
-fn an_option_whose_value_cuts_the_sink() {
-    Some(Cutting).encode(&mut vec![4]);
-}
-
-/// An iterator over two, which panics in place of the second.
-fn broken<T>(value: impl Fn() -> T) -> impl ExactSizeIterator<Item = T> {
-    [false, true].into_iter().map(move |is_second| {
-        assert!(!is_second, "on purpose");
-        value()
-    })
-}
-
-/// The section has this text, or is unfinished, which its `encode` tells.
-fn is_sound(section: &impl ComponentSection, before: &[u8]) -> bool {
-    let mut sink = Vec::new();
-    let is_written = !panics(|| section.append_to_component(&mut sink));
-    if is_written { sink == before } else { sink.is_empty() }
-}
-
-#[test]
-fn iterators_that_panic_leave_no_half_member() {
-    let mut section = InstanceSection::new();
-    section.instantiate(0, [("a", ModuleArg::Instance(0))]);
-    let before = text(&section);
-    let args = || broken(|| ("b", ModuleArg::Instance(1)));
-    assert!(panics(|| {
-        section.instantiate(0, args());
-    }));
-    assert!(is_sound(&section, &before));
-
-    let mut section = InstanceSection::new();
-    section.export_items([("a", ExportKind::Func, 0)]);
-    let before = text(&section);
-    let items = || broken(|| ("b", ExportKind::Func, 1));
-    assert!(panics(|| {
-        section.export_items(items());
-    }));
-    assert!(is_sound(&section, &before));
-}
-
-#[test]
-fn iterators_and_names_that_panic_leave_no_half_member() {
-    let mut section = ComponentInstanceSection::new();
-    section.instantiate(0, [("a", ComponentExportKind::Func, 0)]);
-    let before = text(&section);
-    let args = || broken(|| ("b", ComponentExportKind::Func, 1));
-    assert!(panics(|| {
-        section.clone().instantiate(0, args());
-    }));
-    assert!(panics(|| {
-        section.instantiate(0, args());
-    }));
-    assert!(is_sound(&section, &before));
-
-    /// A name that can't be told.
-    struct NoName;
-    impl From<NoName> for ComponentExternName<'_> {
-        fn from(_: NoName) -> Self {
-            panic!("on purpose")
-        }
-    }
-    let mut section = ComponentInstanceSection::new();
-    section.export_items([("a", ComponentExportKind::Func, 0)]);
-    let before = text(&section);
-    assert!(panics(|| {
-        section.export_items([(NoName, ComponentExportKind::Func, 0)]);
-    }));
-    assert!(is_sound(&section, &before));
-    let mut exports = ComponentExportSection::new();
-    assert!(panics(|| {
-        exports.export(NoName, ComponentExportKind::Func, 0, None);
-    }));
-    assert_eq!(text(&exports), b"\x0b\x01\x00");
 }
 
 #[test]

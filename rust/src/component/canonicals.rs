@@ -7,7 +7,7 @@ pub(crate) use builtins::builtins;
 use crate::component::{ComponentValType, sections};
 use crate::core::ValType;
 use crate::proved::wasm_encoder::{AddsBuiltin, AddsSlot};
-use crate::shared::{List, collections};
+use crate::shared::{List, add_whole, adding_whole, collections};
 use crate::twins::twins;
 
 pub use crate::proved::wasm_encoder::CanonicalOption;
@@ -46,6 +46,7 @@ collections! {
 }
 
 sections! { CanonicalFunctionSection }
+adding_whole! { CanonicalFunctionSection }
 
 /// Lifted and lowered functions. Options are encoded in their order.
 impl CanonicalFunctionSection {
@@ -62,8 +63,10 @@ impl CanonicalFunctionSection {
             O::IntoIter: ExactSizeIterator,
         }
         {
-            self.0.lift(core_func_index, type_index, List(&mut options.into_iter()))?;
-            Ok(self)
+            let mut options = options.into_iter();
+            add_whole(self, |section| {
+                section.0.lift(core_func_index, type_index, List(&mut options))
+            })
         }
 
         /// Lowers a function (`canon lower`).
@@ -73,8 +76,8 @@ impl CanonicalFunctionSection {
             O::IntoIter: ExactSizeIterator,
         }
         {
-            self.0.lower(func_index, List(&mut options.into_iter()))?;
-            Ok(self)
+            let mut options = options.into_iter();
+            add_whole(self, |section| section.0.lower(func_index, List(&mut options)))
         }
     }
 }
@@ -117,8 +120,8 @@ macro_rules! calls {
                     O::IntoIter: ExactSizeIterator,
                 }
                 {
-                    self.0.$list($($arg,)* List(&mut options.into_iter()))?;
-                    Ok(self)
+                    let mut options = options.into_iter();
+                    add_whole(self, |section| section.0.$list($($arg,)* List(&mut options)))
                 })*
 
                 $($(#[$slot_doc])*

@@ -3,7 +3,7 @@
 use crate::component::sections;
 use crate::encode::encode;
 use crate::proved::wasm_encoder as proved;
-use crate::shared::{List, collections, named, named_items};
+use crate::shared::{List, add_whole, adding_whole, collections, named, named_items};
 use crate::twins::twins;
 use crate::{ComponentExportKind, ComponentExternName, ExportKind};
 
@@ -67,6 +67,7 @@ collections! {
 }
 
 sections! { InstanceSection ComponentInstanceSection }
+adding_whole! { InstanceSection ComponentInstanceSection }
 
 impl InstanceSection {
     twins! {
@@ -78,8 +79,8 @@ impl InstanceSection {
             A::IntoIter: ExactSizeIterator,
             S: AsRef<str>,
         } {
-            self.0.instantiate(module_index, List(&mut named(args)))?;
-            Ok(self)
+            let mut args = named(args);
+            add_whole(self, |section| section.0.instantiate(module_index, List(&mut args)))
         }
 
         /// Adds a core instance with these exports: the name, the kind and the index of each.
@@ -89,8 +90,8 @@ impl InstanceSection {
             E::IntoIter: ExactSizeIterator,
             S: AsRef<str>,
         } {
-            self.0.export_items(List(&mut named_items(exports)))?;
-            Ok(self)
+            let mut exports = named_items(exports);
+            add_whole(self, |section| section.0.export_items(List(&mut exports)))
         }
     }
 }
@@ -105,8 +106,8 @@ impl ComponentInstanceSection {
             A::IntoIter: ExactSizeIterator,
             S: AsRef<str>,
         } {
-            self.0.instantiate(component_index, List(&mut named_items(args)))?;
-            Ok(self)
+            let mut args = named_items(args);
+            add_whole(self, |section| section.0.instantiate(component_index, List(&mut args)))
         }
 
         /// Adds an instance with these exports: the name, the kind and the index of each.
@@ -117,8 +118,8 @@ impl ComponentInstanceSection {
             N: Into<ComponentExternName<'a>>,
         } {
             let named = |(name, kind, index): (N, _, _)| (name.into().into_proved(), kind, index);
-            self.0.export_items(List(&mut exports.into_iter().map(named)))?;
-            Ok(self)
+            let mut exports = exports.into_iter().map(named);
+            add_whole(self, |section| section.0.export_items(List(&mut exports)))
         }
     }
 }

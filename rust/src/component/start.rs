@@ -1,6 +1,6 @@
 //! The start of a component.
 
-use crate::encode::{Encode, append_proved};
+use crate::encode::{Encode, append_proved, appends};
 use crate::proved::wasm_encoder as proved;
 use crate::{ComponentSection, ComponentSectionId};
 use alloc::vec::Vec;
@@ -50,6 +50,8 @@ impl<A: AsRef<[u32]>> Encode for ComponentStartSection<A> {
             &proved::ComponentStartSection { function_index, args: args.as_ref(), results },
         );
     }
+
+    appends! {}
 }
 
 impl<A: AsRef<[u32]>> ComponentSection for ComponentStartSection<A> {

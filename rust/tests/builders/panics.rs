@@ -279,27 +279,24 @@ fn a_type_by_hand_is_unfinished_and_so_refused() {
     assert_eq!(behind_header(b), "07 05 01 42 01 01 7d");
 }
 
-/// Where its options panic, nothing writes the section any more. Where these are no iterator yet, it
-/// is as it was.
+/// A section by hand is as it was, whether its options panic or are no iterator.
 #[test]
 fn a_section_by_hand_has_no_half_of_a_function() {
     type Call = fn(&mut CanonicalFunctionSection) -> &mut CanonicalFunctionSection;
-    let calls: [(Call, Option<Error>); 4] = [
-        (|functions| functions.lift(0, 0, then_panics(&OPTIONS)), Some(Error::Unfinished)),
-        (|functions| functions.lower(0, then_panics(&OPTIONS)), Some(Error::Unfinished)),
-        (|functions| functions.stream_read(0, then_panics(&OPTIONS)), Some(Error::Unfinished)),
-        (|functions| functions.lower(0, NoIterator), None),
+    let calls: [Call; 4] = [
+        |functions| functions.lift(0, 0, then_panics(&OPTIONS)),
+        |functions| functions.lower(0, then_panics(&OPTIONS)),
+        |functions| functions.stream_read(0, then_panics(&OPTIONS)),
+        |functions| functions.lower(0, NoIterator),
     ];
-    for (call, error) in calls {
+    for call in calls {
         let mut functions = CanonicalFunctionSection::new();
         functions.task_cancel();
         let call = AssertUnwindSafe(|| call(&mut functions).len());
         assert!(catch_unwind(call).is_err());
-        assert_eq!(functions.try_thread_index().err(), error);
-        match error {
-            Some(_) => assert!(catch_unwind(|| functions.encode(&mut Vec::new())).is_err()),
-            None => assert_eq!(section(&functions), "08 03 02 05 26"),
-        }
+        assert_eq!(functions.len(), 1);
+        assert_eq!(functions.try_thread_index().err(), None);
+        assert_eq!(section(&functions), "08 03 02 05 26");
     }
 }
 

@@ -192,6 +192,8 @@ fn vectors_of_trees_are_like_vectors() {
     assert_eq!(values, [2, 4, 6, 8]);
     values.retain(|value| *value != 4);
     assert_eq!(values, vec![2, 6, 8]);
+    assert!(values == [2, 6, 8][..] && values != [2, 6][..]);
+    assert!(values != [2, 6] && values != vec![2, 6]);
     let larger = tree::Vec::from([3]);
     assert!(values < larger);
     assert_eq!(values.pop(), Some(8));
@@ -199,5 +201,6 @@ fn vectors_of_trees_are_like_vectors() {
     assert_eq!(HashMap::from([(values.clone(), 1)]).get([2, 6].as_slice()), Some(&1));
     values.clear();
     assert_eq!(values.pop(), None);
-    assert_eq!(*tree::Box::try_new(7).unwrap(), 7);
+    let boxed = tree::Box::try_new("x").unwrap();
+    assert_eq!((*boxed, format!("{boxed:?}")), ("x", format!("{:?}", "x")));
 }

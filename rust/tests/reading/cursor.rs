@@ -71,6 +71,24 @@ fn the_first_fault_ends_what_is_found() {
     assert_eq!((exports.len(), &exports[1]), (2, &Err(ListFault::BadSection { place: 33 })));
 }
 
+/// A fault comes once, and then nothing, from the sections and from the items of one.
+#[test]
+fn a_fault_comes_once() {
+    let bytes = component(BAD_IMPORT);
+    let mut rest = sections(&bytes[..bytes.len() - 1]);
+    let imports = rest.nth(2).expect("a section").expect("it is framed");
+    assert_eq!(rest.next().expect("a fault").err(), Some(ListFault::BadSection { place: 33 }));
+    assert_eq!(format!("{rest:?}"), "Sections { offset: None, .. }");
+    assert!(rest.next().is_none() && rest.next().is_none());
+    assert_eq!((rest.count(), rest.items().count()), (0, 0));
+
+    let mut items = imports.items();
+    assert!(items.next().expect("an item").is_ok());
+    assert!(items.next().expect("a fault").is_err());
+    assert_eq!(format!("{items:?}"), "Items { offset: None, .. }");
+    assert!(items.next().is_none() && items.next().is_none());
+}
+
 /// What follows is found by the methods of a cursor that has gone on.
 #[test]
 fn a_cursor_goes_on_from_where_it_is() {

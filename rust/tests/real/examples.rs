@@ -41,10 +41,10 @@ fn the_first_component_is_valid() {
 
 #[test]
 fn a_componentized_module_is_valid() {
-    let Some(linker) = linker("componentize") else { return };
     let signatures =
         ["run()", "num() -> char", "text(a: s32, b: bool) -> u8", "post(on-what: u16)"];
     let component = componentized(&corpus::read("features.wasm"), &signatures);
+    let Some(linker) = linker("componentize") else { return };
     assert_eq!(linker.refuses(&component), None);
     let another = componentized(&corpus::read("features.wasm"), &["num() -> u64"]);
     let told = linker.refuses(&another).expect("it answers 32 bits");
@@ -82,10 +82,10 @@ const LOG: &[u8] =
 
 #[test]
 fn a_composed_component_is_valid() {
-    let Some(linker) = linker("compose") else { return };
     let consumer = corpus::read("wasm/01-flat.wasm");
     let provider = componentized(LOG, &["log(x: u32)"]);
     let composed = compose::compose(&provider, &consumer).expect("it is composed");
+    let Some(linker) = linker("compose") else { return };
     assert_eq!(linker.refuses(&composed), None);
     let another = componentized(LOG, &["log(x: s32)"]);
     let composed = compose::compose(&another, &consumer).expect("it is composed");

@@ -132,18 +132,25 @@ calls! {
     "bad-name": import("Not Kebab", ComponentTypeRef::Func(UNIT));
 }
 
+/// The features' names, in their order, each with its component.
+fn components() -> impl Iterator<Item = (&'static str, Vec<u8>)> {
+    let core = corpus::read("features.wasm");
+    let mut features: Vec<&Feature> = CALLS.iter().chain(others::OTHERS).collect();
+    features.sort_by_key(|(name, _)| *name);
+    features.into_iter().map(move |(name, add)| {
+        let mut builder = base(&core);
+        add(&mut builder);
+        (*name, builder.finish())
+    })
+}
+
 /// A line for each component, in the order of their names: `valid`, or what the validator says,
 /// without the place.
 fn verdicts() -> Option<(String, String)> {
     let linker = linker("a component for each feature")?;
-    let core = corpus::read("features.wasm");
-    let mut features: Vec<&Feature> = CALLS.iter().chain(others::OTHERS).collect();
-    features.sort_by_key(|(name, _)| *name);
     let mut told = String::new();
-    for (name, add) in features {
-        let mut builder = base(&core);
-        add(&mut builder);
-        let refused = linker.refuses(&builder.finish());
+    for (name, component) in components() {
+        let refused = linker.refuses(&component);
         let said = refused.as_deref().unwrap_or("valid").split(" (at offset").next();
         writeln!(told, "{name}: {}", said.expect("a word")).expect("there is memory");
     }
@@ -155,16 +162,44 @@ fn verdicts() -> Option<(String, String)> {
 /// it isn't about threads.
 const VERSIONS: [&str; 2] = ["0.245.1", "0.246.2"];
 
+/// What no version finds valid, though each may say it in its own words.
+const NEVER_VALID: [&str; 3] = ["bad-name", "resource-in-component-type", "unknown-index"];
+
+/// The stored lines from which those of this version differ, where they may not.
+fn differing<'a>(stored: &'a str, told: &str, version: &str) -> Vec<&'a str> {
+    assert_eq!(stored.lines().count(), told.lines().count());
+    let is_told = |(line, other): &(&str, &str)| {
+        let [(name, verdict), (of, other)] =
+            [line, other].map(|line| line.split_once(": ").expect("a verdict"));
+        assert_eq!(name, of);
+        match verdict {
+            _ if VERSIONS.contains(&version) => verdict == other,
+            "valid" => other == "valid" || name.starts_with("thread."),
+            _ => other != "valid" || !NEVER_VALID.contains(&name),
+        }
+    };
+    let lines = stored.lines().zip(told.lines());
+    lines.filter(|lines| !is_told(lines)).map(|(line, _)| line).collect()
+}
+
 #[test]
 fn features_have_the_verdicts_that_are_stored() {
-    let Some((version, told)) = verdicts() else { return };
     let stored = corpus::text("verdicts.txt");
-    if VERSIONS.contains(&version.as_str()) {
-        assert_eq!(told, stored);
-        return;
-    }
-    for line in stored.lines().filter(|line| line.ends_with(": valid")) {
-        let is_told = told.lines().any(|other| other == line);
-        assert!(is_told || line.starts_with("thread."), "wit-component {version}: {line}");
-    }
+    let named = stored.lines().filter_map(|line| line.split_once(": ")).map(|(name, _)| name);
+    assert!(named.eq(components().map(|(name, _)| name)), "each feature has a verdict");
+    let Some((version, told)) = verdicts() else { return };
+    let differing = differing(&stored, &told, &version);
+    assert!(differing.is_empty(), "wit-component {version}: {differing:?}");
+}
+
+/// What is compared of another version, and of one of those.
+#[test]
+fn other_versions_have_words_of_their_own() {
+    let stored = "bad-name: no\nlift: valid\nstream.forward: unknown\nthread.index: valid\n";
+    let other = "bad-name: never\nlift: valid\nstream.forward: valid\nthread.index: moved\n";
+    assert_eq!(differing(stored, other, "0.300.0"), [""; 0]);
+    let all = ["bad-name: no", "stream.forward: unknown", "thread.index: valid"];
+    assert_eq!(differing(stored, other, VERSIONS[0]), all);
+    let wrong = "bad-name: valid\nlift: no\nstream.forward: unknown\nthread.index: valid\n";
+    assert_eq!(differing(stored, wrong, "0.300.0"), ["bad-name: no", "lift: valid"]);
 }

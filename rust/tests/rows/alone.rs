@@ -1,13 +1,15 @@
 //! Modules, components, starts and custom sections: each is a section of its own.
 
-use crate::commands::{builds, exported, first, function, import, module, outer, start};
+use crate::commands::{
+    builds, builds_listed, exported, first, function, import, module, outer, start,
+};
 use crate::hex::{behind, behind_header, section};
 use wenc::tree::{CanonTree, Command};
 use wenc::{
     Alias, CanonicalFunctionSection, Component, ComponentAliasSection, ComponentBuilder,
     ComponentExportKind, ComponentOuterAliasKind, ComponentStartSection, ComponentTypeRef,
-    CustomSection, Error, Module, ModuleSection, NestedComponentSection, PrimitiveValType,
-    ProducersField, ProducersSection, RawCustomSection, RawSection,
+    CustomSection, Error, ListFault, Module, ModuleSection, NestedComponentSection,
+    PrimitiveValType, ProducersField, ProducersSection, RawCustomSection, RawSection,
 };
 
 const BYTE: PrimitiveValType = PrimitiveValType::U8;
@@ -241,11 +243,14 @@ fn sections_are_empty() {
 
 #[test]
 fn a_raw_custom_section_is_bytes() {
-    for (bytes, wanted) in [(&[0xaa][..], "00 aa"), (&[2, 1, 0x78], "00 02 01 78")] {
+    let unframed = ListFault::BadSection { place: 8 };
+    let rows = [(&[0xaa][..], "00 aa", Some(unframed)), (&[2, 1, 0x78], "00 02 01 78", None)];
+    for (bytes, wanted, fault) in rows {
         let mut b = ComponentBuilder::default();
         b.raw_custom_section(bytes);
         assert_eq!(behind_header(b), wanted);
         assert_eq!(section(&RawCustomSection(bytes)), wanted);
-        builds([(Command::RawCustom { bytes: bytes.to_vec().into() }, Ok(None))], wanted);
+        let command = Command::RawCustom { bytes: bytes.to_vec().into() };
+        builds_listed([(command, Ok(None))], wanted, fault);
     }
 }

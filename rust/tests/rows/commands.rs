@@ -4,15 +4,20 @@ use crate::hex::{behind, behind_header};
 use wenc::tree::{AliasTree, CanonTree, Command, CoreTypeTree, DefinedTree, TypeTree, build};
 use wenc::{
     Component, ComponentBuilder, ComponentExportKind, ComponentOuterAliasKind, ComponentTypeRef,
-    Error, ExportKind, list,
+    Error, ExportKind, ListFault, list,
 };
 
 /// A command, and its answer.
 pub type Call = (Command, Result<Option<u32>, Error>);
 
 /// The commands are answered so, together and one by one, and make the component with these bytes
-/// after its header. Where these are read, their sections are written so again.
+/// after its header. It is listed, and its sections are written so again.
 pub fn builds<const N: usize>(calls: [Call; N], wanted: &str) {
+    builds_listed(calls, wanted, None);
+}
+
+/// The same, where this fault keeps the component from being listed.
+pub fn builds_listed<const N: usize>(calls: [Call; N], wanted: &str, fault: Option<ListFault>) {
     let (commands, answers): (Vec<_>, Vec<_>) = calls.into_iter().unzip();
     let built = build(&commands).unwrap();
     assert_eq!(built.answers, answers);
@@ -23,13 +28,13 @@ pub fn builds<const N: usize>(calls: [Call; N], wanted: &str) {
     assert_eq!(called, answers);
     assert_eq!(behind_header(builder), wanted);
 
-    if let Ok(listing) = list(&built.bytes) {
-        let mut again = Component::new();
-        for section in &listing.sections {
-            again.section(section);
-        }
-        assert_eq!(behind(again.as_slice()), wanted);
+    let listed = list(&built.bytes);
+    assert_eq!(listed.as_ref().err(), fault.as_ref());
+    let mut again = Component::new();
+    for section in listed.iter().flat_map(|listing| &listing.sections) {
+        again.section(section);
     }
+    assert!(fault.is_some() || behind(again.as_slice()) == wanted);
 }
 
 /// The command adds an item, which is the first of its space.

@@ -1,6 +1,6 @@
 //! Types.
 
-use crate::commands::{builds, defined, first, import, text, ty};
+use crate::commands::{builds, builds_listed, defined, first, import, text, ty};
 use crate::hex::{behind, behind_header, section};
 use wenc::tree::{
     self, AliasTree, CaseTree, ComponentDecl, CoreCompositeType, CoreTypeTree, DefinedTree,
@@ -10,7 +10,7 @@ use wenc::{
     Alias, Component, ComponentBuilder, ComponentDefinedTypeEncoder, ComponentExportKind,
     ComponentImportSection, ComponentOuterAliasKind, ComponentType, ComponentTypeRef,
     ComponentTypeSection, ComponentValType, CompositeInnerType, CompositeType, Error, FuncType,
-    InstanceType, PrimitiveValType, SubType, TypeBounds, ValType,
+    InstanceType, ListFault, PrimitiveValType, SubType, TypeBounds, Unread, ValType,
 };
 
 const BOOL: ComponentValType = ComponentValType::Primitive(PrimitiveValType::Bool);
@@ -159,7 +159,9 @@ fn deep(around: usize) -> (InstanceType, TypeTree) {
 
 #[test]
 fn instance_types_are_nested_deep() {
-    for (around, size) in [(99, "ac 02"), (100, "af 02")] {
+    let unread = Some(Unread::Item { number: 0, place: 12 });
+    let too_deep = ListFault::TooDeep { place: 8, unread };
+    for (around, size, fault) in [(99, "ac 02", None), (100, "af 02", Some(too_deep))] {
         let wanted = format!("07 {size} 01 {}42 00", "42 01 01 ".repeat(around));
         let (instance, tree) = deep(around);
         let mut b = ComponentBuilder::default();
@@ -168,7 +170,7 @@ fn instance_types_are_nested_deep() {
         let mut types = ComponentTypeSection::new();
         types.instance(&instance);
         assert_eq!(section(&types), wanted);
-        builds([first(ty(tree))], &wanted);
+        builds_listed([first(ty(tree))], &wanted, fault);
     }
 }
 

@@ -3,8 +3,8 @@
 use crate::text;
 use std::panic::{AssertUnwindSafe, catch_unwind};
 use wenc::{
-    ComponentBuilder, ComponentDefinedTypeEncoder, ComponentExternName, ComponentType,
-    ComponentTypeRef, ComponentTypeSection, ComponentValType, Error, InstanceType,
+    ComponentBuilder, ComponentDefinedTypeEncoder, ComponentExternName, ComponentFuncTypeEncoder,
+    ComponentType, ComponentTypeRef, ComponentTypeSection, ComponentValType, Error, InstanceType,
     PrimitiveValType,
 };
 
@@ -117,17 +117,33 @@ fn names() {
     assert_eq!(text(&component), [0x41, 0x00]);
 }
 
-#[test]
-fn parameters() {
-    let mut instance = InstanceType::new();
-    let mut encoder = instance.ty().function();
+/// Parameters that panic: nothing is encoded after them.
+fn write_halting(mut encoder: ComponentFuncTypeEncoder<'_>) {
     assert!(panics(|| {
         encoder.params(halting(("a", PrimitiveValType::U8), ("b", PrimitiveValType::U8)));
     }));
     assert!(panics(|| {
         encoder.result(None);
     }));
+}
+
+#[test]
+fn parameters() {
+    let mut instance = InstanceType::new();
+    write_halting(instance.ty().function());
     assert!(!instance.is_finished());
     assert!(instance.discard_unfinished());
     assert_eq!(text(&instance), [0x42, 0x00]);
+
+    let mut component = ComponentType::new();
+    write_halting(component.type_function().1);
+    assert!(!component.is_finished());
+    assert!(component.discard_unfinished());
+    assert_eq!((text(&component), component.type_count()), (vec![0x41, 0x00], 0));
+
+    let mut types = ComponentTypeSection::new();
+    write_halting(types.function());
+    assert!(!types.is_finished());
+    assert!(types.discard_unfinished());
+    assert_eq!((text(&types), types.len()), (vec![0x01, 0x00], 0));
 }

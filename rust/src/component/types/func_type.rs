@@ -29,7 +29,7 @@ encoders! {
     /// assert_eq!(component.as_slice()[8..], *b"\x07\x08\x01\x43\x01\x01x\x79\0\x7f");
     /// ```
     #[must_use = "an encoder that is dropped leaves its type unfinished"]
-    ComponentFuncTypeEncoder by FuncBy over ComponentTypeSection, is_amid: bool = false;
+    ComponentFuncTypeEncoder by FuncBy over ComponentTypeSection;
 }
 
 impl FuncBy<'_> {
@@ -41,11 +41,11 @@ impl FuncBy<'_> {
 
 impl ComponentFuncTypeEncoder<'_> {
     /// Fails unless `is_turn` holds for what was encoded so far. After an iterator of parameters
-    /// panicked nothing does: it is unspecified which were written.
+    /// panicked that is [`FuncStage::Done`]: it is unspecified which were written.
     #[inline]
     fn at(&self, is_turn: impl FnOnce(FuncStage) -> bool) -> Result<(), Error> {
         let stage = on!(&self.by, FuncBy, encoder => encoder.stage());
-        if !self.is_amid && is_turn(stage) { Ok(()) } else { Err(Error::OutOfTurn) }
+        if is_turn(stage) { Ok(()) } else { Err(Error::OutOfTurn) }
     }
 
     twins! {
@@ -71,15 +71,12 @@ impl ComponentFuncTypeEncoder<'_> {
         {
             self.at(|stage| matches!(stage, FuncStage::Start | FuncStage::Tagged))?;
             let mut params = Labelled(params.into_iter());
-            self.is_amid = true;
-            let result = match &mut self.by {
+            match &mut self.by {
                 FuncBy::Builder(encoder) if const { holds_values::<P::IntoIter>() } => {
                     encoder.params(params)
                 }
                 by => by.params(List(&mut params)),
-            };
-            self.is_amid = false;
-            result?;
+            }?;
             Ok(self)
         }
 
