@@ -68,7 +68,7 @@ impl Indexed for FuncType {
             return;
         }
         // its lists aren't changed in place
-        let [params, results] = [self.params(), self.results()].map(|types| copy(types));
+        let [params, results] = [self.params(), self.results()].map(copy);
         let (Ok(mut params), Ok(mut results)) = (params, results) else {
             visitor.is_refused = true;
             return;
