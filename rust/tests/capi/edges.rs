@@ -408,7 +408,7 @@ fn items_of_many_sections_are_found() {
         assert_eq!(statuses, [Status::Done, Status::BadArgument, Status::Done]);
         assert_eq!((module.index, module.section), (number as u64, 1));
     }
-    assert!(begun.elapsed().as_secs() < 10, "{:?}", begun.elapsed());
+    assert!(begun.elapsed().as_secs() < 60, "{:?}", begun.elapsed());
 }
 
 #[test]
