@@ -94,8 +94,8 @@ impl DebugNames {
     ///
     /// # Errors
     ///
-    /// The first subsection that can't be read, or [`NamesFault::NoMemory`]. The names before it are
-    /// added.
+    /// The first subsection that can't be read, or [`NamesFault::NoMemory`]. The names before it
+    /// are added.
     pub fn read(&mut self, item: &ItemTree) -> Result<(), NamesFault> {
         match item {
             ItemTree::Custom { name, data } if **name == *NAMES_LABEL => self.read_data(data),

@@ -109,8 +109,8 @@ impl Listing {
     }
 }
 
-/// The items of a listing by the indices that they define, as [`Listing::definitions`] returns them.
-/// It takes the logarithm of their number to find one.
+/// The items of a listing by the indices that they define, as [`Listing::definitions`] returns
+/// them. One is found in a time that is logarithmic in their number.
 #[derive(Clone, Debug)]
 pub struct Definitions<'a> {
     /// By the number of their space the items, each with the first index that it defines.

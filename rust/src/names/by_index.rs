@@ -8,8 +8,8 @@ use core::fmt;
 /// How many names a page has at most.
 const PAGE: usize = 512;
 
-/// The names of items, in the order of their indices: a `BTreeMap<u32, String>` of two levels, whose
-/// insertions return an error if an allocation fails, where std's abort.
+/// The names of items, in the order of their indices: a `BTreeMap<u32, String>` of two levels,
+/// whose insertions return an error if an allocation fails, where std's abort.
 #[derive(Clone, Default)]
 pub(crate) struct ByIndex {
     /// Pages of names. None is empty.

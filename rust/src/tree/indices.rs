@@ -81,7 +81,8 @@ impl ItemTree {
         or_panic(self.try_indices_mut(visit));
     }
 
-    /// Does what [`indices_mut`](Self::indices_mut) does, but returns an error instead of panicking.
+    /// Does what [`indices_mut`](Self::indices_mut) does, but returns an error instead of
+    /// panicking.
     ///
     /// # Errors
     ///
