@@ -5,6 +5,7 @@ use crate::proved::wasm_encoder as proved;
 use core::fmt;
 
 pub use proved::{ListedSection, Listing, Unread};
+pub use queries::Definitions;
 
 mod queries;
 
@@ -46,7 +47,8 @@ pub enum ListFault {
         unread: Option<Unread>,
     },
     /// The section has types that are nested more than 100 deep, or is a component that is nested
-    /// deeper than the limit of [`Sections::nested`](crate::Sections::nested).
+    /// deeper than the limit of [`Sections::nested`](crate::Sections::nested) or of
+    /// [`ItemTree::outer_indices_mut`](crate::tree::ItemTree::outer_indices_mut).
     TooDeep {
         /// The first section that isn't read.
         place: usize,
@@ -116,6 +118,10 @@ impl core::error::Error for ListFault {}
 /// 64-bit ones), padded type indices among value types, a nullable abstract reference as its heap
 /// type's byte, `func` and `extern` in the long form of such a reference, and names of imports and
 /// exports that begin with `01`.
+///
+/// A listing takes up to 184 bytes of memory for each byte of the component on a 64-bit machine:
+/// most where sections have an empty item each. [`Sections`](crate::Sections) takes memory for one
+/// item at a time.
 ///
 /// # Errors
 ///

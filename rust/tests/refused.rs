@@ -9,6 +9,8 @@
 mod builder;
 #[path = "counts.rs"]
 mod counts;
+#[path = "refused/cursors.rs"]
+mod cursors;
 #[path = "refused/declarations.rs"]
 mod declarations;
 #[path = "refused/members.rs"]

@@ -1,0 +1,85 @@
+//! Cursors and comparisons with each request for memory refused in turn.
+
+use crate::{GRANTED, NAME, SINCE, calmly, refusing};
+use std::fmt::{self, Debug, Write};
+use std::panic::{AssertUnwindSafe, catch_unwind};
+use wenc::*;
+
+/// The iterator's values with each request for memory refused in turn: the one of that request is
+/// this error, and is the last. There are so many requests.
+fn each_is_refused<I, T, E>(start: impl Fn() -> I, no_memory: E, requests: u32)
+where
+    I: Iterator<Item = Result<T, E>>,
+    E: Debug + PartialEq,
+{
+    for n in 0..=requests {
+        let mut values = calmly(&start);
+        let (failed, is_refused) = refusing(n, || values.by_ref().find_map(Result::err));
+        assert_eq!(is_refused, n < requests, "request {n}");
+        assert_eq!(failed.is_some(), is_refused, "request {n}");
+        assert!(failed.is_none_or(|error| error == no_memory), "request {n}");
+        assert!(values.next().is_none(), "request {n}");
+    }
+}
+
+/// A core module with an import of a function, an export and a custom section.
+const MODULE: &[u8] = b"\0asm\x01\0\0\0\x02\x07\x01\x01m\x01f\0\x05\
+    \x07\x05\x01\x01g\0\0\0\x03\x01x\x07";
+
+#[test]
+fn core_modules() {
+    let sections = || CoreSections::new(MODULE).expect("a module");
+    each_is_refused(sections, ModuleFault::NoMemory, 1);
+    let ids: Vec<_> = sections().map(|section| section.expect("a section").id).collect();
+    assert_eq!(ids, [2, 7, 0]);
+
+    // two names of an import, and one of an export
+    for (section, requests) in sections().zip([2, 1, 0]) {
+        let section = section.expect("a section");
+        assert_eq!(section.items().count(), usize::from(requests > 0));
+        each_is_refused(|| section.items(), ModuleFault::NoMemory, requests);
+    }
+}
+
+/// Three components in one another.
+const NESTED: &[u8] = b"\0asm\x0d\0\x01\0\x04\x12\0asm\x0d\0\x01\0\x04\x08\0asm\x0d\0\x01\0";
+
+#[test]
+fn nested_components() {
+    let sections = || Sections::new(NESTED).expect("a component").nested(9);
+    assert_eq!(sections().count(), 2);
+    each_is_refused(sections, ListFault::NoMemory, 1);
+}
+
+/// What is printed, and not kept.
+struct Nowhere;
+
+impl Write for Nowhere {
+    fn write_str(&mut self, _: &str) -> fmt::Result {
+        Ok(())
+    }
+}
+
+/// What compares or prints by the bytes panics where these can't be had.
+#[test]
+fn contents() {
+    let mut imports = ComponentImportSection::new();
+    imports.import(NAME, ComponentTypeRef::Func(0));
+    let refused = |n, compare: &dyn Fn() -> bool| {
+        GRANTED.set(Some(n));
+        let result = catch_unwind(AssertUnwindSafe(compare));
+        let is_refused = GRANTED.take().is_none();
+        SINCE.set(None);
+        let message = result.map_err(|panic| panic.downcast_ref::<String>().cloned());
+        (message, is_refused)
+    };
+    let no_memory = Err(Some("no memory".to_owned()));
+    let other = imports.clone();
+    for n in [0, 1] {
+        assert_eq!(refused(n, &|| imports == other), (no_memory.clone(), true));
+    }
+    assert_eq!(refused(2, &|| imports == other), (Ok(true), false));
+    let is_printed = || write!(Nowhere, "{imports:?}").is_ok();
+    assert_eq!(refused(0, &is_printed), (no_memory, true));
+    assert_eq!(refused(1, &is_printed), (Ok(true), false));
+}
