@@ -79,6 +79,7 @@ fn methods_that_write_texts_are_inlined() {
         "impl E for S { type A = B; #[inline] fn encode(&self) {} fn a() {} #[inline] fn encode(&self) {} }\n",
     );
     stays("impl S { fn a() {} fn b() {} const C: u8 = 1; fn d() {} }\n");
+    stays("impl A for S {} trait E { fn a(); fn encode(&self); }\n");
 }
 
 #[test]
@@ -119,6 +120,13 @@ fn what_introduces_an_example_is_left_out() {
     ] {
         becomes(&format!("{docs}{example}"), &format!("{left}\n\n\nfn f() {{}}\n"));
     }
+    becomes(
+        "//! What it does.\n//!\n//! Here\n//!\n//! or here:\n//!\n//! ```\n//! f();\n//! ```\nfn f() {}\n",
+        "//! What it does.\n//!\n//! Here\n//!\n\n//!\n\n\n\nfn f() {}\n",
+    );
+    // What an example has of its own is no introduction.
+    let own = "/// It goes\n/// on\n/// ```\n/// // a:\n/// b();\n/// ```\nfn f() {}\n";
+    becomes(own, "/// It goes\n/// on\n\n\n\n\nfn f() {}\n");
 }
 
 #[test]
@@ -188,6 +196,7 @@ fn names_that_stay_their_owners() {
         refuses(source, 1, "a `clone` that is no method");
     }
     becomes("trait A: B + Clone {}\n", "trait A: B + TryClone {}\n");
+    becomes("impl<A: Clone + B> C<A> {}\n", "impl<A: TryClone + B> C<A> {}\n");
     becomes(
         "fn f(x: impl A + Clone) where B: Clone, {}\n",
         "fn f(x: impl A + TryClone) where B: TryClone, {}\n",
@@ -365,6 +374,7 @@ fn macros_that_are_not_known() {
     refuses("assert!(rt; a)\n", 1, why);
     refuses("panic!(self.rt; \"a\")\n", 1, why);
     refuses("include!(\"a\")\n", 1, why);
+    refuses("include!{\"a\"}\n", 1, why);
     refuses("own!(a)\nmacro_rules! own { () => {} }\n", 1, why);
     stays("macro_rules! own { ($a:ident) => { $a } }\nfn f() { own!(a) }\n");
 }
@@ -381,6 +391,8 @@ fn paths_that_are_not_known() {
     refuses("mod a;\nmod b {\n    fn f() {}\n}\n", 2, "a module that is no file");
     refuses("fn f(x: core::A) {}\n", 1, "a path that begins with a crate of the kit");
     refuses("fn f(x: ::std::A) {}\n", 1, "a path that begins with `::`");
+    refuses("fn f(x: thiserror::A) {}\n", 1, "a path that begins with a crate of the kit");
+    refuses("mod thiserror;\n", 1, "a module with the name of a crate");
     refuses("use thiserror::Display;\n", 1, "a use of `thiserror` that is not known");
     refuses("\n/// ```\nfn f() {}\n", 2, "an example without an end");
     refuses("/// ```\n// x\n/// ```\nfn f() {}\n", 2, "an example outside of documentation");
