@@ -76,7 +76,8 @@ fn methods_that_write_texts_are_inlined() {
     stays("impl S { fn encode_all(&self) {} pub fn encode(&self) {} }\n");
     becomes(
         "impl E for S { type A = B; fn encode(&self) {} fn a() {} fn encode(&self) {} }\n",
-        "impl E for S { type A = B; #[inline] fn encode(&self) {} fn a() {} #[inline] fn encode(&self) {} }\n",
+        "impl E for S { type A = B; #[inline] fn encode(&self) {} fn a() {} \
+         #[inline] fn encode(&self) {} }\n",
     );
     stays("impl S { fn a() {} fn b() {} const C: u8 = 1; fn d() {} }\n");
     stays("impl A for S {} trait E { fn a(); fn encode(&self); }\n");
@@ -121,7 +122,8 @@ fn what_introduces_an_example_is_left_out() {
         becomes(&format!("{docs}{example}"), &format!("{left}\n\n\nfn f() {{}}\n"));
     }
     becomes(
-        "//! What it does.\n//!\n//! Here\n//!\n//! or here:\n//!\n//! ```\n//! f();\n//! ```\nfn f() {}\n",
+        "//! What it does.\n//!\n//! Here\n//!\n//! or here:\n//!\n\
+         //! ```\n//! f();\n//! ```\nfn f() {}\n",
         "//! What it does.\n//!\n//! Here\n//!\n\n//!\n\n\n\nfn f() {}\n",
     );
     // What an example has of its own is no introduction.
@@ -263,7 +265,8 @@ fn the_last_error_may_lack_its_comma() {
     for (variant, fields) in [("B", ""), ("B { place: u8 }", "place, ")] {
         let text = if fields.is_empty() { "b" } else { "{place}" };
         let erased = erased(&format!(
-            "#[derive(Eq, Error)]\npub enum E {{ #[error(\"a\")] A, #[error(\"{text}\")] {variant} }}\nfn f() {{}}\n",
+            "#[derive(Eq, Error)]\npub enum E {{ #[error(\"a\")] A, \
+             #[error(\"{text}\")] {variant} }}\nfn f() {{}}\n",
         ));
         let (enumeration, display) = erased.split_once(" impl ::core::fmt::Display").expect("both");
         assert_eq!(enumeration, format!("#[derive(Eq )]\npub enum E {{  A,  {variant} }}"));

@@ -274,8 +274,8 @@ impl<'a> Source<'a> {
         }
     }
 
-    /// Whether a trait stands here that is asked for: behind a colon or a plus, and in front of what
-    /// ends or goes on with the list.
+    /// Whether a trait stands here that is asked for: behind a colon or a plus, and in front of
+    /// what ends or goes on with the list.
     fn is_bound(&self) -> bool {
         matches!((self.before(1), self.text(1)), (":" | "+", "," | ">" | "+" | ")" | "{"))
     }
