@@ -15,7 +15,8 @@
 //!   to `pub(crate)`;
 //! - *adds*: the names that stand in scope without being named, in front of a file's first item;
 //!   what a user of Rust expects of a type ([`known::TREES`], [`known::DERIVED_TOO`]); `Display` and
-//!   `Error` after an enum that derives `Error`; `pub` to `main`; `#[inline]` to the methods `encode` of types, which are short and call each other;
+//!   `Error` after an enum that derives `Error`; `pub` to `main`; `#[inline]` to the methods
+//!   `encode` of types, which are short and call each other;
 //! - *refuses*: everything else that it doesn't know, as a module with a body, and a `Clone` or a
 //!   `clone` that is a name of the source's own. Better no crate than one that does something
 //!   else than was proved.
@@ -209,7 +210,8 @@ impl<'a> Eraser<'a> {
         })
     }
 
-    /// Whether a method begins here that writes a type's text, and that no attribute stands in front of in Rust.
+    /// Whether a method begins here that writes a type's text, and that no attribute stands in
+    /// front of in Rust.
     fn is_inlined(&self, i: usize) -> bool {
         let is_left = |j: &usize| !self.becomes[self.code[*j]].is_empty();
         let last = (0..i).rev().find(is_left).map_or("", |j| self.at(j));

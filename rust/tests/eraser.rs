@@ -266,7 +266,7 @@ fn the_last_error_may_lack_its_comma() {
         let text = if fields.is_empty() { "b" } else { "{place}" };
         let erased = erased(&format!(
             "#[derive(Eq, Error)]\npub enum E {{ #[error(\"a\")] A, \
-             #[error(\"{text}\")] {variant} }}\nfn f() {{}}\n",
+             #[error(\"{text}\")] {variant} }}\n",
         ));
         let (enumeration, display) = erased.split_once(" impl ::core::fmt::Display").expect("both");
         assert_eq!(enumeration, format!("#[derive(Eq )]\npub enum E {{  A,  {variant} }}"));
@@ -274,7 +274,7 @@ fn the_last_error_may_lack_its_comma() {
             "{{ match self {{ E::A {{ .. }} => write!(f, \"a\"), \
              E::B {{ {fields}.. }} => write!(f, \"{text}\"), }} }} }}"
         )));
-        assert!(display.ends_with("impl ::core::error::Error for E {}\nfn f() {}\n"));
+        assert!(display.ends_with("impl ::core::error::Error for E {}\n"));
     }
 }
 
