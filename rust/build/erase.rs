@@ -15,8 +15,10 @@
 //!   to `pub(crate)`;
 //! - *adds*: the names that stand in scope without being named, in front of a file's first item;
 //!   what a user of Rust expects of a type ([`known::TREES`], [`known::DERIVED_TOO`]); `Display` and
-//!   `Error` after an enum that derives `Error`; `pub` to `main`; `#[inline]` to the methods `encode` of types, which are short and call each other;
-//! - *refuses*: everything else that it doesn't know. Better no crate than one that does something
+//!   `Error` after an enum that derives `Error`; `pub` to `main`; `#[inline]` to the methods
+//!   `encode` of types, which are short and call each other;
+//! - *refuses*: everything else that it doesn't know, as a module with a body, and a `Clone` or a
+//!   `clone` that is a name of the source's own. Better no crate than one that does something
 //!   else than was proved.
 //!
 //! `rust/tests/honest.rs` reads each source beside its Rust, by a lexer of its own, and knows the
@@ -152,13 +154,18 @@ impl<'a> Eraser<'a> {
             "mod" if self.is_taken(self.at(i + 1)) => {
                 return Err((self.line(i), "a module with the name of a crate"));
             }
+            "mod" if self.at(i + 2) != ";" => {
+                return Err((self.line(i), "a module that is no file"));
+            }
             "extern" if self.at(i + 1) != "crate" => {
                 return Err((self.line(i), "an `extern` that is not known"));
             }
             "unsafe" => return Err((self.line(i), "an `unsafe`")),
             "pub" if self.is_narrowed(i) => self.put(i, "pub(crate)"),
-            "Clone" => self.put(i, "TryClone"),
-            "clone" => self.put(i, "try_clone"),
+            "Clone" if self.is_bound(i) => self.put(i, "TryClone"),
+            "clone" if self.is_method(i) => self.put(i, "try_clone"),
+            "Clone" => return Err((self.line(i), "a `Clone` that is no bound")),
+            "clone" => return Err((self.line(i), "a `clone` that is no method")),
             method if self.before(i, 1) == "." && ALLOCATING.contains(&method) => {
                 self.put(i, format!("{method}_using"));
             }
@@ -176,6 +183,22 @@ impl<'a> Eraser<'a> {
         Ok(())
     }
 
+    /// Whether the word that stands here is a bound.
+    fn is_bound(&self, i: usize) -> bool {
+        let is_led = self.before(i, 1) == "+" || self.before(i, 1) == ":" && !self.goes_on(i);
+        is_led && ["+", ",", ">", ")", "{"].contains(&self.at(i + 1))
+    }
+
+    /// Whether the word that stands here is the name of a method that is called or defined.
+    fn is_method(&self, i: usize) -> bool {
+        ["fn", "."].contains(&self.before(i, 1)) && self.at(i + 1) == "("
+    }
+
+    /// Whether a path goes on with this word.
+    fn goes_on(&self, i: usize) -> bool {
+        self.before(i, 1) == ":" && self.before(i, 2) == ":"
+    }
+
     /// Whether a method begins here that stays in this crate.
     fn is_narrowed(&self, i: usize) -> bool {
         let is_item = |j: &usize| matches!(self.before(*j, 1), "" | ";" | "]" | "}");
@@ -187,7 +210,8 @@ impl<'a> Eraser<'a> {
         })
     }
 
-    /// Whether a method begins here that writes a type's text, and that no attribute stands in front of in Rust.
+    /// Whether a method begins here that writes a type's text, and that no attribute stands in
+    /// front of in Rust.
     fn is_inlined(&self, i: usize) -> bool {
         let is_left = |j: &usize| !self.becomes[self.code[*j]].is_empty();
         let last = (0..i).rev().find(is_left).map_or("", |j| self.at(j));
@@ -291,7 +315,7 @@ impl<'a> Eraser<'a> {
         let word = self.at(i);
         if self.stands(i.wrapping_sub(1), "( crate )") {
             self.put(i, format!("in crate::proved::{}", self.name));
-        } else if self.stands(i + 1, ": :") && self.before(i, 1) != ":" {
+        } else if self.stands(i + 1, ": :") && !self.goes_on(i) {
             let becomes = match word {
                 "crate" => format!("crate::proved::{}", self.name),
                 "std" => "crate::proved::rt_std".into(),

@@ -55,7 +55,6 @@ fn build() {
     }
     let out = PathBuf::from(variable("OUT_DIR")).join("proved");
     erase_all(&top.join("crates"), &out, |_, erased| erased.to_owned());
-    name_shared_library();
 }
 
 /// The crates, and when each is compiled.
@@ -88,14 +87,6 @@ fn erase_all(sources: &Path, out: &Path, layout: Layout) {
         }
     }
     write(&out.join("crates.rs"), &declared);
-}
-
-/// Has the shared library for C bear the name that programs find it by.
-fn name_shared_library() {
-    let is_set = |name| std::env::var_os(name).is_some();
-    if is_set("CARGO_FEATURE_CAPI") && variable("CARGO_CFG_TARGET_OS") == "linux" {
-        println!("cargo::rustc-link-arg=-Wl,-soname,libwenc.so.0");
-    }
 }
 
 fn variable(name: &str) -> String {

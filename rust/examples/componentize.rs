@@ -2,7 +2,7 @@
 //! signatures:
 //!
 //! ```sh
-//! cargo run --example componentize -- MODULE OUT 'add(a: u32, b: u32) -> u32' 'stop()'
+//! cargo run -r --example componentize -- MODULE OUT 'add(a: u32, b: u32) -> u32' 'stop()'
 //! ```
 //!
 //! The module imports nothing. Values are numbers, characters and booleans, each of which is one

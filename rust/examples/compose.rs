@@ -2,7 +2,7 @@
 //! exports what the second does:
 //!
 //! ```sh
-//! cargo run --example compose -- PROVIDER CONSUMER OUT
+//! cargo run -r --features reader --example compose -- PROVIDER CONSUMER OUT
 //! ```
 //!
 //! The provider imports nothing, and has all that the consumer imports, under the same names. What

@@ -1,7 +1,7 @@
 //! Writes a component in which an import has another name:
 //!
 //! ```sh
-//! cargo run --example rename -- COMPONENT OLD NEW OUT
+//! cargo run -r --features reader --example rename -- COMPONENT OLD NEW OUT
 //! ```
 //!
 //! All else stays the same byte for byte, padded numbers too: only the import, and the size and the

@@ -1,7 +1,7 @@
 //! Writes a component without its custom sections, such as debug names and what has made it:
 //!
 //! ```sh
-//! cargo run --example strip -- COMPONENT OUT
+//! cargo run -r --features reader --example strip -- COMPONENT OUT
 //! ```
 //!
 //! Components in it lose theirs too; all else stays the same byte for byte. `Sections` reads the

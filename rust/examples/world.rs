@@ -2,7 +2,7 @@
 //! wit-component find it:
 //!
 //! ```sh
-//! cargo run --example world -- WORLD OBJECT OUT
+//! cargo run -r --example world -- WORLD OBJECT OUT
 //! ```
 //!
 //! The world is a text like WIT's, with functions of primitive types, lists, options, results and

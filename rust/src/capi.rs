@@ -27,6 +27,12 @@ use crate::proved::wenc_read::{NestedRefusal, Refusal};
 use core::ptr;
 use session::Session;
 
+#[cfg(not(any(panic = "abort", feature = "std", test)))]
+compile_error!(
+    "the feature `capi` needs a profile that aborts, as `--profile c`, \
+     or the feature `std` besides: `--features capi,std`"
+);
+
 /// `enum wenc_status`: why a call failed, or `Done`.
 #[derive(Clone, Copy, Debug, PartialEq, Eq)]
 #[repr(u32)]

@@ -81,8 +81,8 @@
 //!
 //! - `reader` brings what reads components, and items as values: `list`, `Sections`, `CoreSections`,
 //!   `DebugNames`, `ItemSection` and `tree`. With it the crate takes longer to compile.
-//! - `capi` brings the functions of `c/wenc.h`, for C. Without `std`, in a profile that aborts, they
-//!   are a library on C's memory alone.
+//! - `capi` brings the functions of `c/wenc.h`, for C. In a profile that aborts they are a library
+//!   on C's memory alone; any other needs `std` besides.
 //! - `std` links Rust's `std`, which nothing else here needs.
 #![no_std]
 #![cfg_attr(not(feature = "capi"), forbid(unsafe_code))]

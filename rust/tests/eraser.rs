@@ -42,6 +42,7 @@ fn refuses(source: &str, line: usize, why: &str) {
 #[test]
 fn code_stays() {
     stays("pub fn f<'a>(x: &'a [u8; 2]) -> u32 { x[0] as u32 + 0x1_f * 2 }\n");
+    stays("fn f() { (0clone, 12clone, 3requires, 456Clone, 789ghost) }\n");
     stays("const T: &str = \"a \\\" requires { ghost \\\\\"; // ensures { nothing }\n");
     stays(
         "const C: [char; 4] = ['\"', '\\'', '{', 'é']; const B: &[u8] = b\"\\\"}\"; const N: u8 = b'\\n';\n",
@@ -73,6 +74,13 @@ fn methods_that_write_texts_are_inlined() {
     );
     stays("impl E for S {\n    #[cold]\n    fn encode(&self) {}\n}\n");
     stays("impl S { fn encode_all(&self) {} pub fn encode(&self) {} }\n");
+    becomes(
+        "impl E for S { type A = B; fn encode(&self) {} fn a() {} fn encode(&self) {} }\n",
+        "impl E for S { type A = B; #[inline] fn encode(&self) {} fn a() {} \
+         #[inline] fn encode(&self) {} }\n",
+    );
+    stays("impl S { fn a() {} fn b() {} const C: u8 = 1; fn d() {} }\n");
+    stays("impl A for S {} trait E { fn a(); fn encode(&self); }\n");
 }
 
 #[test]
@@ -113,6 +121,14 @@ fn what_introduces_an_example_is_left_out() {
     ] {
         becomes(&format!("{docs}{example}"), &format!("{left}\n\n\nfn f() {{}}\n"));
     }
+    becomes(
+        "//! What it does.\n//!\n//! Here\n//!\n//! or here:\n//!\n\
+         //! ```\n//! f();\n//! ```\nfn f() {}\n",
+        "//! What it does.\n//!\n//! Here\n//!\n\n//!\n\n\n\nfn f() {}\n",
+    );
+    // What an example has of its own is no introduction.
+    let own = "/// It goes\n/// on\n/// ```\n/// // a:\n/// b();\n/// ```\nfn f() {}\n";
+    becomes(own, "/// It goes\n/// on\n\n\n\n\nfn f() {}\n");
 }
 
 #[test]
@@ -171,6 +187,25 @@ fn what_may_be_refused_has_other_names() {
 }
 
 #[test]
+fn names_that_stay_their_owners() {
+    for source in ["enum Op {\n Clone,\n}", "enum Op { A,\n Clone(u8) }", "use\n a::Clone;"] {
+        refuses(source, 2, "a `Clone` that is no bound");
+    }
+    for source in ["Clone::clone(x)", "a + Clone;", "f::<Clone>()", "struct Clone;"] {
+        refuses(source, 1, "a `Clone` that is no bound");
+    }
+    for source in ["struct S { clone: u8 }", "s.clone", "clone(s)", "S::clone(s)", "(s.clone)()"] {
+        refuses(source, 1, "a `clone` that is no method");
+    }
+    becomes("trait A: B + Clone {}\n", "trait A: B + TryClone {}\n");
+    becomes("impl<A: Clone + B> C<A> {}\n", "impl<A: TryClone + B> C<A> {}\n");
+    becomes(
+        "fn f(x: impl A + Clone) where B: Clone, {}\n",
+        "fn f(x: impl A + TryClone) where B: TryClone, {}\n",
+    );
+}
+
+#[test]
 fn roots_of_paths() {
     becomes("use crate::a;\n", "use crate::proved::wenc_parts::a;\n");
     becomes("pub(crate) fn f() {}\n", "pub(in crate::proved::wenc_parts) fn f() {}\n");
@@ -178,6 +213,11 @@ fn roots_of_paths() {
     becomes("use std::{fmt, io};\n", "use crate::proved::rt_std::{fmt, io};\n");
     becomes("use wenc_base::Encode;\n", "use crate::proved::wenc_base::Encode;\n");
     becomes("<T as hex::D>::d(x)\n", "<T as crate::proved::hex::D>::d(x)\n");
+    becomes(
+        "fn f<T: std::A>(x: wenc_base::B, y: crate::C) { let z: hex::D; }\n",
+        "fn f<T: crate::proved::rt_std::A>(x: crate::proved::wenc_base::B, \
+         y: crate::proved::wenc_parts::C) { let z: crate::proved::hex::D; }\n",
+    );
     stays("use self::std::x; a::wenc_base::b(wenc_base)\n");
 }
 
@@ -218,6 +258,24 @@ fn errors_have_their_texts() {
          Fault::Bad { place, .. } => write!(f, \"at {place}\"), } } } \
          impl ::core::error::Error for Fault {}\n",
     );
+}
+
+#[test]
+fn the_last_error_may_lack_its_comma() {
+    for (variant, fields) in [("B", ""), ("B { place: u8 }", "place, ")] {
+        let text = if fields.is_empty() { "b" } else { "{place}" };
+        let erased = erased(&format!(
+            "#[derive(Eq, Error)]\npub enum E {{ #[error(\"a\")] A, \
+             #[error(\"{text}\")] {variant} }}\n",
+        ));
+        let (enumeration, display) = erased.split_once(" impl ::core::fmt::Display").expect("both");
+        assert_eq!(enumeration, format!("#[derive(Eq )]\npub enum E {{  A,  {variant} }}"));
+        assert!(display.contains(&format!(
+            "{{ match self {{ E::A {{ .. }} => write!(f, \"a\"), \
+             E::B {{ {fields}.. }} => write!(f, \"{text}\"), }} }} }}"
+        )));
+        assert!(display.ends_with("impl ::core::error::Error for E {}\n"));
+    }
 }
 
 #[test]
@@ -275,7 +333,10 @@ fn derives_that_are_not_known() {
     refuses("#[derive()]\nstruct S;\n", 1, why);
     refuses("#[derive(a::Clone)]\nstruct S;\n", 1, why);
     refuses("#[derive_where(Eq; T)]\nstruct S;\n", 1, why);
-    refuses("#[derive(Clone, Error)]\npub struct E;\n", 2, "an error that is no enum");
+    for no_enum in ["pub struct E;", "enum E {}", "pub enum E<A> {}", "pub enum E;"] {
+        let source = format!("#[derive(Clone, Error)]\n{no_enum}\n");
+        refuses(&source, 2, "an error that is no enum");
+    }
     refuses(
         "#[derive(Clone, Error)]\npub enum E {\n    A,\n}\n",
         3,
@@ -316,6 +377,7 @@ fn macros_that_are_not_known() {
     refuses("assert!(rt; a)\n", 1, why);
     refuses("panic!(self.rt; \"a\")\n", 1, why);
     refuses("include!(\"a\")\n", 1, why);
+    refuses("include!{\"a\"}\n", 1, why);
     refuses("own!(a)\nmacro_rules! own { () => {} }\n", 1, why);
     stays("macro_rules! own { ($a:ident) => { $a } }\nfn f() { own!(a) }\n");
 }
@@ -329,6 +391,11 @@ fn paths_that_are_not_known() {
     refuses("\nuse wenc_base as b;\n", 2, "a crate that is no path's root");
     refuses("extern crate std;\n", 1, "a crate that is no path's root");
     refuses("mod a;\nmod hex;\n", 2, "a module with the name of a crate");
+    refuses("mod a;\nmod b {\n    fn f() {}\n}\n", 2, "a module that is no file");
+    refuses("fn f(x: core::A) {}\n", 1, "a path that begins with a crate of the kit");
+    refuses("fn f(x: ::std::A) {}\n", 1, "a path that begins with `::`");
+    refuses("fn f(x: thiserror::A) {}\n", 1, "a path that begins with a crate of the kit");
+    refuses("mod thiserror;\n", 1, "a module with the name of a crate");
     refuses("use thiserror::Display;\n", 1, "a use of `thiserror` that is not known");
     refuses("\n/// ```\nfn f() {}\n", 2, "an example without an end");
     refuses("/// ```\n// x\n/// ```\nfn f() {}\n", 2, "an example outside of documentation");

@@ -163,6 +163,51 @@ fn each_change_is_found() {
     assert!(read(&format!("{RUST}fn g() {{}}")).is_err(), "an item that came in");
 }
 
+/// Sources whose words mean something else in Rust where they stay or get another name, and what
+/// they would become.
+const UNKNOWN: [(&str, &str); 16] = [
+    ("fn f(x: std::A) {}", "fn f(x: std::A) {}"),
+    ("fn f<T: std::A>() {}", "fn f<T: std::A>() {}"),
+    ("fn f() { let x: wenc_base::A; }", "fn f() { let x: wenc_base::A; }"),
+    ("struct S { a: crate::A }", "struct S { a: crate::A }"),
+    ("fn f(x: core::A) {}", "fn f(x: core::A) {}"),
+    ("use alloc::vec;", "use alloc::vec;"),
+    ("use thiserror::Display;", "use thiserror::Display;"),
+    ("mod inner { fn f() {} }", "mod inner { fn f() {} }"),
+    ("pub mod inner {}", "pub mod inner {}"),
+    ("enum Op { Clone, Copy }", "enum Op { TryClone, Copy }"),
+    ("enum Op { Copy, Clone }", "enum Op { Copy, Clone }"),
+    ("fn f() { Clone::clone(x) }", "fn f() { TryClone::try_clone(x) }"),
+    ("use a::Clone;", "use a::TryClone;"),
+    ("struct S { clone: u8 }", "struct S { try_clone: u8 }"),
+    ("fn f() { s.clone }", "fn f() { s.try_clone }"),
+    ("fn f() { clone(s) }", "fn f() { clone(s) }"),
+];
+
+#[test]
+fn what_means_something_else_in_rust_is_found() {
+    let read = |source: &str, rust: &str| {
+        let rust = format!("use crate::proved::rt_std::prelude::*; {rust}");
+        read("named", source, &rust, true, &mut BTreeMap::new())
+    };
+    for (source, rust) in UNKNOWN {
+        assert!(read(source, rust).is_err(), "{source}");
+    }
+    for (source, rust) in [
+        ("fn f(x: std::A) {}", "fn f(x: crate::proved::rt_std::A) {}"),
+        ("fn f<T: wenc_base::A>() {}", "fn f<T: crate::proved::wenc_base::A>() {}"),
+        ("struct S { a: crate::A }", "struct S { a: crate::proved::named::A }"),
+        ("mod inner; use self::core::A;", "mod inner; use self::core::A;"),
+        (
+            "fn f<T: Clone>() where A: B + Clone, {}",
+            "fn f<T: TryClone>() where A: B + TryClone, {}",
+        ),
+        ("fn clone() { s.clone() }", "fn try_clone() { s.try_clone() }"),
+    ] {
+        assert_eq!(read(source, rust), Ok(()), "{source}");
+    }
+}
+
 /// In one file in five, if it is short: each token left out, changed, and another put in after it.
 #[test]
 fn each_token_counts() {

@@ -33,7 +33,7 @@ impl Calls {
             if is_import || before == "fn" {
                 continue;
             }
-            if [".", ":"].contains(&before) {
+            if [".", "::"].contains(&before) {
                 calls.types.extend(sources.lent_by(word).cloned());
                 calls.methods.insert(word.to_owned());
             }

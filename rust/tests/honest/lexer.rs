@@ -7,7 +7,7 @@ pub struct Token {
     pub text: String,
 }
 
-/// The tokens of a text without its comments.
+/// The tokens of a text without its comments. A `::` is one.
 pub fn lex(text: &str) -> Vec<Token> {
     let chars: Vec<char> = text.chars().collect();
     let (mut tokens, mut at, mut line) = (Vec::new(), 0, 1);
@@ -35,6 +35,7 @@ fn end(chars: &[char], begin: usize) -> usize {
                 at += 1;
             }
         }
+        ':' if next == Some(&':') => at += 1,
         '"' => at = quoted(chars, at),
         '\'' if next == Some(&'\\') => at = 1 + closing_quote(chars, begin + 3),
         '\'' if chars.get(begin + 2) == Some(&'\'') => at = begin + 3,

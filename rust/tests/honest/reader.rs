@@ -155,6 +155,9 @@ pub fn compare(
         counts.insert("prelude", 1);
     }
     while let Some(first) = old.get(source.at) {
+        if let Some(why) = source.unknown() {
+            return Err(format!("{}: {:?} is {why}", first.line, first.text));
+        }
         let Step { way, old, new } = source.step();
         let line = has_lines.then_some(first.line);
         take(way, line, &new, &mut rest).map_err(|why| format!("{}: {why}", first.line))?;
@@ -252,6 +255,29 @@ impl<'a> Source<'a> {
             }
         }
         unreachable!("it ends")
+    }
+
+    /// Why what stands here would mean something else in Rust, if it would, whatever became of it.
+    fn unknown(&self) -> Option<&'static str> {
+        let (last, word, next) = (self.before(1), self.text(0), self.text(1));
+        match word {
+            "mod" => (self.text(2) == "{").then_some("a module without the prelude"),
+            "core" | "alloc" | "thiserror" if next == "::" && last != "::" => {
+                Some("a crate that is another one in Rust")
+            }
+            "Clone" => (!self.is_bound()).then_some("a name that is no bound"),
+            "clone" => {
+                let is_method = matches!((last, next), ("fn" | ".", "("));
+                (!is_method).then_some("a name that is no method")
+            }
+            _ => None,
+        }
+    }
+
+    /// Whether a trait stands here that is asked for: behind a colon or a plus, and in front of
+    /// what ends or goes on with the list.
+    fn is_bound(&self) -> bool {
+        matches!((self.before(1), self.text(1)), (":" | "+", "," | ">" | "+" | ")" | "{"))
     }
 
     fn step(&mut self) -> Step {
@@ -375,8 +401,8 @@ impl<'a> Source<'a> {
                 Some(step("bound Drop left out", 2, ""))
             }
             ":" if self.stands(": Drop {") => Some(step("bound Drop of a trait", 2, ": Sized")),
-            "use" if self.stands("use thiserror : : Error ;") => {
-                Some(step("use of thiserror left out", 6, ""))
+            "use" if self.stands("use thiserror :: Error ;") => {
+                Some(step("use of thiserror left out", 5, ""))
             }
             "(" if self.stands("( crate )") => {
                 Some(step("pub(crate)", 3, format!("(in crate::proved::{})", self.crate_name)))
@@ -439,7 +465,7 @@ impl<'a> Source<'a> {
 
     /// The root of a path.
     fn root(&self) -> Option<Step> {
-        if !self.stands_at(1, ": :") || self.before(1) == ":" {
+        if self.text(1) != "::" || self.before(1) == "::" {
             return None;
         }
         match self.text(0) {

@@ -186,7 +186,7 @@ fn what_lends_a_slice() {
 
 #[test]
 fn digits() {
-    assert_eq!(hex::decode(Global, "00fFA9").map(|bytes| bytes == [0, 255, 0xa9]), Ok(true));
+    assert_eq!(hex::decode(Global, "00fFA9").map(|bytes| bytes[..] == [0, 255, 0xa9]), Ok(true));
     assert_eq!(hex::decode(Global, "0").err(), Some(FromHexError::OddLength));
     assert_eq!(hex::decode(Global, "0g").err(), Some(FromHexError::InvalidHexCharacter));
     let heap = Refusing::new();
