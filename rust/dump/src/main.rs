@@ -9,11 +9,14 @@ use wenc_dump::{NO_MEMORY, Streams, colours_are_wanted, run};
 /// How many bytes of stack components and types in one another take, with room for more.
 const STACK: usize = 0xc_0000;
 
+/// How many bytes else the program takes before it reads a file.
+const START: usize = 0x4_0000;
+
 /// Has the stack grow to its size, if there is memory for that. What is read of a file could take
 /// that memory, and a stack that can't grow ends a program.
 fn has_stack() -> bool {
     let mut room = Vec::<u8>::new();
-    let is_there = room.try_reserve_exact(STACK).is_ok();
+    let is_there = room.try_reserve_exact(STACK + START).is_ok();
     // else the compiler could leave the request out
     drop(black_box(room));
     if is_there {

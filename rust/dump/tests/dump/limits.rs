@@ -6,7 +6,7 @@ use std::path::Path;
 use std::process::{Command, Output};
 
 /// How many KiB are between two limits.
-const STEP: usize = 96;
+const STEP: usize = 64;
 
 /// Runs the program with so many KiB of memory.
 fn limited(kib: usize, options: &[&str], file: &Path) -> Output {
@@ -88,7 +88,7 @@ fn deep_types() {
         let aliases = b"\x01\x7f".repeat(100);
         ty = [&[0x42][..], &padded(101), &aliases, &[1], &ty].concat();
     }
-    sweep(&file("limits_deep", &section(7, &[&[1][..], &ty].concat())), 5);
+    sweep(&file("limits_deep", &section(7, &[&[1][..], &ty].concat())), 3);
 }
 
 /// The other files are printed, and the status says the worst.
