@@ -287,17 +287,20 @@ static void listed(void) {
   static const uint8_t component[] = {0x00, 0x61, 0x73, 0x6d, 0x0d, 0x00, 0x01, 0x00, 0x0a, 0x06,
                                       0x01, 0x00, 0x01, 0x66, 0x01, 0x00, 0x07, 0x02, 0x01};
   wenc_handle listing = {NULL};
-  wenc_unread unread;
+  wenc_unread unread = {1, 1, 1, 1};
   size_t before = taken;
   uint32_t status = wenc_list(&listing, component, 16, &unread), functions;
+  REQUIRE((unread.section | unread.place | unread.part | unread.item) == 0);
   if (is_done(status)) {
     REQUIRE(wenc_count(&listing, WENC_FUNCS, &functions) == WENC_DONE && functions == 1);
     REQUIRE(taken > before);
   }
   wenc_free(&listing);
   REQUIRE(held() == 0);
+  unread.section = 1;
   status = wenc_list(&listing, component, 19, &unread);
-  REQUIRE((status == WENC_BAD_SECTION && unread.section == 16) || !is_done(status));
+  REQUIRE((status == WENC_BAD_SECTION && unread.section == 16) ||
+          (!is_done(status) && unread.section == 0));
   REQUIRE(listing.at == NULL && held() == 0);
 }
 

@@ -437,7 +437,7 @@ typedef struct {
   uint32_t index;
 } wenc_index_name;
 
-/* The part of a component that wenc_list can't read. */
+/* The part of a component that wenc_list can't read: all of it is 0 where there is none. */
 typedef struct {
   /* The byte offset of the section. */
   size_t section;
@@ -847,7 +847,7 @@ enum wenc_status wenc_names_raw(wenc_handle *names, uint8_t id, const uint8_t *b
 
 /* Reads a component, and keeps no pointer to its bytes. WENC_NOT_A_COMPONENT, WENC_BAD_SECTION,
  * WENC_BAD_ITEM and WENC_TOO_DEEP say why it can't be read, and `*unread` which part can't. Also
- * WENC_NO_MEMORY, WENC_TOO_LARGE, WENC_BAD_ARGUMENT, WENC_NO_HANDLE.
+ * WENC_NO_MEMORY, WENC_TOO_LARGE, WENC_BAD_ARGUMENT, WENC_NO_HANDLE. `*unread` is written always.
  *
  * wenc_len counts its sections, wenc_count its items. Modules and nested components are bytes. */
 enum wenc_status wenc_list(wenc_handle *listing, const uint8_t *bytes, size_t len,

@@ -3,12 +3,14 @@
 use crate::proved::rt_std::alloc::Global;
 use crate::proved::wenc_list as proved;
 use crate::tree::{ItemTree, NameTree, Space};
+use crate::twins::twins;
 use crate::{
     ComponentExportKind, ComponentSectionId, ComponentTypeRef, DebugNames, ListFault, RawSection,
 };
 use alloc::vec::Vec;
 use core::fmt;
 use core::iter;
+use core::mem;
 use core::ops::Range;
 
 /// An iterator over the sections of a component.
@@ -124,18 +126,20 @@ impl<'a> Sections<'a> {
         })
     }
 
-    /// Returns the debug names of the component and of its items, as
-    /// [`Listing::names`](crate::Listing::names). Those after a section that isn't framed are left
-    /// out.
-    pub fn names(self) -> DebugNames {
-        let items = self.items_of(|id| id == ComponentSectionId::CoreCustom.into());
-        DebugNames::of(items.flatten().map(|(_, item)| item))
+    twins! {
+        /// Returns the debug names of the component and of its items, as
+        /// [`Listing::names`](crate::Listing::names). Of sections that aren't custom ones only the
+        /// size is read. Names after bytes that aren't an id and the size of a section are left
+        /// out.
+        fn names | try_names(self) -> DebugNames {
+            DebugNames::of_sections(self.left.map_or(&[], |left| left.rest))
+        }
     }
 
     /// Returns the sections of the component and of all components that are nested in it, up to
     /// `limit` deep.
     pub fn nested(self, limit: usize) -> NestedSections<'a> {
-        NestedSections { open: Vec::from([self]), limit, last: None }
+        NestedSections { innermost: self, around: Vec::new(), limit, last: None }
     }
 
     /// The items of the sections whose ids are kept, up to the first that isn't read.
@@ -307,8 +311,8 @@ impl fmt::Debug for SectionReader<'_> {
 }
 
 /// The sections of a component and of all that are nested in it, one by one, up to the first that
-/// isn't framed or counted. The sections of a nested component follow the section that it is. All
-/// byte offsets are counted from the start of the outermost component.
+/// isn't framed or counted, or [`ListFault::NoMemory`]. The sections of a nested component follow
+/// the section that it is. All byte offsets are counted from the start of the outermost component.
 ///
 /// Each section comes with the depth of the component that it is in: 0 is the outermost, 1 one that
 /// is nested in that, and so on. A component that is nested deeper than the limit is a fault,
@@ -331,8 +335,10 @@ impl fmt::Debug for SectionReader<'_> {
 /// ```
 #[derive(Clone, Debug)]
 pub struct NestedSections<'a> {
-    /// The components that the next section may be in, the innermost last.
-    open: Vec<Sections<'a>>,
+    /// The component that the next section may be in.
+    innermost: Sections<'a>,
+    /// Those around it, the outermost first.
+    around: Vec<Sections<'a>>,
     limit: usize,
     /// The section that was last returned.
     last: Option<SectionReader<'a>>,
@@ -342,11 +348,11 @@ impl<'a> NestedSections<'a> {
     /// Goes into the component that the section is.
     fn enter(&mut self, section: SectionReader<'a>) -> Result<(), ListFault> {
         let Some(component) = section.component()? else { return Ok(()) };
-        if self.open.len() > self.limit {
+        if self.around.len() >= self.limit {
             return Err(ListFault::TooDeep { place: section.range().start, unread: None });
         }
-        self.open.try_reserve(1).map_err(|_| ListFault::NoMemory)?;
-        self.open.push(component);
+        self.around.try_reserve(1).map_err(|_| ListFault::NoMemory)?;
+        self.around.push(mem::replace(&mut self.innermost, component));
         Ok(())
     }
 
@@ -355,14 +361,16 @@ impl<'a> NestedSections<'a> {
         if let Some(section) = self.last.take() {
             self.enter(section)?;
         }
-        while let Some(innermost) = self.open.last_mut() {
-            if let Some(section) = innermost.next() {
+        loop {
+            if let Some(section) = self.innermost.next() {
                 self.last = Some(section?);
-                return Ok(self.last.map(|section| (self.open.len() - 1, section)));
+                return Ok(self.last.map(|section| (self.around.len(), section)));
             }
-            self.open.pop();
+            match self.around.pop() {
+                Some(around) => self.innermost = around,
+                None => return Ok(None),
+            }
         }
-        Ok(None)
     }
 }
 
@@ -372,7 +380,8 @@ impl<'a> Iterator for NestedSections<'a> {
     fn next(&mut self) -> Option<Self::Item> {
         let next = self.take();
         if next.is_err() {
-            self.open.clear();
+            self.innermost.left = None;
+            self.around.clear();
         }
         next.transpose()
     }

@@ -129,7 +129,7 @@ pub use cursor::{Items, NestedSections, SectionReader, Sections};
 pub use encode::{Encode, encoding_size};
 pub use error::Error;
 #[cfg(feature = "reader")]
-pub use list::{ListFault, ListedSection, Listing, Unread, list};
+pub use list::{Definitions, ListFault, ListedSection, Listing, Unread, list};
 #[cfg(feature = "reader")]
 pub use names::{DebugNames, NamesFault};
 pub use raw::RawSection;

@@ -5,6 +5,7 @@ use crate::proved::wasm_encoder as proved;
 use core::fmt;
 
 pub use proved::{ListedSection, Listing, Unread};
+pub use queries::Definitions;
 
 mod queries;
 

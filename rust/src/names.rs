@@ -1,15 +1,18 @@
 //! The debug names of a component.
 
 use crate::proved::rt_std::alloc::Global;
-use crate::proved::wenc_list::{Names, names_of};
-use crate::proved::wenc_read::Refusal;
+use crate::proved::wenc_list::{Names, names_of, part_of};
+use crate::proved::wenc_read::{Refusal, name_of};
 use crate::proved::wenc_sections::names::NAMES_LABEL;
 use crate::tree::{ItemTree, Space};
-use crate::{ComponentNameSection, NameMap};
-use alloc::collections::BTreeMap;
+use crate::twins::twins;
+use crate::{ComponentNameSection, ComponentSectionId, Error, NameMap};
+use alloc::collections::TryReserveError;
 use alloc::string::String;
-use core::borrow::Borrow;
+use by_index::ByIndex;
 use core::fmt;
+
+mod by_index;
 
 /// The debug names of a component and of its items ([component model, binary format, "Name
 /// Section"][names]), which the custom section `component-name` contains. If that names something
@@ -44,7 +47,7 @@ use core::fmt;
 pub struct DebugNames {
     component: Option<String>,
     /// Those of the items, by the number of their space.
-    items: [BTreeMap<u32, String>; 13],
+    items: [ByIndex; 13],
 }
 
 impl DebugNames {
@@ -57,13 +60,33 @@ impl DebugNames {
     }
 
     /// The names that are read of those that the items contain.
-    pub(crate) fn of(items: impl IntoIterator<Item: Borrow<ItemTree>>) -> Self {
+    pub(crate) fn of<'a>(items: impl Iterator<Item = &'a ItemTree>) -> Result<Self, Error> {
         let mut names = Self::new();
         for item in items {
-            // what isn't read of a custom section is no fault of the component
-            let _ = names.read(item.borrow());
+            unless_bad(names.read(item))?;
         }
-        names
+        Ok(names)
+    }
+
+    /// The names that are read of those that these sections contain, up to what isn't framed.
+    pub(crate) fn of_sections(sections: &[u8]) -> Result<Self, Error> {
+        let (mut names, mut rest) = (Self::new(), sections);
+        while let Ok(((id, content), behind)) = part_of(rest) {
+            if id == ComponentSectionId::CoreCustom.into() {
+                unless_bad(names.read_section(content))?;
+            }
+            rest = behind;
+        }
+        Ok(names)
+    }
+
+    /// Adds the names of a custom section with this content, if it is one of names.
+    fn read_section(&mut self, content: &[u8]) -> Result<(), NamesFault> {
+        match name_of(Global, content) {
+            Ok((name, data)) if *name == *NAMES_LABEL => self.read_data(data),
+            Err(Refusal::Memory) => Err(NamesFault::NoMemory),
+            _ => Ok(()),
+        }
     }
 
     /// Adds the names that the item contains, if it is a custom section `component-name`; else
@@ -71,8 +94,8 @@ impl DebugNames {
     ///
     /// # Errors
     ///
-    /// The first subsection that can't be read, or [`NamesFault::NoMemory`]. The names of the
-    /// subsections before it are added.
+    /// The first subsection that can't be read, or [`NamesFault::NoMemory`]. The names before it are
+    /// added.
     pub fn read(&mut self, item: &ItemTree) -> Result<(), NamesFault> {
         match item {
             ItemTree::Custom { name, data } if **name == *NAMES_LABEL => self.read_data(data),
@@ -88,25 +111,24 @@ impl DebugNames {
                 Refusal::Memory => NamesFault::NoMemory,
                 Refusal::Malformed => NamesFault::BadSubsection { place: data.len() - rest.len() },
             })?;
-            self.add(names);
+            self.add(names).map_err(|_| NamesFault::NoMemory)?;
             rest = behind;
         }
         Ok(())
     }
 
     /// Adds the names of a subsection to those that were read before it.
-    fn add(&mut self, names: Names) {
+    fn add(&mut self, names: Names) -> Result<(), TryReserveError> {
         match names {
             Names::Component(name) => {
                 self.component.get_or_insert(name.into());
+                Ok(())
             }
             Names::Items(space, names) => {
                 let items = &mut self.items[space.number()];
-                for item in names {
-                    items.entry(item.index).or_insert(item.name.into());
-                }
+                names.into_iter().try_for_each(|item| items.add(item.index, item.name.into()))
             }
-            Names::Raw(..) => {}
+            Names::Raw(..) => Ok(()),
         }
     }
 
@@ -117,15 +139,16 @@ impl DebugNames {
 
     /// Returns the name of the item with this index in this space.
     pub fn get(&self, space: Space, index: u32) -> Option<&str> {
-        self.items[space.number()].get(&index).map(String::as_str)
+        self.items[space.number()].get(index)
     }
 
     /// Returns the names of the items with their spaces and indices, in the order of
     /// [`Space::ALL`], and in a space by index.
     pub fn iter(&self) -> impl Iterator<Item = (Space, u32, &str)> {
-        Space::ALL.into_iter().zip(&self.items).flat_map(|(space, items)| {
-            items.iter().map(move |(index, name)| (space, *index, name.as_str()))
-        })
+        Space::ALL
+            .into_iter()
+            .zip(&self.items)
+            .flat_map(|(space, items)| items.iter().map(move |(index, name)| (space, index, name)))
     }
 
     /// Names the component itself.
@@ -133,9 +156,25 @@ impl DebugNames {
         self.component = Some(name.into());
     }
 
-    /// Names the item with this index in this space. A name that it had is replaced.
-    pub fn insert(&mut self, space: Space, index: u32, name: impl Into<String>) {
-        self.items[space.number()].insert(index, name.into());
+    twins! {
+        /// Names the item with this index in this space. A name that it had is replaced.
+        fn insert | try_insert(
+            &mut self,
+            space: Space,
+            index: u32,
+            name: impl Into<String>,
+        ) -> () {
+            let items = &mut self.items[space.number()];
+            items.replace(index, name.into()).map_err(|_| Error::NoMemory)
+        }
+    }
+}
+
+/// What isn't read of a custom section is no fault of the component.
+fn unless_bad(read: Result<(), NamesFault>) -> Result<(), Error> {
+    match read {
+        Ok(()) | Err(NamesFault::BadSubsection { .. }) => Ok(()),
+        Err(NamesFault::NoMemory) => Err(Error::NoMemory),
     }
 }
 
@@ -154,7 +193,7 @@ impl From<&DebugNames> for ComponentNameSection {
         for (space, items) in Space::ALL.into_iter().zip(&names.items) {
             if !items.is_empty() {
                 let mut map = NameMap::new();
-                items.iter().for_each(|(index, name)| map.append(*index, name));
+                items.iter().for_each(|(index, name)| map.append(index, name));
                 append(&mut section, space, &map);
             }
         }

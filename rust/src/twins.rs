@@ -49,6 +49,9 @@ macro_rules! twins {
     (@receiver (&mut $self:ident $(, $arg:ident : $ty:ty)* $(,)?) $($rest:tt)*) => {
         twins! { @both [&mut $self] $self [$($arg : $ty),*] [$($arg),*] $($rest)* }
     };
+    (@receiver (&$self:ident $(, $arg:ident : $ty:ty)* $(,)?) $($rest:tt)*) => {
+        twins! { @both [&$self] $self [$($arg : $ty),*] [$($arg),*] $($rest)* }
+    };
     (@receiver ($self:ident $(, $arg:ident : $ty:ty)* $(,)?) $($rest:tt)*) => {
         twins! { @both [$self] $self [$($arg : $ty),*] [$($arg),*] $($rest)* }
     };

@@ -15,6 +15,8 @@ mod declarations;
 mod members;
 #[path = "refused/names.rs"]
 mod names;
+#[path = "refused/reading.rs"]
+mod reading;
 #[allow(dead_code, reason = "some are for others")]
 #[path = "core_types/shapes.rs"]
 mod shapes;

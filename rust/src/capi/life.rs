@@ -126,6 +126,7 @@ pub unsafe extern "C" fn wenc_list(
     len: usize,
     unread: *mut UnreadPart,
 ) -> Status {
+    unsafe { put(unread, UnreadPart { section: 0, place: 0, part: 0, item: 0 }) };
     let make = || {
         let bytes = unsafe { super::arguments::list(bytes, len) }?;
         match Listed::read(bytes)? {

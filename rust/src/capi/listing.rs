@@ -19,6 +19,8 @@ const DEPTH: u32 = 100;
 /// A component that was read.
 pub struct Listed {
     sections: Vec<ListedSection>,
+    /// How many items are before each section.
+    before: Vec<usize>,
     /// How many bytes the component has.
     len: usize,
     /// The index of each item, or of its first, section by section.
@@ -34,17 +36,21 @@ impl Listed {
             Ok(listing) => listing,
             Err(fault) => return Ok(Err(fault)),
         };
-        let (mut indices, mut counts) = (Vec::new(Global), [0_u64; 13]);
-        for item in listing.sections.iter().flat_map(|section| &section.items) {
-            let mut unspaced = 0;
-            let (count, taken) = match item.indices() {
-                Some((space, taken)) => (&mut counts[space.number()], taken),
-                None => (&mut unspaced, 0),
-            };
-            indices.push(*count)?;
-            *count = count.checked_add(taken.into()).ok_or(Status::TooLarge)?;
+        let (mut before, mut indices) = (Vec::new(Global), Vec::new(Global));
+        let mut counts = [0_u64; 13];
+        for section in &listing.sections {
+            before.push(indices.len())?;
+            for item in &section.items {
+                let mut unspaced = 0;
+                let (count, taken) = match item.indices() {
+                    Some((space, taken)) => (&mut counts[space.number()], taken),
+                    None => (&mut unspaced, 0),
+                };
+                indices.push(*count)?;
+                *count = count.checked_add(taken.into()).ok_or(Status::TooLarge)?;
+            }
         }
-        Ok(Ok(Self { sections: listing.sections, len: bytes.len(), indices, counts }))
+        Ok(Ok(Self { sections: listing.sections, before, len: bytes.len(), indices, counts }))
     }
 
     /// How many sections there are.
@@ -75,7 +81,6 @@ impl Listed {
 
     fn row(&self, section: usize, item: usize) -> Result<ItemRow> {
         let tree = self.item(section, item)?;
-        let before: usize = self.sections[..section].iter().map(|one| one.items.len()).sum();
         let (space, indices) = match tree.indices() {
             Some((space, indices)) => (numbers::of_space(space), indices),
             None => (u32::try_from(self.counts.len()).unwrap_or(u32::MAX), 0),
@@ -83,7 +88,7 @@ impl Listed {
         let name = name_in(tree);
         let bytes = bytes_in(tree);
         Ok(ItemRow {
-            index: self.indices[before + item],
+            index: self.indices[self.before[section] + item],
             name: name.map_or(ptr::null(), str::as_ptr),
             name_len: name.map_or(0, str::len),
             bytes: bytes.map_or(ptr::null(), <[u8]>::as_ptr),

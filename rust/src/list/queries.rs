@@ -1,7 +1,9 @@
 //! What a listing has, by kind.
 
 use crate::tree::{ItemTree, NameTree, Space};
-use crate::{ComponentExportKind, ComponentTypeRef, DebugNames, Listing};
+use crate::twins::twins;
+use crate::{ComponentExportKind, ComponentTypeRef, DebugNames, Error, Listing};
+use alloc::vec::Vec;
 
 impl Listing {
     /// Returns all items, in their order.
@@ -36,10 +38,11 @@ impl Listing {
         self.counts[space.number()]
     }
 
-    /// Returns the item that defines an index; `None` where the space has no such index. It looks
-    /// at the items from the first on.
+    /// Returns the item that defines an index; `None` where the space has no such index.
     ///
     /// Indices are counted as [`ItemTree::indices`] does: a recursion group of core types has one.
+    /// It looks at the items from the first on, which takes time for each of them:
+    /// [`definitions`](Self::definitions) does that once.
     ///
     /// ```
     /// use wenc::tree::{ItemTree, Space};
@@ -64,9 +67,67 @@ impl Listing {
         })
     }
 
-    /// Returns the debug names of the component and of its items. What isn't read of their section
-    /// is left out, as readers of custom sections have to; [`DebugNames::read`] returns why.
-    pub fn names(&self) -> DebugNames {
-        DebugNames::of(self.items())
+    /// Returns the items by the indices that they define.
+    ///
+    /// # Errors
+    ///
+    /// [`NoMemory`](Error::NoMemory).
+    ///
+    /// ```
+    /// use wenc::list;
+    /// use wenc::tree::Space;
+    ///
+    /// // a type, and two imports of functions
+    /// let component = b"\0asm\x0d\0\x01\0\x07\x05\x01\x40\0\x01\0\
+    ///     \x0a\x0b\x02\0\x01f\x01\0\0\x01g\x01\0";
+    /// let listing = list(component)?;
+    /// let definitions = listing.definitions()?;
+    /// assert_eq!(definitions.get(Space::Funcs, 1), listing.items().last());
+    /// assert_eq!(definitions.get(Space::Funcs, 2), None);
+    /// # Ok::<(), Box<dyn std::error::Error>>(())
+    /// ```
+    pub fn definitions(&self) -> Result<Definitions<'_>, Error> {
+        let mut items: [Vec<_>; 13] = Default::default();
+        let mut counts = [0_u64; 13];
+        for item in self.items() {
+            let Some((space, count @ 1..)) = item.indices() else { continue };
+            let (items, first) = (&mut items[space.number()], &mut counts[space.number()]);
+            items.try_reserve(1).map_err(|_| Error::NoMemory)?;
+            items.push((*first, item));
+            *first = first.saturating_add(count.into());
+        }
+        Ok(Definitions { items, counts })
+    }
+
+    twins! {
+        /// Returns the debug names of the component and of its items. What isn't read of their
+        /// section is left out, as readers of custom sections have to; [`DebugNames::read`] returns
+        /// why.
+        fn names | try_names(&self) -> DebugNames {
+            DebugNames::of(self.items())
+        }
+    }
+}
+
+/// The items of a listing by the indices that they define, as [`Listing::definitions`] returns them.
+/// It takes the logarithm of their number to find one.
+#[derive(Clone, Debug)]
+pub struct Definitions<'a> {
+    /// By the number of their space the items, each with the first index that it defines.
+    items: [Vec<(u64, &'a ItemTree)>; 13],
+    /// How many indices there are, by the number of their space.
+    counts: [u64; 13],
+}
+
+impl<'a> Definitions<'a> {
+    /// Returns the item that defines an index; `None` where the space has no such index.
+    pub fn get(&self, space: Space, index: u32) -> Option<&'a ItemTree> {
+        let (index, space) = (u64::from(index), space.number());
+        if index >= self.counts[space] {
+            return None;
+        }
+        let items = &self.items[space];
+        let behind = items.partition_point(|(first, _)| *first <= index);
+        Some(items[behind.checked_sub(1)?].1)
     }
 }

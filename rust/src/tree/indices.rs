@@ -8,7 +8,8 @@ mod types;
 pub use nested::OuterFault;
 
 use super::{AliasTree, CoreInstanceTree, InstanceTree, ItemTree, Space, String, Vec};
-use crate::{ComponentTypeRef, ComponentValType, ModuleArg, TypeBounds};
+use crate::error::or_panic;
+use crate::{ComponentTypeRef, ComponentValType, Error, ModuleArg, TypeBounds};
 
 /// An index that an item contains, as [`ItemTree::indices_mut`] visits it.
 #[derive(Debug)]
@@ -72,8 +73,25 @@ impl ItemTree {
     /// );
     /// # Ok::<(), Box<dyn std::error::Error>>(())
     /// ```
-    pub fn indices_mut(&mut self, mut visit: impl FnMut(IndexUse<'_>)) {
-        self.each_index(&mut Visitor { visit: &mut visit, depth: 0 });
+    ///
+    /// # Panics
+    ///
+    /// Panics if [`try_indices_mut`](Self::try_indices_mut) fails.
+    pub fn indices_mut(&mut self, visit: impl FnMut(IndexUse<'_>)) {
+        or_panic(self.try_indices_mut(visit));
+    }
+
+    /// Does what [`indices_mut`](Self::indices_mut) does, but returns an error instead of panicking.
+    ///
+    /// # Errors
+    ///
+    /// [`NoMemory`](Error::NoMemory) if the parameters and results of a core function type can't be
+    /// copied, which is done where one of them refers to a type. `visit` isn't called with their
+    /// indices then, but with all others.
+    pub fn try_indices_mut(&mut self, mut visit: impl FnMut(IndexUse<'_>)) -> Result<(), Error> {
+        let mut visitor = Visitor { visit: &mut visit, depth: 0, is_refused: false };
+        self.each_index(&mut visitor);
+        if visitor.is_refused { Err(Error::NoMemory) } else { Ok(()) }
     }
 }
 
@@ -81,6 +99,8 @@ impl ItemTree {
 struct Visitor<'a> {
     visit: &'a mut dyn FnMut(IndexUse<'_>),
     depth: u32,
+    /// Whether an allocation failed.
+    is_refused: bool,
 }
 
 impl Visitor<'_> {

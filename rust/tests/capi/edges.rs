@@ -363,8 +363,52 @@ fn listed(bytes: &[u8]) -> (Status, [usize; 4]) {
     let mut listing = Held::nothing();
     let status = unsafe { wenc_list(listing.at(), bytes.as_ptr(), bytes.len(), &mut unread) };
     assert_eq!(listing.0.at.is_null(), status != Status::Done);
-    let numbers = [unread.part as usize, unread.item as usize];
-    (status, [unread.section, unread.place, numbers[0], numbers[1]])
+    (status, numbers(&unread))
+}
+
+fn numbers(unread: &UnreadPart) -> [usize; 4] {
+    [unread.section, unread.place, unread.part as usize, unread.item as usize]
+}
+
+/// Whatever is wrong, `*unread` is written.
+#[test]
+fn what_is_not_read_is_put_out_always() {
+    let bytes = *b"\0asm\x0d\0\x01\0\x06\x01\0";
+    let put_out = |handle, bytes, len| {
+        let mut unread = UnreadPart { section: 7, place: 7, part: 7, item: 7 };
+        (unsafe { wenc_list(handle, bytes, len, &mut unread) }, numbers(&unread))
+    };
+    let (mut taken, mut nothing) = (Held::builder(), Held::nothing());
+    let is = |status| (status, [0; 4]);
+    assert_eq!(put_out(ptr::null_mut(), bytes.as_ptr(), 11), is(Status::NoHandle));
+    assert_eq!(put_out(taken.at(), bytes.as_ptr(), 11), is(Status::BadArgument));
+    assert_eq!(put_out(nothing.at(), EMPTY, 11), is(Status::BadArgument));
+    assert_eq!(put_out(nothing.at(), bytes.as_ptr(), 11), is(Status::Done));
+}
+
+/// The items of 160,000 sections are found in less than the time that going through all sections in
+/// front of each takes.
+#[test]
+fn items_of_many_sections_are_found() {
+    const SECTIONS: usize = 160_000;
+    let custom = *b"\0\x02\x01a\x06\x01\0\x01\x08\0asm\x01\0\0\0";
+    let bytes = [&b"\0asm\x0d\0\x01\0"[..], &custom.repeat(SECTIONS)].concat();
+    let mut listing = Held::nothing();
+    let at = listing.at();
+    let status = unsafe { wenc_list(at, bytes.as_ptr(), bytes.len(), ptr::null_mut()) };
+    assert_eq!(status, Status::Done);
+    let begun = std::time::Instant::now();
+    for number in 0..SECTIONS {
+        let mut module: ItemRow = unsafe { mem::zeroed() };
+        let statuses = [
+            unsafe { wenc_item_at(at, 3 * number, 0, ptr::null_mut()) },
+            unsafe { wenc_item_at(at, 3 * number + 1, 0, ptr::null_mut()) },
+            unsafe { wenc_item_at(at, 3 * number + 2, 0, &mut module) },
+        ];
+        assert_eq!(statuses, [Status::Done, Status::BadArgument, Status::Done]);
+        assert_eq!((module.index, module.section), (number as u64, 1));
+    }
+    assert!(begun.elapsed().as_secs() < 10, "{:?}", begun.elapsed());
 }
 
 #[test]

@@ -109,5 +109,5 @@ fn readers_are_printed() {
     let inner = section.component().unwrap().unwrap();
     assert_eq!(format!("{inner:?}"), "Sections { offset: Some(18), .. }");
     let nested = format!("{:?}", sections(bytes).nested(1));
-    assert!(nested.starts_with("NestedSections { open: [Sections { offset: Some(8), .. }]"));
+    assert!(nested.starts_with("NestedSections { innermost: Sections { offset: Some(8), .. }"));
 }

@@ -36,8 +36,11 @@ fn each_index_has_its_definition() {
         \x0a\x05\x01\x00\x00\x01\x08\x09\x03\x03\x00\x01",
     );
     let items: Vec<_> = listing.items().collect();
+    let definitions = listing.definitions().expect("there is memory");
     let found = |space, index| {
-        let found = listing.definition(space, index)?;
+        let found = definitions.get(space, index);
+        assert_eq!(found, listing.definition(space, index));
+        let found = found?;
         items.iter().position(|item| std::ptr::eq(*item, found))
     };
     assert_eq!([0, 1].map(|index| found(Space::Funcs, index)), [Some(0), Some(3)]);
@@ -51,6 +54,14 @@ fn each_index_has_its_definition() {
     let last = many.definition(Space::Values, u32::MAX);
     assert_eq!(last, many.items().nth(1));
     assert_eq!(many.definition(Space::Values, u32::MAX - 1), many.items().next());
+    let definitions = many.definitions().expect("there is memory");
+    assert_eq!(definitions.get(Space::Values, u32::MAX), last);
+    assert_eq!(definitions.get(Space::Values, u32::MAX - 1), many.items().next());
+    // values that have no index are no others'
+    let many = listed(&b"\x09\x07\x00\x00\xff\xff\xff\xff\x0f".repeat(3));
+    let definitions = many.definitions().expect("there is memory");
+    assert_eq!(definitions.get(Space::Values, 0), many.items().next());
+    assert_eq!(definitions.get(Space::Values, u32::MAX), many.items().nth(1));
 }
 
 /// Each item of the corpus defines the indices from the count of those before it on.
@@ -59,11 +70,14 @@ fn definitions_of_the_corpus() {
     let mut found = 0;
     for (name, bytes) in corpus() {
         let Ok(listing) = list(&bytes) else { continue };
+        let definitions = listing.definitions().expect("there is memory");
         let mut next = [0u32; 13];
         for item in listing.items() {
             let Some((space, count)) = item.indices() else { continue };
             let index = &mut next[space.number()];
             let definition = listing.definition(space, *index).expect("it is there");
+            assert!(std::ptr::eq(definition, item), "{name}: {space:?} {index}");
+            let definition = definitions.get(space, *index).expect("it is there");
             assert!(std::ptr::eq(definition, item), "{name}: {space:?} {index}");
             *index += count;
             found += 1;
@@ -71,6 +85,7 @@ fn definitions_of_the_corpus() {
         for space in Space::ALL {
             assert_eq!(listing.count(space), next[space.number()].into(), "{name}");
             assert_eq!(listing.definition(space, next[space.number()]), None, "{name}");
+            assert_eq!(definitions.get(space, next[space.number()]), None, "{name}");
         }
     }
     assert!(found > 1000, "{found} definitions");

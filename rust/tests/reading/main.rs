@@ -2,6 +2,7 @@
 
 mod core_sections;
 mod cursor;
+mod large;
 mod listing;
 mod names;
 mod nested;

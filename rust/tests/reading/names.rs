@@ -1,5 +1,6 @@
 //! Debug names.
 
+use crate::component;
 use wenc::tree::{ItemTree, Space, String};
 use wenc::{
     Component, ComponentNameSection, ComponentSection, DebugNames, NamesFault, Sections, list,
@@ -111,4 +112,29 @@ fn a_component_has_the_names_that_are_read() {
     assert_eq!((names.get(Space::Funcs, 0), names.component()), (Some("a"), Some("b")));
     let listing = list(&bytes[..bytes.len() - 2]).expect("it is listed");
     assert_eq!(listing.names(), names);
+}
+
+/// Names behind sections that are framed, though no items are read in them, and in front of one
+/// that isn't.
+#[test]
+fn names_behind_what_is_not_read_are_found() {
+    let framed: [&[u8]; 4] = [
+        b"\x06\x00",             // without a count
+        b"\x0a\x03\xff\xff\xff", // with a part of one
+        b"\x0c\x01\x00",         // with an id that is none
+        b"\x00\x01\x07",         // a custom one without a name
+    ];
+    let names = b"\x00\x16\x0ecomponent-name\x01\x05\x01\x01\x00\x01a";
+    let other = b"\x00\x16\x0ecomponent-name\x01\x05\x01\x01\x01\x01b";
+    for framed in framed {
+        for cut in [&b"\x06"[..], b"\x06\x01"] {
+            let bytes = component(&[framed, names, cut, other].concat());
+            let found = Sections::new(&bytes).expect("it is a component").names();
+            assert_eq!(found.iter().collect::<Vec<_>>(), [(Space::Funcs, 0, "a")], "{framed:x?}");
+            let bytes = component(&[framed, names, framed, other].concat());
+            let found = Sections::new(&bytes).expect("it is a component").names();
+            let both = [(Space::Funcs, 0, "a"), (Space::Funcs, 1, "b")];
+            assert_eq!(found.iter().collect::<Vec<_>>(), both, "{framed:x?}");
+        }
+    }
 }

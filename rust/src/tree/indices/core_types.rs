@@ -2,8 +2,8 @@
 
 use super::{Indexed, Visitor};
 use crate::tree::{
-    ArrayType, CompositeType, CoreTypeTree, EntityType, FieldType, FuncType, GroupTree, HeapType,
-    ModuleDecl, RefType, Space, StorageType, StructType, SubType, ValType, Vec,
+    AllocError, ArrayType, CompositeType, CoreTypeTree, EntityType, FieldType, FuncType, GroupTree,
+    HeapType, ModuleDecl, RefType, Space, StorageType, StructType, SubType, ValType, Vec,
 };
 
 impl Indexed for CoreTypeTree {
@@ -68,12 +68,22 @@ impl Indexed for FuncType {
             return;
         }
         // its lists aren't changed in place
-        let [mut params, mut results] =
-            [self.params(), self.results()].map(|types| types.iter().copied().collect::<Vec<_>>());
+        let [params, results] = [self.params(), self.results()].map(|types| copy(types));
+        let (Ok(mut params), Ok(mut results)) = (params, results) else {
+            visitor.is_refused = true;
+            return;
+        };
         params.each_index(visitor);
         results.each_index(visitor);
         *self = Self::from_lists(params, results);
     }
+}
+
+/// A copy of a list of types.
+fn copy(types: &[ValType]) -> Result<Vec<ValType>, AllocError> {
+    let mut copied = Vec::default();
+    copied.extend_from_slice(types)?;
+    Ok(copied)
 }
 
 impl Indexed for FieldType {

@@ -1,15 +1,18 @@
 //! The indices of nested components that count in the components around them.
 
 use super::{IndexUse, Scope};
-use crate::tree::{Command, ItemTree, Vec, build};
-use crate::{Error, ListFault, list};
-use alloc::vec::Vec as Inner;
-use core::fmt;
+use crate::tree::ItemTree;
+use crate::{ComponentBuilder, ComponentSectionId, Error, ListFault, SectionReader, Sections};
+use alloc::vec::Vec;
+use core::{fmt, mem};
+
+/// How deep components are nested at most: each is copied into the one around it.
+const DEPTH: usize = 100;
 
 impl ItemTree {
     /// Visits each index in a nested component that counts in a component around it: those of its
     /// outer aliases, and of the outer aliases in its types and in the components that are nested
-    /// in it, up to `limit` deep. `visit` may change it. Another item has none.
+    /// in it, up to `limit` deep, and at most 100. `visit` may change it. Another item has none.
     ///
     /// Scopes are those of this item, as in [`indices_mut`](Self::indices_mut):
     /// [`Scope::Component`] 0 is the component that contains this one.
@@ -49,49 +52,102 @@ impl ItemTree {
         limit: usize,
         mut visit: impl FnMut(IndexUse<'_>),
     ) -> Result<(), OuterFault> {
-        match self {
-            Self::Component(bytes) => visit_outer(bytes, limit, &mut visit),
-            _ => Ok(()),
+        if let Self::Component(bytes) = self {
+            if let Some(changed) = visit_outer(bytes, limit.min(DEPTH), &mut visit)? {
+                *bytes = changed.into();
+            }
+        }
+        Ok(())
+    }
+}
+
+/// Visits the indices in a component that count in the components around it. Returns the bytes of
+/// the component if one was changed.
+fn visit_outer(
+    bytes: &[u8],
+    limit: usize,
+    visit: &mut dyn FnMut(IndexUse<'_>),
+) -> Result<Option<Vec<u8>>, OuterFault> {
+    let mut innermost = Visited::new(bytes, 1)?;
+    // the components around it
+    let mut around = Vec::new();
+    loop {
+        if let Some(section) = innermost.sections.next() {
+            let section = section?;
+            if section.id() != ComponentSectionId::Component.into() {
+                innermost.visit(section, visit)?;
+                continue;
+            }
+            if around.len() >= limit {
+                let place = section.range().start;
+                return Err(ListFault::TooDeep { place, unread: None }.into());
+            }
+            around.try_reserve(1).map_err(|_| ListFault::NoMemory)?;
+            let nested = Visited::new(section.raw().data, innermost.depth + 1)?;
+            around.push(mem::replace(&mut innermost, nested));
+        } else {
+            let bytes = innermost.bytes;
+            let changed = innermost.finish()?;
+            let Some(outer) = around.pop() else { return Ok(changed) };
+            innermost = outer;
+            innermost.is_changed |= changed.is_some();
+            innermost.add(|builder| {
+                builder.try_component_raw(None, changed.as_deref().unwrap_or(bytes)).map(drop)
+            });
         }
     }
 }
 
-/// Visits the indices in a component that count in the components around it.
-fn visit_outer(
-    bytes: &mut Vec<u8>,
-    limit: usize,
-    visit: &mut dyn FnMut(IndexUse<'_>),
-) -> Result<(), OuterFault> {
-    let mut listing = list(bytes)?;
-    let mut is_changed = false;
-    let mut visit = |IndexUse { space, scope, index }: IndexUse<'_>| {
-        if let Scope::Component(out @ 1..) = scope {
-            let before = *index;
-            visit(IndexUse { space, scope: Scope::Component(out - 1), index });
-            is_changed |= *index != before;
+/// A component whose indices are being visited.
+struct Visited<'a> {
+    bytes: &'a [u8],
+    sections: Sections<'a>,
+    /// How far out the component is that has the item: 1, or more for a nested one.
+    depth: u32,
+    /// The component with the items that were visited, or why it can't be encoded.
+    again: Result<ComponentBuilder, Error>,
+    is_changed: bool,
+}
+
+impl<'a> Visited<'a> {
+    fn new(bytes: &'a [u8], depth: u32) -> Result<Self, ListFault> {
+        let (sections, again) = (Sections::new(bytes)?, ComponentBuilder::try_new());
+        Ok(Self { bytes, sections, depth, again, is_changed: false })
+    }
+
+    /// Visits the indices in a section that count in the components around the item.
+    fn visit(
+        &mut self,
+        section: SectionReader<'a>,
+        visit: &mut dyn FnMut(IndexUse<'_>),
+    ) -> Result<(), OuterFault> {
+        for item in section.items() {
+            let (_, mut item) = item?;
+            item.try_indices_mut(|IndexUse { space, scope, index }| {
+                let Scope::Component(out) = scope else { return };
+                let Some(out) = out.checked_sub(self.depth) else { return };
+                let before = *index;
+                visit(IndexUse { space, scope: Scope::Component(out), index });
+                self.is_changed |= *index != before;
+            })?;
+            self.add(|builder| builder.command(&item.into()).map(drop));
         }
-    };
-    for section in listing.sections.iter_mut() {
-        for item in section.items.iter_mut() {
-            item.indices_mut(&mut visit);
-            if let ItemTree::Component(inner) = item {
-                let too_deep = ListFault::TooDeep { place: section.place, unread: None };
-                let limit = limit.checked_sub(1).ok_or(too_deep)?;
-                visit_outer(inner, limit, &mut visit)?;
+        Ok(())
+    }
+
+    /// Adds an item to the component, unless one before it wasn't added.
+    fn add(&mut self, add: impl FnOnce(&mut ComponentBuilder) -> Result<(), Error>) {
+        if let Ok(builder) = &mut self.again {
+            if let Err(error) = add(builder) {
+                self.again = Err(error);
             }
         }
     }
-    if is_changed {
-        *bytes = encoded(listing.into_items())?.into();
-    }
-    Ok(())
-}
 
-/// The component with these items.
-fn encoded(items: impl Iterator<Item = ItemTree>) -> Result<Inner<u8>, Error> {
-    let built = build(&items.map(Command::from).collect::<Inner<_>>())?;
-    built.answers.into_iter().try_for_each(|result| result.map(drop))?;
-    Ok(built.bytes)
+    /// Returns the bytes of the component, if an index in it was changed.
+    fn finish(self) -> Result<Option<Vec<u8>>, Error> {
+        if self.is_changed { self.again?.try_finish().map(Some) } else { Ok(None) }
+    }
 }
 
 /// Why the indices of a nested component aren't visited, or not changed.

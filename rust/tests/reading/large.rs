@@ -1,0 +1,163 @@
+//! What is large or deep is read in a time that grows as it does: by the square none of these would
+//! end in minutes.
+
+use std::collections::BTreeMap;
+use std::time::Instant;
+use wenc::tree::{ItemTree, OuterFault, Scope, Space, String};
+use wenc::{Component, DebugNames, ListFault, NestedComponentSection, RawSection, Sections, list};
+
+/// Does the work, which takes far less than these 20 seconds.
+#[track_caller]
+fn soon<T>(work: impl FnOnce() -> T) -> T {
+    let begun = Instant::now();
+    let done = work();
+    assert!(begun.elapsed().as_secs() < 20, "{:?}", begun.elapsed());
+    done
+}
+
+/// A number of at most 28 bits, padded to four bytes.
+fn number(number: usize) -> [u8; 4] {
+    assert!(number < 1 << 28);
+    let byte = |at: usize| (number >> (7 * at)) as u8 & 0x7f | if at < 3 { 0x80 } else { 0 };
+    [0, 1, 2, 3].map(byte)
+}
+
+/// So many components in one another, the innermost with these sections.
+fn deep(depth: usize, sections: &[u8]) -> Vec<u8> {
+    let (mut fronts, mut size) = (Vec::new(), Component::HEADER.len() + sections.len());
+    for _ in 0..depth {
+        let front = [&Component::HEADER[..], &[0x04], &number(size)].concat();
+        size += front.len();
+        fronts.push(front);
+    }
+    fronts.reverse();
+    [&fronts.concat()[..], &Component::HEADER, sections].concat()
+}
+
+/// An outer alias of a type, so many components out.
+fn alias(out: u8, index: u8) -> [u8; 7] {
+    [0x06, 0x05, 0x01, 0x03, 0x02, out, index]
+}
+
+#[test]
+fn thousands_of_components_in_one_another_are_walked() {
+    let component = deep(40_000, &alias(1, 0));
+    let sections = Sections::new(&component).expect("it is a component");
+    let last = soon(|| sections.nested(usize::MAX).last()).expect("a section");
+    let (depth, section) = last.expect("it is read");
+    assert_eq!((depth, section.range()), (40_000, component.len() - 7..component.len()));
+    assert_eq!(soon(|| sections.nested(usize::MAX).count()), 40_001);
+    let fault = soon(|| sections.nested(39_999).last()).expect("a section").err();
+    let place = component.len() - 7 - 8 - 5;
+    assert_eq!(fault, Some(ListFault::TooDeep { place, unread: None }));
+}
+
+#[test]
+fn outer_indices_are_visited_up_to_a_hundred_deep() {
+    let visit = |depth, out, limit| {
+        let (component, mut seen) = (deep(depth, &alias(out, 5)), 0);
+        let mut item = ItemTree::Component(component.clone().into());
+        let visited = soon(|| {
+            item.outer_indices_mut(limit, |used| {
+                assert_eq!((used.space, used.scope), (Space::Types, Scope::Component(0)));
+                seen += 1;
+                *used.index = 6;
+            })
+        });
+        assert!(visited.is_ok() || item == ItemTree::Component(component.into()));
+        (visited, seen, item)
+    };
+    let too_deep = Err(OuterFault::Read(ListFault::TooDeep { place: 8, unread: None }));
+    for limit in [100, usize::MAX] {
+        let (visited, seen, item) = visit(100, 101, limit);
+        assert_eq!((visited, seen), (Ok(()), 1));
+        // the index is another, and the sizes are the shortest
+        let mut expected = Component::new();
+        expected.section(&RawSection { id: 6, data: &alias(101, 6)[2..] });
+        for _ in 0..100 {
+            let mut outer = Component::new();
+            outer.section(&NestedComponentSection(&expected));
+            expected = outer;
+        }
+        assert!(item == ItemTree::Component(expected.finish().into()));
+        for depth in [101, 40_000] {
+            let (visited, seen, _) = visit(depth, 101, limit);
+            assert_eq!((visited, seen), (too_deep, 0));
+        }
+    }
+    assert_eq!(visit(100, 101, 99).0, too_deep);
+}
+
+/// A component with so many imports of functions, each without a name.
+fn imports(count: usize) -> Vec<u8> {
+    let imports = b"\0\0\x01\0".repeat(count);
+    let front = [&[0x0a][..], &number(4 + imports.len()), &number(count)].concat();
+    [&Component::HEADER[..], &front, &imports].concat()
+}
+
+#[test]
+fn each_of_many_indices_has_its_definition() {
+    let listing = list(&imports(500_000)).expect("it is listed");
+    let definitions = listing.definitions().expect("there is memory");
+    soon(|| {
+        for (index, item) in (0..).zip(listing.items()) {
+            let found = definitions.get(Space::Funcs, index).expect("it is there");
+            assert!(std::ptr::eq(found, item), "{index}");
+        }
+    });
+    assert_eq!(definitions.get(Space::Funcs, 500_000), None);
+    assert_eq!(definitions.get(Space::Types, 0), None);
+}
+
+/// A subsection with these names, of functions.
+fn subsection(names: &[(u32, &str)]) -> Vec<u8> {
+    let name = |(index, name): &(u32, &str)| {
+        [&number(*index as usize)[..], &[name.len() as u8], name.as_bytes()].concat()
+    };
+    let names_of: Vec<u8> = names.iter().flat_map(name).collect();
+    let content = [&[0x01][..], &number(names.len()), &names_of].concat();
+    [&[0x01][..], &number(content.len()), &content].concat()
+}
+
+/// The names that are read, in one subsection and in one for each name, are those of a map.
+fn are_read(indices: impl Iterator<Item = u32>) {
+    let names: Vec<(u32, std::string::String)> =
+        indices.zip(0..).map(|(index, at): (u32, u32)| (index, format!("{at}"))).collect();
+    let mut expected = BTreeMap::new();
+    names.iter().for_each(|(index, name)| _ = expected.entry(*index).or_insert(name.as_str()));
+    let names: Vec<(u32, &str)> = names.iter().map(|(index, name)| (*index, &name[..])).collect();
+    let each: Vec<u8> = names.iter().flat_map(|name| subsection(&[*name])).collect();
+    let mut inserted = DebugNames::new();
+    names.iter().rev().for_each(|(index, name)| inserted.insert(Space::Funcs, *index, *name));
+    for data in [subsection(&names), each] {
+        let name = String::from(DebugNames::SECTION);
+        let (mut read, item) = (DebugNames::new(), ItemTree::Custom { name, data: data.into() });
+        assert_eq!(soon(|| read.read(&item)), Ok(()));
+        let found = read.iter().map(|(space, index, name)| {
+            assert_eq!((space, read.get(space, index)), (Space::Funcs, Some(name)));
+            (index, name)
+        });
+        assert!(found.eq(expected.iter().map(|(index, name)| (*index, *name))));
+        let next = expected.last_key_value().map_or(0, |(index, _)| index + 1);
+        assert_eq!(read.get(Space::Funcs, next), None);
+        assert!(read == inserted);
+        // a name less
+        let first = read.iter().next().map(|(_, index, _)| index);
+        first.into_iter().for_each(|index| inserted.insert(Space::Funcs, index, "another"));
+        assert_eq!(read == inserted, first.is_none());
+        first.into_iter().for_each(|index| inserted.insert(Space::Funcs, index, expected[&index]));
+    }
+}
+
+#[test]
+fn names_in_any_order_are_read() {
+    for count in [0, 1, 511, 512, 513, 1025, 5003] {
+        are_read(0..count);
+        are_read((0..count).rev());
+        are_read((0..count).map(|at| at * 1_999 % 5_003));
+        // each twice, some between two pages
+        are_read((0..count).chain((0..count).rev()).map(|at| at / 2 * 3));
+    }
+    are_read((0..200_000).rev());
+    are_read((0..200_000).map(|at| at * 1_999 % 200_003));
+}
