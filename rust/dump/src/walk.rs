@@ -6,9 +6,7 @@ use super::report::{Content, Label, Part, Report};
 use std::io;
 use std::ops::Range;
 use wenc::tree::{ItemTree, Space};
-use wenc::{
-    ComponentSectionId, CoreSections, DebugNames, ListFault, NamesFault, SectionReader, Sections,
-};
+use wenc::{CoreSections, DebugNames, ListFault, NamesFault, SectionReader, Sections};
 
 /// How many components may be in one another, as many as types.
 pub const DEPTH: usize = 100;
@@ -77,28 +75,14 @@ pub fn walk(
     }
 }
 
-/// The debug names of a component. What isn't read is left out: the sections are reported later.
+/// The debug names of a component.
 fn names_of(sections: Sections) -> Result<DebugNames, Failure> {
-    let mut names = DebugNames::new();
-    for section in framed(sections).filter_map(|(_, section)| section.ok()) {
-        if section.id() != ComponentSectionId::CoreCustom.into() {
-            continue;
-        }
-        for item in section.items() {
-            match item {
-                Ok((_, item)) => drop(read_names(&mut names, &item)?),
-                Err(ListFault::NoMemory) => return Err(Failure::NoMemory),
-                Err(_) => {}
-            }
-        }
-    }
-    Ok(names)
+    sections.try_names().map_err(|_| Failure::NoMemory)
 }
 
-/// Reads the debug names that an item contains, and returns the byte offset of the first that
-/// aren't read, in its data.
-fn read_names(names: &mut DebugNames, item: &ItemTree) -> Result<Option<usize>, Failure> {
-    match names.read(item) {
+/// The byte offset of the first debug names in an item that aren't read, in its data.
+fn unread_names(item: &ItemTree) -> Result<Option<usize>, Failure> {
+    match DebugNames::new().read(item) {
         Ok(()) => Ok(None),
         Err(NamesFault::BadSubsection { place }) => Ok(Some(place)),
         Err(_) => Err(Failure::NoMemory),
@@ -252,7 +236,7 @@ impl<'f, R: Report> Walk<'f, '_, R> {
         match item {
             ItemTree::Module(_) => self.module(range.start, bytes)?,
             ItemTree::Custom { data, .. } => {
-                if let Some(place) = read_names(&mut DebugNames::new(), item)? {
+                if let Some(place) = unread_names(item)? {
                     self.unread(Fault::Names(range.end - data.len() + place))?;
                 }
             }

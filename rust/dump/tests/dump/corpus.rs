@@ -43,9 +43,9 @@ fn names() -> Vec<String> {
 fn line(name: &str, format: &str, output: &Output) -> String {
     let lines = output.stdout.iter().filter(|byte| **byte == b'\n').count();
     let err = String::from_utf8_lossy(&output.stderr);
-    let why = err.strip_suffix('\n').and_then(|err| err.split_once(".wasm: "));
-    assert_eq!(output.status.code(), Some(why.is_some().into()), "{name}");
-    let why = why.map(|(_, why)| format!(", {why}")).unwrap_or_default();
+    let whys = err.lines().filter_map(|line| line.split_once(".wasm: "));
+    let why: String = whys.map(|(_, why)| format!(", {why}")).collect();
+    assert_eq!(output.status.code(), Some((!why.is_empty()).into()), "{name}");
     format!("{name}{format}: {lines} lines, {:016x}{why}\n", digest(&output.stdout))
 }
 

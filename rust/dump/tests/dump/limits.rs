@@ -4,6 +4,8 @@ use crate::values::Value;
 use crate::{PROGRAM, component, file, file_of};
 use std::path::Path;
 use std::process::{Command, Output};
+use wenc::tree::Space;
+use wenc::{ComponentNameSection, ComponentSection, DebugNames};
 
 /// How many KiB are between two limits.
 const STEP: usize = 64;
@@ -78,6 +80,16 @@ fn long_names_of_a_core_module() {
     let imports = section(2, &[&[1][..], &name, &name, &[0, 0]].concat());
     let custom = section(0, &name);
     sweep(&file_of("limits_module", &[b"\0asm\x01\0\0\0", &imports[..], &custom].concat()), 10);
+}
+
+#[test]
+fn many_debug_names() {
+    let mut names = DebugNames::new();
+    names.set_component("n".repeat(1 << 18));
+    (0..20_000).for_each(|index| names.insert(Space::Types, index, "name"));
+    let mut bytes = component(b"\x07\x03\x01\x69\0");
+    ComponentNameSection::from(&names).append_to_component(&mut bytes);
+    sweep(&file_of("limits_names", &bytes), 10);
 }
 
 /// The reader has many types at once, and prints them one in the other.
