@@ -66,8 +66,8 @@ fn printed(item: &ItemTree, indices: &[Seen]) -> String {
     let mut streams = Streams { input: &mut &outer[..], out: &mut out, err: &mut err };
     let arguments = ["wenc-dump", "-"].map(Into::into);
     let status = dump(arguments.into_iter(), false, &mut streams);
-    // the bytes of the module are none of one
-    assert_eq!(status, matches!(item, ItemTree::Module(_)).into());
+    // the bytes of these are no module and no names
+    assert_eq!(status, matches!(item, ItemTree::Module(_) | ItemTree::Custom { .. }).into());
     let text = String::from_utf8(out).expect("it is text");
     let (_, item) = text.split_once("        0x").expect("the item is there");
     item.split_once(": ").map(|(_, item)| item.to_owned()).unwrap_or_default()
