@@ -17,8 +17,8 @@ impl<R: Report> Walk<'_, '_, R> {
         }
     }
 
-    /// Reports the sections of a core module, which begins at this byte offset, up to the first that
-    /// isn't framed.
+    /// Reports the sections of a core module, which begins at this byte offset, up to the first
+    /// that isn't framed.
     pub(super) fn core_sections(
         &mut self,
         at: usize,

@@ -23,8 +23,8 @@ pub struct Streams<'s, I, O, E> {
 
 /// Runs `wenc-dump` with these arguments, the program's name in front of them, and returns the exit
 /// status: 0 where all was read and printed, 1 where something of a file wasn't read or a write
-/// failed, 2 where the arguments are bad, 3 where memory ran out. A reader of the output that leaves
-/// changes none.
+/// failed, 2 where the arguments are bad, 3 where memory ran out. That the reader of the output
+/// leaves is no failure.
 pub fn run(
     arguments_with_name: impl Iterator<Item = OsString>,
     has_colours: bool,

@@ -89,8 +89,8 @@ fn unread_names(item: &ItemTree) -> Result<Option<usize>, Failure> {
     }
 }
 
-/// The sections that are framed, each with its byte offsets and what it is, or why it can't be read;
-/// then the first that isn't framed, which has none.
+/// The sections that are framed, each with its byte offsets, its id, and its items or why they can't
+/// be counted; then why the next isn't framed.
 fn framed<'f>(
     mut sections: Sections<'f>,
 ) -> impl Iterator<Item = (Option<(Range<usize>, u8)>, Result<SectionReader<'f>, ListFault>)> {

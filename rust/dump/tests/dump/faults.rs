@@ -176,11 +176,8 @@ fn nested_modules_that_are_none_are_faults() {
     expect("no_module", b"\x01\x05hello\x06\x01\0", out, Some(bad));
 }
 
-/// A section that isn't read is followed by the next, as long as they are framed. Behind an item
-/// that isn't read, indices are unknown, and so are their names.
-#[test]
-fn what_follows_a_fault_is_printed() {
-    let sections = b"\x0a\x06\x02\0\x01f\x01\0\
+/// Sections that aren't read, and some that are.
+const FAULTY: &[u8] = b"\x0a\x06\x02\0\x01f\x01\0\
         \x0c\x01\x07\
         \x06\x01\x80\
         \0\x01\x07\
@@ -189,7 +186,10 @@ fn what_follows_a_fault_is_printed() {
         \x04\x03\0as\
         \0\x1a\x0ecomponent-name\0\x02\x01c\x01\x05\x03\x01\0\x01t\
         \x06\x05\x01";
-    let out = "\
+
+/// What is printed of them. Behind an item that isn't read, indices are unknown, and so are their
+/// names.
+const FAULTY_TEXT: &str = "\
 0x0..0x50 component \"c\", 80 bytes
   0x8..0x10 import section, 8 bytes, 2 items
     0xb func 0: import \"f\" Func(0) \"t\"
@@ -213,6 +213,10 @@ fn what_follows_a_fault_is_printed() {
     0x33 custom \"component-name\", 11 bytes
   0x4d no section
 ";
+
+/// A section that isn't read is followed by the next, as long as they are framed.
+#[test]
+fn what_follows_a_fault_is_printed() {
     let bad = "\
 bad item 1 at 0x10 in the section at 0x8
 unknown section 12 at 0x10
@@ -221,7 +225,7 @@ custom section without a name at 0x16
 bad item 0 at 0x2b in the section at 0x28
 no component's header at 0x2e
 bad section at 0x4d";
-    expect("goes_on", sections, out, Some(bad));
+    expect("goes_on", FAULTY, FAULTY_TEXT, Some(bad));
 }
 
 /// All items in front of them were read.

@@ -124,7 +124,8 @@ fn faults() {
         {\"start\":8,\"end\":22,\"id\":4,\"kind\":\"component\",\"count\":1,\"items\":[\
         {\"start\":10,\"end\":22,\"space\":\"component\",\"index\":0,\"count\":1,\"name\":null,\
         \"item\":{\"start\":10,\"end\":22,\"name\":null,\"sections\":[\
-        {\"start\":18,\"end\":22,\"id\":6,\"kind\":\"alias\",\"count\":1,\"items\":[],\"unread\":21}]}}]}]},\
+        {\"start\":18,\"end\":22,\"id\":6,\"kind\":\"alias\",\"count\":1,\"items\":[],\
+        \"unread\":21}]}}]}]},\
         \"fault\":{\"place\":21,\"message\":\"bad item 0 at 0x15 in the section at 0x12\"}";
     expect(&[], &file("json_fault", nested), 1, out);
     let out = "\"fault\":{\"place\":0,\"message\":\"no component's header at 0x0\"}";
@@ -140,8 +141,8 @@ fn faults() {
     let out = "\"component\":{\"start\":0,\"end\":16,\"name\":null,\"sections\":[\
         {\"start\":8,\"end\":11,\"id\":12,\"kind\":null,\"count\":null,\"items\":[],\"unread\":8},\
         {\"start\":11,\"end\":16,\"id\":7,\"kind\":\"type\",\"count\":1,\"items\":[\
-        {\"start\":14,\"end\":16,\"space\":\"type\",\"index\":null,\"count\":1,\"name\":null,\"item\":\
-        {\"Defined\":{\"Own\":0}}}]}]},\
+        {\"start\":14,\"end\":16,\"space\":\"type\",\"index\":null,\"count\":1,\"name\":null,\
+        \"item\":{\"Defined\":{\"Own\":0}}}]}]},\
         \"fault\":{\"place\":8,\"message\":\"unknown section 12 at 0x8\"}";
     expect(&[], &file("json_unknown", b"\x0c\x01\x07\x07\x03\x01\x69\0"), 1, out);
 }

@@ -136,19 +136,8 @@ fn modules_and_nested_components() {
     expect("nested", &[&module[..], nested].concat(), out, Some(bad));
 }
 
-/// Sections of all ids, of a module that is by itself.
-#[test]
-fn core_modules() {
-    let module = b"\0asm\x01\0\0\0\
-        \0\x03\x01x\x07\
-        \x01\x04\x01\x60\0\0\
-        \x02\x23\x05\x01m\x01f\0\0\x01m\0\x01\x70\0\x01\0\x01n\x02\x01\x01\x02\x01m\x01g\x03\x7f\0\
-        \x01m\x01t\x04\0\0\
-        \x07\x09\x02\x01f\0\0\x01g\x03\0\
-        \x08\x01\x07\
-        \x0c\x01\x02\
-        \x0e\x01\x02";
-    let out = "\
+/// What is printed of a module with sections of all kinds.
+const CORE_TEXT: &str = "\
 0x0..0x4c core module, 76 bytes
   0x8..0xd custom section \"x\", 5 bytes
   0xd..0x13 type section, 6 bytes, 1 item
@@ -177,8 +166,21 @@ fn core_modules() {
   0x49..0x4c section 14, 3 bytes
     0x49 unknown section
 ";
+
+/// Sections of all ids, of a module that is by itself.
+#[test]
+fn core_modules() {
+    let module = b"\0asm\x01\0\0\0\
+        \0\x03\x01x\x07\
+        \x01\x04\x01\x60\0\0\
+        \x02\x23\x05\x01m\x01f\0\0\x01m\0\x01\x70\0\x01\0\x01n\x02\x01\x01\x02\x01m\x01g\x03\x7f\0\
+        \x01m\x01t\x04\0\0\
+        \x07\x09\x02\x01f\0\0\x01g\x03\0\
+        \x08\x01\x07\
+        \x0c\x01\x02\
+        \x0e\x01\x02";
     let bad = "unknown section 14 at 0x49";
-    expect_of(&[], &file_of("core_module", module), out, Some(bad));
+    expect_of(&[], &file_of("core_module", module), CORE_TEXT, Some(bad));
 }
 
 /// A section with this type.
