@@ -76,7 +76,7 @@ impl<'a> CoreSection<'a> {
     }
 
     /// Returns its imports, its exports or its start. Of the sections of other items the count is
-    /// read and nothing else.
+    /// read and nothing else, which is an error where it can't be that of their bytes.
     ///
     /// ```
     /// use wenc::tree::CoreEntityType;
@@ -104,10 +104,13 @@ impl<'a> CoreSection<'a> {
             (Some(SectionId::Start), _) | (_, None) => self.data,
             _ => u32_of(self.data).map_or(self.data, |(_, rest)| rest),
         };
+        // a data count is no count of items
+        let left = left.map(|left| if kind == Some(SectionId::DataCount) { 0 } else { left });
         let is_read = |kind: &SectionId| match kind {
             SectionId::Custom => false,
             SectionId::Import | SectionId::Export | SectionId::Start => true,
-            _ => left.is_none(),
+            // no items, or more than bytes
+            _ => left.is_none_or(|left| left == 0 || left as usize > rest.len()),
         };
         CoreItems { kind: kind.filter(is_read), left, number: 0, rest, end: self.range.end }
     }

@@ -1,10 +1,10 @@
 //! A core module section by section.
 
-use crate::SectionId;
 use crate::list::{Unread, write_part};
 use crate::proved::rt_std::alloc::Global;
 use crate::proved::wenc_list::{behind_module_header, part_of};
 use crate::proved::wenc_read::{Refusal, name_of};
+use crate::{RawSection, SectionId};
 use alloc::string::String;
 use core::fmt;
 use core::ops::Range;
@@ -66,6 +66,30 @@ impl<'a> CoreSections<'a> {
     pub fn new(module: &'a [u8]) -> Result<Self, ModuleFault> {
         let rest = behind_module_header(module).ok_or(ModuleFault::NotAModule)?;
         Ok(Self { len: module.len(), rest })
+    }
+
+    /// Returns the next section as its id and the bytes after its size, with its byte offsets, and
+    /// reads nothing else of it; `None` at the end, after an error, and if no section is framed. A
+    /// clone that was made in front of an error goes on behind a custom section without a name.
+    ///
+    /// ```
+    /// use wenc::{CoreSections, ModuleFault, RawSection};
+    ///
+    /// // a custom section without a name
+    /// let mut sections = CoreSections::new(b"\0asm\x01\0\0\0\0\x01\x07")?;
+    /// let mut clone = sections.clone();
+    /// assert_eq!(sections.next(), Some(Err(ModuleFault::BadSection { place: 8 })));
+    /// assert_eq!(sections.next_raw(), None);
+    ///
+    /// assert_eq!(clone.next_raw(), Some((8..11, RawSection { id: 0, data: &[7] })));
+    /// assert_eq!(clone.next(), None);
+    /// # Ok::<(), ModuleFault>(())
+    /// ```
+    pub fn next_raw(&mut self) -> Option<(Range<usize>, RawSection<'a>)> {
+        let place = self.len - self.rest.len();
+        let ((id, data), rest) = part_of(self.rest).ok()?;
+        self.rest = rest;
+        Some((place..self.len - rest.len(), RawSection { id, data }))
     }
 
     /// The section that begins what is left, and what is after it.

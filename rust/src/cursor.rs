@@ -58,6 +58,32 @@ impl<'a> Sections<'a> {
         Ok(Self { bytes, left: Some(left) })
     }
 
+    /// Returns the next section as its id and the bytes after its size, with its byte offsets, and
+    /// reads nothing else of it; `None` at the end, after an error, and if no section is framed. A
+    /// copy that was made in front of an error goes on behind the section that can't be read.
+    ///
+    /// ```
+    /// use wenc::{ListFault, RawSection, Sections};
+    ///
+    /// // a section with an id above 11, and an alias section without an item
+    /// let mut sections = Sections::new(b"\0asm\x0d\0\x01\0\x0c\x01\x07\x06\x01\0")?;
+    /// let mut copy = sections;
+    /// assert!(sections.next().unwrap().is_err());
+    /// assert!(sections.next().is_none());
+    ///
+    /// assert_eq!(copy.next_raw(), Some((8..11, RawSection { id: 12, data: &[7] })));
+    /// assert_eq!(copy.next().unwrap()?.range(), 11..14);
+    /// assert_eq!(copy.next_raw(), None);
+    /// # Ok::<(), ListFault>(())
+    /// ```
+    pub fn next_raw(&mut self) -> Option<(Range<usize>, RawSection<'a>)> {
+        let left = self.left.as_mut()?;
+        let place = left.place();
+        let ((id, data), rest) = proved::part_of(left.rest).ok()?;
+        left.rest = rest;
+        Some((place..left.place(), RawSection { id, data }))
+    }
+
     /// Returns the items of all sections, each with its byte offsets, up to the first that can't be
     /// read.
     pub fn items(self) -> impl Iterator<Item = Result<(Range<usize>, ItemTree), ListFault>> + 'a {

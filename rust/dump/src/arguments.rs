@@ -1,6 +1,6 @@
 //! What the arguments ask for.
 
-use super::escape::escaped;
+use super::escape::Escaped;
 use std::ffi::{OsStr, OsString};
 
 /// How the program is called.
@@ -15,6 +15,9 @@ modules with their imports and exports. The file - is standard input.
       --json     print JSON, a line for each file
   -h, --help     print this help
   -V, --version  print the version
+
+Exit status: 0 all was read and printed, 1 something wasn't, 2 bad arguments,
+3 memory ran out.
 
 JSON: {\"file\",\"component\" or \"module\",\"fault\"}. Both of these have their
 \"sections\", a section has its \"items\", and an item is a value of wenc::tree, as serde
@@ -58,7 +61,7 @@ pub fn request(arguments: impl Iterator<Item = OsString>) -> Result<Request, Str
             Some("--json") => options.json = true,
             Some("--") => are_files = true,
             _ if !are_files && is_option(&argument) => {
-                return Err(format!("no option {}", escaped(&argument)));
+                return Err(format!("no option {}", Escaped(&argument)));
             }
             _ => options.files.push(argument),
         }

@@ -1,6 +1,5 @@
 //! Colours on a terminal.
 
-use std::borrow::Cow;
 use std::ffi::OsStr;
 
 /// What is coloured.
@@ -17,15 +16,14 @@ pub enum Hue {
 }
 
 impl Hue {
-    /// The text, in this colour.
-    pub fn paint(self, text: &str) -> Cow<'_, str> {
-        let colour = match self {
-            Self::Place => 2,
-            Self::Index => 36,
-            Self::Name => 32,
-            Self::Plain => return text.into(),
-        };
-        format!("\x1b[{colour}m{text}\x1b[0m").into()
+    /// The number of its colour.
+    pub fn colour(self) -> Option<u8> {
+        match self {
+            Self::Place => Some(2),
+            Self::Index => Some(36),
+            Self::Name => Some(32),
+            Self::Plain => None,
+        }
     }
 }
 

@@ -1,7 +1,7 @@
 //! The nodes of core types.
 
-use super::node::{Indices, Node, Scope, Tree};
-use super::shapes::{part, record, records, variant, variants, words};
+use super::node::{Child, Few, List, Node, Scope, Tree};
+use super::shapes::{fields, part, records, variant, variants, words};
 use wenc::tree::{
     CoreAbstractHeapType as AbstractHeapType, CoreArrayType as ArrayType,
     CoreCompositeType as CompositeType, CoreEntityType as EntityType, CoreFieldType as FieldType,
@@ -45,8 +45,7 @@ impl Tree for ArrayType {
 
 impl Tree for FuncType {
     fn node<'a>(&'a self, scope: Scope<'a>) -> Node<'a> {
-        let list =
-            |types: &'a [ValType]| Node::List(types.iter().map(|ty| ty.node(scope)).collect());
-        record! { params: list(self.params()), results: list(self.results()) }
+        let list = |types| Child::List(List::Types(types, scope));
+        Node::Record(fields! { params: list(self.params()), results: list(self.results()) })
     }
 }

@@ -1,6 +1,7 @@
 //! The items of core modules that are printed: imports, exports and starts.
 
-use super::node::{Clause, Indices, Node, Scope, Tree};
+use super::node::{Child, Clause, Few, Node, Scope, Tree};
+use super::shapes::part;
 use wenc::CoreItem;
 use wenc::tree::{CoreEntityType as EntityType, Space};
 
@@ -19,19 +20,18 @@ pub fn space(item: &CoreItem) -> Option<Space> {
 impl Tree for CoreItem {
     fn node<'a>(&'a self, scope: Scope<'a>) -> Node<'a> {
         Node::Phrase(match self {
-            Self::Import { module, name, ty } => vec![
-                Clause::new("module", "import", Node::Text(module)),
-                Clause::new("name", "", Node::Text(name)),
-                Clause::new("ty", "", ty.node(scope)),
-            ],
-            Self::Export { name, kind, index } => vec![
-                Clause::new("name", "export", Node::Text(name)),
-                Clause::new("kind", "", kind.node(scope)),
-                Clause::new("index", "", index.indices(scope, (*kind).into())),
-            ],
+            Self::Import { module, name, ty } => Few::new([
+                Clause::new("module", "import", part!(scope module)),
+                Clause::new("name", "", part!(scope name)),
+                Clause::new("ty", "", part!(scope ty)),
+            ]),
+            Self::Export { name, kind, index } => Few::new([
+                Clause::new("name", "export", part!(scope name)),
+                Clause::new("kind", "", part!(scope kind)),
+                Clause::new("index", "", scope.index((*kind).into(), *index)),
+            ]),
             Self::Start { function } => {
-                let function = function.indices(scope, Space::CoreFuncs);
-                vec![Clause::new("function", "start of", function)]
+                Few::new([Clause::new("function", "start of", part!(scope function CoreFuncs))])
             }
         })
     }

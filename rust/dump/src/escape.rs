@@ -1,23 +1,23 @@
 //! Names of files as text.
 
 use std::ffi::OsStr;
-use std::fmt::Write;
+use std::fmt::{self, Display, Write};
 
 /// The name of a file on one line, with what can't be printed escaped as Rust does it, and
 /// backslashes too.
-pub fn escaped(name: &OsStr) -> String {
-    let mut text = String::new();
-    for chunk in name.as_encoded_bytes().utf8_chunks() {
-        for letter in chunk.valid().chars() {
-            match letter {
-                '"' | '\'' => text.push(letter),
-                _ => text.extend(letter.escape_debug()),
+pub struct Escaped<'a>(pub &'a OsStr);
+
+impl Display for Escaped<'_> {
+    fn fmt(&self, f: &mut fmt::Formatter<'_>) -> fmt::Result {
+        for chunk in self.0.as_encoded_bytes().utf8_chunks() {
+            for letter in chunk.valid().chars() {
+                match letter {
+                    '"' | '\'' => f.write_char(letter)?,
+                    _ => write!(f, "{}", letter.escape_debug())?,
+                }
             }
+            chunk.invalid().iter().try_for_each(|byte| write!(f, "\\x{byte:02x}"))?;
         }
-        for byte in chunk.invalid() {
-            // a text takes all
-            let _ = write!(text, "\\x{byte:02x}");
-        }
+        Ok(())
     }
-    text
 }

@@ -1,11 +1,19 @@
 //! A report as JSON: a line for each file.
 
 use super::fault::Fault;
-use super::node::Node;
+use super::node::{Child, Field, Node};
 use super::report::{Content, Label, Part, Report};
+use super::walk::DEPTH;
 use super::words;
+use std::ffi::OsStr;
+use std::fmt::{self, Display, Write as _};
 use std::io::{self, Write};
 use std::ops::Range;
+use std::path::Path;
+
+/// How many parts may be open: the file, a section and an item for each component that is nested in
+/// it and for a module, and a section and an item of that.
+const PARTS: usize = 1 + 2 * (DEPTH + 1) + 2;
 
 /// JSON, as the manual page of `wenc-dump` describes it.
 pub struct Json<'o, W> {
@@ -21,16 +29,55 @@ pub struct Json<'o, W> {
 struct Open {
     /// What is in front of the byte offset from which on nothing is read.
     list: &'static str,
-    /// That byte offset, where the part has this field.
-    unread: Option<Option<usize>>,
+    /// That byte offset.
+    unread: Option<usize>,
+    /// Whether the part has a field for it where all is read.
+    has_unread: bool,
     /// What is after it.
     object: &'static str,
+}
+
+/// Text inside of quotes.
+struct Letters<'o, W> {
+    out: &'o mut W,
+    /// Whether all was written.
+    written: io::Result<()>,
+}
+
+/// Whether a letter is escaped in a text: what JSON has to, and what else isn't seen as it is, or
+/// makes a line or its order another.
+fn is_escaped(letter: char) -> bool {
+    matches!(letter, '"' | '\\')
+        || letter.is_control()
+        || matches!(letter, '\u{61c}' | '\u{200e}' | '\u{200f}')
+        || matches!(letter, '\u{2028}'..='\u{202e}' | '\u{2066}'..='\u{2069}')
+}
+
+impl<W: Write> Letters<'_, W> {
+    fn put(&mut self, mut text: &str) -> io::Result<()> {
+        while let Some((at, letter)) = text.char_indices().find(|(_, letter)| is_escaped(*letter)) {
+            self.out.write_all(&text.as_bytes()[..at])?;
+            match letter {
+                '"' | '\\' => write!(self.out, "\\{letter}")?,
+                _ => write!(self.out, "\\u{:04x}", u32::from(letter))?,
+            }
+            text = &text[at + letter.len_utf8()..];
+        }
+        self.out.write_all(text.as_bytes())
+    }
+}
+
+impl<W: Write> fmt::Write for Letters<'_, W> {
+    fn write_str(&mut self, text: &str) -> fmt::Result {
+        self.written = self.put(text);
+        self.written.as_ref().map_err(|_| fmt::Error).copied()
+    }
 }
 
 impl<'o, W: Write> Json<'o, W> {
     /// JSON that is written there, with the bytes of items.
     pub fn new(out: &'o mut W, has_bytes: bool) -> Self {
-        Self { out, has_bytes, open: Vec::new(), is_first: true }
+        Self { out, has_bytes, open: Vec::with_capacity(PARTS), is_first: true }
     }
 
     fn put(&mut self, text: &str) -> io::Result<()> {
@@ -38,22 +85,12 @@ impl<'o, W: Write> Json<'o, W> {
     }
 
     /// A text, in quotes.
-    fn text(&mut self, text: &str) -> io::Result<()> {
+    fn text(&mut self, text: impl Display) -> io::Result<()> {
         self.put("\"")?;
-        let mut rest = text;
-        let is_escaped = |letter: char| matches!(letter, '"' | '\\' | '\0'..='\x1f' | '\x7f');
-        while let Some(at) = rest.find(is_escaped) {
-            let (front, escaped) = rest.split_at(at);
-            self.put(front)?;
-            let mut letters = escaped.chars();
-            match letters.next() {
-                Some(letter @ ('"' | '\\')) => write!(self.out, "\\{letter}")?,
-                Some(letter) => write!(self.out, "\\u{:04x}", u32::from(letter))?,
-                None => {}
-            }
-            rest = letters.as_str();
-        }
-        self.put(rest)?;
+        let mut letters = Letters { out: self.out, written: Ok(()) };
+        // what fails is in `written`
+        let _ = write!(letters, "{text}");
+        letters.written?;
         self.put("\"")
     }
 
@@ -64,7 +101,7 @@ impl<'o, W: Write> Json<'o, W> {
         }
     }
 
-    fn number_or_null(&mut self, number: Option<usize>) -> io::Result<()> {
+    fn number_or_null(&mut self, number: Option<impl Display>) -> io::Result<()> {
         match number {
             Some(number) => write!(self.out, "{number}"),
             None => self.put("null"),
@@ -94,8 +131,9 @@ impl<'o, W: Write> Json<'o, W> {
         let Some(Label { space, from, count, name }) = label else {
             return self.put(",\"space\":null,\"index\":null,\"count\":0,\"name\":null");
         };
-        let space = words::space(*space);
-        write!(self.out, ",\"space\":\"{space}\",\"index\":{from},\"count\":{count},\"name\":")?;
+        write!(self.out, ",\"space\":\"{}\",\"index\":", words::space(*space))?;
+        self.number_or_null(*from)?;
+        write!(self.out, ",\"count\":{count},\"name\":")?;
         self.text_or_null(*name)
     }
 
@@ -119,22 +157,22 @@ impl<'o, W: Write> Json<'o, W> {
                 self.put(",\"name\":")?;
                 self.text_or_null(*name)?;
                 self.put(",\"sections\":[")?;
-                Ok(Open { list: "]", unread: None, object: "}" })
+                Ok(Open { list: "]", unread: None, has_unread: false, object: "}" })
             }
             Content::Module => {
                 self.range(range)?;
                 self.put(",\"sections\":[")?;
-                Ok(Open { list: "]", unread: Some(None), object: "}" })
+                Ok(Open { list: "]", unread: None, has_unread: true, object: "}" })
             }
             Content::Custom(name, size) => {
                 self.put("{\"name\":")?;
                 self.text(name)?;
                 write!(self.out, ",\"size\":{size}")?;
-                Ok(Open { list: "", unread: Some(None), object: "}" })
+                Ok(Open { list: "", unread: None, has_unread: true, object: "}" })
             }
             Content::Node(node) => {
                 self.node(node)?;
-                Ok(Open { list: "", unread: None, object: "" })
+                Ok(Open { list: "", unread: None, has_unread: false, object: "" })
             }
         }
     }
@@ -142,40 +180,47 @@ impl<'o, W: Write> Json<'o, W> {
     fn node(&mut self, node: &Node) -> io::Result<()> {
         match node {
             Node::Absent => self.put("null"),
-            Node::Present(part) => self.node(part),
+            Node::Present(part) => self.child(*part),
             Node::Number(number) => write!(self.out, "{number}"),
             Node::Flag(flag) => write!(self.out, "{flag}"),
             Node::Text(text) => self.text(text),
             Node::Word(word) => self.text(word),
             Node::Index(index, _) => write!(self.out, "{index}"),
-            Node::List(values) | Node::Tuple(values) => self.list(values),
-            Node::Record(fields) => self.fields(fields.iter().map(|(key, node)| (*key, node))),
-            Node::Variant(name, part) => self.fields([(*name, &**part)]),
+            Node::List(list) => self.list(list.iter()),
+            Node::Tuple(values) => self.list(values.iter()),
+            Node::Record(fields) => self.fields(fields.iter()),
+            Node::Variant(name, part) => self.fields([(*name, *part)]),
+            Node::Struct(name, fields) => {
+                write!(self.out, "{{\"{name}\":")?;
+                self.fields(fields.iter())?;
+                self.put("}")
+            }
             Node::Phrase(clauses) => {
-                self.fields(clauses.iter().map(|clause| (clause.key, &clause.node)))
+                self.fields(clauses.iter().map(|clause| (clause.key, clause.child)))
             }
         }
     }
 
-    fn list(&mut self, values: &[Node]) -> io::Result<()> {
+    /// A part, in a frame of its own: nodes are large, and this recurses by their depth.
+    #[inline(never)]
+    fn child(&mut self, child: Child) -> io::Result<()> {
+        self.node(&child.node())
+    }
+
+    fn list<'a>(&mut self, values: impl Iterator<Item = Child<'a>>) -> io::Result<()> {
         self.put("[")?;
-        for (at, value) in values.iter().enumerate() {
+        for (at, value) in values.enumerate() {
             self.put(if at == 0 { "" } else { "," })?;
-            self.node(value)?;
+            self.child(value)?;
         }
         self.put("]")
     }
 
-    fn fields<'n, 'a: 'n>(
-        &mut self,
-        fields: impl IntoIterator<Item = (&'static str, &'n Node<'a>)>,
-    ) -> io::Result<()> {
+    fn fields<'a>(&mut self, fields: impl IntoIterator<Item = Field<'a>>) -> io::Result<()> {
         self.put("{")?;
-        for (at, (key, node)) in fields.into_iter().enumerate() {
-            self.put(if at == 0 { "" } else { "," })?;
-            self.text(key)?;
-            self.put(":")?;
-            self.node(node)?;
+        for (at, (key, part)) in fields.into_iter().enumerate() {
+            write!(self.out, "{}\"{key}\":", if at == 0 { "" } else { "," })?;
+            self.child(part)?;
         }
         self.put("}")
     }
@@ -191,8 +236,10 @@ impl<'o, W: Write> Json<'o, W> {
             Part::Section { range, id, count } => {
                 self.member(range)?;
                 self.kind(*id, words::section(*id))?;
-                write!(self.out, ",\"count\":{count},\"items\":[")?;
-                Ok(Open { list: "]", unread: None, object: "}" })
+                self.put(",\"count\":")?;
+                self.number_or_null(*count)?;
+                self.put(",\"items\":[")?;
+                Ok(Open { list: "]", unread: None, has_unread: false, object: "}" })
             }
             Part::CoreSection { range, id, name, count, bytes } => {
                 self.member(range)?;
@@ -200,11 +247,10 @@ impl<'o, W: Write> Json<'o, W> {
                 self.put(",\"name\":")?;
                 self.text_or_null(*name)?;
                 self.put(",\"count\":")?;
-                // a count of 32 bits has room
-                self.number_or_null(count.map(|count| count as usize))?;
+                self.number_or_null(*count)?;
                 self.bytes(bytes)?;
                 self.put(",\"items\":[")?;
-                Ok(Open { list: "]", unread: Some(None), object: "}" })
+                Ok(Open { list: "]", unread: None, has_unread: true, object: "}" })
             }
             Part::Item { range, label, content, bytes } => {
                 self.member(range)?;
@@ -219,9 +265,9 @@ impl<'o, W: Write> Json<'o, W> {
 }
 
 impl<W: Write> Report for Json<'_, W> {
-    fn begin(&mut self, file: &str) -> io::Result<()> {
+    fn begin(&mut self, file: &OsStr) -> io::Result<()> {
         self.put("{\"file\":")?;
-        self.text(file)
+        self.text(Path::new(file).display())
     }
 
     fn open(&mut self, part: &Part) -> io::Result<()> {
@@ -232,16 +278,22 @@ impl<W: Write> Report for Json<'_, W> {
     }
 
     fn unread(&mut self, place: usize, _: &str) -> io::Result<()> {
-        if let Some(Open { unread: Some(unread), .. }) = self.open.last_mut() {
-            *unread = Some(place);
+        if let Some(open) = self.open.last_mut() {
+            open.unread = Some(place);
         }
         Ok(())
     }
 
+    fn flush(&mut self) -> io::Result<()> {
+        self.out.flush()
+    }
+
     fn close(&mut self) -> io::Result<()> {
-        let Some(Open { list, unread, object }) = self.open.pop() else { return Ok(()) };
+        let Some(Open { list, unread, has_unread, object }) = self.open.pop() else {
+            return Ok(());
+        };
         self.put(list)?;
-        if let Some(unread) = unread {
+        if has_unread || unread.is_some() {
             self.put(",\"unread\":")?;
             self.number_or_null(unread)?;
         }
@@ -256,11 +308,11 @@ impl<W: Write> Report for Json<'_, W> {
         self.put(",\"fault\":")?;
         match fault {
             None => self.put("null")?,
-            Some(Fault { place, message }) => {
+            Some(fault) => {
                 self.put("{\"place\":")?;
-                self.number_or_null(*place)?;
+                self.number_or_null(fault.place())?;
                 self.put(",\"message\":")?;
-                self.text(message)?;
+                self.text(fault)?;
                 self.put("}")?;
             }
         }

@@ -22,4 +22,5 @@ mod walk;
 mod words;
 
 pub use colours::are_wanted as colours_are_wanted;
+pub use fault::NO_MEMORY;
 pub use run::{Streams, run};

@@ -1,47 +1,58 @@
 //! Goes through a core module, part by part.
 
 use super::entries::space;
-use super::fault::Failure;
+use super::fault::{Failure, Fault};
 use super::node::{Scope, Tree};
 use super::report::{Content, Part, Report};
 use super::walk::{Indices, Walk};
-use wenc::{CoreSection, CoreSections, ModuleFault, SectionId, Unread};
+use std::ops::Range;
+use wenc::{CoreItem, CoreSection, CoreSections, ModuleFault, RawSection, SectionId};
 
 impl<R: Report> Walk<'_, '_, R> {
-    /// Reports the sections of a core module in a component, as far as they are read. It begins at
-    /// this byte offset.
+    /// Reports the sections of a core module in a component. It begins at this byte offset.
     pub(super) fn module(&mut self, at: usize, bytes: &[u8]) -> Result<(), Failure> {
-        let fault = match CoreSections::new(bytes) {
-            Ok(sections) => self.core_sections(at, sections)?,
-            Err(fault) => Some(fault),
-        };
-        match fault {
-            None => {}
-            Some(ModuleFault::NotAModule) => self.report.unread(at, "no core module's header")?,
-            Some(ModuleFault::BadSection { place }) => {
-                self.report.unread(at + place, "no core section")?;
+        match CoreSections::new(bytes) {
+            Ok(sections) => self.core_sections(at, sections),
+            Err(fault) => Ok(self.unread(Fault::Module(at, fault))?),
+        }
+    }
+
+    /// Reports the sections of a core module, which begins at this byte offset, up to the first
+    /// that isn't framed.
+    pub(super) fn core_sections(
+        &mut self,
+        at: usize,
+        mut sections: CoreSections,
+    ) -> Result<(), Failure> {
+        let mut next = Indices::default();
+        let mut here = sections.clone();
+        while let Some(section) = sections.next() {
+            let frame = here.next_raw();
+            match (section, frame) {
+                (Ok(section), _) => self.core_section(at, &section, &mut next)?,
+                (Err(ModuleFault::NoMemory), _) => return Err(Failure::NoMemory),
+                (Err(_), Some((range, raw))) => {
+                    self.without_name(at, range, raw)?;
+                    sections = here.clone();
+                }
+                (Err(fault), None) => self.unread(Fault::Module(at, fault))?,
             }
-            Some(ModuleFault::BadItem { unread }) => self.unread(at, unread)?,
-            Some(fault) => return Err(fault.into()),
         }
         Ok(())
     }
 
-    /// Reports the sections of a core module up to the first that isn't read, and returns why that
-    /// isn't. The module begins at this byte offset.
-    pub(super) fn core_sections(
+    /// Reports a custom section without a name.
+    fn without_name(
         &mut self,
         at: usize,
-        sections: CoreSections,
-    ) -> Result<Option<ModuleFault>, Failure> {
-        let mut next = Indices::default();
-        for section in sections {
-            match section {
-                Ok(section) => self.core_section(at, &section, &mut next)?,
-                Err(fault) => return Ok(Some(fault)),
-            }
-        }
-        Ok(None)
+        range: Range<usize>,
+        RawSection { id, data }: RawSection,
+    ) -> Result<(), Failure> {
+        let range = at + range.start..at + range.end;
+        let place = range.start;
+        self.report.open(&Part::CoreSection { range, id, name: None, count: None, bytes: data })?;
+        self.unread(Fault::NoName(place))?;
+        Ok(self.report.close()?)
     }
 
     fn core_section(
@@ -54,40 +65,47 @@ impl<R: Report> Walk<'_, '_, R> {
             section.kind(),
             Some(SectionId::Import | SectionId::Export | SectionId::Start)
         );
+        let range = at + section.range.start..at + section.range.end;
         self.report.open(&Part::CoreSection {
-            range: at + section.range.start..at + section.range.end,
+            range: range.clone(),
             id: section.id,
             name: section.name.as_deref(),
             count: section.count(),
             bytes: if are_shown { &[] } else { section.data },
         })?;
-        let data_start = section.range.end - section.data.len();
+        if section.kind().is_none() {
+            self.unread(Fault::UnknownSection(range.start, section.id))?;
+        }
         for item in section.items() {
             match item {
-                Ok((range, item)) => {
-                    let bytes = &section.data[range.start - data_start..range.end - data_start];
-                    self.report.open(&Part::Item {
-                        range: at + range.start..at + range.end,
-                        label: space(&item).map(|space| next.take(space, 1, None)),
-                        content: Content::Node(item.node(Scope::of(&[]))),
-                        bytes,
-                    })?;
-                    self.report.close()?;
+                Ok((range, item)) => self.core_item(at, section, range, &item, next)?,
+                Err(ModuleFault::NoMemory) => return Err(Failure::NoMemory),
+                Err(fault) => {
+                    let fault = Fault::Module(at, fault);
+                    next.note(&fault);
+                    self.unread(fault)?;
                 }
-                Err(ModuleFault::BadItem { unread }) => self.unread(at, unread)?,
-                Err(fault) => return Err(fault.into()),
             }
         }
         Ok(self.report.close()?)
     }
 
-    /// Reports what isn't read of a section of the core module that begins at this byte offset.
-    fn unread(&mut self, at: usize, unread: Unread) -> Result<(), Failure> {
-        let (place, what) = match unread {
-            Unread::Count { place } => (place, "no count"),
-            Unread::Item { place, .. } => (place, "items that aren't read"),
-            Unread::Behind { place } => (place, "bytes behind the last item"),
-        };
-        Ok(self.report.unread(at + place, what)?)
+    /// Reports an item of a section of the core module that begins at this byte offset.
+    fn core_item(
+        &mut self,
+        at: usize,
+        section: &CoreSection,
+        range: Range<usize>,
+        item: &CoreItem,
+        next: &mut Indices,
+    ) -> Result<(), Failure> {
+        let data_start = section.range.end - section.data.len();
+        self.report.open(&Part::Item {
+            range: at + range.start..at + range.end,
+            label: space(item).map(|space| next.take(space, 1, None)),
+            content: Content::Node(item.node(Scope::of(&[]))),
+            bytes: &section.data[range.start - data_start..range.end - data_start],
+        })?;
+        Ok(self.report.close()?)
     }
 }

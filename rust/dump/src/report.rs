@@ -2,14 +2,15 @@
 
 use super::fault::Fault;
 use super::node::Node;
+use std::ffi::OsStr;
 use std::io;
 use std::ops::Range;
 use wenc::tree::Space;
 
 /// What reports are written to, in a format.
 pub trait Report {
-    /// Begins a file with this name, which is text, with control characters as they are.
-    fn begin(&mut self, file: &str) -> io::Result<()>;
+    /// Begins a file with this name.
+    fn begin(&mut self, file: &OsStr) -> io::Result<()>;
 
     /// Opens a part, inside of the one that was opened last and isn't closed.
     fn open(&mut self, part: &Part) -> io::Result<()>;
@@ -18,10 +19,13 @@ pub trait Report {
     /// last, and what is missing there.
     fn unread(&mut self, place: usize, what: &str) -> io::Result<()>;
 
+    /// Writes all that is reported so far.
+    fn flush(&mut self) -> io::Result<()>;
+
     /// Closes the part that was opened last.
     fn close(&mut self) -> io::Result<()>;
 
-    /// Ends the file, with the fault that it has, if any; closes what is open.
+    /// Ends the file, with the first fault that it has, if any; closes what is open.
     fn end(&mut self, fault: Option<&Fault>) -> io::Result<()>;
 }
 
@@ -35,8 +39,8 @@ pub enum Part<'a> {
         range: Range<usize>,
         /// Its id.
         id: u8,
-        /// How many items it has.
-        count: u32,
+        /// How many items it has; `None` where that isn't read.
+        count: Option<u32>,
     },
     /// A section of a core module.
     CoreSection {
@@ -68,8 +72,8 @@ pub enum Part<'a> {
 pub struct Label<'a> {
     /// Their space.
     pub space: Space,
-    /// The first of them.
-    pub from: u128,
+    /// The first of them; `None` where an item in front of it isn't read.
+    pub from: Option<u128>,
     /// How many there are.
     pub count: u32,
     /// The debug name of the first.

@@ -1,15 +1,15 @@
 //! Runs the program.
 
 use super::arguments::{HELP, Options, Request, USAGE, request};
-use super::escape::escaped;
+use super::escape::Escaped;
 use super::fault::{Failure, Fault};
 use super::json::Json;
 use super::report::Report;
 use super::text::Text;
 use super::walk::walk;
 use std::ffi::{OsStr, OsString};
-use std::fs;
 use std::io::{self, Read, Write};
+use std::{fmt, fs};
 
 /// Where the program reads and writes.
 pub struct Streams<'s, I, O, E> {
@@ -22,69 +22,66 @@ pub struct Streams<'s, I, O, E> {
 }
 
 /// Runs `wenc-dump` with these arguments, the program's name in front of them, and returns the exit
-/// status: 0 where all was printed or the reader of the output left, 1 where a file wasn't printed
-/// to its end or a write failed, 2 where the arguments are bad.
+/// status: 0 where all was read and printed, 1 where something of a file wasn't read or a write
+/// failed, 2 where the arguments are bad, 3 where memory ran out. That the reader of the output
+/// leaves is no failure.
 pub fn run(
     arguments_with_name: impl Iterator<Item = OsString>,
     has_colours: bool,
     streams: &mut Streams<'_, impl Read, impl Write, impl Write>,
 ) -> u8 {
+    let mut status = 0;
     let done = match request(arguments_with_name.skip(1)) {
         Ok(Request::Help) => print(streams.out, &format!("{USAGE}{HELP}")),
         Ok(Request::Version) => {
             print(streams.out, concat!("wenc-dump ", env!("CARGO_PKG_VERSION"), "\n"))
         }
-        Ok(Request::Dump(options)) => dump(&options, has_colours, streams),
+        Ok(Request::Dump(options)) => dump(&options, has_colours, streams, &mut status),
         Err(why) => {
-            complain(streams.err, &format!("wenc-dump: {why}\n{USAGE}"));
+            complain(streams.err, format_args!("wenc-dump: {why}\n{USAGE}"));
             return 2;
         }
     };
     match done {
-        Ok(status) => status,
-        Err(error) if error.kind() == io::ErrorKind::BrokenPipe => 0,
-        Err(error) => {
-            complain(streams.err, &format!("wenc-dump: standard output: {error}\n"));
-            1
+        Err(error) if error.kind() != io::ErrorKind::BrokenPipe => {
+            complain(streams.err, format_args!("wenc-dump: standard output: {error}\n"));
+            status.max(1)
         }
+        _ => status,
     }
 }
 
-fn print(out: &mut impl Write, text: &str) -> io::Result<u8> {
+fn print(out: &mut impl Write, text: &str) -> io::Result<()> {
     out.write_all(text.as_bytes())?;
-    out.flush()?;
-    Ok(0)
+    out.flush()
 }
 
 /// Prints a message. That this fails can't be reported.
-fn complain(err: &mut impl Write, message: &str) {
-    let _ = err.write_all(message.as_bytes());
+fn complain(err: &mut impl Write, message: fmt::Arguments) {
+    let _ = err.write_fmt(message).and_then(|()| err.flush());
 }
 
-/// Prints all files, and returns the exit status.
+/// Prints all files, and raises the exit status.
 fn dump(
     options: &Options,
     has_colours: bool,
     streams: &mut Streams<'_, impl Read, impl Write, impl Write>,
-) -> io::Result<u8> {
-    let mut status = 0;
+    status: &mut u8,
+) -> io::Result<()> {
     for file in &options.files {
-        let bytes = bytes_of(file, streams.input);
-        let fault = if options.json {
-            report(&mut Json::new(streams.out, options.hex), &file.to_string_lossy(), bytes)?
+        let tell = &mut |fault: &Fault| {
+            complain(streams.err, format_args!("{}: {fault}\n", Escaped(file)));
+            *status = fault.status().max(*status);
+        };
+        if options.json {
+            report(&mut Json::new(streams.out, options.hex), file, streams.input, tell)?;
         } else {
             let has_titles = options.files.len() > 1;
             let mut text = Text::new(streams.out, has_colours, options.hex, has_titles);
-            report(&mut text, &escaped(file), bytes)?
-        };
-        // what is before a fault is printed before its message
-        streams.out.flush()?;
-        if let Some(Fault { message, .. }) = fault {
-            complain(streams.err, &format!("{}: {message}\n", escaped(file)));
-            status = 1;
+            report(&mut text, file, streams.input, tell)?;
         }
     }
-    Ok(status)
+    Ok(())
 }
 
 /// The bytes of a file.
@@ -97,21 +94,28 @@ fn bytes_of(file: &OsStr, input: &mut impl Read) -> io::Result<Vec<u8>> {
     Ok(bytes)
 }
 
-/// Reports a file, and returns its fault.
+/// Reports a file, and hands over each fault.
 fn report(
     report: &mut impl Report,
-    name: &str,
-    bytes: io::Result<Vec<u8>>,
-) -> io::Result<Option<Fault>> {
-    report.begin(name)?;
-    let fault = match bytes {
-        Err(error) => Some(Fault::of_input(&error)),
-        Ok(bytes) => match walk(&bytes, report) {
-            Ok(()) => None,
-            Err(Failure::Fault(fault)) => Some(fault),
-            Err(Failure::Write(error)) => return Err(error),
-        },
+    file: &OsStr,
+    input: &mut impl Read,
+    tell: &mut dyn FnMut(&Fault),
+) -> io::Result<()> {
+    let mut first = None;
+    let tell = &mut |fault| {
+        tell(&fault);
+        first.get_or_insert(fault);
     };
-    report.end(fault.as_ref())?;
-    Ok(fault)
+    report.begin(file)?;
+    let fault = match bytes_of(file, input).map(|bytes| walk(&bytes, report, tell)) {
+        Err(error) => Some(Fault::of_input(error)),
+        Ok(Err(Failure::NoMemory)) => Some(Fault::NoMemory),
+        Ok(Err(Failure::Write(error))) => return Err(error),
+        Ok(Ok(())) => None,
+    };
+    // what is before a fault is written before its message
+    report.flush()?;
+    fault.into_iter().for_each(tell);
+    report.end(first.as_ref())?;
+    report.flush()
 }

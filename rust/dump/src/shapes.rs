@@ -1,21 +1,21 @@
 //! Macros that make a type a `Tree`. A part after which a space is named is indices of that space.
 //!
-//! They take `Indices`, `Node`, `Scope`, `Space` and `Tree` from where they are called.
+//! They take `Child`, `Few`, `Node`, `Scope`, `Space` and `Tree` from where they are called.
 
-/// The node of a part.
+/// A part.
 macro_rules! part {
     ($scope:ident $part:ident) => {
-        Tree::node($part, $scope)
+        Child::Tree($part, $scope)
     };
     ($scope:ident $part:ident $space:ident) => {
-        Indices::indices($part, $scope, Space::$space)
+        Child::Indices($part, Space::$space, $scope)
     };
 }
 
-/// The node of fields.
-macro_rules! record {
-    ($($field:ident: $node:expr),+) => {
-        Node::Record(std::vec![$((stringify!($field), $node)),+])
+/// Fields.
+macro_rules! fields {
+    ($($field:ident: $part:expr),+) => {
+        Few::new([$((stringify!($field), $part)),+])
     };
 }
 
@@ -24,8 +24,11 @@ macro_rules! variant {
     ($name:ident) => {
         Node::Word(stringify!($name))
     };
-    ($name:ident $node:expr) => {
-        Node::Variant(stringify!($name), std::boxed::Box::new($node))
+    ($name:ident($part:expr)) => {
+        Node::Variant(stringify!($name), $part)
+    };
+    ($name:ident { $($field:ident: $part:expr),+ }) => {
+        Node::Struct(stringify!($name), fields! { $($field: $part),+ })
     };
 }
 
@@ -38,8 +41,8 @@ macro_rules! variants {
                 match self {$(
                     Self::$name $(($one))? $({ $($field),+ })? => variant!(
                         $name
-                        $(part!(scope $one $($of)?))?
-                        $(record! { $($field: part!(scope $field $($space)?)),+ })?
+                        $((part!(scope $one $($of)?)))?
+                        $({ $($field: part!(scope $field $($space)?)),+ })?
                     ),
                 )+}
             }
@@ -53,7 +56,7 @@ macro_rules! records {
         impl Tree for $ty {
             fn node<'a>(&'a self, scope: Scope<'a>) -> Node<'a> {
                 let Self { $($field),+ } = self;
-                record! { $($field: part!(scope $field $($space)?)),+ }
+                Node::Record(fields! { $($field: part!(scope $field $($space)?)),+ })
             }
         }
     )+};
@@ -72,4 +75,4 @@ macro_rules! words {
     )+};
 }
 
-pub(super) use {part, record, records, variant, variants, words};
+pub(super) use {fields, part, records, variant, variants, words};

@@ -1,7 +1,7 @@
 //! The nodes of the items of components.
 
-use super::node::{Clause, Indices, Node, Scope, Tree};
-use super::shapes::{part, record, records, variant, variants, words};
+use super::node::{Child, Clause, Few, Node, Scope, Tree};
+use super::shapes::{fields, part, records, variant, variants, words};
 use wenc::ModuleArg;
 use wenc::tree::{
     AliasTree, CanonTree, CaseTree, ComponentDecl, CoreInstanceTree, CoreTypeTree, DefinedTree,
@@ -137,21 +137,21 @@ variants! {
 impl Tree for AliasTree {
     fn node<'a>(&'a self, scope: Scope<'a>) -> Node<'a> {
         match self {
-            Self::InstanceExport { instance, kind, name } => variant!(InstanceExport record! {
+            Self::InstanceExport { instance, kind, name } => variant!(InstanceExport {
                 instance: part!(scope instance Instances),
                 kind: part!(scope kind),
                 name: part!(scope name)
             }),
             Self::CoreInstanceExport { instance, kind, name } => {
-                variant!(CoreInstanceExport record! {
+                variant!(CoreInstanceExport {
                     instance: part!(scope instance CoreInstances),
                     kind: part!(scope kind),
                     name: part!(scope name)
                 })
             }
-            Self::Outer { kind, count, index } => variant!(Outer record! {
+            Self::Outer { kind, count, index } => variant!(Outer {
                 kind: part!(scope kind),
-                count: Node::Number((*count).into()),
+                count: part!(scope count),
                 index: scope.outer(*count, (*kind).into(), *index)
             }),
         }
@@ -161,18 +161,17 @@ impl Tree for AliasTree {
 impl Tree for TypeTree {
     fn node<'a>(&'a self, scope: Scope<'a>) -> Node<'a> {
         match self {
-            Self::Defined(ty) => variant!(Defined part!(scope ty)),
-            Self::Func { is_async, params, result } => variant!(Func record! {
+            Self::Defined(ty) => variant!(Defined(part!(scope ty))),
+            Self::Func { is_async, params, result } => variant!(Func {
                 is_async: part!(scope is_async),
                 params: part!(scope params),
                 result: part!(scope result)
             }),
-            Self::Component(declared) => variant!(Component declared.node(scope.inner())),
-            Self::Instance(declared) => variant!(Instance declared.node(scope.inner())),
-            Self::Resource { rep, dtor } => variant!(Resource record! {
-                rep: part!(scope rep),
-                dtor: part!(scope dtor CoreFuncs)
-            }),
+            Self::Component(declared) => variant!(Component(Child::Tree(declared, scope.inner()))),
+            Self::Instance(declared) => variant!(Instance(Child::Tree(declared, scope.inner()))),
+            Self::Resource { rep, dtor } => {
+                variant!(Resource { rep: part!(scope rep), dtor: part!(scope dtor CoreFuncs) })
+            }
         }
     }
 }
@@ -180,8 +179,8 @@ impl Tree for TypeTree {
 impl Tree for CoreTypeTree {
     fn node<'a>(&'a self, scope: Scope<'a>) -> Node<'a> {
         match self {
-            Self::Group(ty) => variant!(Group part!(scope ty)),
-            Self::Module(declared) => variant!(Module declared.node(scope.inner())),
+            Self::Group(ty) => variant!(Group(part!(scope ty))),
+            Self::Module(declared) => variant!(Module(Child::Tree(declared, scope.inner()))),
         }
     }
 }
@@ -189,44 +188,43 @@ impl Tree for CoreTypeTree {
 impl Tree for ModuleDecl {
     fn node<'a>(&'a self, scope: Scope<'a>) -> Node<'a> {
         match self {
-            Self::Import { module, name, ty } => variant!(Import record! {
+            Self::Import { module, name, ty } => variant!(Import {
                 module: part!(scope module),
                 name: part!(scope name),
                 ty: part!(scope ty)
             }),
-            Self::Type(ty) => variant!(Type part!(scope ty)),
-            Self::Alias { count, index } => variant!(Alias record! {
-                count: Node::Number((*count).into()),
+            Self::Type(ty) => variant!(Type(part!(scope ty))),
+            Self::Alias { count, index } => variant!(Alias {
+                count: part!(scope count),
                 index: scope.outer(*count, Space::CoreTypes, *index)
             }),
-            Self::Export { name, ty } => variant!(Export record! {
-                name: part!(scope name),
-                ty: part!(scope ty)
-            }),
+            Self::Export { name, ty } => {
+                variant!(Export { name: part!(scope name), ty: part!(scope ty) })
+            }
         }
     }
 }
 
 impl Tree for NameTree {
     fn node<'a>(&'a self, scope: Scope<'a>) -> Node<'a> {
-        Node::Phrase(vec![
-            Clause::new("name", "", Node::Text(&self.name)),
-            Clause::optional("options", "", self.options.node(scope)),
-        ])
+        Node::Phrase(Few::new([
+            Clause::new("name", "", Child::Tree(&self.name, scope)),
+            Clause::optional("options", "", Child::Tree(&self.options, scope)),
+        ]))
     }
 }
 
 /// The field of a record, or the parameter of a function.
 impl Tree for (String, ComponentValType) {
     fn node<'a>(&'a self, scope: Scope<'a>) -> Node<'a> {
-        Node::Tuple(vec![self.0.node(scope), self.1.node(scope)])
+        Node::Tuple(Few::new([Child::Tree(&self.0, scope), Child::Tree(&self.1, scope)]))
     }
 }
 
 /// An argument of a core module.
 impl Tree for (String, ModuleArg) {
     fn node<'a>(&'a self, scope: Scope<'a>) -> Node<'a> {
-        Node::Tuple(vec![self.0.node(scope), self.1.node(scope)])
+        Node::Tuple(Few::new([Child::Tree(&self.0, scope), Child::Tree(&self.1, scope)]))
     }
 }
 
@@ -234,7 +232,11 @@ impl Tree for (String, ModuleArg) {
 impl<N: Tree, K: Tree + Copy + Into<Space>> Tree for (N, K, u32) {
     fn node<'a>(&'a self, scope: Scope<'a>) -> Node<'a> {
         let (name, kind, index) = self;
-        Node::Tuple(vec![name.node(scope), kind.node(scope), scope.index((*kind).into(), *index)])
+        Node::Tuple(Few::new([
+            Child::Tree(name, scope),
+            Child::Tree(kind, scope),
+            scope.index((*kind).into(), *index),
+        ]))
     }
 }
 
@@ -250,21 +252,21 @@ impl Tree for ItemTree {
             Self::Alias(tree) => tree.node(scope),
             Self::Type(tree) => tree.node(scope),
             Self::Canon(tree) => tree.node(scope),
-            Self::Start { function, args, results } => Node::Phrase(vec![
+            Self::Start { function, args, results } => Node::Phrase(Few::new([
                 Clause::new("function", "start of", scope.index(Space::Funcs, *function)),
-                Clause::new("args", "with", args.indices(scope, Space::Values)),
-                Clause::silent("results", Node::Number((*results).into())),
-            ]),
-            Self::Import { name, ty } => Node::Phrase(vec![
-                Clause::new("name", "import", name.node(scope)),
-                Clause::new("ty", "", ty.node(scope)),
-            ]),
-            Self::Export { name, kind, index, ty } => Node::Phrase(vec![
-                Clause::new("name", "export", name.node(scope)),
-                Clause::new("kind", "", kind.node(scope)),
+                Clause::new("args", "with", part!(scope args Values)),
+                Clause::silent("results", part!(scope results)),
+            ])),
+            Self::Import { name, ty } => Node::Phrase(Few::new([
+                Clause::new("name", "import", part!(scope name)),
+                Clause::new("ty", "", part!(scope ty)),
+            ])),
+            Self::Export { name, kind, index, ty } => Node::Phrase(Few::new([
+                Clause::new("name", "export", part!(scope name)),
+                Clause::new("kind", "", part!(scope kind)),
                 Clause::new("index", "", scope.index((*kind).into(), *index)),
-                Clause::optional("ty", "as", ty.node(scope)),
-            ]),
+                Clause::optional("ty", "as", part!(scope ty)),
+            ])),
         }
     }
 }

@@ -3,25 +3,32 @@
 use super::fault::{Failure, Fault};
 use super::node::{Scope, Tree};
 use super::report::{Content, Label, Part, Report};
+use std::io;
 use std::ops::Range;
 use wenc::tree::{ItemTree, Space};
 use wenc::{CoreSections, DebugNames, ListFault, NamesFault, SectionReader, Sections};
 
 /// How many components may be in one another, as many as types.
-const DEPTH: usize = 100;
+pub const DEPTH: usize = 100;
 
 /// A way through a file.
 pub struct Walk<'f, 'r, R> {
     /// The bytes of the file.
     pub(super) bytes: &'f [u8],
     pub(super) report: &'r mut R,
+    /// What each fault is handed to.
+    tell: &'r mut dyn FnMut(Fault),
     /// The debug names of the components that the next part is in, the outermost first.
     names: Vec<DebugNames>,
 }
 
 /// The next index of each space.
 #[derive(Default)]
-pub(super) struct Indices([u128; 13]);
+pub(super) struct Indices {
+    next: [u128; 13],
+    /// Whether there are items that aren't read, whose indices are unknown.
+    are_lost: bool,
+}
 
 impl Indices {
     /// Takes so many indices of a space, which have these debug names.
@@ -31,35 +38,92 @@ impl Indices {
         count: u32,
         names: Option<&'a DebugNames>,
     ) -> Label<'a> {
-        let next = &mut self.0[space.number()];
-        let from = *next;
+        let next = &mut self.next[space.number()];
+        let from = (!self.are_lost).then_some(*next);
         *next += u128::from(count);
-        let index = u32::try_from(from).ok().filter(|_| count > 0);
+        let index = from.and_then(|from| u32::try_from(from).ok()).filter(|_| count > 0);
         let name = names.zip(index).and_then(|(names, index)| names.get(space, index));
         Label { space, from, count, name }
     }
-}
 
-/// Reports the component or the core module with these bytes.
-///
-/// # Errors
-///
-/// The first fault, or the first failure to write. What is in front of it is reported.
-pub fn walk(bytes: &[u8], report: &mut impl Report) -> Result<(), Failure> {
-    let mut walk = Walk { bytes, report, names: Vec::new() };
-    match CoreSections::new(bytes) {
-        Ok(sections) => {
-            walk.report.open(&Part::File(0..bytes.len(), Content::Module))?;
-            walk.core_sections(0, sections)?.map_or(Ok(()), |fault| Err(fault.into()))
-        }
-        Err(_) => walk.component(Sections::new(bytes)?),
+    /// Notes that this isn't read.
+    pub(super) fn note(&mut self, fault: &Fault) {
+        self.are_lost |= !fault.is_behind_items();
     }
 }
 
+/// Reports the component or the core module with these bytes, and hands over its faults. What is
+/// in front of a fault is written then.
+///
+/// # Errors
+///
+/// An allocation or a write that fails. What is in front of it is reported.
+pub fn walk(
+    bytes: &[u8],
+    report: &mut impl Report,
+    tell: &mut dyn FnMut(Fault),
+) -> Result<(), Failure> {
+    let mut walk = Walk { bytes, report, tell, names: Vec::new() };
+    if let Ok(sections) = CoreSections::new(bytes) {
+        walk.report.open(&Part::File(0..bytes.len(), Content::Module))?;
+        walk.core_sections(0, sections)?;
+        return Ok(walk.report.close()?);
+    }
+    match Sections::new(bytes) {
+        Ok(sections) => walk.component(sections),
+        Err(fault) => Ok(walk.fault(Fault::List(fault))?),
+    }
+}
+
+/// The debug names of a component.
+fn names_of(sections: Sections) -> Result<DebugNames, Failure> {
+    sections.try_names().map_err(|_| Failure::NoMemory)
+}
+
+/// The byte offset of the first debug names in an item that aren't read, in its data.
+fn unread_names(item: &ItemTree) -> Result<Option<usize>, Failure> {
+    match DebugNames::new().read(item) {
+        Ok(()) => Ok(None),
+        Err(NamesFault::BadSubsection { place }) => Ok(Some(place)),
+        Err(_) => Err(Failure::NoMemory),
+    }
+}
+
+/// The sections that are framed, each with its byte offsets, its id, and its items or why they can't
+/// be counted; then why the next isn't framed.
+fn framed<'f>(
+    mut sections: Sections<'f>,
+) -> impl Iterator<Item = (Option<(Range<usize>, u8)>, Result<SectionReader<'f>, ListFault>)> {
+    std::iter::from_fn(move || {
+        let mut here = sections;
+        let section = sections.next()?;
+        let frame = here.next_raw().map(|(range, raw)| (range, raw.id));
+        if section.is_err() && frame.is_some() {
+            sections = here;
+        }
+        Some((frame, section))
+    })
+}
+
 impl<'f, R: Report> Walk<'f, '_, R> {
+    /// Hands over a fault, with what is in front of it written.
+    fn fault(&mut self, fault: Fault) -> io::Result<()> {
+        self.report.flush()?;
+        (self.tell)(fault);
+        Ok(())
+    }
+
+    /// Reports that nothing more is read of the part that was opened last.
+    pub(super) fn unread(&mut self, fault: Fault) -> io::Result<()> {
+        if let Some(place) = fault.place() {
+            self.report.unread(place, fault.words())?;
+        }
+        self.fault(fault)
+    }
+
     /// Reports the component that the file is.
     fn component(&mut self, sections: Sections<'f>) -> Result<(), Failure> {
-        let names = sections.names();
+        let names = names_of(sections)?;
         let range = 0..self.bytes.len();
         self.report.open(&Part::File(range, Content::Component(names.component())))?;
         self.sections(sections, names)?;
@@ -68,27 +132,61 @@ impl<'f, R: Report> Walk<'f, '_, R> {
 
     /// Reports the sections of a component, which has these debug names.
     fn sections(&mut self, sections: Sections<'f>, names: DebugNames) -> Result<(), Failure> {
+        self.names.try_reserve(1).map_err(|_| Failure::NoMemory)?;
         self.names.push(names);
         let mut next = Indices::default();
-        for section in sections {
-            self.section(section?, &mut next)?;
+        for (frame, section) in framed(sections) {
+            match (section, frame) {
+                (Ok(section), _) => self.section(section, &mut next)?,
+                (Err(fault), None) => self.unread(Fault::List(fault))?,
+                (Err(fault), Some((range, id))) => {
+                    self.unread_section(range, id, fault, &mut next)?;
+                }
+            }
         }
         self.names.pop();
         Ok(())
     }
 
+    /// Reports a section whose items aren't read.
+    fn unread_section(
+        &mut self,
+        range: Range<usize>,
+        id: u8,
+        fault: ListFault,
+        next: &mut Indices,
+    ) -> Result<(), Failure> {
+        let fault = match fault {
+            ListFault::BadSection { place } => Fault::UnknownSection(place, id),
+            fault => Fault::List(fault),
+        };
+        self.report.open(&Part::Section { range, id, count: None })?;
+        next.note(&fault);
+        self.unread(fault)?;
+        Ok(self.report.close()?)
+    }
+
     fn section(&mut self, section: SectionReader<'f>, next: &mut Indices) -> Result<(), Failure> {
-        let (range, id, count) = (section.range(), section.id(), section.count());
+        let (range, id, count) = (section.range(), section.id(), Some(section.count()));
         self.report.open(&Part::Section { range, id, count })?;
         for item in section.items() {
-            let (range, item) = item?;
-            if let ItemTree::Component(_) = item {
-                // its bytes aren't kept while its sections are reported
-                drop(item);
-                self.nested(range, section.component(), next)?;
-            } else {
-                self.item(range, &item, next)?;
-            }
+            let fault = match item {
+                Ok((range, ItemTree::Component(bytes))) => {
+                    // they aren't kept while the component's sections are reported
+                    drop(bytes);
+                    self.nested(range, section, next)?;
+                    continue;
+                }
+                Ok((range, item)) => {
+                    self.item(range, &item, next)?;
+                    continue;
+                }
+                Err(ListFault::NoMemory) => return Err(Failure::NoMemory),
+                Err(ListFault::BadSection { place }) => Fault::NoName(place),
+                Err(fault) => Fault::List(fault),
+            };
+            next.note(&fault);
+            self.unread(fault)?;
         }
         Ok(self.report.close()?)
     }
@@ -97,22 +195,23 @@ impl<'f, R: Report> Walk<'f, '_, R> {
     fn nested(
         &mut self,
         range: Range<usize>,
-        sections: Result<Option<Sections<'f>>, ListFault>,
+        section: SectionReader<'f>,
         next: &mut Indices,
     ) -> Result<(), Failure> {
         let place = range.start;
-        let own = match &sections {
-            Ok(Some(sections)) => sections.names(),
+        let sections = section.component();
+        let own = match sections {
+            Ok(Some(sections)) => names_of(sections)?,
             _ => DebugNames::new(),
         };
         let label = Some(next.take(Space::Components, 1, self.names.last()));
         let content = Content::Component(own.component());
         self.report.open(&Part::Item { range, label, content, bytes: &[] })?;
-        if self.names.len() == DEPTH {
-            return Err(Fault::too_deep(place, DEPTH).into());
-        }
-        if let Some(sections) = sections? {
-            self.sections(sections, own)?;
+        match sections {
+            _ if self.names.len() == DEPTH => self.unread(Fault::TooDeep(place, DEPTH))?,
+            Ok(Some(sections)) => self.sections(sections, own)?,
+            Ok(None) => {}
+            Err(fault) => self.unread(Fault::List(fault))?,
         }
         Ok(self.report.close()?)
     }
@@ -137,9 +236,8 @@ impl<'f, R: Report> Walk<'f, '_, R> {
         match item {
             ItemTree::Module(_) => self.module(range.start, bytes)?,
             ItemTree::Custom { data, .. } => {
-                if let Err(NamesFault::BadSubsection { place }) = DebugNames::new().read(item) {
-                    let place = range.end - data.len() + place;
-                    self.report.unread(place, "names that aren't read")?;
+                if let Some(place) = unread_names(item)? {
+                    self.unread(Fault::Names(range.end - data.len() + place))?;
                 }
             }
             _ => {}

@@ -1,5 +1,6 @@
 //! Words for what the format has numbers for, and for counts.
 
+use std::fmt::{self, Display};
 use wenc::tree::Space;
 use wenc::{ComponentSectionId, SectionId};
 
@@ -37,7 +38,7 @@ const CORE_SECTIONS: [(SectionId, &str); 14] = [
     (SectionId::Tag, "tag"),
 ];
 
-/// The word for a section of a component, which has an id from 0 to 11.
+/// The word for a section of a component; `None` where its id is above 11.
 pub fn section(id: u8) -> Option<&'static str> {
     found(&SECTIONS, id)
 }
@@ -74,7 +75,11 @@ pub fn space(space: Space) -> &'static str {
 }
 
 /// So many of these: "1 byte", "2 bytes".
-pub fn counted(count: usize, word: &str) -> String {
-    let end = if count == 1 { "" } else { "s" };
-    format!("{count} {word}{end}")
+pub struct Counted<'a>(pub usize, pub &'a str);
+
+impl Display for Counted<'_> {
+    fn fmt(&self, f: &mut fmt::Formatter<'_>) -> fmt::Result {
+        let Self(count, word) = self;
+        write!(f, "{count} {word}{}", if *count == 1 { "" } else { "s" })
+    }
 }

@@ -108,6 +108,13 @@ fn items_that_are_not_read_have_their_places() {
     let behind = bad(Unread::Behind { place: 11 });
     assert_eq!(items(b"\x02\x02\0\0"), (Some(0), behind.clone()));
     assert_eq!(items(b"\x08\x02\x07\0").1[1..], behind);
+    // of other items, without bytes for that many, or with bytes for none
+    assert_eq!(items(b"\x01\x01\x01"), (Some(1), item(0, 11)));
+    assert_eq!(items(b"\x03\x03\x03\0\0"), (Some(3), item(0, 11)));
+    assert_eq!(items(b"\x03\x03\x02\0\0"), (Some(2), vec![]));
+    assert_eq!(items(b"\x03\x02\0\0"), (Some(0), behind.clone()));
+    assert_eq!(items(b"\x0c\x01\x02"), (Some(2), vec![]));
+    assert_eq!(items(b"\x0c\x02\x02\0"), (Some(2), behind));
     let texts = [
         (Unread::Count { place: 10 }, "bad count at 0xa"),
         (Unread::Item { number: 1, place: 17 }, "bad item 1 at 0x11"),

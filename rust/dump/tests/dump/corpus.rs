@@ -1,7 +1,8 @@
 //! What is printed of the components of the corpus.
 
-use crate::dump;
 use crate::values::Value;
+use crate::{dump, file_of};
+use std::ffi::OsStr;
 use std::fs;
 use std::path::{Path, PathBuf};
 use std::process::Output;
@@ -42,14 +43,41 @@ fn names() -> Vec<String> {
 fn line(name: &str, format: &str, output: &Output) -> String {
     let lines = output.stdout.iter().filter(|byte| **byte == b'\n').count();
     let err = String::from_utf8_lossy(&output.stderr);
-    let why = err.strip_suffix('\n').and_then(|err| err.split_once(".wasm: "));
-    assert_eq!(output.status.code(), Some(why.is_some().into()), "{name}");
-    let why = why.map(|(_, why)| format!(", {why}")).unwrap_or_default();
+    let whys = err.lines().filter_map(|line| line.split_once(".wasm: "));
+    let why: String = whys.map(|(_, why)| format!(", {why}")).collect();
+    assert_eq!(output.status.code(), Some((!why.is_empty()).into()), "{name}");
     format!("{name}{format}: {lines} lines, {:016x}{why}\n", digest(&output.stdout))
 }
 
+/// The stored output at this path. Where it is to be another, this one is written, and the test
+/// fails: `dumps` is `write`.
+fn stored(path: &Path, output: &[u8], dumps: Option<&OsStr>) -> String {
+    if dumps.is_some_and(|dumps| dumps == "write") {
+        fs::write(path, output).expect("it can be written");
+        panic!("{}: written", path.display());
+    }
+    fs::read_to_string(path).expect("it is there")
+}
+
+/// The stored output of the corpus, which `DUMPS=write` in the environment writes.
+fn stored_in_corpus(path: &str, output: &[u8]) -> String {
+    stored(&corpus(path), output, std::env::var_os("DUMPS").as_deref())
+}
+
+#[test]
+fn only_write_writes_what_is_stored() {
+    let path = file_of("stored.txt", b"old");
+    for dumps in [None, Some(""), Some("1"), Some("WRITE"), Some("write ")] {
+        assert_eq!(stored(&path, b"new", dumps.map(OsStr::new)), "old", "{dumps:?}");
+        assert_eq!(fs::read(&path).expect("it is there"), b"old", "{dumps:?}");
+    }
+    let written = std::panic::catch_unwind(|| stored(&path, b"new", Some(OsStr::new("write"))));
+    let message = written.expect_err("the test fails");
+    assert!(message.downcast_ref::<String>().is_some_and(|text| text.ends_with(": written")));
+    assert_eq!(fs::read(&path).expect("it is there"), b"new");
+}
+
 /// `corpus/dumps.txt` has two lines for each component, of its text and of that with all bytes.
-/// Where they are to be others, `DUMPS=write` in the environment writes them.
 #[test]
 fn the_corpus() {
     let mut lines = String::new();
@@ -59,10 +87,7 @@ fn the_corpus() {
             lines += &line(&name, format, &dump(options, &file));
         }
     }
-    if std::env::var_os("DUMPS").is_some() {
-        fs::write(corpus("dumps.txt"), &lines).expect("it is written");
-    }
-    let stored = fs::read_to_string(corpus("dumps.txt")).expect("the corpus is there");
+    let stored = stored_in_corpus("dumps.txt", lines.as_bytes());
     for (is, wanted) in lines.lines().zip(stored.lines()) {
         assert_eq!(is, wanted);
     }
@@ -70,17 +95,25 @@ fn the_corpus() {
     assert_eq!((lines.lines().count(), stored.lines().count(), faults), (92, 92, 12));
 }
 
+fn expect_whole(name: &str) {
+    let output = dump(&[], &corpus(&format!("wasm/{name}.wasm")));
+    let wanted = stored_in_corpus(&format!("dumps/{name}.txt"), &output.stdout);
+    assert_eq!(String::from_utf8_lossy(&output.stdout), wanted, "{name}");
+}
+
 #[test]
-fn whole_outputs_of_the_corpus() {
-    for name in ["29-empty", "10-resource-export", "35-start"] {
-        let stored = corpus(&format!("dumps/{name}.txt"));
-        let output = dump(&[], &corpus(&format!("wasm/{name}.wasm")));
-        if std::env::var_os("DUMPS").is_some() {
-            fs::write(&stored, &output.stdout).expect("it is written");
-        }
-        let wanted = fs::read_to_string(stored).expect("it is there");
-        assert_eq!(String::from_utf8_lossy(&output.stdout), wanted, "{name}");
-    }
+fn whole_output_of_an_empty_component() {
+    expect_whole("29-empty");
+}
+
+#[test]
+fn whole_output_of_resources() {
+    expect_whole("10-resource-export");
+}
+
+#[test]
+fn whole_output_of_a_start() {
+    expect_whole("35-start");
 }
 
 /// No line that can be folded is longer than 100 columns: what is, is one text or one name.

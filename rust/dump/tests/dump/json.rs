@@ -86,8 +86,9 @@ fn debug_names_custom_sections_and_nested_components() {
         {\"start\":18,\"end\":21,\"id\":6,\"kind\":\"alias\",\"count\":0,\"items\":[]}]}}]},\
         {\"start\":21,\"end\":52,\"id\":0,\"kind\":\"custom\",\"count\":1,\"items\":[\
         {\"start\":23,\"end\":52,\"space\":null,\"index\":null,\"count\":0,\"name\":null,\"item\":\
-        {\"name\":\"component-name\",\"size\":14,\"unread\":49}}]}]},\"fault\":null";
-    expect(&[], &file("json_names", &[&nested[..], names].concat()), 0, out);
+        {\"name\":\"component-name\",\"size\":14,\"unread\":49}}]}]},\
+        \"fault\":{\"place\":49,\"message\":\"bad debug names at 0x31\"}";
+    expect(&[], &file("json_names", &[&nested[..], names].concat()), 1, out);
 }
 
 #[test]
@@ -100,8 +101,9 @@ fn core_modules() {
         {\"start\":16,\"end\":20,\"space\":null,\"index\":null,\"count\":0,\"name\":null,\"item\":\
         {\"name\":\"f\",\"kind\":\"Func\",\"index\":2}}],\"unread\":null},\
         {\"start\":20,\"end\":22,\"id\":14,\"kind\":null,\"name\":null,\"count\":null,\
-        \"items\":[],\"unread\":null}],\"unread\":null},\"fault\":null";
-    expect(&[], &file_of("json_module", module), 0, section);
+        \"items\":[],\"unread\":20}],\"unread\":null},\
+        \"fault\":{\"place\":20,\"message\":\"unknown section 14 at 0x14\"}";
+    expect(&[], &file_of("json_module", module), 1, section);
     // a module in a component, with entries and with bytes that aren't read
     let sections = b"\x01\x0e\0asm\x01\0\0\0\x02\x02\x01\x01\x01\x02";
     let out = "\"component\":{\"start\":0,\"end\":24,\"name\":null,\"sections\":[\
@@ -109,8 +111,9 @@ fn core_modules() {
         {\"start\":10,\"end\":24,\"space\":\"core module\",\"index\":0,\"count\":1,\"name\":null,\
         \"item\":{\"start\":10,\"end\":24,\"sections\":[\
         {\"start\":18,\"end\":22,\"id\":2,\"kind\":\"import\",\"name\":null,\"count\":1,\
-        \"items\":[],\"unread\":21}],\"unread\":22}}]}]},\"fault\":null";
-    expect(&[], &file("json_unread", sections), 0, out);
+        \"items\":[],\"unread\":21}],\"unread\":22}}]}]},\
+        \"fault\":{\"place\":21,\"message\":\"bad item 0 at 0x15\"}";
+    expect(&[], &file("json_unread", sections), 1, out);
 }
 
 /// All that is open is closed in front of a fault.
@@ -121,15 +124,27 @@ fn faults() {
         {\"start\":8,\"end\":22,\"id\":4,\"kind\":\"component\",\"count\":1,\"items\":[\
         {\"start\":10,\"end\":22,\"space\":\"component\",\"index\":0,\"count\":1,\"name\":null,\
         \"item\":{\"start\":10,\"end\":22,\"name\":null,\"sections\":[\
-        {\"start\":18,\"end\":22,\"id\":6,\"kind\":\"alias\",\"count\":1,\"items\":[]}]}}]}]},\
+        {\"start\":18,\"end\":22,\"id\":6,\"kind\":\"alias\",\"count\":1,\"items\":[],\
+        \"unread\":21}]}}]}]},\
         \"fault\":{\"place\":21,\"message\":\"bad item 0 at 0x15 in the section at 0x12\"}";
     expect(&[], &file("json_fault", nested), 1, out);
     let out = "\"fault\":{\"place\":0,\"message\":\"no component's header at 0x0\"}";
     expect(&[], &file_of("json_empty", b""), 1, out);
     let module = file_of("json_bad_module", b"\0asm\x01\0\0\0\x01");
-    let out = "\"module\":{\"start\":0,\"end\":9,\"sections\":[],\"unread\":null},\
+    let out = "\"module\":{\"start\":0,\"end\":9,\"sections\":[],\"unread\":8},\
         \"fault\":{\"place\":8,\"message\":\"bad core section at 0x8\"}";
     expect(&[], &module, 1, out);
+    // no section; a section with an unknown id, and one whose type has no known index
+    let out = "\"component\":{\"start\":0,\"end\":10,\"name\":null,\"sections\":[],\"unread\":8},\
+        \"fault\":{\"place\":8,\"message\":\"bad section at 0x8\"}";
+    expect(&[], &file("json_no_section", b"\x06\x05"), 1, out);
+    let out = "\"component\":{\"start\":0,\"end\":16,\"name\":null,\"sections\":[\
+        {\"start\":8,\"end\":11,\"id\":12,\"kind\":null,\"count\":null,\"items\":[],\"unread\":8},\
+        {\"start\":11,\"end\":16,\"id\":7,\"kind\":\"type\",\"count\":1,\"items\":[\
+        {\"start\":14,\"end\":16,\"space\":\"type\",\"index\":null,\"count\":1,\"name\":null,\
+        \"item\":{\"Defined\":{\"Own\":0}}}]}]},\
+        \"fault\":{\"place\":8,\"message\":\"unknown section 12 at 0x8\"}";
+    expect(&[], &file("json_unknown", b"\x0c\x01\x07\x07\x03\x01\x69\0"), 1, out);
 }
 
 #[test]
@@ -141,7 +156,7 @@ fn texts_are_escaped() {
     let export = [&[11, len + 6, 1, 0, len][..], name.as_bytes(), &[1, 0, 0]].concat();
     let output = dump(&["--json"], &file("json_texts", &export));
     let out = String::from_utf8(output.stdout).expect("it is text");
-    let escaped = "\"\\\"\\\\\\u000a\\u0000\\u001f\\u007f\u{80}é漢🦀/\"";
+    let escaped = "\"\\\"\\\\\\u000a\\u0000\\u001f\\u007f\\u0080é漢🦀/\"";
     assert!(out.contains(escaped), "{out}");
     let item = Value::read(&out);
     let item = &item.at("component").at("sections").list()[0].at("items").list()[0];
@@ -152,6 +167,36 @@ fn texts_are_escaped() {
     let value = Value::read(&out);
     assert_eq!(value.at("file").text(), "no \"file\"\n");
     assert_eq!(value.at("fault").at("place"), &Value::Null);
+}
+
+/// Controls, what turns the order of a line around, and what ends a line.
+#[test]
+fn what_changes_a_terminal_is_escaped() {
+    let controls = ('\0'..='\x1f').chain('\x7f'..='\u{9f}');
+    let directions = ['\u{61c}', '\u{200e}', '\u{200f}'].into_iter();
+    let directions = directions.chain('\u{202a}'..='\u{202e}').chain('\u{2066}'..='\u{2069}');
+    let escaped: Vec<char> = controls.chain(directions).chain(['\u{2028}', '\u{2029}']).collect();
+    assert_eq!(escaped.len(), 79);
+    // their neighbours aren't
+    let plain = " ~\u{a0}\u{61b}\u{61d}\u{200d}\u{2010}\u{2027}\u{202f}\u{2065}\u{206a}\u{301}";
+    let name: String = escaped.iter().copied().chain(plain.chars()).collect();
+    let data = [&[0xa6, 1][..], name.as_bytes()].concat();
+    assert_eq!(name.len(), 0xa6);
+    let section = [&[0, 0xa8, 1][..], &data].concat();
+    let custom = file("json_controls", &section);
+    let output = dump(&["--json"], &custom);
+    let out = String::from_utf8(output.stdout).expect("it is text");
+    let codes: String =
+        escaped.iter().map(|letter| format!("\\u{:04x}", u32::from(*letter))).collect();
+    assert!(out.contains(&format!("\"{codes}{plain}\"")), "{out}");
+    let item = Value::read(&out);
+    let item = &item.at("component").at("sections").list()[0].at("items").list()[0];
+    assert_eq!(item.at("item").at("name").text(), name);
+    // text has none of them either
+    let out = dump(&[], &custom);
+    let out = String::from_utf8(out.stdout).expect("it is text");
+    assert!(escaped.iter().all(|letter| *letter == '\n' || !out.contains(*letter)), "{out}");
+    assert_eq!((out.lines().count(), output.status.code()), (3, Some(0)));
 }
 
 #[test]

@@ -4,6 +4,8 @@
 mod corpus;
 mod faults;
 mod json;
+#[cfg(target_os = "linux")]
+mod limits;
 #[cfg(unix)]
 #[path = "../../../script/tests/program/manual.rs"]
 mod manual;
@@ -52,17 +54,19 @@ fn file(name: &str, sections: &[u8]) -> PathBuf {
     file_of(name, &component(sections))
 }
 
-/// The component with these sections is printed so, and that is said of it, with its file in front.
+/// The component with these sections is printed so, and these lines are said of it, each with its
+/// file in front.
 fn expect(name: &str, sections: &[u8], out: &str, err: Option<&str>) {
     expect_of(&[], &file(name, sections), out, err);
 }
 
-/// The file is printed so, and that is said of it, with its path in front.
+/// The file is printed so, and these lines are said of it, each with its path in front.
 fn expect_of(options: &[&str], file: &Path, out: &str, err: Option<&str>) {
     let output = dump(options, file);
     let name = file.display();
     assert_eq!(String::from_utf8_lossy(&output.stdout), out, "{name}");
-    let err = err.map(|why| format!("{name}: {why}\n")).unwrap_or_default();
+    let err: String =
+        err.iter().flat_map(|err| err.lines()).map(|why| format!("{name}: {why}\n")).collect();
     assert_eq!(String::from_utf8_lossy(&output.stderr), err, "{name}");
     assert_eq!(output.status.code(), Some(i32::from(!err.is_empty())), "{name}");
 }

@@ -43,12 +43,13 @@ fn components_more_than_100_deep_are_a_fault() {
     let err = format!("{}: components more than 100 deep at {place:#x}\n", file.display());
     assert_eq!(String::from_utf8_lossy(&output.stderr), err);
     assert_eq!(output.status.code(), Some(1));
-    // the file, and a section and a component for each of the others
+    // the file, a section and a component for each of the others, and what isn't read
     let out = String::from_utf8(output.stdout).expect("it is text");
     let lines: Vec<&str> = out.lines().collect();
-    assert_eq!(lines.len(), 1 + 2 * 100);
+    assert_eq!(lines.len(), 1 + 2 * 100 + 1);
     let last = format!("{:40}{place:#x}..{:#x} component 0, 8 bytes", "", component.len());
     assert_eq!(lines[200], last);
+    assert_eq!(lines[201], format!("{:40}{place:#x} too deep component", ""));
 }
 
 #[test]

@@ -50,7 +50,7 @@ fn debug_names() {
     0x19 custom \"component-name\", 16 bytes
       0x33 names that aren't read
 ";
-    expect("bad_names", &[FUNCTION, names].concat(), out, None);
+    expect("bad_names", &[FUNCTION, names].concat(), out, Some("bad debug names at 0x33"));
 }
 
 /// The names of the component and of the one around it, where an index is one of theirs.
@@ -132,22 +132,12 @@ fn modules_and_nested_components() {
     0x28..0x29 core module 1, 1 byte
       0x28 no core module's header
 ";
-    expect("nested", &[&module[..], nested].concat(), out, None);
+    let bad = "bad count at 0x18\nbad core section at 0x18\nno core module's header at 0x28";
+    expect("nested", &[&module[..], nested].concat(), out, Some(bad));
 }
 
-/// Sections of all ids, of a module that is by itself.
-#[test]
-fn core_modules() {
-    let module = b"\0asm\x01\0\0\0\
-        \0\x03\x01x\x07\
-        \x01\x04\x01\x60\0\0\
-        \x02\x23\x05\x01m\x01f\0\0\x01m\0\x01\x70\0\x01\0\x01n\x02\x01\x01\x02\x01m\x01g\x03\x7f\0\
-        \x01m\x01t\x04\0\0\
-        \x07\x09\x02\x01f\0\0\x01g\x03\0\
-        \x08\x01\x07\
-        \x0c\x01\x02\
-        \x0e\x01\x02";
-    let out = "\
+/// What is printed of a module with sections of all kinds.
+const CORE_TEXT: &str = "\
 0x0..0x4c core module, 76 bytes
   0x8..0xd custom section \"x\", 5 bytes
   0xd..0x13 type section, 6 bytes, 1 item
@@ -174,8 +164,23 @@ fn core_modules() {
     0x45 start of 7
   0x46..0x49 data count section, 3 bytes, 2 items
   0x49..0x4c section 14, 3 bytes
+    0x49 unknown section
 ";
-    expect_of(&[], &file_of("core_module", module), out, None);
+
+/// Sections of all ids, of a module that is by itself.
+#[test]
+fn core_modules() {
+    let module = b"\0asm\x01\0\0\0\
+        \0\x03\x01x\x07\
+        \x01\x04\x01\x60\0\0\
+        \x02\x23\x05\x01m\x01f\0\0\x01m\0\x01\x70\0\x01\0\x01n\x02\x01\x01\x02\x01m\x01g\x03\x7f\0\
+        \x01m\x01t\x04\0\0\
+        \x07\x09\x02\x01f\0\0\x01g\x03\0\
+        \x08\x01\x07\
+        \x0c\x01\x02\
+        \x0e\x01\x02";
+    let bad = "unknown section 14 at 0x49";
+    expect_of(&[], &file_of("core_module", module), CORE_TEXT, Some(bad));
 }
 
 /// A section with this type.
@@ -241,6 +246,58 @@ fn a_terminal_has_colours() {
 ";
     assert_eq!((status, String::from_utf8_lossy(&out).as_ref()), (0, wanted));
     assert!(err.is_empty());
+}
+
+/// What the program prints of the component with these sections, and its status.
+fn printed(sections: &[u8], options: &[&str], has_colours: bool) -> (String, u8) {
+    let bytes = component(sections);
+    let arguments = ["wenc-dump"].iter().chain(options).chain(&["-"]).map(Into::into);
+    let (mut out, mut err) = (Vec::new(), Vec::new());
+    let mut streams = Streams { input: &mut &bytes[..], out: &mut out, err: &mut err };
+    let status = dump(arguments, has_colours, &mut streams);
+    (String::from_utf8(out).expect("it is text"), status)
+}
+
+/// Names and texts have a colour, the points behind a name that is cut have none.
+#[test]
+fn names_texts_and_places_have_colours() {
+    let (long, cut) = ("n".repeat(81), "n".repeat(80));
+    let types = b"\x07\x0a\x02\x69\0\x6d\x02\x01a\x02bc";
+    let names = [b"\0\x66\x0ecomponent-name\x01\x55\x03\x01\0\x51", long.as_bytes()].concat();
+    let (out, status) = printed(&[types, &names[..], b"\x06\x05\x01"].concat(), &[], true);
+    let wanted = format!(
+        "\
+\x1b[2m0x0..0x7f\x1b[0m component, 127 bytes
+  \x1b[2m0x8..0x14\x1b[0m type section, 12 bytes, 2 items
+    \x1b[2m0xb\x1b[0m \x1b[36mtype 0\x1b[0m \x1b[32m\"{long}\"\x1b[0m: \
+    Defined(Own(0) \x1b[32m\"{cut}\"\x1b[0m...)
+    \x1b[2m0xd\x1b[0m \x1b[36mtype 1\x1b[0m: \
+    Defined(Enum([\x1b[32m\"a\"\x1b[0m, \x1b[32m\"bc\"\x1b[0m]))
+  \x1b[2m0x14..0x7c\x1b[0m custom section, 104 bytes, 1 item
+    \x1b[2m0x16\x1b[0m custom \x1b[32m\"component-name\"\x1b[0m, 87 bytes
+  \x1b[2m0x7c\x1b[0m no section
+"
+    );
+    assert_eq!((out, status), (wanted, 1));
+    let (out, _) = printed(FUNCTION, &["-x"], true);
+    assert!(out.contains("\n      \x1b[2m0x12:\x1b[0m 00 01 66 01 00\n"), "{out}");
+}
+
+/// The columns of a line are those without its colours.
+#[test]
+fn colours_take_no_columns() {
+    let variant = |len: u8| {
+        let case = [&[len][..], "a".repeat(len.into()).as_bytes(), b"\0\0\x01b\0\0"].concat();
+        type_section(&[&[0x71, 2][..], &case].concat())
+    };
+    for sections in [variant(71), variant(72), [FUNCTION, NAMES].concat()] {
+        let (plain, status) = printed(&sections, &["-x"], false);
+        let (coloured, _) = printed(&sections, &["-x"], true);
+        assert_ne!(coloured, plain);
+        let codes = ["\x1b[2m", "\x1b[32m", "\x1b[36m", "\x1b[0m"];
+        let without = codes.iter().fold(coloured, |text, code| text.replace(code, ""));
+        assert_eq!((without, status), (plain, 0));
+    }
 }
 
 #[test]
