@@ -65,6 +65,7 @@ impl Listed {
 
     fn section(&self, number: usize) -> Result<SectionRow> {
         let section = self.sections.get(number).ok_or(Status::BadArgument)?;
+        // 32 bits: there is a section of this number.
         let end = self.sections.get(number + 1).map_or(self.len, |next| next.place);
         Ok(SectionRow {
             place: section.place,
@@ -88,6 +89,7 @@ impl Listed {
         let name = name_in(tree);
         let bytes = bytes_in(tree);
         Ok(ItemRow {
+            // 32 bits: there is an item of this number.
             index: self.indices[self.before[section] + item],
             name: name.map_or(ptr::null(), str::as_ptr),
             name_len: name.map_or(0, str::len),

@@ -75,6 +75,7 @@ impl ByIndex {
         place: usize,
         name: (u32, String),
     ) -> Result<(), TryReserveError> {
+        // 32 bits: there are less pages than bytes.
         let is_last = page + 1 >= self.pages.len();
         match self.pages.get_mut(page) {
             Some(names) if names.len() < PAGE => {
@@ -84,6 +85,7 @@ impl ByIndex {
             Some(_) if place < PAGE || !is_last => {
                 self.split(page)?;
                 let (page, place) = match place.checked_sub(PAGE / 2) {
+                    // 32 bits: there are less pages than bytes.
                     Some(place @ 1..) => (page + 1, place),
                     _ => (page, place),
                 };
@@ -106,6 +108,7 @@ impl ByIndex {
         half.try_reserve_exact(PAGE)?;
         self.pages.try_reserve(1)?;
         half.extend(self.pages[page].drain(PAGE / 2..));
+        // 32 bits: there are less pages than bytes.
         self.pages.insert(page + 1, half);
         Ok(())
     }
