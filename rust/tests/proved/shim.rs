@@ -193,3 +193,21 @@ fn digits() {
     heap.refuse_all();
     assert_eq!(hex::decode(&heap, "00").err(), Some(FromHexError::OutOfMemory));
 }
+
+#[test]
+fn digits_are_written() {
+    let mut text = *b"....";
+    assert_eq!(hex::encode_to_slice([0x2a, 0xf0], &mut text), Ok(()));
+    assert_eq!(text, *b"2af0");
+    for byte in 0..=u8::MAX {
+        assert_eq!(hex::encode_to_slice([byte], &mut text[..2]), Ok(()));
+        assert_eq!(text[..2], *std::format!("{byte:02x}").as_bytes());
+    }
+    text = *b"....";
+    for len in [0, 1, 3, 4] {
+        let refused = hex::encode_to_slice([0x2a], &mut text[..len]);
+        assert_eq!(refused, Err(FromHexError::InvalidStringLength), "{len}");
+    }
+    assert_eq!(text, *b"....");
+    assert_eq!(hex::encode_to_slice([], &mut []), Ok(()));
+}

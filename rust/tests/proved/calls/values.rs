@@ -4,7 +4,6 @@ use super::is;
 use crate::proved::facts::strangers::own::Light;
 use crate::proved::rt_std::string::String;
 use crate::proved::tests::hex::digits;
-use crate::proved::wenc::digits::encode;
 use crate::proved::wenc_base::{
     ByRef, ExportKind, Fault, Short, Tagged, Verbatim, WithSize, encoding_size, section_size,
 };
@@ -55,11 +54,4 @@ fn sizes() {
     assert_eq!(encoding_size(624485), 3);
     assert_eq!(section_size(128, 4294967293), Ok(4294967295));
     assert_eq!(section_size(128, 4294967294), Err(Fault::TooLarge));
-}
-
-#[test]
-fn digits_are_written() {
-    let mut text = [0; 4];
-    encode(&[0x2a, 0xf0], &mut text);
-    assert_eq!(text, *b"2af0");
 }
