@@ -103,7 +103,7 @@ impl<R: Report> Walk<'_, '_, R> {
         self.report.open(&Part::Item {
             range: at + range.start..at + range.end,
             label: space(item).map(|space| next.take(space, 1, None)),
-            content: Content::Node(item.node(Scope::of(&[]))),
+            content: Content::Node(&item.node(Scope::of(&[]))),
             bytes: &section.data[range.start - data_start..range.end - data_start],
         })?;
         Ok(self.report.close()?)

@@ -89,5 +89,5 @@ pub enum Content<'a> {
     /// A custom section with this name and so many bytes after it.
     Custom(&'a str, usize),
     /// Another item.
-    Node(Node<'a>),
+    Node(&'a Node<'a>),
 }

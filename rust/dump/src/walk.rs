@@ -89,11 +89,12 @@ fn unread_names(item: &ItemTree) -> Result<Option<usize>, Failure> {
     }
 }
 
+/// The byte offsets and the id of a section that is framed, and its items.
+type Framed<'f> = (Option<(Range<usize>, u8)>, Result<SectionReader<'f>, ListFault>);
+
 /// The sections that are framed, each with its byte offsets, its id, and its items or why they can't
 /// be counted; then why the next isn't framed.
-fn framed<'f>(
-    mut sections: Sections<'f>,
-) -> impl Iterator<Item = (Option<(Range<usize>, u8)>, Result<SectionReader<'f>, ListFault>)> {
+fn framed<'f>(mut sections: Sections<'f>) -> impl Iterator<Item = Framed<'f>> {
     std::iter::from_fn(move || {
         let mut here = sections;
         let section = sections.next()?;
@@ -226,10 +227,11 @@ impl<'f, R: Report> Walk<'f, '_, R> {
         let names = self.names.last();
         let label = item.indices().map(|(space, count)| next.take(space, count, names));
         let bytes = &self.bytes[range.clone()];
+        let node = item.node(Scope::of(&self.names));
         let (content, shown) = match item {
             ItemTree::Module(_) => (Content::Module, &[][..]),
             ItemTree::Custom { name, data } => (Content::Custom(name, data.len()), bytes),
-            item => (Content::Node(item.node(Scope::of(&self.names))), bytes),
+            _ => (Content::Node(&node), bytes),
         };
         let part = Part::Item { range: range.clone(), label, content, bytes: shown };
         self.report.open(&part)?;
