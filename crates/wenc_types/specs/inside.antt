@@ -1,2 +1,2 @@
--- What private functions and proofs need alone: no contract of a public call reaches it.
+-- What private functions and proofs need, and of public calls `Counts::counted` alone.
 pub mod TypeState
