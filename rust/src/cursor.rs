@@ -63,10 +63,11 @@ impl<'a> Sections<'a> {
     /// copy that was made in front of an error goes on behind the section that can't be read.
     ///
     /// ```
-    /// use wenc::{ListFault, RawSection, Sections};
+    /// use wenc::{Component, ListFault, RawSection, Sections};
     ///
     /// // a section with an id above 11, and an alias section without an item
-    /// let mut sections = Sections::new(b"\0asm\x0d\0\x01\0\x0c\x01\x07\x06\x01\0")?;
+    /// let bytes = [&Component::HEADER[..], &[12, 1, 7], &[6, 1, 0]].concat();
+    /// let mut sections = Sections::new(&bytes)?;
     /// let mut copy = sections;
     /// assert!(sections.next().unwrap().is_err());
     /// assert!(sections.next().is_none());
