@@ -24,7 +24,7 @@ pub use names::*;
 pub use start::*;
 pub use types::*;
 
-use crate::encode::{Encode, Foreign, append};
+use crate::encode::{Encode, Foreign, append, copied};
 use crate::error::or_panic;
 use crate::proved::wasm_encoder as proved;
 use alloc::vec::Vec;
@@ -118,8 +118,12 @@ impl Component {
     pub const HEADER: [u8; 8] = <proved::Component>::HEADER;
 
     /// Creates a component without sections.
+    ///
+    /// # Panics
+    ///
+    /// Panics if an allocation fails.
     pub fn new() -> Self {
-        Self { bytes: Self::HEADER.into() }
+        Self { bytes: or_panic(copied(Self::HEADER)) }
     }
 
     /// Returns the bytes of the component.

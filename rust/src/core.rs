@@ -25,7 +25,7 @@ pub use tags::{TagKind, TagType};
 pub use types::*;
 
 use crate::UnknownSectionId;
-use crate::encode::{Encode, Foreign, append, encode};
+use crate::encode::{Encode, Foreign, append, copied, encode};
 use crate::error::or_panic;
 use crate::proved::wasm_encoder as proved;
 use crate::proved::wenc_base::Verbatim;
@@ -186,8 +186,12 @@ impl Module {
     pub const HEADER: [u8; 8] = <proved::Module>::HEADER;
 
     /// Creates a module without sections.
+    ///
+    /// # Panics
+    ///
+    /// Panics if an allocation fails.
     pub fn new() -> Self {
-        Self { bytes: Self::HEADER.into() }
+        Self { bytes: or_panic(copied(Self::HEADER)) }
     }
 
     /// Appends a section.

@@ -98,6 +98,14 @@ pub(crate) fn append_proved<T: proved::Encode>(sink: &mut Vec<u8>, value: &T) {
     or_panic(result);
 }
 
+/// Returns a vector of these bytes.
+pub(crate) fn copied(bytes: [u8; 8]) -> Result<Vec<u8>, Error> {
+    let mut copy = Vec::new();
+    copy.try_reserve_exact(bytes.len()).map_err(|_| Error::NoMemory)?;
+    copy.extend(bytes);
+    Ok(copy)
+}
+
 /// A value that an `Encode` encodes, as the proved code takes it. That of a user gets a sink of its
 /// own, where it reaches no other bytes.
 #[derive(Clone, Copy)]

@@ -60,26 +60,39 @@ impl Write for Nowhere {
     }
 }
 
+/// What a call returns of which request `n` is refused, or why it panics, and whether that request
+/// came.
+fn refused<T>(n: u32, call: impl Fn() -> T) -> (Result<T, Option<String>>, bool) {
+    GRANTED.set(Some(n));
+    let result = catch_unwind(AssertUnwindSafe(call));
+    let is_refused = GRANTED.take().is_none();
+    SINCE.set(None);
+    (result.map_err(|panic| panic.downcast_ref::<String>().cloned()), is_refused)
+}
+
+fn no_memory<T>() -> Result<T, Option<String>> {
+    Err(Some("no memory".to_owned()))
+}
+
+#[test]
+fn headers() {
+    assert_eq!(refused(0, Component::new), (no_memory(), true));
+    assert_eq!(refused(1, Component::new), (Ok(Component::new()), false));
+    assert_eq!(refused(0, Module::new), (no_memory(), true));
+    assert_eq!(refused(1, Module::new), (Ok(Module::new()), false));
+}
+
 /// What compares or prints by the bytes panics where these can't be had.
 #[test]
 fn contents() {
     let mut imports = ComponentImportSection::new();
     imports.import(NAME, ComponentTypeRef::Func(0));
-    let refused = |n, compare: &dyn Fn() -> bool| {
-        GRANTED.set(Some(n));
-        let result = catch_unwind(AssertUnwindSafe(compare));
-        let is_refused = GRANTED.take().is_none();
-        SINCE.set(None);
-        let message = result.map_err(|panic| panic.downcast_ref::<String>().cloned());
-        (message, is_refused)
-    };
-    let no_memory = Err(Some("no memory".to_owned()));
     let other = imports.clone();
     for n in [0, 1] {
-        assert_eq!(refused(n, &|| imports == other), (no_memory.clone(), true));
+        assert_eq!(refused(n, || imports == other), (no_memory(), true));
     }
-    assert_eq!(refused(2, &|| imports == other), (Ok(true), false));
+    assert_eq!(refused(2, || imports == other), (Ok(true), false));
     let is_printed = || write!(Nowhere, "{imports:?}").is_ok();
-    assert_eq!(refused(0, &is_printed), (no_memory, true));
-    assert_eq!(refused(1, &is_printed), (Ok(true), false));
+    assert_eq!(refused(0, is_printed), (no_memory(), true));
+    assert_eq!(refused(1, is_printed), (Ok(true), false));
 }
