@@ -246,7 +246,7 @@ static void freed(void) {
 }
 
 /* What is held of a component once the builder of one in it was given up: as much as where that was
- * lent and then freed. */
+ * borrowed and then freed. */
 static void given_up(void) {
   wenc_handle outer = filled(), nested = filled();
   uint32_t index;
@@ -304,7 +304,7 @@ static void listed(void) {
   REQUIRE(listing.at == NULL && held() == 0);
 }
 
-/* A component in another, listed; where the nested one isn't taken for want of memory, it is lent
+/* A component in another, listed; where the nested one isn't taken for want of memory, it is borrowed
  * then, and freed. */
 static void worked(void) {
   wenc_handle outer = filled(), nested = filled();

@@ -175,32 +175,32 @@ static list_of_bytes some_bytes(void) {
 }
 
 /* A list of so many values, each of which `value` makes. */
-#define SOME(type, kind, value)                                    \
-  static list_of_##kind some_##kind(void) {                        \
+#define SOME(type, of, value)                                      \
+  static list_of_##of some_##of(void) {                            \
     type values[8];                                                \
-    list_of_##kind list;                                           \
-    uint32_t k, sort = a_kind();                                   \
-    (void)sort;                                                    \
+    list_of_##of list;                                             \
+    uint32_t k, kind = a_kind();                                   \
+    (void)kind;                                                    \
     list.len = below(5);                                           \
     for (k = 0; k < list.len; k++) values[k] = value;              \
     list.at = (const type *)keep(values, list.len * sizeof(type)); \
     return list;                                                   \
   }
 
-static wenc_part a_part(uint32_t sort) {
+static wenc_part a_part(uint32_t kind) {
   list_of_text text = some_text();
   wenc_part part = {NULL, 0, 0, 0};
   part.name = text.at;
   part.name_len = text.len;
-  part.sort = below(30) == 0 ? a_kind() : sort;
-  part.number = sort == WENC_REF_PRIMITIVE ? 1 + below(14) : a_number();
+  part.kind = below(30) == 0 ? a_kind() : kind;
+  part.number = kind == WENC_REF_PRIMITIVE ? 1 + below(14) : a_number();
   return part;
 }
 
-static wenc_pair a_pair(uint32_t sort) {
+static wenc_pair a_pair(uint32_t kind) {
   wenc_pair pair = {0, 0};
-  pair.sort = (below(30) == 0 ? a_kind() : sort) | (below(6) == 0 ? 0x100u << below(2) : 0);
-  pair.number = sort == WENC_REF_PRIMITIVE ? 1 + below(14) : a_number();
+  pair.kind = (below(30) == 0 ? a_kind() : kind) | (below(6) == 0 ? 0x100u << below(2) : 0);
+  pair.number = kind == WENC_REF_PRIMITIVE ? 1 + below(14) : a_number();
   return pair;
 }
 
@@ -222,8 +222,8 @@ static wenc_index_name an_index_name(void) {
 }
 
 SOME(uint32_t, numbers, a_number())
-SOME(wenc_part, part, a_part(sort))
-SOME(wenc_pair, pair, a_pair(sort))
+SOME(wenc_part, part, a_part(kind))
+SOME(wenc_pair, pair, a_pair(kind))
 SOME(wenc_producer, producer, a_producer())
 SOME(wenc_index_name, index_name, an_index_name())
 

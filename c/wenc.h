@@ -1,46 +1,46 @@
-/* wenc: WebAssembly components, written and read, for C.
+/* wenc: writing and reading WebAssembly components, for C.
  *
- * README.md says how to build the library ("From C"). Of the C library it needs malloc,
+ * README.md beside this says how to build the library. Of the C library it needs malloc,
  * realloc, free and abort, and memcpy, memmove, memset and bcmp or memcmp.
  *
- * A handle owns one thing on the heap: a component that is made item by item (wenc_new) or
- * section by section (wenc_by_hand_new), the type of a component, an instance or a core module
+ * A handle owns one thing on the heap: a component that is built item by item (wenc_new) or section
+ * by section (wenc_by_hand_new), the type of a component, an instance or a core module
  * (wenc_types_new), a section (wenc_section_new, wenc_names_new), or a component that was read
  * (wenc_list).
  *
  *  - Each call but wenc_free, wenc_version and wenc_status_text returns a status, which is
- *    WENC_DONE or says why the call failed. A call that failed has changed nothing: neither
- *    what its handles own, nor what its arguments point to. Only wenc_list then writes which
- *    part it can't read.
+ *    WENC_DONE or says why the call failed. A call that fails changes nothing: neither what its
+ *    handles own, nor what its arguments point to; except that wenc_list writes which part it can't
+ *    read.
  *
- *  - A text is UTF-8, without a 0 at its end; bytes are any bytes. Both are a pointer and a
- *    number of bytes, and the call keeps no pointer to them. Where the number is 0 the pointer
- *    may be NULL. WENC_TEXT makes a text of a literal.
+ *  - A text is UTF-8 without a terminating 0; bytes are any bytes. Both are passed as a pointer and
+ *    a number of bytes, and the call keeps no pointer to them. If the number is 0, the pointer may
+ *    be NULL. WENC_TEXT makes a text from a literal.
  *
- *  - A debug name, and each option of a wenc_name, is a flag and a text. Where the flag is
- *    false there is none, and the text isn't read. WENC_NAMED makes one of a literal,
- *    WENC_UNNAMED none.
+ *  - A debug name, and each option of a wenc_name, is a flag and a text. If the flag is false,
+ *    there is none, and the text isn't read. WENC_NAMED makes one from a literal, WENC_UNNAMED
+ *    none.
  *
- *  - Results are written to the last pointers of a call. Where such a pointer is NULL, the
- *    result is left out.
+ *  - Results are written through the last pointers of a call. If such a pointer is NULL, the result
+ *    is left out.
  *
- *  - An index is what a call wrote to `*index`: the number of items that its index space had
- *    before. Indices are taken as they are: nothing checks that there is an item with them,
- *    nor that the component is valid.
+ *  - An index is what a call wrote to `*index`: the number of items that were in its index space
+ *    before. Indices aren't checked: neither whether an item has them, nor whether the component is
+ *    valid.
  *
  * What no call can check:
  *
- *  - A handle is {NULL}, or one that a call filled. A copy is the same handle: once what one
- *    of them owns is freed or given to another, the others are invalid. Calls that take two
- *    handles fail where both are the same.
+ *  - A handle is {NULL}, or one that a call filled. A copy is the same handle: once what one of
+ *    them owns is freed or moved to another handle, the others are invalid. Calls that take two
+ *    handles fail if both are the same.
  *
- *  - A pointer that isn't NULL points to as much as its number says, aligned as its type is.
- *    What a call writes to overlaps nothing else that it is given.
+ *  - A pointer that isn't NULL points to as many values as its number says, aligned as their type
+ *    is. Memory that a call writes to overlaps no other argument.
  *
- *  - A handle is used by one thread at a time. It may be handed to another.
+ *  - A handle is used by one thread at a time. It may move to another.
  *
- *  - No call is made from a signal handler, nor in the child of a fork where the process had
- *    more than one thread. */
+ *  - No call is made from a signal handler, nor in the child of a fork of a process with more than
+ *    one thread. */
 #ifndef WENC_H
 #define WENC_H
 
@@ -52,13 +52,13 @@
 extern "C" {
 #endif
 
-/* The version of this header: 10000 times its first number, 100 times the second, and the third.
- * It goes up where a program has to be compiled again. */
+/* The version of this header: 10000 times its major number, 100 times the minor one, plus the
+ * patch. It is incremented when a program has to be compiled again. */
 #define WENC_VERSION 200
 
-/* A text, by a literal. */
+/* A text from a literal. */
 #define WENC_TEXT(literal) ("" literal), sizeof("" literal) - 1
-/* A text that is there, by a literal, and one that isn't there. */
+/* An optional text: from a literal, or none. */
 #define WENC_NAMED(literal) true, WENC_TEXT(literal)
 #define WENC_UNNAMED false, NULL, 0
 
@@ -70,21 +70,21 @@ typedef struct {
 /* What a call returns. */
 enum wenc_status {
   WENC_DONE = 0,
-  /* The allocator refused memory. */
+  /* An allocation failed. */
   WENC_NO_MEMORY = 1,
   /* An index space, a section or a list would have more than 4294967295 members. */
   WENC_TOO_MANY = 2,
   /* A text, a module, a component, a section or a type would have more than 4294967295 bytes; or a
-   * number that was read is too large for what it is put into. */
+   * number that was read is too large for its type. */
   WENC_TOO_LARGE = 3,
-  /* The component isn't finished yet: wenc_bytes alone. */
+  /* The component isn't finished yet (only wenc_bytes). */
   WENC_UNFINISHED = 4,
   /* A text isn't UTF-8, or bytes aren't exactly one item. */
   WENC_MALFORMED = 5,
   /* Types of components and instances nest more than 100 deep. */
   WENC_TOO_DEEP = 6,
-  /* A number that stands for nothing, a handle that the call doesn't take, a handle twice, NULL
-   * where something has to be, or a length that nothing has. */
+  /* A number that is out of range, a handle that the call doesn't take or that is passed twice, an
+   * unexpected NULL, or an impossible length. */
   WENC_BAD_ARGUMENT = 7,
   /* The component is finished, and takes only wenc_finish, wenc_bytes and wenc_free. */
   WENC_FINISHED = 8,
@@ -94,11 +94,11 @@ enum wenc_status {
   WENC_NOT_A_COMPONENT = 10,
   /* wenc_list: an unknown id, no size, a size past the end, or a custom section without a name. */
   WENC_BAD_SECTION = 11,
-  /* wenc_list: the content of a section isn't a count and so many items or, of a start, not one. */
+  /* wenc_list: the content of a section isn't a count and that many items, or isn't one start. */
   WENC_BAD_ITEM = 12
 };
 
-/* Kinds of items, for exports, aliases of exports, and types that are declared. */
+/* Kinds of items, for exports, aliases of exports, and declared types. */
 enum wenc_kind {
   WENC_MODULE = 0,
   WENC_FUNC = 1,
@@ -108,7 +108,7 @@ enum wenc_kind {
   WENC_INSTANCE = 5
 };
 
-/* What is imported, or the type of a value or an export. It goes with a number, `of`. */
+/* The type of an import, a value or an export. It goes with a number, `of`. */
 enum wenc_ref {
   /* Nothing, where that is allowed. `of` isn't used. */
   WENC_REF_NONE = 0,
@@ -117,7 +117,7 @@ enum wenc_ref {
   WENC_REF_FUNC = 2,
   /* A value of the type with this index. */
   WENC_REF_VALUE = 3,
-  /* A type that is equal to the one with this index. */
+  /* A type equal to the one with this index. */
   WENC_REF_TYPE = 4,
   /* A component or an instance: `of` is the index of its type. */
   WENC_REF_COMPONENT = 5,
@@ -163,9 +163,9 @@ enum wenc_outer_kind {
   WENC_OUTER_COMPONENT = 3
 };
 
-/* Functions that the component model provides, for wenc_builtin. The comment before one says what
- * `first` and `second` are: the index of a type, a core table or a core memory, or whether the
- * call may return before it is done (0 or 1). An argument that isn't mentioned isn't used. */
+/* Builtins of the component model, for wenc_builtin. The comment before one says what `first` and
+ * `second` are: the index of a type, a core table or a core memory, or whether the call may return
+ * before it is done (0 or 1). An argument that isn't mentioned isn't used. */
 enum wenc_function {
   /* `first` is a type. */
   WENC_RESOURCE_NEW = 1,
@@ -219,7 +219,7 @@ enum wenc_function {
   WENC_THREAD_AVAILABLE_PARALLELISM = 38
 };
 
-/* Functions that the component model provides, for wenc_builtin_with. */
+/* Builtins of the component model, for wenc_builtin_with. */
 enum wenc_function_with {
   WENC_STREAM_READ = 1,
   WENC_STREAM_WRITE = 2,
@@ -230,13 +230,13 @@ enum wenc_function_with {
   WENC_ERROR_CONTEXT_DEBUG_MESSAGE = 6
 };
 
-/* Functions that read and write a slot, for wenc_context. */
+/* Builtins that get and set a slot of the thread's context, for wenc_context. */
 enum wenc_context_function {
   WENC_CONTEXT_GET = 1,
   WENC_CONTEXT_SET = 2
 };
 
-/* Options of functions. The comment before one says what goes with it; without one nothing does. */
+/* Options of canonical functions. The comment before one says which number it takes, if any. */
 enum wenc_option {
   WENC_OPTION_UTF8 = 0,
   WENC_OPTION_UTF16 = 1,
@@ -261,7 +261,7 @@ enum wenc_core_type {
   WENC_CORE_F32 = 3,
   WENC_CORE_F64 = 4,
   WENC_CORE_V128 = 5,
-  /* References to what is of these heap types. With WENC_CORE_NULLABLE added they may be null. */
+  /* References to values of these heap types, which are nullable with WENC_CORE_NULLABLE added. */
   WENC_CORE_HEAP_FUNC = 6,
   WENC_CORE_HEAP_EXTERN = 7,
   WENC_CORE_HEAP_ANY = 8,
@@ -274,14 +274,14 @@ enum wenc_core_type {
   WENC_CORE_HEAP_I31 = 15,
   WENC_CORE_HEAP_EXN = 16,
   WENC_CORE_HEAP_NO_EXN = 17,
-  /* References to what is of the core type with the index that goes with this. */
+  /* References to values of the core type whose index goes with this. */
   WENC_CORE_HEAP_INDEX = 18,
-  /* Fields and elements of fewer bits. */
+  /* Packed types of fields and elements. */
   WENC_CORE_I8 = 19,
   WENC_CORE_I16 = 20,
   /* These two are added. */
   WENC_CORE_NULLABLE = 0x100,
-  /* A field, elements or a global variable can be changed. */
+  /* The field, the elements or the global variable is mutable. */
   WENC_CORE_MUTABLE = 0x200,
   WENC_CORE_FUNCREF = 0x106,
   WENC_CORE_EXTERNREF = 0x107
@@ -325,7 +325,7 @@ enum wenc_space {
   WENC_VALUES = 10,
   WENC_COMPONENTS = 11,
   WENC_TYPES = 12,
-  /* How many there are. */
+  /* The number of spaces. */
   WENC_SPACES = 13
 };
 
@@ -341,33 +341,32 @@ enum wenc_unread_part {
   WENC_UNREAD_BEHIND = 3
 };
 
-/* The library takes and returns enumerations as 32 bits: with a compiler that makes them shorter
- * (-fshort-enums) this fails to compile. */
+/* The library takes and returns enumerations as 32 bits. With a compiler that makes them shorter
+ * (-fshort-enums), this doesn't compile. */
 typedef char wenc_enums_have_32_bits[sizeof(enum wenc_status) == 4 ? 1 : -1];
 
-/* A member of a list of names: a name, and what has it, by two numbers. The calls say which. */
+/* A member of a list of names: a name and two numbers, which the calls describe. */
 typedef struct {
   const char *name;
   size_t name_len;
-  uint32_t sort;
+  uint32_t kind;
   uint32_t number;
 } wenc_part;
 
 /* A member of a list without names:
  *
- *  - of types of values one of wenc_ref and its `of`;
+ *  - of value types, one of wenc_ref and its `of`;
  *
- *  - of options one of wenc_option and what goes with it;
+ *  - of options, one of wenc_option and its number;
  *
- *  - of types of core values one of wenc_core_type, and the index that goes with
- *    WENC_CORE_HEAP_INDEX. */
+ *  - of core value types, one of wenc_core_type, and the index for WENC_CORE_HEAP_INDEX. */
 typedef struct {
-  uint32_t sort;
+  uint32_t kind;
   uint32_t number;
 } wenc_pair;
 
-/* A name of an import or an export, and what may go with it: the interface that it implements,
- * what follows the version that the name bears, and a name that it has elsewhere. */
+/* A name of an import or an export, with its options: the interface that it implements, the rest of
+ * the version in the name, and its name elsewhere. */
 typedef struct {
   const char *name;
   size_t name_len;
@@ -382,16 +381,17 @@ typedef struct {
   bool has_external_id;
 } wenc_name;
 
-/* What a core module imports or exports. What its kind doesn't have isn't used. */
+/* The type of an import or an export of a core module. Members that its kind doesn't have aren't
+ * used. */
 typedef struct {
-  /* How many elements a table has at first, or how many pages a memory; and how many at most, where
+  /* The initial number of elements of a table, or of pages of a memory; and the maximum, if
    * `has_maximum` is true. */
   uint64_t minimum;
   uint64_t maximum;
   /* One of wenc_core_kind. */
   uint32_t kind;
-  /* Of a function and of a tag the index of its type, in the type that declares it; of a global
-   * variable and of the elements of a table one of wenc_core_type. */
+  /* For a function or a tag, the index of its type, in the type that declares it; for a global
+   * variable or the elements of a table, one of wenc_core_type. */
   uint32_t type;
   /* The index that goes with WENC_CORE_HEAP_INDEX. */
   uint32_t index;
@@ -402,25 +402,25 @@ typedef struct {
   bool is_shared;
 } wenc_entity;
 
-/* A core type with its place among the others: the parameters and results of functions, the
- * fields of structures, or the one field of arrays. */
+/* A core type as a subtype: the parameters and results of functions, the fields of structures, or
+ * the one field of arrays. */
 typedef struct {
   /* The parameters, or the fields. */
   const wenc_pair *fields;
   size_t fields_len;
-  /* Of a function alone. */
+  /* For functions only. */
   const wenc_pair *results;
   size_t results_len;
   /* One of wenc_composite. */
   uint32_t kind;
-  /* The index of the core type above it, where `has_supertype` is true. */
+  /* The index of its supertype, if `has_supertype` is true. */
   uint32_t supertype;
   bool has_supertype;
-  /* Whether no type may be declared below it. */
+  /* Whether it can't have subtypes. */
   bool is_final;
 } wenc_subtype;
 
-/* A tool with its version, and what it did, as "processed-by". */
+/* A tool with its version, and the field that lists it, such as "processed-by". */
 typedef struct {
   const char *field;
   size_t field_len;
@@ -437,98 +437,100 @@ typedef struct {
   uint32_t index;
 } wenc_index_name;
 
-/* The part of a component that wenc_list can't read: all of it is 0 where there is none. */
+/* The part of a component that wenc_list can't read: all 0 if there is none. */
 typedef struct {
   /* The byte offset of the section. */
   size_t section;
-  /* That of the part of it that can't be read. */
+  /* The byte offset of the part of it that can't be read. */
   size_t place;
-  /* One of wenc_unread_part: WENC_UNREAD_SECTION also where there was no memory to look for it. */
+  /* One of wenc_unread_part: also WENC_UNREAD_SECTION if there was no memory to find it. */
   uint32_t part;
-  /* Of WENC_UNREAD_ITEM how many items of the section are before it. */
+  /* For WENC_UNREAD_ITEM, the number of items before it in the section. */
   uint32_t item;
 } wenc_unread;
 
 /* A section that was read. */
 typedef struct {
-  /* Its byte offset and how many bytes it has, both with its id. */
+  /* Its byte offset and its size in bytes, both including its id. */
   size_t place;
   size_t len;
-  /* How many items it has. A custom section, a module, a component and a start are one. */
+  /* The number of items. A custom section, a module, a component and a start are one. */
   size_t items;
   /* One of wenc_section. */
   uint32_t id;
 } wenc_listed_section;
 
-/* An item that was read. Its name and bytes are there until the handle is freed. */
+/* An item that was read. Its name and bytes are valid until the handle is freed. */
 typedef struct {
   /* Its index, or that of the first value of a start. */
   uint64_t index;
-  /* The name under which it is imported, exported or found, or a custom section's; else NULL. */
+  /* The name of an import, an export, an aliased export or a custom section; else NULL. */
   const char *name;
   size_t name_len;
-  /* A core module, a component, or what follows the name of a custom section; else NULL. */
+  /* A core module, a component, or the data of a custom section; else NULL. */
   const uint8_t *bytes;
   size_t bytes_len;
   /* One of wenc_section. */
   uint32_t section;
-  /* One of wenc_space: WENC_SPACES of a custom section, which has no index. */
+  /* One of wenc_space; for a custom section, which has no index, WENC_SPACES. */
   uint32_t space;
-  /* How many indices it takes: 1, but of a start as many as results, of a custom section 0. */
+  /* The number of indices that it defines: 1, but for a start its results, for a custom section 0.
+   * */
   uint32_t indices;
 } wenc_listed_item;
 
-/* The version of the library, which is to be WENC_VERSION. */
+/* The version of the library, which must be WENC_VERSION. */
 uint32_t wenc_version(void);
 
-/* Returns what a status means, in a few words of English that end with a 0. */
+/* Returns what a status means, as a short English phrase, terminated by a 0. */
 const char *wenc_status_text(enum wenc_status status);
 
 /* ---- handles
  *
- * The calls that begin something take a handle that owns nothing: else they return
- * WENC_BAD_ARGUMENT, and WENC_NO_HANDLE where the pointer is NULL. Also WENC_NO_MEMORY. */
+ * The calls that begin something take a handle that owns nothing. Otherwise they return
+ * WENC_BAD_ARGUMENT, or WENC_NO_HANDLE if the pointer is NULL. They can also return WENC_NO_MEMORY.
+ * */
 
-/* Begins a component, item by item. */
+/* Begins a component that is built item by item. */
 enum wenc_status wenc_new(wenc_handle *handle);
 
-/* Begins a component, section by section. It takes wenc_section and wenc_raw_section, and what
- * adds a custom section, producers, a core module, a component, or a start: each of these is a
- * section, without an index (`*index` is 0). */
+/* Begins a component that is built section by section. It takes wenc_section and wenc_raw_section,
+ * and the calls that add a custom section, producers, a core module, a component, or a start: each
+ * of these is a section, without an index (`*index` is 0). */
 enum wenc_status wenc_by_hand_new(wenc_handle *handle);
 
-/* Begins the type of a component, an instance or a core module, which declares nothing.
+/* Begins the type of a component, an instance or a core module, without declarations.
  *
- * On it these calls declare what the type has; a debug name is a bad argument: of a component's
- * type wenc_import and wenc_import_named; of that and of an instance's wenc_alias_ and
- * wenc_type_, and the calls that add core types; of a module's type those that add core types,
- * wenc_core_type_import, wenc_core_type_export, and wenc_alias_outer of WENC_OUTER_CORE_TYPE.
- * Indices in it are its own: `*index` is that of the type, core type or instance that was
- * declared, and 0 of anything else, which isn't counted. */
+ * These calls then add declarations to it; a debug name is a bad argument. To a component's type:
+ * wenc_import and wenc_import_named; to that and to an instance's: wenc_alias_ and wenc_type_, and
+ * the calls that add core types; to a module's type: those that add core types,
+ * wenc_core_type_import, wenc_core_type_export, and wenc_alias_outer of WENC_OUTER_CORE_TYPE. The
+ * type has index spaces of its own: `*index` is the index of the declared type, core type or
+ * instance there, and 0 for anything else, which isn't counted. */
 enum wenc_status wenc_types_new(wenc_handle *handle, enum wenc_kind kind);
 
-/* Begins a section of core instances, core types, instances, aliases, types, functions, imports
- * or exports. It takes the calls that add such items, without a debug name: `*index` is the
- * number of items that it had before. A type of it may be nested by wenc_type. */
+/* Begins a section of core instances, core types, instances, aliases, types, functions, imports or
+ * exports. It takes the calls that add such items, without a debug name: `*index` is the number of
+ * items that were in it before. Declared types are added to it by wenc_type. */
 enum wenc_status wenc_section_new(wenc_handle *handle, enum wenc_section section);
 
-/* Begins a section of names. */
+/* Begins a section of debug names. */
 enum wenc_status wenc_names_new(wenc_handle *handle);
 
-/* Frees what the handle owns: nothing where it is {NULL} or NULL. It is {NULL} then. */
+/* Frees what the handle owns, and sets it to {NULL}. Does nothing if it is {NULL} or NULL. */
 void wenc_free(wenc_handle *handle);
 
-/* Finishes a component, which is at `*bytes` then until the handle is freed, and has `*len`
- * bytes. It allocates nothing, and may be called again. WENC_BAD_ARGUMENT, WENC_NO_HANDLE. */
+/* Finishes a component. Its `*len` bytes are at `*bytes` until the handle is freed. Doesn't
+ * allocate, and may be called again. WENC_BAD_ARGUMENT, WENC_NO_HANDLE. */
 enum wenc_status wenc_finish(wenc_handle *handle, const uint8_t **bytes, size_t *len);
 
-/* Copies a finished component to `bytes`, where `len` is the number of its bytes: else
- * WENC_BAD_ARGUMENT. WENC_UNFINISHED, WENC_NO_HANDLE. */
+/* Copies a finished component to `bytes`. WENC_BAD_ARGUMENT if `len` isn't its number of bytes;
+ * WENC_UNFINISHED, WENC_NO_HANDLE. */
 enum wenc_status wenc_bytes(wenc_handle *handle, uint8_t *bytes, size_t len);
 
-/* Counts the items in an index space: of a component that is made item by item, or was read; of
- * a type its types, core types and instances. WENC_BAD_ARGUMENT, WENC_FINISHED, WENC_NO_HANDLE,
- * and WENC_TOO_LARGE of what was read. */
+/* Counts the items in an index space: of a component that is built item by item, or was read; or
+ * the types, core types and instances of a type. WENC_BAD_ARGUMENT, WENC_FINISHED, WENC_NO_HANDLE,
+ * and WENC_TOO_LARGE for a component that was read. */
 enum wenc_status wenc_count(wenc_handle *handle, enum wenc_space space, uint32_t *count);
 
 /* Counts the items of a section or of the type of a component or an instance, or the sections of
@@ -541,7 +543,7 @@ enum wenc_status wenc_len(wenc_handle *handle, size_t *len);
  * WENC_NO_MEMORY, WENC_TOO_MANY, WENC_TOO_LARGE, WENC_MALFORMED, WENC_BAD_ARGUMENT,
  * WENC_FINISHED, WENC_NO_HANDLE. */
 
-/* Imports an item under a plain name, which is its debug name too. */
+/* Imports an item under a plain name, which is also its debug name. */
 enum wenc_status wenc_import(wenc_handle *handle, const char *name, size_t name_len,
                              enum wenc_ref ref, uint32_t of, uint32_t *index);
 
@@ -559,66 +561,66 @@ enum wenc_status wenc_export(wenc_handle *handle, const char *name, size_t name_
 enum wenc_status wenc_export_named(wenc_handle *handle, const wenc_name *name, enum wenc_kind kind,
                                    uint32_t item, enum wenc_ref ref, uint32_t of, uint32_t *index);
 
-/* Adds an alias of what an instance exports under this name, which is its debug name too. */
+/* Adds an alias of an instance's export of this name, which is also its debug name. */
 enum wenc_status wenc_alias_export(wenc_handle *handle, uint32_t instance, enum wenc_kind kind,
                                    const char *name, size_t name_len, uint32_t *index);
 
-/* Adds an alias of what an instance exports under this name, with another debug name or none. */
+/* Adds an alias of an instance's export of this name, with another debug name or none. */
 enum wenc_status wenc_alias_instance_export(wenc_handle *handle, bool named, const char *debug_name,
                                             size_t debug_name_len, uint32_t instance,
                                             enum wenc_kind kind, const char *name, size_t name_len,
                                             uint32_t *index);
 
-/* Adds an alias of what a core instance exports under this name. */
+/* Adds an alias of a core instance's export of this name. */
 enum wenc_status wenc_alias_core_export(wenc_handle *handle, bool named, const char *debug_name,
                                         size_t debug_name_len, uint32_t instance,
                                         enum wenc_core_kind kind, const char *name, size_t name_len,
                                         uint32_t *index);
 
-/* Adds an alias of an item of an enclosing component, `count` components further out (0 is this
- * one): `item` is the index that it has there. */
+/* Adds an alias of the item with the index `item` in an enclosing component, `count` components
+ * further out (0 is this one). */
 enum wenc_status wenc_alias_outer(wenc_handle *handle, bool named, const char *debug_name,
                                   size_t debug_name_len, enum wenc_outer_kind kind, uint32_t count,
                                   uint32_t item, uint32_t *index);
 
-/* Adds the core module with these bytes. Nothing checks that they are a module's. */
+/* Adds the core module with these bytes, which aren't checked. */
 enum wenc_status wenc_core_module(wenc_handle *handle, bool named, const char *debug_name,
                                   size_t debug_name_len, const uint8_t *bytes, size_t len,
                                   uint32_t *index);
 
-/* Adds the component with these bytes. Nothing checks that they are a component's. */
+/* Adds the component with these bytes, which aren't checked. */
 enum wenc_status wenc_component_bytes(wenc_handle *handle, bool named, const char *debug_name,
                                       size_t debug_name_len, const uint8_t *bytes, size_t len,
                                       uint32_t *index);
 
-/* Adds the component that another handle makes, and frees that one, which is {NULL} then. A
- * component that is made section by section takes only one that is made so too. */
+/* Nests the component of another handle, which is freed and set to {NULL}. A component that is
+ * built section by section takes only one that is built so too. */
 enum wenc_status wenc_component(wenc_handle *handle, bool named, const char *debug_name,
                                 size_t debug_name_len, wenc_handle *nested, uint32_t *index);
 
-/* Adds the component that another handle makes, as wenc_component, and leaves that one as it is. */
+/* Nests the component of another handle, as wenc_component does; that handle stays valid. */
 enum wenc_status wenc_component_ref(wenc_handle *handle, bool named, const char *debug_name,
                                     size_t debug_name_len, wenc_handle *nested, uint32_t *index);
 
-/* Has a function called, with the values that have these indices, when the component is
- * instantiated. It returns `results` values; `*index` is that of the first of them. */
+/* Adds a start: a function that is called with these values when the component is instantiated. It
+ * returns `results` values; `*index` is that of the first of them. */
 enum wenc_status wenc_start(wenc_handle *handle, uint32_t function, const uint32_t *args,
                             size_t args_len, uint32_t results, uint32_t *index);
 
-/* Adds a function that the component model provides, whose debug name is its own. */
+/* Adds a builtin of the component model, whose debug name is its own. */
 enum wenc_status wenc_builtin(wenc_handle *handle, enum wenc_function function, uint32_t first,
                               uint32_t second, uint32_t *index);
 
-/* Adds one with options: `first` is the index of a type, where it takes one. */
+/* Adds a builtin with options: `first` is the index of a type, if it takes one. */
 enum wenc_status wenc_builtin_with(wenc_handle *handle, enum wenc_function_with function,
                                    uint32_t first, const wenc_pair *options, size_t options_len,
                                    uint32_t *index);
 
-/* Adds task.return, by the type of the result or WENC_REF_NONE, with options. */
+/* Adds task.return, with the type of the result or WENC_REF_NONE, and with options. */
 enum wenc_status wenc_task_return(wenc_handle *handle, enum wenc_ref ref, uint32_t of,
                                   const wenc_pair *options, size_t options_len, uint32_t *index);
 
-/* Adds context.get or context.set, of the slot with this number, which is of a type from
+/* Adds context.get or context.set for the slot with this number. The slot's type is one from
  * WENC_CORE_I32 to WENC_CORE_V128. */
 enum wenc_status wenc_context(wenc_handle *handle, enum wenc_context_function function,
                               enum wenc_core_type type, uint32_t slot, uint32_t *index);
@@ -633,43 +635,42 @@ enum wenc_status wenc_lower(wenc_handle *handle, bool named, const char *debug_n
                             size_t debug_name_len, uint32_t function, const wenc_pair *options,
                             size_t options_len, uint32_t *index);
 
-/* Adds an instance of a core module, which is given core instances under names: `number` of each
- * part is its index, `sort` isn't used. */
+/* Instantiates a core module with core instances under names: `number` of each part is the index of
+ * one, `kind` isn't used. */
 enum wenc_status wenc_core_instantiate(wenc_handle *handle, bool named, const char *debug_name,
                                        size_t debug_name_len, uint32_t module,
                                        const wenc_part *args, size_t args_len, uint32_t *index);
 
-/* Adds a core instance that exports core items under names: `sort` of each part is one of
+/* Adds a core instance that exports core items under names: `kind` of each part is one of
  * wenc_core_kind, `number` the item's index. */
 enum wenc_status wenc_core_exports(wenc_handle *handle, bool named, const char *debug_name,
                                    size_t debug_name_len, const wenc_part *exports,
                                    size_t exports_len, uint32_t *index);
 
-/* Adds an instance of a component, which is given items under names: `sort` of each part is one
- * of wenc_kind, `number` the item's index. */
+/* Instantiates a component with items under names: `kind` of each part is one of wenc_kind,
+ * `number` the item's index. */
 enum wenc_status wenc_instantiate(wenc_handle *handle, bool named, const char *debug_name,
                                   size_t debug_name_len, uint32_t component, const wenc_part *args,
                                   size_t args_len, uint32_t *index);
 
-/* Adds an instance that exports items under names: the parts as of wenc_instantiate. */
+/* Adds an instance that exports items under names, which are given as in wenc_instantiate. */
 enum wenc_status wenc_export_items(wenc_handle *handle, bool named, const char *debug_name,
                                    size_t debug_name_len, const wenc_part *items, size_t items_len,
                                    uint32_t *index);
 
 /* ---- types
  *
- * These add a type of values or of functions. `sort` and `number` of each part are one of
- * wenc_ref and its `of`: WENC_REF_VALUE or WENC_REF_PRIMITIVE, and where a call says so
- * WENC_REF_NONE. So are `ref` and `of`. The statuses are those of items. */
+ * These add a type of values or of functions. `kind` and `number` of each part are one of wenc_ref
+ * and its `of`: WENC_REF_VALUE or WENC_REF_PRIMITIVE, and WENC_REF_NONE if a call says so. The same
+ * holds for `ref` and `of`. The statuses are those of items. */
 
-/* A type of resources, which numbers of 32 bits represent, with the core function that is called
- * when one is dropped, or none. */
+/* A resource type, represented by 32-bit numbers, with the core function that is its destructor, or
+ * none. */
 enum wenc_status wenc_type_resource(wenc_handle *handle, bool named, const char *debug_name,
                                     size_t debug_name_len, bool has_dtor, uint32_t dtor,
                                     uint32_t *index);
 
-/* A type of functions: whether they are asynchronous, their parameters, and their result or
- * WENC_REF_NONE. */
+/* A function type: whether it is async, its parameters, and its result or WENC_REF_NONE. */
 enum wenc_status wenc_type_function(wenc_handle *handle, bool named, const char *debug_name,
                                     size_t debug_name_len, bool is_async, const wenc_part *params,
                                     size_t params_len, enum wenc_ref ref, uint32_t of,
@@ -680,12 +681,12 @@ enum wenc_status wenc_type_primitive(wenc_handle *handle, bool named, const char
                                      size_t debug_name_len, enum wenc_primitive primitive,
                                      uint32_t *index);
 
-/* A record, by its fields. */
+/* A record with these fields. */
 enum wenc_status wenc_type_record(wenc_handle *handle, bool named, const char *debug_name,
                                   size_t debug_name_len, const wenc_part *fields, size_t fields_len,
                                   uint32_t *index);
 
-/* A variant, by its cases, each with a value or WENC_REF_NONE. */
+/* A variant with these cases, each with a payload type or WENC_REF_NONE. */
 enum wenc_status wenc_type_variant(wenc_handle *handle, bool named, const char *debug_name,
                                    size_t debug_name_len, const wenc_part *cases, size_t cases_len,
                                    uint32_t *index);
@@ -695,7 +696,7 @@ enum wenc_status wenc_type_list(wenc_handle *handle, bool named, const char *deb
                                 size_t debug_name_len, enum wenc_ref ref, uint32_t of,
                                 uint32_t *index);
 
-/* A list of this length. */
+/* A list of a fixed length. */
 enum wenc_status wenc_type_fixed_length_list(wenc_handle *handle, bool named,
                                              const char *debug_name, size_t debug_name_len,
                                              enum wenc_ref ref, uint32_t of, uint32_t length,
@@ -706,59 +707,59 @@ enum wenc_status wenc_type_map(wenc_handle *handle, bool named, const char *debu
                                size_t debug_name_len, enum wenc_ref key_ref, uint32_t key_of,
                                enum wenc_ref ref, uint32_t of, uint32_t *index);
 
-/* A tuple, by the types of its values. */
+/* A tuple of values of these types. */
 enum wenc_status wenc_type_tuple(wenc_handle *handle, bool named, const char *debug_name,
                                  size_t debug_name_len, const wenc_pair *elements,
                                  size_t elements_len, uint32_t *index);
 
-/* A set of flags, by their names: `sort` and `number` aren't used. */
+/* Flags with these names: `kind` and `number` aren't used. */
 enum wenc_status wenc_type_flags(wenc_handle *handle, bool named, const char *debug_name,
                                  size_t debug_name_len, const wenc_part *flags, size_t flags_len,
                                  uint32_t *index);
 
-/* One of several names: `sort` and `number` aren't used. */
+/* An enum with these cases: `kind` and `number` aren't used. */
 enum wenc_status wenc_type_enum(wenc_handle *handle, bool named, const char *debug_name,
                                 size_t debug_name_len, const wenc_part *cases, size_t cases_len,
                                 uint32_t *index);
 
-/* A value or none. */
+/* An option. */
 enum wenc_status wenc_type_option(wenc_handle *handle, bool named, const char *debug_name,
                                   size_t debug_name_len, enum wenc_ref ref, uint32_t of,
                                   uint32_t *index);
 
-/* What went well or what went wrong, each with a value or WENC_REF_NONE. */
+/* A result, each case with a payload type or WENC_REF_NONE. */
 enum wenc_status wenc_type_result(wenc_handle *handle, bool named, const char *debug_name,
                                   size_t debug_name_len, enum wenc_ref ok_ref, uint32_t ok_of,
                                   enum wenc_ref err_ref, uint32_t err_of, uint32_t *index);
 
-/* A handle that owns a resource, by the index of the resource's type. */
+/* An own handle of the resource type with this index. */
 enum wenc_status wenc_type_own(wenc_handle *handle, bool named, const char *debug_name,
                                size_t debug_name_len, uint32_t resource, uint32_t *index);
 
-/* A handle that borrows a resource, by the index of the resource's type. */
+/* A borrow handle of the resource type with this index. */
 enum wenc_status wenc_type_borrow(wenc_handle *handle, bool named, const char *debug_name,
                                   size_t debug_name_len, uint32_t resource, uint32_t *index);
 
-/* A value that comes later, or with WENC_REF_NONE that something is done. */
+/* A future with a payload type or WENC_REF_NONE. */
 enum wenc_status wenc_type_future(wenc_handle *handle, bool named, const char *debug_name,
                                   size_t debug_name_len, enum wenc_ref ref, uint32_t of,
                                   uint32_t *index);
 
-/* Values that come one by one, or with WENC_REF_NONE that something was done so many times. */
+/* A stream with a payload type or WENC_REF_NONE. */
 enum wenc_status wenc_type_stream(wenc_handle *handle, bool named, const char *debug_name,
                                   size_t debug_name_len, enum wenc_ref ref, uint32_t of,
                                   uint32_t *index);
 
-/* The type that another handle declares: of a module it is a core type. That handle stays as it
- * is, and may declare more. */
+/* The type that another handle declares; a module's is a core type. That handle stays valid, and
+ * may declare more. */
 enum wenc_status wenc_type(wenc_handle *handle, bool named, const char *debug_name,
                            size_t debug_name_len, wenc_handle *types, uint32_t *index);
 
-/* Declares that what has the type exports an item under a plain name. */
+/* Declares an export of an item under a plain name. */
 enum wenc_status wenc_type_export(wenc_handle *types, const char *name, size_t name_len,
                                   enum wenc_ref ref, uint32_t of, uint32_t *index);
 
-/* Declares that what has the type exports an item under a name with options. */
+/* Declares an export of an item under a name with options. */
 enum wenc_status wenc_type_export_named(wenc_handle *types, const wenc_name *name,
                                         enum wenc_ref ref, uint32_t of, uint32_t *index);
 
@@ -767,114 +768,115 @@ enum wenc_status wenc_type_export_named(wenc_handle *types, const wenc_name *nam
  * These add a core type: to a component, a section of core types, or the type of a component, an
  * instance or a core module. The statuses are those of items. */
 
-/* A type of functions. It is final: no type may be declared below it. */
+/* A function type. It is final: it can't have subtypes. */
 enum wenc_status wenc_core_type_function(wenc_handle *handle, bool named, const char *debug_name,
                                          size_t debug_name_len, const wenc_pair *params,
                                          size_t params_len, const wenc_pair *results,
                                          size_t results_len, uint32_t *index);
 
-/* A type of structures, by their fields. It is final. */
+/* A struct type with these fields. It is final. */
 enum wenc_status wenc_core_type_struct(wenc_handle *handle, bool named, const char *debug_name,
                                        size_t debug_name_len, const wenc_pair *fields,
                                        size_t fields_len, uint32_t *index);
 
-/* A type of arrays: `element` and `of` are one of wenc_core_type and its index. It is final. */
+/* An array type: `element` and `of` are one of wenc_core_type and its index. It is final. */
 enum wenc_status wenc_core_type_array(wenc_handle *handle, bool named, const char *debug_name,
                                       size_t debug_name_len, uint32_t element, uint32_t of,
                                       uint32_t *index);
 
-/* A type with its place among the others. */
+/* A function, struct or array type as a subtype. */
 enum wenc_status wenc_core_type_subtype(wenc_handle *handle, bool named, const char *debug_name,
                                         size_t debug_name_len, const wenc_subtype *subtype,
                                         uint32_t *index);
 
-/* Types that may refer to each other. They count as one core type. */
+/* A recursion group, whose types may refer to each other. It counts as one core type. */
 enum wenc_status wenc_core_type_group(wenc_handle *handle, bool named, const char *debug_name,
                                       size_t debug_name_len, const wenc_subtype *subtypes,
                                       size_t subtypes_len, uint32_t *index);
 
-/* Declares that a core module of the type imports this, from a module under a name. */
+/* Declares that a core module imports an item from this module under this name. */
 enum wenc_status wenc_core_type_import(wenc_handle *types, const char *module, size_t module_len,
                                        const char *name, size_t name_len,
                                        const wenc_entity *entity);
 
-/* Declares that a core module of the type exports this under a name. */
+/* Declares that a core module exports an item under this name. */
 enum wenc_status wenc_core_type_export(wenc_handle *types, const char *name, size_t name_len,
                                        const wenc_entity *entity);
 
 /* ---- sections
  *
- * What these add has no index. The statuses are those of items. */
+ * Sections have no indices. The statuses are those of items. */
 
 /* Adds a custom section with this name and data. */
 enum wenc_status wenc_custom_section(wenc_handle *handle, const char *name, size_t name_len,
                                      const uint8_t *data, size_t data_len);
 
-/* Adds a custom section with these bytes after its id. Nothing checks that they are a section's. */
+/* Adds a custom section given as its bytes after the id, which aren't checked. */
 enum wenc_status wenc_raw_custom_section(wenc_handle *handle, const uint8_t *bytes, size_t len);
 
-/* Adds a section of the tools that made the component. Neighbours with one field stand in it
- * together; a valid section has each field once. */
+/* Adds a section of the tools that produced the component. Adjacent tools with the same field share
+ * it; a valid section has each field once. */
 enum wenc_status wenc_producers(wenc_handle *handle, const wenc_producer *producers,
                                 size_t producers_len);
 
-/* Adds a section of the debug names so far, if there are any, to a component that is made item
- * by item. */
+/* Adds a section of the debug names so far, if there are any, to a component that is built item by
+ * item. */
 enum wenc_status wenc_append_names(wenc_handle *handle);
 
-/* Appends a section to a component that is made section by section; a section of names to any.
- * The section stays as it is. */
+/* Appends a section to a component that is built section by section; a section of debug names to
+ * any component. The section's handle stays valid. */
 enum wenc_status wenc_section(wenc_handle *handle, wenc_handle *section);
 
-/* Appends a section with this id and these bytes to a component that is made section by section.
- * Nothing checks them. */
+/* Appends a section with this id and these bytes, which aren't checked, to a component that is
+ * built section by section. */
 enum wenc_status wenc_raw_section(wenc_handle *handle, uint8_t id, const uint8_t *bytes,
                                   size_t len);
 
-/* Names the component itself, in a section of names. */
+/* Names the component itself, in a section of debug names. */
 enum wenc_status wenc_names_component(wenc_handle *names, const char *name, size_t name_len);
 
-/* Names items of an index space, in a section of names. Readers ask for indices that ascend. */
+/* Names items of an index space, in a section of debug names. The standard requires ascending
+ * indices. */
 enum wenc_status wenc_names_items(wenc_handle *handle, enum wenc_space space,
                                   const wenc_index_name *names, size_t names_len);
 
-/* Appends a subsection with this id and these bytes to a section of names. Nothing checks them. */
+/* Appends a subsection with this id and these bytes, which aren't checked, to a section of debug
+ * names. */
 enum wenc_status wenc_names_raw(wenc_handle *names, uint8_t id, const uint8_t *bytes, size_t len);
 
-/* ---- components that are read
+/* ---- reading components
  *
  * wenc_section_at and wenc_item_at return WENC_BAD_ARGUMENT, WENC_FINISHED, WENC_NO_HANDLE. */
 
 /* Reads a component, and keeps no pointer to its bytes. WENC_NOT_A_COMPONENT, WENC_BAD_SECTION,
- * WENC_BAD_ITEM and WENC_TOO_DEEP say why it can't be read, and `*unread` which part can't. Also
- * WENC_NO_MEMORY, WENC_TOO_LARGE, WENC_BAD_ARGUMENT, WENC_NO_HANDLE. `*unread` is written always.
+ * WENC_BAD_ITEM and WENC_TOO_DEEP say why it can't be read, and `*unread` which part. Also
+ * WENC_NO_MEMORY, WENC_TOO_LARGE, WENC_BAD_ARGUMENT, WENC_NO_HANDLE. `*unread` is always written.
  *
- * wenc_len counts its sections, wenc_count its items. Modules and nested components are bytes. */
+ * wenc_len counts its sections, wenc_count its items. Modules and nested components aren't read. */
 enum wenc_status wenc_list(wenc_handle *listing, const uint8_t *bytes, size_t len,
                            wenc_unread *unread);
 
-/* Writes the section with this number, from 0 on, to `*section`: WENC_BAD_ARGUMENT where there
+/* Writes the section with this number, counting from 0, to `*section`. WENC_BAD_ARGUMENT if there
  * is none. */
 enum wenc_status wenc_section_at(wenc_handle *listing, size_t number, wenc_listed_section *section);
 
-/* Writes the item of a section with this number, from 0 on, to `*item`: WENC_BAD_ARGUMENT where
+/* Writes the item with this number in a section, counting from 0, to `*item`. WENC_BAD_ARGUMENT if
  * there is none. */
 enum wenc_status wenc_item_at(wenc_handle *listing, size_t section, size_t number,
                               wenc_listed_item *item);
 
-/* Adds an item that was read to a component that is made item by item, as wenc_item does. */
+/* Adds an item that was read to a component that is built item by item, as wenc_item does. */
 enum wenc_status wenc_copy(wenc_handle *handle, bool named, const char *debug_name,
                            size_t debug_name_len, wenc_handle *listing, size_t section,
                            size_t number, uint32_t *index);
 
-/* Adds the item that these bytes are in a section with this id (component model, binary format).
- * Of a custom section, a module, a component and a start they are the section's content. Padded
- * numbers and the like are read too: what is written is the shortest. WENC_MALFORMED also where
- * the bytes aren't exactly one item, WENC_TOO_DEEP.
+/* Adds an item given as its bytes in a section with this id (component model, binary format). For a
+ * custom section, a module, a component and a start, these are the section's content. Padded
+ * numbers and the like are accepted; the shortest form is written. WENC_MALFORMED also if the bytes
+ * aren't exactly one item, WENC_TOO_DEEP.
  *
- * An import, an export and a function that the component model provides have their own debug
- * name, and a start and a custom section none: `debug_name` isn't used. A custom section has no
- * index: `*index` is 0. */
+ * An import, an export and a builtin have their own debug name, and a start and a custom section
+ * none: `debug_name` isn't used. A custom section has no index: `*index` is 0. */
 enum wenc_status wenc_item(wenc_handle *handle, enum wenc_section section, bool named,
                            const char *debug_name, size_t debug_name_len, const uint8_t *bytes,
                            size_t len, uint32_t *index);

@@ -44,7 +44,8 @@ IsDueTo es xs cause new (Err fault) = Holds new es × IsRefusal cause fault
 
 -- That is an answer of each command which adds these, where that cause is among its own.
 pub due : (old new : State) (a : Result (Option ℕ) Fault) (c : CommandTree)
-    → ((es : List Entry) → Holds old es → (xs : List Entry) × (other : Fault → Type 0) × (added es c ≡ xs) × IsAmong other (cause es c) × IsDueTo es xs other new a) → Answers old new a c
+    → ((es : List Entry) → Holds old es → (xs : List Entry) × (other : Fault → Type 0) × (added es c ≡ xs) × IsAmong other (cause es c)
+    × IsDueTo es xs other new a) → Answers old new a c
 due old new (Ok answer) c d = record {
   held = λ es h.
       let k = d es h in
@@ -56,12 +57,15 @@ due old new (Err fault) c d = record {
 }
 
 -- a call that adds this entry
-pub entered : (old new : State) (r : Result ℕ Fault) (c : CommandTree) (x : Entry) → ((es : List Entry) → added es c ≡ x ∷ []) → ((es : List Entry) → IsAmong (EntryCause es x) (cause es c))
+pub entered : (old new : State) (r : Result ℕ Fault) (c : CommandTree) (x : Entry) → ((es : List Entry) → added es c ≡ x ∷ [])
+    → ((es : List Entry) → IsAmong (EntryCause es x) (cause es c))
     → Enters old new r x → Answers old new (indexed r) c
-entered old new r c x adds caused e = due old new (indexed r) c (λ es h. (x ∷ [], EntryCause es x, adds es, caused es, is_due r es (answered old new r x es e h)))
+entered old new r c x adds caused e =
+    due old new (indexed r) c (λ es h. (x ∷ [], EntryCause es x, adds es, caused es, is_due r es (answered old new r x es e h)))
   where
     is_due : (r : Result ℕ Fault) (es : List Entry)
-        → MatchResult r (λ i. Holds new (es ++ x ∷ []) × (Some i ≡ index_of (items es) x.item) × NoCause (EntryCause es x)) (λ fault. Holds new es × IsWarranted (EntryCause es x) fault)
+        → MatchResult r (λ i. Holds new (es ++ x ∷ []) × (Some i ≡ index_of (items es) x.item) × NoCause (EntryCause es x))
+        (λ fault. Holds new es × IsWarranted (EntryCause es x) fault)
         → IsDueTo es (x ∷ []) (EntryCause es x) new (indexed r)
     is_due (Ok i) es a = a
     is_due (Err fault) es a = (a.0, refusal es x fault a.1)
@@ -71,13 +75,17 @@ pub entered_alone : (old new : State) (r : Result ℕ Fault) (x : Entry) → Ent
 entered_alone old new r x e = entered old new r (Add x) x (λ es. refl) (λ es. itself_among) e
 
 -- what is due to a call that adds this entry, which has no index
-nowhere_due : (old new : State) (r : Result (Unit {0}) Fault) (es : List Entry) (x : Entry) → Holds old es → index_of (items es) x.item ≡ None → EntersWithoutIndex old new r x → IsDueTo es (x ∷ []) (EntryCause es x) new (without_index r)
+nowhere_due : (old new : State) (r : Result (Unit {0}) Fault) (es : List Entry) (x : Entry) → Holds old es
+    → index_of (items es) x.item ≡ None → EntersWithoutIndex old new r x → IsDueTo es (x ∷ []) (EntryCause es x) new (without_index r)
 nowhere_due old new (Ok u) es x h none e = let k = answered_with old new (Ok u) x (λ _ _. Unit {0}) (λ _ _. Unit {0}) es e h in (k.0, sym none, k.2)
-nowhere_due old new (Err fault) es x h none e = let k = answered_with old new (Err fault) x (λ _ _. Unit {0}) (λ _ _. Unit {0}) es e h in (k.0, refusal es x fault k.1)
+nowhere_due old new (Err fault) es x h none e = let k =
+    answered_with old new (Err fault) x (λ _ _. Unit {0}) (λ _ _. Unit {0}) es e h in (k.0, refusal es x fault k.1)
 
 -- and that call
-pub entered_nowhere : (old new : State) (r : Result (Unit {0}) Fault) (x : Entry) → ((es : List Entry) → index_of (items es) x.item ≡ None) → EntersWithoutIndex old new r x → Answers old new (without_index r) (Add x)
-entered_nowhere old new r x none e = due old new (without_index r) (Add x) (λ es h. (x ∷ [], EntryCause es x, refl, itself_among, nowhere_due old new r es x h (none es) e))
+pub entered_nowhere : (old new : State) (r : Result (Unit {0}) Fault) (x : Entry) → ((es : List Entry) → index_of (items es) x.item ≡ None)
+    → EntersWithoutIndex old new r x → Answers old new (without_index r) (Add x)
+entered_nowhere old new r x none e =
+    due old new (without_index r) (Add x) (λ es h. (x ∷ [], EntryCause es x, refl, itself_among, nowhere_due old new r es x h (none es) e))
 
 -- the section of names has no index
 names_nowhere : (xs : List Item) (names : List Subsection) (x : Entry) → named_entry names ≡ Some x → index_of xs x.item ≡ None
@@ -86,10 +94,18 @@ names_nowhere xs (n ∷ names) x e = subst (λ (y : Entry). index_of xs y.item �
 
 -- the call that adds the names so far
 pub names_entered : (old new : State) (r : Result (Unit {0}) Fault) → AddsNames old new r → Answers old new (without_index r) AppendNames
-names_entered old new r a = due old new (without_index r) AppendNames (λ es h. (option_to_list (names_entry es), added_cause es (option_to_list (names_entry es)), refl, itself_among, is_due r es (names_entry es) h (names_nowhere (items es) _) (a.held es h)))
+names_entered old new r a = due old new (without_index r) AppendNames
+    (λ es h. (
+      option_to_list (names_entry es),
+      added_cause es (option_to_list (names_entry es)),
+      refl,
+      itself_among,
+      is_due r es (names_entry es) h (names_nowhere (items es) _) (a.held es h),
+    ))
   where
     is_due : (r : Result (Unit {0}) Fault) (es : List Entry) (o : Option Entry) → Holds old es → ((x : Entry) → o ≡ Some x → index_of (items es) x.item ≡ None)
-        → MatchOption o ((r ≡ Ok tt) × (new ≡ old)) (λ x. EntersWithoutIndex old new r x) → IsDueTo es (option_to_list o) (added_cause es (option_to_list o)) new (without_index r)
+        → MatchOption o ((r ≡ Ok tt) × (new ≡ old)) (λ x. EntersWithoutIndex old new r x)
+        → IsDueTo es (option_to_list o) (added_cause es (option_to_list o)) new (without_index r)
     is_due (Ok u) es None h none m = (rw (m.1, append-nil es) h, refl, λ fault c. c)
     is_due (Err fault) es None h none m = absurd cc
     is_due r es (Some x) h none m = nowhere_due old new r es x h (none x refl) m

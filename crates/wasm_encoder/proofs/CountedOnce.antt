@@ -1,8 +1,9 @@
 -- What calls do to the counts.
-use Rattle.std.proofs.Common.{◌≡◌, ◌≢◌, ◌<◌, ◌≤◌, ℕ, ◌+◌, List, [], ◌∷◌, ◌++◌, length, true, is_none, Option, None, Some, Result, Ok, Err, refl, sym, ap, subst, ◌∙◌, arith, inl, inr}
+use Rattle.std.proofs.Common.{◌≡◌, ◌≢◌, ◌<◌, ◌≤◌, ℕ, ◌+◌, List, [], ◌∷◌, ◌++◌, length, true, is_none, Option, None, Some, Result, Ok, Err}
+use Rattle.std.proofs.Common.{refl, sym, ap, subst, ◌∙◌, arith, inl, inr}
 use Rattle.std.proofs.lemmas.List.{get_or-set_same, get_or-set_other}
 use Rattle.wenc_builder.specs.Builder.{Content, State, Namespace, namespace_at, namespace_set, content_with, content_of}
-use Rattle.wenc_builder.specs.Builder.{count_in, BegunItem, Draft, draft_in, draft_indices, space_with, no_names, namespace_with, builder_is_finished}
+use Rattle.wenc_builder.specs.Builder.{count_in, BegunItem, NewItem, new_item_in, new_item_indices, space_with, no_names, namespace_with, builder_is_finished}
 use Rattle.wenc_builder.specs.Builder.{item_begun, begun_appended, item_appended, item_given_up}
 use Rattle.wenc_builder.specs.Enters.{EntersWith, Enters}
 use Rattle.wenc_base.specs.declared.fault.Fault.{Fault}
@@ -31,14 +32,16 @@ pub next_counted : (s : State) (es : List Entry) (space : Space) → Holds s es 
 next_counted s es space h = sym (counted s es space h)
 
 -- no count falls
-pub never_less : {R : Type 0} {Returned : List Entry → R → Type 0} {Counted : Option Indices → R → Type 0} (old new : State) (result : Result R Fault) (x : Entry) (space : Space) (es : List Entry)
+pub never_less : {R : Type 0} {Returned : List Entry → R → Type 0} {Counted : Option Indices → R → Type 0} (old new : State)
+    (result : Result R Fault) (x : Entry) (space : Space) (es : List Entry)
     → Holds old es → EntersWith old new result x Returned Counted → count_in old space ≤ count_in new space
 never_less old new (Ok r) x space es h e =
     let here : count_in new space ≡ next_index (items (es ++ x ∷ [])) space = counted new (es ++ x ∷ []) space (e.held es h).0 in
     omega (arith, here, index_push space es x, counted old es space h)
 never_less old new (Err fault) x space es h e = rw e.err (omega arith)
 
-module _ (old new : State) (i : ℕ) (x : Entry) (space : Space) (es : List Entry) (h : Holds old es) (e : Enters old new (Ok i) x) (d : defines x.item ≡ some_in space 1) where
+module _ (old new : State) (i : ℕ) (x : Entry) (space : Space) (es : List Entry) (h : Holds old es) (e : Enters old new (Ok i) x)
+    (d : defines x.item ≡ some_in space 1) where
   pub answered : i ≡ count_in old space
   answered =
       let at : IsIndexAt (items es) (some_in space 1) i = subst (λ (o : Option Indices). IsIndexAt (items es) o i) d (e.held es h).1 in
@@ -71,28 +74,34 @@ one_set spaces j k n within more =
     ]
 
 -- its beginning takes one index of its space
-begun_more : (old : State) (d : Draft) (space : Space) (es : List Entry) → Holds old es → count_in (item_begun old d) space ≡ count_in old space + number_in space (Some (draft_indices d))
+begun_more : (old : State) (d : NewItem) (space : Space) (es : List Entry) → Holds old es
+    → count_in (item_begun old d) space ≡ count_in old space + number_in space (Some (new_item_indices d))
 begun_more old d space es h =
     let within : space_number space < length old.settled.spaces = omega (arith, space_within space, h.spaces.all) in
-    rw (settled_count old space h.finished) (one_set old.settled.spaces d.space space (space_with old d) within (with_count (namespace_at old.settled.spaces d.space) 1 d.name))
+    rw (settled_count old space h.finished) (one_set old.settled.spaces d.space space (space_with old d) within
+    (with_count (namespace_at old.settled.spaces d.space) 1 d.name))
 
-pub begun_not_less : (old lent : State) (d : Draft) (space : Space) (es : List Entry) → Holds old es → lent ≡ item_begun old d → count_in old space ≤ count_in lent space
-begun_not_less old lent d space es h e = rw e (omega (arith, begun_more old d space es h))
+pub begun_not_less : (old parent : State) (d : NewItem) (space : Space) (es : List Entry) → Holds old es → parent ≡ item_begun old d
+    → count_in old space ≤ count_in parent space
+begun_not_less old parent d space es h e = rw e (omega (arith, begun_more old d space es h))
 
-pub begun_raised : (old lent : State) (id : ComponentSectionId) (space : Space) (name : Option (List ℕ)) (text : List ℕ) (es : List Entry) → Holds old es → lent ≡ item_begun old (draft_in id space name text)
-    → count_in lent space ≡ count_in old space + 1
-begun_raised old lent id space name text es h e =
+pub begun_raised : (old parent : State) (id : ComponentSectionId) (space : Space) (name : Option (List ℕ)) (text : List ℕ) (es : List Entry)
+    → Holds old es → parent ≡ item_begun old (new_item_in id space name text)
+    → count_in parent space ≡ count_in old space + 1
+begun_raised old parent id space name text es h e =
     let one : number_in space (some_in space 1) ≡ 1 = rw ((space_decides space space).1 refl) refl in
-    rw e (omega (arith, begun_more old (draft_in id space name text) space es h, one))
+    rw e (omega (arith, begun_more old (new_item_in id space name text) space es h, one))
 
-pub begun_alone : (old lent : State) (id : ComponentSectionId) (space other : Space) (name : Option (List ℕ)) (text : List ℕ) (es : List Entry) → Holds old es → lent ≡ item_begun old (draft_in id space name text)
-    → other ≢ space → count_in lent other ≡ count_in old other
-begun_alone old lent id space other name text es h e apart =
+pub begun_alone : (old parent : State) (id : ComponentSectionId) (space other : Space) (name : Option (List ℕ)) (text : List ℕ)
+    (es : List Entry) → Holds old es → parent ≡ item_begun old (new_item_in id space name text)
+    → other ≢ space → count_in parent other ≡ count_in old other
+begun_alone old parent id space other name text es h e apart =
     let none : number_in other (some_in space 1) ≡ 0 = rw (space_ne space other (λ s. apart (sym s))) refl in
-    rw e (omega (arith, begun_more old (draft_in id space name text) other es h, none))
+    rw e (omega (arith, begun_more old (new_item_in id space name text) other es h, none))
 
 -- more of it changes no count
-longer_count : (c : Content) (b : Option BegunItem) (text : List ℕ) (k : Space) → (namespace_at (content_with c (begun_appended b text)).spaces k).count ≡ (namespace_at (content_with c b).spaces k).count
+longer_count : (c : Content) (b : Option BegunItem) (text : List ℕ) (k : Space)
+    → (namespace_at (content_with c (begun_appended b text)).spaces k).count ≡ (namespace_at (content_with c b).spaces k).count
 longer_count c None text k = refl
 longer_count c (Some b) text k = refl
 
@@ -104,5 +113,6 @@ none_begun None e = refl
 none_begun (Some b) e = cc
 
 -- and giving it up brings back those before it
-pub given_up_back : (old lent new : State) (space : Space) → builder_is_finished old ≡ true → lent.settled ≡ old.settled → new ≡ item_given_up lent → count_in new space ≡ count_in old space
-given_up_back old lent new space finished same e = rw (e, same) (sym (settled_count old space (none_begun old.begun finished)))
+pub given_up_back : (old parent new : State) (space : Space) → builder_is_finished old ≡ true → parent.settled ≡ old.settled
+    → new ≡ item_given_up parent → count_in new space ≡ count_in old space
+given_up_back old parent new space finished same e = rw (e, same) (sym (settled_count old space (none_begun old.begun finished)))

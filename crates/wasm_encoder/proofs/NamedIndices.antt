@@ -1,5 +1,6 @@
 -- The indices in a list of names.
-use Rattle.std.proofs.Common.{◌≡◌, ℕ, zero, suc, ◌+◌, ◌<◌, ◌≤◌, List, [], ◌∷◌, ◌++◌, map, Option, Some, None, option_to_list, Result, Ok, Err, refl, subst, ◌⊎◌, inl, inr, arith}
+use Rattle.std.proofs.Common.{◌≡◌, ℕ, zero, suc, ◌+◌, ◌<◌, ◌≤◌, List, [], ◌∷◌, ◌++◌, map, Option, Some, None, option_to_list, Result, Ok}
+use Rattle.std.proofs.Common.{Err, refl, subst, ◌⊎◌, inl, inr, arith}
 use Rattle.std.proofs.lemmas.Option.{same_Some}
 use Rattle.std.specs.List.{AllByRecursion}
 use Rattle.std.specs.List.Sorted.{IsStrictlyIncreasing}
@@ -55,7 +56,8 @@ item_takes other name nameless d e = inr (subst (λ (d : Indices). 0 < d.number)
 abbrev indices : List NameAssociation → List ℕ
 indices ns = map (λ n. n.index) ns
 
-ascends_more : (k : Space) (n : ℕ) (o : Option Indices) (name : Option (List ℕ)) (rest : List NameAssociation) → TakesNamed o name → AscendFrom (n + number_in k o) (indices rest) → AscendFrom n (indices (named_in k o n name ++ rest))
+ascends_more : (k : Space) (n : ℕ) (o : Option Indices) (name : Option (List ℕ)) (rest : List NameAssociation) → TakesNamed o name
+    → AscendFrom (n + number_in k o) (indices rest) → AscendFrom n (indices (named_in k o n name ++ rest))
 ascends_more k n None name rest takes h = from_less (n + 0) n (indices rest) (omega arith) h
 ascends_more k n (Some d) None rest takes h =
     elim (space_tells d.space k) [
@@ -74,7 +76,8 @@ ascends_more k n (Some d) (Some name) rest takes h =
 
 ascend : (k : Space) (n : ℕ) (es : List Entry) → AllByRecursion StartIsNameless es → AscendFrom n (indices (names_from k n es))
 ascend k n [] h = tt
-ascend k n (e ∷ es) h = ascends_more k n (defines e.item) e.name (names_from k (n + defined_in k e.item) es) (item_takes e.item e.name h.0) (ascend k (n + defined_in k e.item) es h.1)
+ascend k n (e ∷ es) h = ascends_more k n (defines e.item) e.name (names_from k (n + defined_in k e.item) es) (item_takes e.item e.name h.0)
+    (ascend k (n + defined_in k e.item) es h.1)
 
 pub ascending : (es : List Entry) (k : Space) → AllByRecursion StartIsNameless es → IsStrictlyIncreasing (indices (names es k))
 ascending es k h = increasing 0 (indices (names es k)) (ascend k 0 es h)
@@ -84,7 +87,8 @@ ascending es k h = increasing 0 (indices (names es k)) (ascend k 0 es h)
 abbrev AreBelow : ℕ → List NameAssociation → Type 0
 AreBelow bound = AllByRecursion (λ n. n.index < bound)
 
-below_more : (k : Space) (n bound : ℕ) (o : Option Indices) (name : Option (List ℕ)) (rest : List NameAssociation) → TakesNamed o name → n + number_in k o ≤ bound → AreBelow bound rest → AreBelow bound (named_in k o n name ++ rest)
+below_more : (k : Space) (n bound : ℕ) (o : Option Indices) (name : Option (List ℕ)) (rest : List NameAssociation) → TakesNamed o name
+    → n + number_in k o ≤ bound → AreBelow bound rest → AreBelow bound (named_in k o n name ++ rest)
 below_more k n bound None name rest takes le h = h
 below_more k n bound (Some d) None rest takes le h = elim (space_tells d.space k) [ inl t ↦ rw t.0 h | inr t ↦ rw t.0 h ]
 below_more k n bound (Some d) (Some name) rest takes le h =
@@ -97,10 +101,12 @@ below_more k n bound (Some d) (Some name) rest takes le h =
     taken (inl e) = absurd cc
     taken (inr lt) = lt
 
-below_from : (k : Space) (n bound : ℕ) (es : List Entry) → n + next_index (items es) k ≤ bound → AllByRecursion StartIsNameless es → AreBelow bound (names_from k n es)
+below_from : (k : Space) (n bound : ℕ) (es : List Entry) → n + next_index (items es) k ≤ bound → AllByRecursion StartIsNameless es
+    → AreBelow bound (names_from k n es)
 below_from k n bound [] le h = tt
 below_from k n bound (e ∷ es) le h =
-    below_more k n bound (defines e.item) e.name (names_from k (n + defined_in k e.item) es) (item_takes e.item e.name h.0) (omega (arith, le)) (below_from k (n + defined_in k e.item) bound es (omega (arith, le)) h.1)
+    below_more k n bound (defines e.item) e.name (names_from k (n + defined_in k e.item) es) (item_takes e.item e.name h.0)
+    (omega (arith, le)) (below_from k (n + defined_in k e.item) bound es (omega (arith, le)) h.1)
 
 pub below : (es : List Entry) (k : Space) → AllByRecursion StartIsNameless es → AreBelow (next_index (items es) k) (names es k)
 below es k h = below_from k 0 (next_index (items es) k) es (omega arith) h
@@ -120,15 +126,18 @@ both_nameless : (es xs : List Entry) → AllByRecursion StartIsNameless es → A
 both_nameless [] xs front behind = behind
 both_nameless (e ∷ es) xs front behind = (front.0, both_nameless es xs front.1 behind)
 
-nameless_from : (es : List Entry) (cs : List CommandTree) (answers : List (Result (Option ℕ) Fault)) (all : List Entry) → AllByRecursion StartIsNameless es → AllByRecursion AddsNameless cs → RanFrom es cs answers all
+nameless_from : (es : List Entry) (cs : List CommandTree) (answers : List (Result (Option ℕ) Fault)) (all : List Entry)
+    → AllByRecursion StartIsNameless es → AllByRecursion AddsNameless cs → RanFrom es cs answers all
     → AllByRecursion StartIsNameless all
 nameless_from es [] [] all h adds r = subst (AllByRecursion StartIsNameless) r h
 nameless_from es [] (a ∷ answers) all h adds r = absurd r
 nameless_from es (c ∷ cs) [] all h adds r = absurd r
-nameless_from es (c ∷ cs) (Ok a ∷ answers) all h adds r = nameless_from (es ++ added es c) cs answers all (both_nameless es (added es c) h (added_nameless es c adds.0)) adds.1 r.1
+nameless_from es (c ∷ cs) (Ok a ∷ answers) all h adds r =
+    nameless_from (es ++ added es c) cs answers all (both_nameless es (added es c) h (added_nameless es c adds.0)) adds.1 r.1
 nameless_from es (c ∷ cs) (Err fault ∷ answers) all h adds r = nameless_from es cs answers all h adds.1 r.1
 
-pub led_nameless : (cs : List CommandTree) (answers : List (Result (Option ℕ) Fault)) (all : List Entry) → AllByRecursion AddsNameless cs → Ran cs answers all → AllByRecursion StartIsNameless all
+pub led_nameless : (cs : List CommandTree) (answers : List (Result (Option ℕ) Fault)) (all : List Entry) → AllByRecursion AddsNameless cs
+    → Ran cs answers all → AllByRecursion StartIsNameless all
 led_nameless cs answers all adds r = nameless_from [] cs answers all tt adds r
 
 -- and so does each command of the code

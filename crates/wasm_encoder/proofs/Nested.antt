@@ -16,7 +16,8 @@ use Rattle.wasm_encoder.specs.inside.Steps.{commands_view}
 use Rattle.wasm_encoder.specs.Cause.{added, led, cause, first_cause}
 use Rattle.wasm_encoder.specs.Ran.{IsRefusal}
 use Rattle.wasm_encoder.specs.inside.Steps.{Answers, StepsLeft, indexed}
-use Rattle.wasm_encoder.specs.declared.command.Command.{Command, Row_of-Command, end_of-Command, more_of-Command, items-the_row-Command, items_hidden-the_row-Command-0}
+use Rattle.wasm_encoder.specs.declared.command.Command.{Command, Row_of-Command, end_of-Command, more_of-Command, items-the_row-Command}
+use Rattle.wasm_encoder.specs.declared.command.Command.{items_hidden-the_row-Command-0}
 use Rattle.wasm_encoder.specs.declared.command.Command as commands
 use Rattle.wasm_encoder.proofs.Called.{refusal_as, entered}
 
@@ -30,7 +31,8 @@ abbrev row_of : {A : Type 0} → Command A → (n : Count) × Row_of-Command A n
 row_of (commands.Component' n shape row) = (_, row)
 row_of _ = (_, end_of-Command)
 
-pub component_view : {A : Type 0} (n : Option (String A)) (inner : Vec (Command A) A) → command_view (commands.Component n inner) ≡ Nest (option_map string_bytes n) (commands_view inner.items)
+pub component_view : {A : Type 0} (n : Option (String A)) (inner : Vec (Command A) A)
+    → command_view (commands.Component n inner) ≡ Nest (option_map string_bytes n) (commands_view inner.items)
 component_view {A} n inner =
     let row = row_of (commands.Component n inner) in
     ap (λ (cs : Commands). Nest (option_map string_bytes n) cs) (listed_row row.0 row.1 ∙ ap commands_view (items_hidden-the_row-Command-0 A inner))
@@ -45,7 +47,8 @@ pub record InnerSo (all left : Commands) (s : State) : Type 0 where
   pub causes : (fault : Fault) → first_cause so_far left fault → first_cause [] all fault
   pub clears : NoCause (first_cause so_far left) → NoCause (first_cause [] all)
 
-pub inner_more : (all left : Commands) (c : CommandTree) (i : Option ℕ) (old new : State) → InnerSo all (then c left) old → Answers old new (Ok i) c → InnerSo all left new
+pub inner_more : (all left : Commands) (c : CommandTree) (i : Option ℕ) (old new : State) → InnerSo all (then c left) old
+    → Answers old new (Ok i) c → InnerSo all left new
 inner_more all left c i old new r a =
     let s = a.held r.so_far r.held in
     record {
@@ -56,11 +59,14 @@ inner_more all left c i old new r a =
       clears = λ none. r.clears (λ fault x. elim x [ inl here ↦ s.1.1 fault here | inr later ↦ none fault later.1 ]);
     }
 
-pub inner_refused : (all left : Commands) (c : CommandTree) (fault : Fault) (old new : State) → InnerSo all (then c left) old → Answers old new (Err fault) c → IsRefusal (first_cause [] all) fault
+pub inner_refused : (all left : Commands) (c : CommandTree) (fault : Fault) (old new : State) → InnerSo all (then c left) old
+    → Answers old new (Err fault) c → IsRefusal (first_cause [] all) fault
 inner_refused all left c fault old new r a = refusal_as (cause r.so_far c) (first_cause [] all) (λ f x. r.causes f (inl x)) fault ((a.held r.so_far r.held).1)
 
-pub inner_stopped : (all left : Commands) (c : CommandTree) (fault : Fault) (old new : State) → InnerSo all (then c left) old → StepsLeft old new fault c → IsRefusal (first_cause [] all) fault
-inner_stopped all left c fault old new r stop = refusal_as (cause r.so_far c) (first_cause [] all) (λ f x. r.causes f (inl x)) fault (stop.stops.refused r.so_far r.held)
+pub inner_stopped : (all left : Commands) (c : CommandTree) (fault : Fault) (old new : State) → InnerSo all (then c left) old
+    → StepsLeft old new fault c → IsRefusal (first_cause [] all) fault
+inner_stopped all left c fault old new r stop =
+    refusal_as (cause r.so_far c) (first_cause [] all) (λ f x. r.causes f (inl x)) fault (stop.stops.refused r.so_far r.held)
 
 pub inner_all : (all : Commands) (s : State) → InnerSo all no_more s → Holds s (led [] all) × NoCause (first_cause [] all)
 inner_all all s r = (rw r.leads r.held, r.clears (λ fault c. c))
@@ -68,7 +74,8 @@ inner_all all s r = (rw r.leads r.held, r.clears (λ fault c. c))
 -- ---- the command
 
 -- its commands were refused
-pub refused_inside : (name : Option (List ℕ)) (inner : Commands) (fault : Fault) (s : State) → IsRefusal (first_cause [] inner) fault → Answers s s (Err fault) (Nest name inner)
+pub refused_inside : (name : Option (List ℕ)) (inner : Commands) (fault : Fault) (s : State) → IsRefusal (first_cause [] inner) fault
+    → Answers s s (Err fault) (Nest name inner)
 refused_inside name inner fault s r = record { held = λ es h. (h, refusal_as (first_cause [] inner) (cause es (Nest name inner)) (λ f c. inl c) fault r) }
 
 -- they were accepted, and what they led to was handed in

@@ -22,7 +22,8 @@ inner_runs es (then c cs) none =
     let k = inner_runs (es ++ added es c) cs (later_free es c cs none) in
     (Ok (answer_of es c) ∷ k.0, ((refl, first_free es c cs none), k.1), (refl, k.2))
 
-pub runs_inner : (es : List Entry) (inner : Commands) (answers : List (Result (Option ℕ) Fault)) (all : List Entry) → RanFrom es (commands_listed inner) answers all → AllByRecursion IsOk answers
+pub runs_inner : (es : List Entry) (inner : Commands) (answers : List (Result (Option ℕ) Fault)) (all : List Entry)
+    → RanFrom es (commands_listed inner) answers all → AllByRecursion IsOk answers
     → (all ≡ led es inner) × NoCause (first_cause es inner)
 runs_inner es no_more [] all r ok = (sym r, λ fault k. k)
 runs_inner es no_more (a ∷ answers) all r ok = absurd r

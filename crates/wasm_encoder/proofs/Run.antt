@@ -1,5 +1,6 @@
 -- A run of commands, step by step.
-use Rattle.std.proofs.Common.{◌≡◌, ℕ, ◌+◌, ◌<◌, ◌≤◌, List, [], ◌∷◌, ◌++◌, map, Result, Ok, Err, Option, true, refl, rules, sym, ap, subst, ◌∙◌, length, drop, append_assoc, append-nil, add-one, drop-cons, get_or}
+use Rattle.std.proofs.Common.{◌≡◌, ℕ, ◌+◌, ◌<◌, ◌≤◌, List, [], ◌∷◌, ◌++◌, map, Result, Ok, Err, Option, true, refl, rules, sym, ap, subst}
+use Rattle.std.proofs.Common.{◌∙◌, length, drop, append_assoc, append-nil, add-one, drop-cons, get_or}
 use Rattle.std.proofs.Math.Bool.{Bool-set}
 use Rattle.std.proofs.Math.Logic.{∥∥₁_map, ∥∥₁_elim}
 use Rattle.std.proofs.lemmas.List.{drop_all}
@@ -15,7 +16,8 @@ use Rattle.wasm_encoder.specs.inside.Steps.{Answers, StepsStop, HasRunSome}
 use Rattle.wasm_encoder.specs.declared.command.Command.{Command}
 
 -- one command more
-ran_push : (es : List Entry) (cs : List CommandTree) (answers : List (Result (Option ℕ) Fault)) (all : List Entry) (c : CommandTree) (a : Result (Option ℕ) Fault) → RanFrom es cs answers all → IsDue all c a
+ran_push : (es : List Entry) (cs : List CommandTree) (answers : List (Result (Option ℕ) Fault)) (all : List Entry) (c : CommandTree)
+    (a : Result (Option ℕ) Fault) → RanFrom es cs answers all → IsDue all c a
     → RanFrom es (cs ++ c ∷ []) (answers ++ a ∷ []) (entries_after all c a)
 ran_push es [] [] all c a r d = subst (λ (e : List Entry). IsDue e c a × (entries_after e c a ≡ entries_after all c a)) (sym r) (d, refl)
 ran_push es [] (b ∷ answers) all c a r d = absurd r
@@ -45,7 +47,8 @@ ran_more commands left c answers a old new r step =
       held = s.0;
     }
 
-pub ran_all : {A : Type 0} (commands : List (Command A)) (i : ℕ) (answers : List (Result (Option ℕ) Fault)) (s : State) → length commands ≤ i → RanSo (map command_view commands) (map command_view (drop i commands)) answers s
+pub ran_all : {A : Type 0} (commands : List (Command A)) (i : ℕ) (answers : List (Result (Option ℕ) Fault)) (s : State)
+    → length commands ≤ i → RanSo (map command_view commands) (map command_view (drop i commands)) answers s
     → HasRun s (map command_view commands) answers
 ran_all commands i answers s past r =
     let none : map command_view (drop i commands) ≡ [] = ap (map command_view) (drop_all i commands past) in
@@ -53,14 +56,16 @@ ran_all commands i answers s past r =
     record { entries = r.so_far; ran = subst (λ (cs : List CommandTree). Ran cs answers r.so_far) done r.ran; held = r.held }
 
 -- a run leads to one list of entries
-ran_once : (es : List Entry) (cs : List CommandTree) (answers : List (Result (Option ℕ) Fault)) (all other : List Entry) → RanFrom es cs answers all → RanFrom es cs answers other → all ≡ other
+ran_once : (es : List Entry) (cs : List CommandTree) (answers : List (Result (Option ℕ) Fault)) (all other : List Entry)
+    → RanFrom es cs answers all → RanFrom es cs answers other → all ≡ other
 ran_once es [] [] all other r s = sym r ∙ s
 ran_once es [] (a ∷ answers) all other r s = absurd r
 ran_once es (c ∷ cs) [] all other r s = absurd r
 ran_once es (c ∷ cs) (a ∷ answers) all other r s = ran_once (entries_after es c a) cs answers all other r.1 s.1
 
 -- so that the builder holds the entries of every run with these answers
-pub ran_held : {commands : List CommandTree} {answers : List (Result (Option ℕ) Fault)} {s : State} → HasRun s commands answers → (es : List Entry) → Ran commands answers es → Holds s es
+pub ran_held : {commands : List CommandTree} {answers : List (Result (Option ℕ) Fault)} {s : State} → HasRun s commands answers
+    → (es : List Entry) → Ran commands answers es → Holds s es
 ran_held {commands} {answers} {s} all es ran = subst (Holds s) (ran_once [] commands answers all.entries es all.ran ran) all.held
 
 pub ran_stopped : (commands left : List CommandTree) (c : CommandTree) (answers : List (Result (Option ℕ) Fault)) (fault : Fault) (s : State) {back : State}
@@ -77,7 +82,8 @@ ran_stopped commands left c answers fault s r stop = record {
   refused = subst (λ (k : CommandTree). IsRefusal (cause r.so_far k) fault) stop.adds (stop.refused r.so_far r.held);
 }
 
-pub next_is : {A : Type 0} (commands : List (Command A)) (i : ℕ) (c d : Command A) → i < length commands → c ≡ get_or commands i d → drop i commands ≡ c ∷ drop (i + 1) commands
+pub next_is : {A : Type 0} (commands : List (Command A)) (i : ℕ) (c d : Command A) → i < length commands → c ≡ get_or commands i d
+    → drop i commands ≡ c ∷ drop (i + 1) commands
 next_is commands i c d h e = rw (add-one, e) (drop-cons commands i d h)
 
 -- ---- a run, command by command
@@ -109,7 +115,8 @@ pub run_back : (old back new : State) (fault : Fault) (c : CommandTree) → Step
 run_back old back new fault c stop same some = rw same (run_more old back (Err fault) c (stop_answers old back fault c stop) some)
 
 -- what is refused changes nothing
-pub kept_if_refused : (old new : State) (a : Result (Option ℕ) Fault) (c : CommandTree) → Answers old new a c → OnErr a ((es : List Entry) → Holds old es → Holds new es)
+pub kept_if_refused : (old new : State) (a : Result (Option ℕ) Fault) (c : CommandTree) → Answers old new a c
+    → OnErr a ((es : List Entry) → Holds old es → Holds new es)
 kept_if_refused old new (Ok i) c step = search rules
 kept_if_refused old new (Err fault) c step = λ es h. (step.held es h).0
 

@@ -9,7 +9,8 @@ use Rattle.wenc_base.specs.laws.Holders.{section_text_of}
 use Rattle.wasm_encoder.specs.AllForms.{FormName, SectionsOf, value_of, form_of}
 use Rattle.wasm_encoder.proofs.AllLawful.{laws_of}
 
-pub section_fits : (f : FormName) (h : HolderState) (values : List (value_of f)) → Contains (form_of f) h values → (held_section h).Fits → (counted (form_of f) values).Fits
+pub section_fits : (f : FormName) (h : HolderState) (values : List (value_of f)) → Contains (form_of f) h values → (held_section h).Fits
+    → (counted (form_of f) values).Fits
 section_fits f h values c ((few, small), _) =
     let size : length (unsigned_text (length values) ++ flat_map (λ v. (form_of f v).text) values) ≡ content_size h.count (length h.body) =
     rw (c.count, c.body) (length-append (unsigned_text h.count) (flat_map (λ v. (form_of f v).text) values)) in

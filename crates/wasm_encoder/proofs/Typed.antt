@@ -4,51 +4,63 @@ use Rattle.std.proofs.Common.{◌≡◌, ℕ, List, [], ◌∷◌, ◌++◌, Ok,
 use Rattle.wenc_base.specs.Fault.{IsWarranted, either, NoCause}
 use Rattle.wenc_base.specs.declared.fault.Fault.{Fault}
 use Rattle.wenc_base.specs.laws.Serves.{still_warranted, itself_among}
-use Rattle.wenc_builder.specs.Builder.{State, Draft, item_begun, item_appended, item_ended, item_given_up}
+use Rattle.wenc_builder.specs.Builder.{State, NewItem, item_begun, item_appended, item_ended, item_given_up}
 use Rattle.wenc_builder.specs.Cause.{BeginCause}
 use Rattle.wenc_builder.specs.Entry.{Entry, items, EntryCause}
 use Rattle.wenc_builder.specs.Holds.{Holds}
 use Rattle.wenc_builder.specs.Item.{item}
-use Rattle.wenc_builder.specs.LenderState.{no_room_in_section}
+use Rattle.wenc_builder.specs.ParentState.{no_room_in_section}
 use Rattle.wenc_builder.specs.Space.{Indices, next_index}
-use Rattle.wenc_builder.specs.laws.LenderState.{begun_given_up}
+use Rattle.wenc_builder.specs.laws.ParentState.{begun_given_up}
 use Rattle.wenc_builder.specs.laws.Typed.{IsWrittenType, WritingCause, opening_due, writing_due, written_free, written_holds}
 use Rattle.wasm_encoder.specs.Command.{Add}
 use Rattle.wasm_encoder.specs.Ran.{IsTyped}
 use Rattle.wasm_encoder.specs.inside.Steps.{Answers, StepsLeft}
 use Rattle.wasm_encoder.proofs.Called.{refusal, due}
 
--- why an item can't be written and ended by what was lent
+-- why an item can't be written and ended by what was parent
 abbrev EndingCause : State → Entry → Fault → Type 0
-EndingCause lent x = either (item x.item).Cause (no_room_in_section lent (item x.item).text)
+EndingCause parent x = either (item x.item).Cause (no_room_in_section parent (item x.item).text)
 
 -- an item that was begun, written and ended, and was refused nowhere, is one entry more
-pub written_whole : (old lent new : State) (es : List Entry) (x : Entry) (d : Draft) → IsWrittenType x d → lent ≡ item_begun old d → NoCause (BeginCause old d) → new ≡ item_ended (item_appended lent (item x.item).text)
-    → (item x.item).Fits → NoCause (EndingCause lent x) → Holds old es → Holds new (es ++ x ∷ [])
-written_whole old lent new es x d w begun opens wrote fits writes h =
-    written_holds old new es x d w opens fits (subst (λ (s : State). NoCause (EndingCause s x)) begun writes) (subst (λ (s : State). new ≡ item_ended (item_appended s (item x.item).text)) begun wrote) h
+pub written_whole : (old parent new : State) (es : List Entry) (x : Entry) (d : NewItem) → IsWrittenType x d → parent ≡ item_begun old d
+    → NoCause (BeginCause old d) → new ≡ item_ended (item_appended parent (item x.item).text)
+    → (item x.item).Fits → NoCause (EndingCause parent x) → Holds old es → Holds new (es ++ x ∷ [])
+written_whole old parent new es x d w begun opens wrote fits writes h =
+    written_holds old new es x d w opens fits (subst (λ (s : State). NoCause (EndingCause s x)) begun writes)
+    (subst (λ (s : State). new ≡ item_ended (item_appended s (item x.item).text)) begun wrote) h
 
-pub type_accepted : (old lent new last : State) (index : ℕ) (x : Entry) (d : Draft) → IsWrittenType x d → lent ≡ item_begun old d → ((es : List Entry) → Holds old es → index ≡ next_index (items es) d.space)
-    → NoCause (BeginCause old d) → new ≡ item_ended (item_appended lent (item x.item).text) → (item x.item).Fits → NoCause (EndingCause lent x)
+pub type_accepted : (old parent new last : State) (index : ℕ) (x : Entry) (d : NewItem) → IsWrittenType x d → parent ≡ item_begun old d
+    → ((es : List Entry) → Holds old es → index ≡ next_index (items es) d.space)
+    → NoCause (BeginCause old d) → new ≡ item_ended (item_appended parent (item x.item).text) → (item x.item).Fits → NoCause (EndingCause parent x)
     → last ≡ new → Answers old last (Ok (Some index)) (Add x)
-type_accepted old lent new last index x d w begun indexed opens wrote fits writes same = due old last (Ok (Some index)) (Add x) (λ es h. (
+type_accepted old parent new last index x d w begun indexed opens wrote fits writes same = due old last (Ok (Some index)) (Add x) (λ es h. (
   x ∷ [],
   EntryCause es x,
   refl,
   itself_among,
   (
-    written_whole old lent last es x d w begun opens (same ∙ wrote) fits writes h,
-    subst (λ (o : Option _). Some index ≡ option_map (λ (d : Indices). next_index (items es) d.space) o) (sym w.defined) (ap (λ (n : ℕ). Some n) (indexed es h)),
+    written_whole old parent last es x d w begun opens (same ∙ wrote) fits writes h,
+    subst (λ (o : Option _). Some index ≡ option_map (λ (d : Indices). next_index (items es) d.space) o) (sym w.defined)
+        (ap (λ (n : ℕ). Some n) (indexed es h)),
     written_free old es x d w h opens (subst (λ (s : State). NoCause (EndingCause s x)) begun writes),
   ),
 ))
 
-pub opening_refused : (old new : State) (fault : Fault) (x : Entry) (d : Draft) → IsWrittenType x d → new ≡ old → IsWarranted (BeginCause old d) fault → Answers old new (Err fault) (Add x)
-opening_refused old new fault x d w same why = due old new (Err fault) (Add x) (λ es h. (x ∷ [], EntryCause es x, refl, itself_among, (rw same h, refusal es x fault (still_warranted _ _ (opening_due old es x d w h) fault why))))
+pub opening_refused : (old new : State) (fault : Fault) (x : Entry) (d : NewItem) → IsWrittenType x d → new ≡ old
+    → IsWarranted (BeginCause old d) fault → Answers old new (Err fault) (Add x)
+opening_refused old new fault x d w same why = due old new (Err fault) (Add x)
+    (λ es h. (
+      x ∷ [],
+      EntryCause es x,
+      refl,
+      itself_among,
+      (rw same h, refusal es x fault (still_warranted _ _ (opening_due old es x d w h) fault why)),
+    ))
 
-pub type_refused : (old lent new last : State) (fault : Fault) (x : Entry) (d : Draft) → IsTyped x.item → IsWrittenType x d → lent ≡ item_begun old d
-    → IsWarranted (EndingCause lent x) fault → new ≡ lent → last ≡ new → StepsLeft old last fault (Add x)
-type_refused old lent new last fault x d typed w begun why unwritten same = record {
+pub type_refused : (old parent new last : State) (fault : Fault) (x : Entry) (d : NewItem) → IsTyped x.item → IsWrittenType x d → parent ≡ item_begun old d
+    → IsWarranted (EndingCause parent x) fault → new ≡ parent → last ≡ new → StepsLeft old last fault (Add x)
+type_refused old parent new last fault x d typed w begun why unwritten same = record {
   stops = record {
     entry = x;
     adds = refl;

@@ -1,4 +1,4 @@
--- The forms of the format by their names, but for raw sections and subsections of names.
+-- The forms of the format by their names, except raw sections and subsections of names.
 use Rattle.std.specs.Prelude.{true, List}
 use Rattle.wenc_base.specs.Composites.{storage_type, field_type, composite_type}
 use Rattle.wenc_base.specs.Composites.{Single, sub_type, rec_type, standing}
@@ -52,7 +52,7 @@ pub data FormName : Type 0 where
   -- core modules and nested components too
   ByteLists : FormName
   -- ---- core types
-  -- of what a module exports
+  -- of a core module's exports
   CoreKinds : FormName
   AbstractHeapTypes : FormName
   HeapTypes : FormName
@@ -82,7 +82,7 @@ pub data FormName : Type 0 where
   -- names of imports and exports, with options
   ExternNames : FormName
   ModuleArguments : FormName
-  -- of what an alias takes from an enclosing component
+  -- of items of an enclosing component, for aliases
   OuterKinds : FormName
   -- ---- types
   GuardedSubTypes : FormName
@@ -105,11 +105,11 @@ pub data FormName : Type 0 where
   Aliases : FormName
   Imports : FormName
   Exports : FormName
-  -- what a core module is given under a name
+  -- an argument of a core module, with its name
   Arguments : FormName
   CoreExports : FormName
   CoreInstances : FormName
-  -- what a component is given under a name
+  -- an argument of a component, with its name
   ComponentArguments : FormName
   InstanceExports : FormName
   Instances : FormName
@@ -121,11 +121,11 @@ pub data FormName : Type 0 where
   CanonicalFunctions : FormName
   -- a tool and its version, in a field of a producers section
   VersionedTools : FormName
-  -- what tools did, and the tools
+  -- the name of a field, and its tools
   ProducersFields : FormName
   -- an index, and its name in a name map
   NameAssociations : FormName
-  -- of what names are of
+  -- of named items
   ItemSorts : FormName
   -- ---- sections, after their ids
   CustomSections : FormName
@@ -134,17 +134,17 @@ pub data FormName : Type 0 where
   -- of a start section, without its size
   StartContents : FormName
   StartSections : FormName
-  -- ---- made of other forms
-  -- how many, then each
+  -- ---- made from other forms
+  -- the number of values, then each
   ListsOf : (member : FormName) → FormName
   -- the size of such a list, then the list
   SectionsOf : (member : FormName) → FormName
-  -- whether there is one, then that
+  -- whether there is a value, then the value
   OptionsOf : (member : FormName) → FormName
   -- one after the other
   PairsOf : (first second : FormName) → FormName
 
--- a form, and what it is a form of
+-- a form, and the type of its values
 pub record FormRow : Type 1 where
   pub value : Type 0
   pub form : Form value

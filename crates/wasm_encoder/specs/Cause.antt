@@ -21,7 +21,7 @@ abbrev mutual
   led es no_more = es
   led es (then c cs) = led (es ++ added es c) cs
 
--- the index of what is added, where that has one
+-- the index of the added item, if it has one
 abbrev pub index_added : List Entry → List Entry → Option ℕ
 index_added es [] = None
 index_added es (x ∷ xs) = index_of (items es) x.item
@@ -30,14 +30,14 @@ index_added es (x ∷ xs) = index_of (items es) x.item
 abbrev pub answer_of : List Entry → CommandTree → Option ℕ
 answer_of es c = index_added es (added es c)
 
--- why what is to be added after these entries is refused
+-- why an addition after these entries is refused
 abbrev pub added_cause : List Entry → List Entry → Fault → Type 0
 added_cause es [] = λ fault. ⊥
 added_cause es (x ∷ xs) = EntryCause es x
 
 abbrev mutual
-  -- why a command is refused after these entries: a nested component for the first inner command
-  -- that has a cause, and each for what it adds
+  -- why a command is refused after these entries: a nested component because of the first inner
+  -- command that has a cause, and any command because of what it adds
   pub cause : List Entry → CommandTree → Fault → Type 0
   cause es (Nest name cs) = first_of (first_cause [] cs) (added_cause es (added es (Nest name cs)))
   cause es c = added_cause es (added es c)

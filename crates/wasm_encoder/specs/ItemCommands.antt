@@ -4,7 +4,7 @@ use Rattle.wenc_builder.specs.Entry.{entry, canonical_name}
 use Rattle.wenc_builder.specs.Item.{Item, CanonItem, ImportItem, ExportItem}
 use Rattle.wasm_encoder.specs.Command.{CommandTree, Add}
 
--- the debug name that an item has where its call is given none
+-- the debug name of an item whose call takes none
 abbrev pub own_name : Item → Option (List ℕ)
 own_name (CanonItem function) = canonical_name None function
 own_name (ImportItem import) = Some import.name.name

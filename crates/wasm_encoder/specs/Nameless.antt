@@ -2,7 +2,7 @@
 use Rattle.wenc_builder.specs.Entry.{StartIsNameless}
 use Rattle.wasm_encoder.specs.Command.{CommandTree, Add}
 
--- it is not given a start with a name to add
+-- it doesn't add a start with a debug name
 abbrev pub AddsNameless : CommandTree → Type 0
 AddsNameless (Add x) = StartIsNameless x
 AddsNameless c = Unit {0}

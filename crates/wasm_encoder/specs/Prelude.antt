@@ -17,4 +17,4 @@ pub use Rattle.wenc_list.specs.declared.fault.ListFault.{ListFault}
 pub use Rattle.wenc_parts.specs.declared.component.ComponentSectionId.{ComponentSectionId}
 pub use Rattle.wenc_parts.specs.declared.types.PrimitiveValType.{PrimitiveValType}
 pub use Rattle.wenc_sections.specs.declared.space.Space.{Space}
-pub use Rattle.wenc_types.specs.declared.counts.Sort.{Sort}
+pub use Rattle.wenc_types.specs.declared.counts.IndexSpace.{IndexSpace}

@@ -10,13 +10,13 @@ use Rattle.wenc_builder.specs.Item.{Item, CoreTypeItem, TypeItem}
 use Rattle.wasm_encoder.specs.Command.{CommandTree, Add}
 use Rattle.wasm_encoder.specs.Cause.{added, answer_of, cause}
 
--- A command may be refused with this fault: for want of memory, or with this cause; never as
+-- A command may be refused with this fault: for a failed allocation, or with this cause; never as
 -- unfinished.
 abbrev pub IsRefusal : (Fault → Type 0) → Fault → Type 0
 IsRefusal cause fault = IsWarranted cause fault × (fault ≡ Unfinished → ⊥)
 
--- After these entries the command may have this result: where it has no cause, the index of its
--- item, if that has one.
+-- After these entries the command may have this result: if it has no cause, the index of its item,
+-- if that has one.
 abbrev pub IsDue : List Entry → CommandTree → Result (Option ℕ) Fault → Type 0
 IsDue es c (Ok answer) = (answer ≡ answer_of es c) × NoCause (cause es c)
 IsDue es c (Err fault) = IsRefusal (cause es c) fault
@@ -60,7 +60,7 @@ IsTyped (CoreTypeItem ty) = Unit {0}
 IsTyped (TypeItem ty) = Unit {0}
 IsTyped item = ⊥
 
--- A front of the commands ran, and the next one has a type written and may be refused so.
+-- A prefix of the commands ran, and the next one writes a type and may be refused with this fault.
 pub record IsStopped (commands : List CommandTree) (fault : Fault) : Type 0 where
   pub front : List CommandTree
   pub next : Entry

@@ -3,9 +3,15 @@ ghost use Rattle.std.specs.Prelude.{◌≡◌, ◌↔◌, ◌⊎◌, List, [], O
 ghost use Rattle.std.specs.List.{AllByRecursion};
 ghost use Rattle.std.specs.Option.{option_copied, option_map};
 ghost use Rattle.std.specs.String.{string_bytes};
-ghost use Rattle.wasm_encoder.specs.Prelude.{led, first_cause, Add, command_view, commands_view, Ran, IsRefusal, IsStopped, HasRun, RunsNext, StepsRun, StepsBack, indexed as indexed_of, without_index as without_index_of};
+ghost use Rattle.wasm_encoder.specs.Prelude.{led, first_cause, Add, command_view, commands_view};
+ghost use Rattle.wasm_encoder.specs.Prelude.{Ran, IsRefusal, IsStopped, HasRun, RunsNext, StepsRun};
+ghost use Rattle.wasm_encoder.specs.Prelude.{StepsBack, indexed as indexed_of};
+ghost use Rattle.wasm_encoder.specs.Prelude.{without_index as without_index_of};
 ghost use Rattle.wenc_base.specs.Prelude.{IsMemory, NoCause, Spelling};
-ghost use Rattle.wenc_builder.specs.Prelude.{Item, HasNoRaw, Section, runs, Reading, whole, IsEncodable, EntersWithoutIndex, Entry, items, core_type_entry, type_entry, custom_entry, Holds, StartIsNameless};
+ghost use Rattle.wenc_builder.specs.Prelude.{Item, HasNoRaw, Section, runs, Reading, whole};
+ghost use Rattle.wenc_builder.specs.Prelude.{IsEncodable, EntersWithoutIndex, Entry, items};
+ghost use Rattle.wenc_builder.specs.Prelude.{core_type_entry, type_entry, custom_entry, Holds};
+ghost use Rattle.wenc_builder.specs.Prelude.{StartIsNameless};
 ghost use Rattle.wenc_types.specs.Prelude.{core_type_view, type_view};
 
 use std::alloc::{Allocator, Global};
@@ -48,15 +54,15 @@ pub enum Command<A: Allocator = Global> {
         /// The type, boxed since it is far larger than other commands.
         ty: Box<CoreTypeTree<A>, A>,
     },
-    /// A nested component, made by commands. It is accepted only if all of them are, and otherwise
-    /// refused with the first fault among them.
+    /// A nested component, built by commands. It is accepted only if all of them are; otherwise, it
+    /// is refused with the first fault among them.
     Component {
         /// The item's debug name, if any.
         debug_name: Option<String<A>>,
         /// The commands that make it.
         commands: Vec<Command<A>, A>,
     },
-    /// A nested component, as its bytes.
+    /// A nested component, given as its bytes.
     ComponentRaw {
         /// The item's debug name, if any.
         debug_name: Option<String<A>>,
@@ -111,7 +117,7 @@ pub enum Command<A: Allocator = Global> {
     Export {
         /// The name, with its options.
         name: NameTree<A>,
-        /// The sort of the item.
+        /// The kind of the item.
         kind: ComponentExportKind,
         /// The index of the item.
         index: u32,
@@ -127,7 +133,7 @@ pub enum Command<A: Allocator = Global> {
         /// The bytes after the name.
         data: Vec<u8, A>,
     },
-    /// A custom section, as the bytes after its id.
+    /// A custom section, given as the bytes after its id.
     RawCustom {
         /// The bytes, which aren't checked.
         bytes: Vec<u8, A>,
@@ -370,9 +376,9 @@ pub fn build<A: Allocator + Copy, B: Allocator>(
     Ok(Built { answers, bytes })
 }
 
-/// Runs commands one by one, where `build` has all of them at once. A refused command changes
-/// nothing, and the next one goes on as if it had not been made: a type that fails while it is
-/// written is discarded.
+/// Runs commands one by one, where `build` takes all of them at once. A refused command changes
+/// nothing, and the next one runs as if it had not been made: a type that fails while it is written
+/// is discarded.
 ///
 /// ```
 /// let mut running = Running::new(alloc)?;
@@ -397,7 +403,7 @@ impl<A: Allocator> Model for Running<A> {
 }
 
 impl<A: Allocator + Copy> Running<A> {
-    /// Creates a component without items, for which no command ran. Fails only if an allocation
+    /// Creates a component without items, before the first command. Fails only if an allocation
     /// fails (`Memory`).
     #[tactic(auto, using(crate::proofs::Run::run_new))]
     pub fn new(alloc: A) -> Result<Self, Fault>
@@ -410,8 +416,8 @@ impl<A: Allocator + Copy> Running<A> {
         })
     }
 
-    /// Makes the call that a command describes, after those so far. Returns the index of the item
-    /// that is added, if that has one: custom sections and names have none. Fails with the fault
+    /// Makes the call that a command describes, after the earlier ones. Returns the index of the
+    /// item that is added, if it has one: custom sections and names have none. Fails with the fault
     /// for which the command is refused.
     #[tactic(auto, using(crate::proofs::Run::one_more))]
     pub fn run<B: Allocator>(&mut self, command: &Command<B>) -> Result<Option<u32>, Fault>

@@ -1,16 +1,31 @@
-//! Laws about the definitions: what the encodings of numbers are, in words; that every form, and a
-//! whole component, is read as it is written, and in one way only; that a section's encoding is
-//! that of its contents. A call of these does nothing.
-ghost use Rattle.std.specs.Prelude.{◌≡◌, ◌↔◌, ◌+◌, ℕ, ℤ, ◌^◌, ◌<◌, ◌++◌, ◌∷◌, [], List, FitsSigned, true, Ok};
+//! Laws about the definitions: the encodings of numbers, in words; that every form, and a whole
+//! component, is read as it is written, and in one way only; that a section's encoding is that of
+//! its contents. A call of a law does nothing.
+ghost use Rattle.std.specs.Prelude.{◌≡◌, ◌↔◌, ◌+◌, ℕ, ℤ, ◌^◌, ◌<◌, ◌++◌, ◌∷◌, [], List, FitsSigned};
+ghost use Rattle.std.specs.Prelude.{true, Ok};
 ghost use Rattle.std.specs.Int.{w64};
-ghost use Rattle.wasm_encoder.specs.Prelude.{Fault, Sort, FormName, value_of, form_of};
-ghost use Rattle.wenc_base.specs.Prelude.{RecType, rec_type, NoCause, FormLaws, name, counted, HolderState, Contains, EncodeCause, is_finished, held_members, held_section, Accepted, unsigned_text, signed_text, IsUnsignedText, IsSignedText, u32 as number, member_begun, member_appended, member_ended, member_given_up, Spelling, Strict, Wide, ◌▸◌, refused_for, verbatim, Producers, FieldCause, producers_field, producers_section, producers_held};
+ghost use Rattle.wasm_encoder.specs.Prelude.{Fault, IndexSpace, FormName, value_of, form_of};
+ghost use Rattle.wenc_base.specs.Prelude.{RecType, rec_type, NoCause, FormLaws, name, counted};
+ghost use Rattle.wenc_base.specs.Prelude.{HolderState, Contains, EncodeCause, is_finished};
+ghost use Rattle.wenc_base.specs.Prelude.{held_members, held_section, Accepted, unsigned_text};
+ghost use Rattle.wenc_base.specs.Prelude.{signed_text, IsUnsignedText, IsSignedText, u32 as number};
+ghost use Rattle.wenc_base.specs.Prelude.{member_begun, member_appended, member_ended};
+ghost use Rattle.wenc_base.specs.Prelude.{member_given_up, Spelling, Strict, Wide, ◌▸◌};
+ghost use Rattle.wenc_base.specs.Prelude.{refused_for, verbatim, Producers, FieldCause};
+ghost use Rattle.wenc_base.specs.Prelude.{producers_field, producers_section, producers_held};
 ghost use Rattle.wenc_base.specs.declared.fault.Fault.TheVariants.{Unfinished};
-ghost use Rattle.wenc_builder.specs.Prelude.{Item, HasNoRaw, Section, runs, component, Reading, whole, SectionsHaveNoRaw, AreEncodable, IsEncodable};
+ghost use Rattle.wenc_builder.specs.Prelude.{Item, HasNoRaw, Section, runs, component, Reading};
+ghost use Rattle.wenc_builder.specs.Prelude.{whole, SectionsHaveNoRaw, AreEncodable, IsEncodable};
 ghost use Rattle.wenc_canon.specs.Prelude.{Builtin, row, Values, Adds};
-ghost use Rattle.wenc_types.specs.Prelude.{ModuleDeclaration, ModuleRecType, module_type, CoreType, core_type, DefType, ComponentType, InstanceType, InstanceDeclaration, ComponentDeclaration, CoreTyped, Typed, components_of, instances_of, def_type, TypeState, NoneBegun, ModuleDeclares, ComponentDeclares, InstanceDeclares, type_begun, type_appended, type_ended, type_given_up};
+ghost use Rattle.wenc_types.specs.Prelude.{ModuleDeclaration, ModuleRecType, module_type, CoreType};
+ghost use Rattle.wenc_types.specs.Prelude.{core_type, DefType, ComponentType, InstanceType};
+ghost use Rattle.wenc_types.specs.Prelude.{InstanceDeclaration, ComponentDeclaration, CoreTyped};
+ghost use Rattle.wenc_types.specs.Prelude.{Typed, components_of, instances_of, def_type, TypeState};
+ghost use Rattle.wenc_types.specs.Prelude.{NoneBegun, ModuleDeclares, ComponentDeclares};
+ghost use Rattle.wenc_types.specs.Prelude.{InstanceDeclares, type_begun, type_appended, type_ended};
+ghost use Rattle.wenc_types.specs.Prelude.{type_given_up};
 ghost use Rattle.wenc_types.specs.ComponentTypes as component;
-ghost use Rattle.wenc_types.specs.declared.counts.Sort.TheVariants as sorts;
+ghost use Rattle.wenc_types.specs.declared.counts.IndexSpace.TheVariants as spaces;
 
 mod of_builders;
 mod of_holders;
@@ -180,31 +195,31 @@ pub fn openings_are_members()
         → Contains core_type
         (member_ended (member_appended (member_begun section []) (core_type t).text))
         (types ++ t ∷ []) }
-    ensures type_given_up { (t : TypeState) (sort : Sort) (text : List ℕ) → NoneBegun t
-        → type_given_up (type_appended (type_begun sort t) text) ≡ t }
+    ensures type_given_up { (t : TypeState) (space : IndexSpace) (text : List ℕ) → NoneBegun t
+        → type_given_up (type_appended (type_begun space t) text) ≡ t }
     ensures type_ended_in_module { (t : TypeState) (g : RecType) (ds : List ModuleDeclaration)
         → (rec_type g).Fits → ModuleDeclares t ds
-        → ModuleDeclares (type_ended (type_appended (type_begun sorts.«Type» t) (rec_type g).text))
+        → ModuleDeclares (type_ended (type_appended (type_begun spaces.«Type» t) (rec_type g).text))
         (ds ++ ModuleRecType g ∷ []) }
     ensures type_ended_in_component { (t : TypeState) (ty : DefType)
         (ds : List ComponentDeclaration) → (def_type ty).Fits → ComponentDeclares t ds
         → ComponentDeclares
-        (type_ended (type_appended (type_begun sorts.«Type» t) (def_type ty).text))
+        (type_ended (type_appended (type_begun spaces.«Type» t) (def_type ty).text))
         (ds ++ component.Declared (Typed ty) ∷ []) }
     ensures core_type_ended_in_component { (t : TypeState) (ty : CoreType)
         (ds : List ComponentDeclaration) → (core_type ty).Fits → ComponentDeclares t ds
         → ComponentDeclares
-        (type_ended (type_appended (type_begun sorts.CoreType t) (core_type ty).text))
+        (type_ended (type_appended (type_begun spaces.CoreType t) (core_type ty).text))
         (ds ++ component.Declared (CoreTyped ty) ∷ []) }
     ensures type_ended_in_instance { (t : TypeState) (ty : DefType) (ds : List InstanceDeclaration)
         → (def_type ty).Fits → InstanceDeclares t ds
         → InstanceDeclares
-        (type_ended (type_appended (type_begun sorts.«Type» t) (def_type ty).text))
+        (type_ended (type_appended (type_begun spaces.«Type» t) (def_type ty).text))
         (ds ++ Typed ty ∷ []) }
     ensures core_type_ended_in_instance { (t : TypeState) (ty : CoreType)
         (ds : List InstanceDeclaration) → (core_type ty).Fits → InstanceDeclares t ds
         → InstanceDeclares
-        (type_ended (type_appended (type_begun sorts.CoreType t) (core_type ty).text))
+        (type_ended (type_appended (type_begun spaces.CoreType t) (core_type ty).text))
         (ds ++ CoreTyped ty ∷ []) }
 {}
 

@@ -1,12 +1,12 @@
 //! Writes WebAssembly components in the component model's binary format.
 //!
 //! `ComponentBuilder` collects items call by call and returns their indices; `build` runs commands,
-//! which are builder calls as data; `Component` and the sections write a component by hand. No
-//! number that is written exceeds 4294967295: an index, the number of items of a space or a
-//! section, the number of bytes of a string or a section.
+//! which are builder calls as data; `Component` and the sections write a component section by
+//! section. No number that is written exceeds 4294967295: an index, the number of items of a space
+//! or a section, the number of bytes of a string or a section.
 //!
 //! In the examples `alloc` is an allocator that is `Copy`. Each is proved, with its imports, in
-//! `crates/facts/src/examples`.
+//! `crates/proved_tests/src/examples`.
 #![tactic(auto)]
 
 pub mod command;
@@ -19,7 +19,7 @@ pub use of_producers::producers_command;
 pub use wenc_base::{
     AbstractHeapType, ArrayType, CompositeType, CoreTypeEncoder, CustomSection, Delimited, Encode,
     EntityType, ExportKind, Fault, FieldType, FuncType, GlobalType, GroupTree, HeapType, Holder,
-    Lender, MemoryType, Module, NameMap, ProducersField, ProducersSection, RawCustomSection,
+    MemoryType, Module, NameMap, Parent, ProducersField, ProducersSection, RawCustomSection,
     RawSection, RefType, Section, SectionId, StorageType, StructType, SubType, TableType, TagType,
     ValType, encode_list, encoding_size, section_size,
 };

@@ -1,4 +1,4 @@
-//! Listed items, as the commands that add them.
+//! Conversion of listed items to the commands that add them.
 ghost use Rattle.wasm_encoder.specs.Prelude.{command_view, command_of};
 ghost use Rattle.wenc_list.specs.Prelude.{item_view};
 

@@ -1,7 +1,8 @@
-//! A producers section, as the command that adds it.
+//! Conversion of a producers section to the command that adds it.
 ghost use Rattle.std.specs.Prelude.{◌≡◌, List, Err, IfErr, IfOk, false};
 ghost use Rattle.wasm_encoder.specs.Prelude.{Add, command_view};
-ghost use Rattle.wenc_base.specs.Prelude.{IsWarranted, list, Contains, EncodeCause, held_text, is_finished, Producers, producers_field, producers_label};
+ghost use Rattle.wenc_base.specs.Prelude.{IsWarranted, list, Contains, EncodeCause, held_text};
+ghost use Rattle.wenc_base.specs.Prelude.{is_finished, Producers, producers_field, producers_label};
 ghost use Rattle.wenc_base.specs.declared.fault.Fault.TheVariants.{Unfinished};
 ghost use Rattle.wenc_builder.specs.Prelude.{custom_entry};
 

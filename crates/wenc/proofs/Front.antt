@@ -1,5 +1,7 @@
 -- The front of a script that is a text, and the line in which it ends.
-use Rattle.std.proofs.Common.{◌≡◌, ℕ, ◌+◌, ◌<◌, ◌≤◌, eqb, List, [], ◌∷◌, ◌++◌, Bool, true, false, length, take, drop, Result, Ok, Err, refl, sym, ap, subst, ◌∙◌, arith, inl, inr, append-nil, length-append, length-take, length-drop, take-append-drop, MatchResult, Bor}
+use Rattle.std.proofs.Common.{◌≡◌, ℕ, ◌+◌, ◌<◌, ◌≤◌, eqb, List, [], ◌∷◌, ◌++◌, Bool, true, false, length, take, drop, Result, Ok, Err, refl}
+use Rattle.std.proofs.Common.{sym, ap, subst, ◌∙◌, arith, inl, inr, append-nil, length-append, length-take, length-drop, take-append-drop}
+use Rattle.std.proofs.Common.{MatchResult, Bor}
 use Rattle.std.proofs.Math.Seq.{take-append_seam, take-append-add, drop-append_seam}
 use Rattle.std.specs.Result.{result_unwrap_or}
 use Rattle.std.specs.Str.{IsUtf8, IsValidUpTo}
@@ -70,7 +72,8 @@ bad_first n (b ∷ line) lines bad = rw (not_text (b ∷ line) bad) refl
 
 -- the last line is bad, where more bytes follow the text
 pub ends_badly : (commands : List CommandTree) (n : ℕ) (bytes text last : List ℕ) (is_whole : Bool) (all : Result (List CommandTree) ℕ)
-    → put_before commands (commands_from n (parted 10 (last ++ drop (length text) bytes))) ≡ all → IsTextInFront bytes text is_whole → is_whole ≡ false → IsUtf8 last
+    → put_before commands (commands_from n (parted 10 (last ++ drop (length text) bytes))) ≡ all → IsTextInFront bytes text is_whole
+    → is_whole ≡ false → IsUtf8 last
     → position_or_len (λ b. eqb b 10) last ≡ length last → all ≡ Err n
 ends_badly commands n bytes text last is_whole all said front no_more u no_end =
     let more : List ℕ = drop (length text) bytes in
@@ -81,14 +84,16 @@ ends_badly commands n bytes text last is_whole all said front no_more u no_end =
     sym said ∙ ap (λ lines. put_before commands (commands_from n lines)) line ∙ ap (put_before commands) (bad_first n _ f.0 none)
 
 -- the last line, where none do
-pub last_line : (bytes text last : List ℕ) (is_whole : Bool) → IsTextInFront bytes text is_whole → is_whole ≡ true → position_or_len (λ b. eqb b 10) last ≡ length last
+pub last_line : (bytes text last : List ℕ) (is_whole : Bool) → IsTextInFront bytes text is_whole → is_whole ≡ true
+    → position_or_len (λ b. eqb b 10) last ≡ length last
     → parted 10 (last ++ drop (length text) bytes) ≡ last ∷ []
 last_line bytes text last is_whole front no_more no_end =
     let whole = rw no_more at front in
     rw (none_behind bytes text whole.0, append-nil) (parted_whole 10 last (omega arith))
 
 -- a text is cut at its first LF: what stands behind it is a text, which is shorter, and the line in front is read first
-pub next_line : (last line behind more : List ℕ) → (line ≡ before_first (λ b. eqb b 10) last) × (behind ≡ after_first (λ b. eqb b 10) last) × (position_or_len (λ b. eqb b 10) last < length last)
+pub next_line : (last line behind more : List ℕ) → (line ≡ before_first (λ b. eqb b 10) last) × (behind ≡ after_first (λ b. eqb b 10) last)
+    × (position_or_len (λ b. eqb b 10) last < length last)
     → IsUtf8 last → IsUtf8 behind × (length behind < length last) × (parted 10 (last ++ more) ≡ line ∷ parted 10 (behind ++ more))
 next_line last line behind more cut u =
     let n = position_or_len (λ b. eqb b 10) last in

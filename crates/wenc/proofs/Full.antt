@@ -55,7 +55,8 @@ said_left Flag ((b ∷ word) ∷ words) h = grind arith
 said_left Zero words h = h
 said_left f words h = tt
 
-then_none : {S T : Type 0} (o : Option (S × List (List ℕ))) (f : S × List (List ℕ) → Option T) → IsLeft o → ((s : S × List (List ℕ)) → has_empty s.1 ≡ true → f s ≡ None)
+then_none : {S T : Type 0} (o : Option (S × List (List ℕ))) (f : S × List (List ℕ) → Option T) → IsLeft o
+    → ((s : S × List (List ℕ)) → has_empty s.1 ≡ true → f s ≡ None)
     → option_and_then f o ≡ None
 then_none o f h none = grind arith
 
@@ -88,9 +89,11 @@ module _ (all : List (List ℕ)) (verb : List ℕ) (words : List (List ℕ)) (is
   names_said v = rw (is, v) (full_names words)
 
   -- one that begins with another word is for a builtin
-  pub other_said : ¬ (verb ≡ codes "import") → ¬ (verb ≡ codes "export") → ¬ (verb ≡ codes "alias-export") → ¬ (verb ≡ codes "core-module") → ¬ (verb ≡ codes "start") → ¬ (verb ≡ codes "append-names")
+  pub other_said : ¬ (verb ≡ codes "import") → ¬ (verb ≡ codes "export") → ¬ (verb ≡ codes "alias-export") → ¬ (verb ≡ codes "core-module")
+      → ¬ (verb ≡ codes "start") → ¬ (verb ≡ codes "append-names")
       → unless_word_empty command_of all ≡ option_map (λ function. Add (canonical_tree_entry None function)) (builtin_said verb words)
   other_said h1 h2 h3 h4 h5 h6 =
       let same : command_by verb words ≡ option_map (λ function. Add (canonical_tree_entry None function)) (builtin_said verb words) =
       rw (differ verb _ h1, differ verb _ h2, differ verb _ h3, differ verb _ h4, differ verb _ h5, differ verb _ h6) refl in
-      ap (unless_word_empty command_of) is ∙ ap (λ (c : Option CommandTree). cond (has_empty (verb ∷ words)) None c) same ∙ full_same _ _ (λ e. ap (option_map _) (none_said verb words e))
+      ap (unless_word_empty command_of) is ∙ ap (λ (c : Option CommandTree). cond (has_empty (verb ∷ words)) None c) same ∙ full_same _ _
+      (λ e. ap (option_map _) (none_said verb words e))

@@ -14,7 +14,8 @@ use Rattle.wenc.specs.inside.Steps.{IsWholeRun}
 use Rattle.wenc.proofs.Ended.{keeps_same, whole_known, appended_known}
 
 -- what is listed of all that was read
-pub listed_whole : {A : Type 0} (r : Result (Vec ℕ A) Unlisted) (left ended : Option (List ℕ)) (text : List ℕ) → IsWholeRun left ended text → ListsText r text → ReadsListing r left ended
+pub listed_whole : {A : Type 0} (r : Result (Vec ℕ A) Unlisted) (left ended : Option (List ℕ)) (text : List ℕ) → IsWholeRun left ended text
+    → ListsText r text → ReadsListing r left ended
 listed_whole (Ok printed) left ended text whole h = (text, whole, h)
 listed_whole (Err BadText) left ended text whole h = (text, whole, h)
 listed_whole (Err (Fault fault)) left ended text whole (inl memory) = inl memory
@@ -31,13 +32,23 @@ listing_ends {A} printed result left ended before after errors r says =
       known = grind (arith, says);
       zero = λ s all old l b.
           let app : Appends before after printed.items = grind (arith, says) in
-          let w : PrintsListing A all old (old ++ printed.items) = record { listing = r.2.0; lists = rw (← (known all l).0) r.2.1; writes = ap (λ (x : List ℕ). old ++ x) same } in
+          let w : PrintsListing A all old (old ++ printed.items) =
+          record { listing = r.2.0; lists = rw (← (known all l).0) r.2.1; writes = ap (λ (x : List ℕ). old ++ x) same } in
           (old ++ printed.items, appended_known before after old _ app b, (known all l).1, w, keeps_same errors);
       one = grind (arith, says);
       three = grind (arith, says);
       four = λ s all old l b.
           let f : AppendsFront before after printed.items = grind (arith, says) in
-          let w : PrintsListingFront A all old (old ++ f.sent) = record { listing = r.2.0; lists = rw (← (known all l).0) r.2.1; sent = f.sent; missing = f.missing; front = sym same ∙ f.front; writes = refl } in
+          let w : PrintsListingFront A all old (old ++ f.sent) =
+          record {
+            listing = r.2.0;
+            lists = rw (← (known all l).0) r.2.1;
+            sent = f.sent;
+            missing = f.missing;
+            front =
+                sym same ∙ f.front;
+            writes = refl;
+          } in
           (old ++ f.sent, appended_known before after old f.sent f.appends b, inl ((known all l).1, w, keeps_same errors));
     }
 
@@ -45,13 +56,15 @@ module _ (A : Type 0) (result : ℕ) (left ended before errors reported : Option
   ends_with_4 : result ≡ 4 → EndsListing A result left ended before before errors reported
   ends_with_4 four = grind arith
 
-  whole_cause : (fault : ListFault) → (fault ≡ Memory) ⊎ ((text : List ℕ) × IsWholeRun left ended text × IsFaultIn text fault) → (all : List ℕ) → left ≡ Some all
+  whole_cause : (fault : ListFault) → (fault ≡ Memory) ⊎ ((text : List ℕ) × IsWholeRun left ended text × IsFaultIn text fault)
+      → (all : List ℕ) → left ≡ Some all
       → (fault ≡ Memory) ⊎ ((ended ≡ Some []) × IsFaultIn all fault)
   whole_cause fault (inl memory) all l = inl memory
   whole_cause fault (inr f) all l = let k = whole_known left ended f.0 f.1 all l in inr (k.1, rw (← k.0) f.2)
 
   -- status 3: there was no memory, or the text has this fault
-  ends_with_fault : (fault : ListFault) → (fault ≡ Memory) ⊎ ((text : List ℕ) × IsWholeRun left ended text × IsFaultIn text fault) → result ≡ 3 → Appends errors reported (fault_line fault)
+  ends_with_fault : (fault : ListFault) → (fault ≡ Memory) ⊎ ((text : List ℕ) × IsWholeRun left ended text × IsFaultIn text fault)
+      → result ≡ 3 → Appends errors reported (fault_line fault)
       → EndsListing A result left ended before before errors reported
   ends_with_fault fault cause three app = record {
     known = grind arith;
@@ -62,7 +75,8 @@ module _ (A : Type 0) (result : ℕ) (left ended before errors reported : Option
   }
 
   -- nothing was printed
-  pub unlisted_ends : (unlisted : Unlisted) → NotReadAndListed unlisted left ended → ReportsUnlisted result unlisted errors reported → EndsListing A result left ended before before errors reported
+  pub unlisted_ends : (unlisted : Unlisted) → NotReadAndListed unlisted left ended → ReportsUnlisted result unlisted errors reported
+      → EndsListing A result left ended before before errors reported
   unlisted_ends BadText r says = grind (arith, whole_known left ended r.0 r.1)
   unlisted_ends (Fault fault) r (inl (inl s)) = ends_with_fault fault r s.0 s.1
   unlisted_ends (Fault fault) r (inr (inl s)) = ends_with_fault Memory (inl refl) s.0 s.1

@@ -14,7 +14,8 @@ pub number_stops : (word : List ℕ) (i n : ℕ) → i < length word → at_most
 number_stops word i n h same large = grind (arith, common_steps, value_too_large)
 
 -- there is no next digit
-pub number_ends : (word : List ℕ) (i n : ℕ) → eqb (length word) 0 ≡ false → length word ≤ i → at_most_32_bits (value_behind 0 word) ≡ at_most_32_bits (value_behind n (drop i word))
+pub number_ends : (word : List ℕ) (i n : ℕ) → eqb (length word) 0 ≡ false → length word ≤ i
+    → at_most_32_bits (value_behind 0 word) ≡ at_most_32_bits (value_behind n (drop i word))
     → n < 2 ^ 32 → number_word word ≡ Some n
 number_ends word i n some ended same small = grind (arith, common_steps)
 

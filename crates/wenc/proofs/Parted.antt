@@ -16,7 +16,8 @@ module _ (separator : ℕ) where
   lacks_before s = λ k d m. let fails = fails_before_first (λ b. eqb b separator) s k d (grind (arith, common_steps)) in grind (arith, common_steps)
 
   -- what has no separator stands in front of the first part
-  pub parts_behind : (s behind part : List ℕ) (parts : List (List ℕ)) → Lacks s → parted separator behind ≡ part ∷ parts → parted separator (s ++ behind) ≡ (s ++ part) ∷ parts
+  pub parts_behind : (s behind part : List ℕ) (parts : List (List ℕ)) → Lacks s → parted separator behind ≡ part ∷ parts
+      → parted separator (s ++ behind) ≡ (s ++ part) ∷ parts
   parts_behind [] behind part parts lacks is = is
   parts_behind (b ∷ s) behind part parts lacks is =
       rw (All-head (λ x. eqb x separator ≡ false) b s lacks, parts_behind s behind part parts (All-tail (λ x. eqb x separator ≡ false) b s lacks) is) refl
@@ -35,8 +36,10 @@ module _ (separator : ℕ) where
       → parted separator (s ++ behind) ≡ before_first (λ b. eqb b separator) s ∷ parted separator (after_first (λ b. eqb b separator) s ++ behind)
   line_before s behind h =
       let cut = rw (at_first s h) at (split_at_first (λ b. eqb b separator) s 0 h) in
-      let next : parted separator (separator ∷ (after_first (λ b. eqb b separator) s ++ behind)) ≡ [] ∷ parted separator (after_first (λ b. eqb b separator) s ++ behind) = rw (eq-eqb separator separator refl) refl in
-      ap (λ (l : List ℕ). parted separator (l ++ behind)) cut ∙ simp append_assoc (simp append-nil at (parts_behind _ (separator ∷ (after_first (λ b. eqb b separator) s ++ behind)) [] _ (lacks_before s) next))
+      let next : parted separator (separator ∷ (after_first (λ b. eqb b separator) s ++ behind)) ≡ []
+      ∷ parted separator (after_first (λ b. eqb b separator) s ++ behind) = rw (eq-eqb separator separator refl) refl in
+      ap (λ (l : List ℕ). parted separator (l ++ behind)) cut ∙ simp append_assoc
+      (simp append-nil at (parts_behind _ (separator ∷ (after_first (λ b. eqb b separator) s ++ behind)) [] _ (lacks_before s) next))
 
   pub parted_first : (s : List ℕ) → position_or_len (λ b. eqb b separator) s < length s
       → parted separator s ≡ before_first (λ b. eqb b separator) s ∷ parted separator (after_first (λ b. eqb b separator) s)

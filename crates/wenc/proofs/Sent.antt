@@ -9,7 +9,8 @@ pub appends_both : (a b c : Option (List ℕ)) (xs ys : List ℕ) → Appends a 
 appends_both a b c xs ys p q = grind (arith, append_assoc {A = ℕ})
 
 -- a writer took n more bytes of a text
-pub sent_more : (a b c : Option (List ℕ)) (text sent rest : List ℕ) (n : ℕ) → n ≤ length rest → Appends a b sent → Appends b c (take n rest) → text ≡ sent ++ rest
+pub sent_more : (a b c : Option (List ℕ)) (text sent rest : List ℕ) (n : ℕ) → n ≤ length rest → Appends a b sent → Appends b c (take n rest)
+    → text ≡ sent ++ rest
     → (all : List ℕ) × Appends a c all × (text ≡ all ++ take (length rest - n) (drop n rest))
 sent_more a b c text sent rest n within p q e =
     let left : take (length rest - n) (drop n rest) ≡ drop n rest = take_all _ _ (omega (arith, length-drop n rest)) in

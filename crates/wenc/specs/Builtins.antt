@@ -1,6 +1,5 @@
--- Scripts' words for the functions that the component model provides: the name, and a word for each
--- field. A byte that is fixed has none, and one with options, a core type or a result can't be
--- said.
+-- Scripts' words for builtins: the name, and a word for each field. A fixed byte has no word, and a
+-- builtin with options, a core type or a result can't be said.
 use Rattle.std.specs.Prelude.{ℕ, if◌then◌else◌, List, [], ◌∷◌, Option, Some, None, option_map}
 use Rattle.std.specs.Option.{option_and_then}
 use Rattle.std.specs.Str.{bytes_eq}

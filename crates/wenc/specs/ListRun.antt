@@ -33,13 +33,13 @@ pub record PrintsListing (A : Type 0) (text before after : List ℕ) : Type 0 wh
   pub lists : IsListingOf text listing
   pub writes : after ≡ before ++ listing_text listing
 
--- status 3: a fault was reported, which is that of the text, or want of memory
+-- status 3: a fault was reported, which is that of the text, or a failed allocation
 pub record NamesFault (text : List ℕ) (ended errors reported : Option (List ℕ)) : Type 0 where
   pub fault : ListFault
   pub cause : (fault ≡ Memory) ⊎ ((ended ≡ Some []) × IsFaultIn text fault)
   pub names : Appends errors reported (fault_line fault)
 
--- status 4: a write failed, and what was written is a front of what is printed
+-- status 4: a write failed, and what was written is a prefix of the output
 pub record PrintsListingFront (A : Type 0) (text before after : List ℕ) : Type 0 where
   pub listing : Listing A
   pub lists : IsListingOf text listing

@@ -1,4 +1,4 @@
--- What the use `list` reads and prints.
+-- What the subcommand `list` reads and prints.
 use Rattle.std.specs.Prelude.{◌≡◌, ℕ, ◌-◌, ◌==◌, if◌then◌else◌, List, [], ◌∷◌, ◌++◌, map, length}
 use Rattle.std.specs.Prelude.{take, slice_index, Option, String, codes, string_bytes}
 use Rattle.std.specs.Fmt.{decimal}

@@ -54,14 +54,14 @@ NamesBadLine text before after errors reported =
     (line : ℕ) × (script text ≡ Err line) × (after ≡ before) ×
     Appends errors reported (line_report line)
 
--- A front of the text was written.
+-- A prefix of the text was written.
 pub record AppendsFront (before after : Option (List ℕ)) (text : List ℕ) : Type 0 where
   pub sent : List ℕ
   pub missing : List ℕ
   pub front : text ≡ sent ++ missing
   pub appends : Appends before after sent
 
--- status 4: a write failed, and what was written is a front of what is printed
+-- status 4: a write failed, and what was written is a prefix of the output
 pub record PrintsFront (text before after : List ℕ) : Type 0 where
   pub commands : List CommandTree
   pub answers : List (Result (Option ℕ) Fault)
@@ -74,8 +74,8 @@ pub record PrintsFront (text before after : List ℕ) : Type 0 where
   pub writes : after ≡ before ++ sent
 
 -- What a reader had left and has left in the end, what a writer held before and after, and what
--- standard error held, where these are known: the status says what was read and written. With
--- status 2 there was perhaps no memory.
+-- standard error held, where these are known: the status says what was read and written. Status 2
+-- may also mean that memory ran out.
 pub record EndsRun (status : ℕ)
     (left ended before after errors reported : Option (List ℕ)) : Type 0 where
   pub zero : status ≡ 0 → (text old : List ℕ) → left ≡ Some text → before ≡ Some old

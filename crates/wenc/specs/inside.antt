@@ -1,5 +1,5 @@
--- What private functions and proofs need, and of public calls those alone of which the program is
--- made: `translate`, `report`, `read_all` and `list_text`.
+-- What only private functions and proofs need, and those public calls that make up the program:
+-- `translate`, `report`, `read_all` and `list_text`.
 pub mod Steps
 pub mod ListSteps
 pub mod Lines

@@ -1,4 +1,4 @@
-//! Built-in canonical functions, by their words.
+//! Parses builtins.
 ghost use Rattle.std.specs.Prelude.{◌≡◌, ◌∷◌, [], drop, option_map};
 ghost use Rattle.wenc.specs.Prelude.{values_said, one_of, builtin_said, words_left};
 ghost use Rattle.wenc_canon.specs.Prelude.{Index, Flag, builtins};
@@ -9,7 +9,7 @@ use crate::words::Words;
 use wasm_encoder::CanonTree;
 
 /// Returns the builtin that a word and the words after it name. Builtins with options, a core type
-/// or a result have no words. Those of resources and tasks come first.
+/// or a result have no words. Those of resources and tasks are tried first.
 pub fn builtin(verb: &str, words: Words) -> Option<CanonTree>
     ensures { option_map canon_view result ≡ builtin_said verb.now (words_left words.entry) }
 {
@@ -26,7 +26,7 @@ pub fn builtin(verb: &str, words: Words) -> Option<CanonTree>
     }
 }
 
-/// Returns the builtin that these words name, of those from streams on.
+/// Returns the builtin of streams, or of a later group, that these words name.
 fn of_stream(verb: &str, words: Words) -> Option<CanonTree>
     ensures { option_map canon_view result ≡
         one_of (drop 10 builtins) verb.now (words_left words.entry) }
@@ -48,7 +48,7 @@ fn of_stream(verb: &str, words: Words) -> Option<CanonTree>
     }
 }
 
-/// Returns the builtin that these words name, of those from futures on.
+/// Returns the builtin of futures, or of a later group, that these words name.
 fn of_future(verb: &str, words: Words) -> Option<CanonTree>
     ensures { option_map canon_view result ≡
         one_of (drop 17 builtins) verb.now (words_left words.entry) }
@@ -70,8 +70,8 @@ fn of_future(verb: &str, words: Words) -> Option<CanonTree>
     }
 }
 
-/// Returns the builtin that these words name, of those from error contexts on. Waitable sets and
-/// backpressure come next.
+/// Returns the builtin of error contexts, waitable sets or backpressure, or of a later group, that
+/// these words name.
 fn of_error_context(verb: &str, words: Words) -> Option<CanonTree>
     ensures { option_map canon_view result ≡
         one_of (drop 24 builtins) verb.now (words_left words.entry) }
@@ -90,8 +90,7 @@ fn of_error_context(verb: &str, words: Words) -> Option<CanonTree>
     }
 }
 
-/// Returns the builtin that these words name, of the last ones: those of threads, and those that
-/// forward.
+/// Returns the builtin of threads, or the forwarding one, that these words name.
 fn of_thread(verb: &str, words: Words) -> Option<CanonTree>
     ensures { option_map canon_view result ≡
         one_of (drop 34 builtins) verb.now (words_left words.entry) }

@@ -1,10 +1,10 @@
-//! Sorts of items, by their words.
+//! Parses kinds of items.
 ghost use Rattle.std.specs.Prelude.{◌≡◌};
 ghost use Rattle.wenc.specs.Prelude.{kind, reference_word};
 
 use wasm_encoder::{ComponentExportKind, ComponentTypeRef, ComponentValType, TypeBounds};
 
-/// Returns the sort that a word names.
+/// Returns the kind that a word names.
 pub fn kind(word: &str) -> Option<ComponentExportKind>
     ensures { result ≡ kind word.now }
 {
@@ -19,7 +19,7 @@ pub fn kind(word: &str) -> Option<ComponentExportKind>
     }
 }
 
-/// Returns the `externdesc` of an import of this sort with this index.
+/// Returns the `externdesc` of an import of this kind with this index.
 pub fn reference(kind: ComponentExportKind, index: u32) -> ComponentTypeRef
     ensures { result ≡ reference_word kind index }
 {

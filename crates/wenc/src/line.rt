@@ -1,7 +1,10 @@
 //! Parses a line of a script.
 ghost use Rattle.std.specs.Prelude.{◌≡◌, IfOk, option_map};
 ghost use Rattle.wasm_encoder.specs.Prelude.{command_view};
-ghost use Rattle.wenc.specs.Prelude.{import_command, export_command, alias_command, core_module_command, start_command, append_names_command, command_of, line_command, words_left, unless_word_empty, kind_and_index};
+ghost use Rattle.wenc.specs.Prelude.{import_command, export_command, alias_command};
+ghost use Rattle.wenc.specs.Prelude.{core_module_command, start_command, append_names_command};
+ghost use Rattle.wenc.specs.Prelude.{command_of, line_command, words_left, unless_word_empty};
+ghost use Rattle.wenc.specs.Prelude.{kind_and_index};
 
 use crate::builtin::builtin;
 use crate::kind::{kind, reference};
@@ -10,7 +13,7 @@ use crate::words::Words;
 use std::alloc::{AllocError, Global};
 use wasm_encoder::{AliasTree, Command, ComponentExportKind, NameTree};
 
-/// Parses the sort and the index of an item with a name, which isn't empty.
+/// Parses the kind and the index of an item with a name, which isn't empty.
 fn kind_and_index(name: &str, word: &str, index: &str) -> Option<(ComponentExportKind, u32)>
     ensures { result ≡ kind_and_index name.now word.now index.now }
 {
@@ -23,7 +26,8 @@ fn kind_and_index(name: &str, word: &str, index: &str) -> Option<(ComponentExpor
 /// Parses `import NAME KIND I`.
 fn import(alloc: Global, words: Words) -> Result<Option<Command>, AllocError>
     ensures { IfOk result
-        (λ c. option_map command_view c ≡ unless_word_empty import_command (words_left words.entry)) }
+        (λ c. option_map command_view c ≡ unless_word_empty import_command
+        (words_left words.entry)) }
 {
     let Some((name, word, index)) = words.three() else {
         return Ok(None);
@@ -39,7 +43,8 @@ fn import(alloc: Global, words: Words) -> Result<Option<Command>, AllocError>
 /// Parses `export NAME KIND I`.
 fn export(alloc: Global, words: Words) -> Result<Option<Command>, AllocError>
     ensures { IfOk result
-        (λ c. option_map command_view c ≡ unless_word_empty export_command (words_left words.entry)) }
+        (λ c. option_map command_view c ≡ unless_word_empty export_command
+        (words_left words.entry)) }
 {
     let Some((name, word, index)) = words.three() else {
         return Ok(None);
@@ -59,7 +64,8 @@ fn export(alloc: Global, words: Words) -> Result<Option<Command>, AllocError>
 /// Parses `alias-export I KIND NAME`.
 fn alias_export(alloc: Global, words: Words) -> Result<Option<Command>, AllocError>
     ensures { IfOk result
-        (λ c. option_map command_view c ≡ unless_word_empty alias_command (words_left words.entry)) }
+        (λ c. option_map command_view c ≡ unless_word_empty alias_command
+        (words_left words.entry)) }
 {
     let Some((instance, word, name)) = words.three() else {
         return Ok(None);
@@ -82,7 +88,8 @@ fn alias_export(alloc: Global, words: Words) -> Result<Option<Command>, AllocErr
 /// Parses `core-module HEX`.
 fn core_module(alloc: Global, words: Words) -> Result<Option<Command>, AllocError>
     ensures { IfOk result
-        (λ c. option_map command_view c ≡ unless_word_empty core_module_command (words_left words.entry)) }
+        (λ c. option_map command_view c ≡ unless_word_empty core_module_command
+        (words_left words.entry)) }
 {
     let mut words = words;
     let (Some(word), None) = (words.next(), words.next()) else {

@@ -1,6 +1,9 @@
 //! The subcommand `list`: the sections and counts of a component, given as bytes in hexadecimal.
 ghost use Rattle.std.specs.Prelude.{◌≡◌, ◌++◌, ◌⊎◌, IfOk, OnOk, MatchResult, string_bytes, Some};
-ghost use Rattle.wenc.specs.Prelude.{without_line_end, text_bytes, section_line, section_lines, with_space, counts_line, listing_text, place_line, fault_line, NotDecoded, ListsText, ReadsText, ReadsListing, ReportsUnlisted, EndsListing, Says};
+ghost use Rattle.wenc.specs.Prelude.{without_line_end, text_bytes, section_line, section_lines};
+ghost use Rattle.wenc.specs.Prelude.{with_space, counts_line, listing_text, place_line, fault_line};
+ghost use Rattle.wenc.specs.Prelude.{NotDecoded, ListsText, ReadsText, ReadsListing};
+ghost use Rattle.wenc.specs.Prelude.{ReportsUnlisted, EndsListing, Says};
 ghost use Rattle.wenc_list.specs.declared.fault.ListFault.TheVariants.{Memory};
 
 use crate::failure::Failure;

@@ -1,4 +1,4 @@
-//! Numbers, flags and bytes, by their words.
+//! Parses numbers, flags and bytes.
 ghost use Rattle.std.specs.Prelude.{◌≡◌, IfOk, option_map};
 ghost use Rattle.wenc.specs.Prelude.{number_word, flag_word, hex};
 

@@ -12,7 +12,7 @@ use std::io::Write;
 /// The number of bytes that are written in hexadecimal at a time.
 const PIECE_SIZE: usize = 16_384;
 
-/// Writes a text. The first call that fails, or takes nothing, is the last.
+/// Writes a text. Stops at the first call that fails or takes no bytes.
 fn write_text<W: Write>(writer: &mut W, text: &[u8]) -> Result<(), Failure>
     ensures ok { OnOk result (Appends (W.contents writer.old) (W.contents writer.new) text.now) }
     ensures front { AppendsFront (W.contents writer.old) (W.contents writer.new) text.now }
@@ -63,7 +63,7 @@ fn write_hex<W: Write>(writer: &mut W, bytes: &[u8]) -> Result<(), Failure>
     Ok(())
 }
 
-/// Writes a text and flushes. The first call that fails, or takes nothing, is the last.
+/// Writes a text and flushes. Stops at the first call that fails or takes no bytes.
 pub fn send<W: Write>(writer: &mut W, text: &[u8]) -> Result<(), Failure>
     ensures ok { OnOk result (Appends (W.contents writer.old) (W.contents writer.new) text.now) }
     ensures front { AppendsFront (W.contents writer.old) (W.contents writer.new) text.now }
@@ -72,8 +72,8 @@ pub fn send<W: Write>(writer: &mut W, text: &[u8]) -> Result<(), Failure>
     writer.flush().map_err(|_| Failure::Transfer)
 }
 
-/// Writes lines, then one with the bytes in hexadecimal, and flushes. Allocates nothing. The first
-/// call that fails, or takes nothing, is the last.
+/// Writes lines, then one with the bytes in hexadecimal, and flushes. Allocates nothing. Stops at
+/// the first call that fails or takes no bytes.
 pub fn send_with_hex<W: Write>(writer: &mut W, lines: &[u8], bytes: &[u8]) -> Result<(), Failure>
     ensures ok { OnOk result (Appends (W.contents writer.old) (W.contents writer.new)
         (lines.now ++ line_of (encode_lower bytes.now))) }

@@ -1,8 +1,9 @@
-//! A run of the program, by its arguments.
+//! Runs the program with its arguments.
 ghost use Rattle.std.specs.Prelude.{◌≡◌, ◌≢◌, ◌⊎◌, ◌↔◌, [], All, Any, IsOk, IsErr, IsTrue};
 ghost use Rattle.std.specs.Bool.{OnTrue, OnFalse};
 ghost use Rattle.std.specs.declared.alloc.Global.{Global};
-ghost use Rattle.wenc.specs.Prelude.{IsList, EndsListing, EndsRun, Says, usage, fault_report, IsStatusOf, text_of, Translates, Reads, Reported};
+ghost use Rattle.wenc.specs.Prelude.{IsList, EndsListing, EndsRun, Says, usage, fault_report};
+ghost use Rattle.wenc.specs.Prelude.{IsStatusOf, text_of, Translates, Reads, Reported};
 
 use crate::failure::Failure;
 use crate::input::{MAX_READS, read_all};
@@ -41,7 +42,7 @@ fn status_of(answers: &[Result<Option<u32>, Fault>]) -> u8
     if has_refusal(answers) { REFUSED } else { DONE }
 }
 
-/// Runs the commands of a script, which allocate in `names` what they own. The text is freed once
+/// Runs the commands of a script, whose own data is allocated in `names`. The text is freed once
 /// they ran.
 pub fn translate<A: Allocator + Copy>(
     alloc: A,
@@ -160,7 +161,7 @@ pub fn run<R: Read, O: Write, E: Write>(
     ensures ends { args.now ≡ [] → EndsRun result (R.remaining input.old) (R.remaining input.new)
         (O.contents out.old) (O.contents out.new) (E.contents err.old) (E.contents err.new) }
 
-    // With `list` a component's sections and counts are printed, or why it isn't listed.
+    // With `list`, a component's sections and counts are printed, or why it can't be listed.
     ensures lists { IsList args.now
         → EndsListing Global result (R.remaining input.old) (R.remaining input.new)
         (O.contents out.old) (O.contents out.new) (E.contents err.old) (E.contents err.new) }

@@ -1,4 +1,4 @@
-//! A run of a script, line by line.
+//! Runs a script, line by line.
 ghost use Rattle.wenc.specs.Prelude.{script, Builds, IsTextInFront, RunsLine};
 
 use crate::failure::Failure;
@@ -44,8 +44,8 @@ fn run_line<A: Allocator + Copy>(
     }
 }
 
-/// Runs the commands of a script one by one. What a command owns is allocated in `names`, and freed
-/// before the next line is read.
+/// Runs the commands of a script one by one. A command's own data is allocated in `names`, and
+/// freed before the next line is read.
 ///
 /// # Errors
 ///
@@ -60,11 +60,11 @@ pub fn build<A: Allocator + Copy>(alloc: A, names: Global, text: &[u8]) -> Resul
     let mut last = front;
     while let Some((line, behind)) = last.split_once('\n') {
         run_line(&mut running, &mut answers, names, line, number)?;
-        // 32 bits: a text has less lines than bytes.
+        // 32 bits: a text has fewer lines than bytes.
         number += 1;
         last = behind;
     }
-    // The last line goes on with bytes that aren't UTF-8.
+    // The last line continues with bytes that aren't UTF-8.
     if !is_whole {
         return Err(Failure::BadLine(number));
     }

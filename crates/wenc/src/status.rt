@@ -9,7 +9,7 @@ pub const MALFORMED: u8 = 1;
 /// A command was refused, or memory ran out for a script.
 pub const REFUSED: u8 = 2;
 
-/// A component isn't listed, or memory ran out for that.
+/// A component can't be listed, or memory ran out for that.
 pub const UNLISTED: u8 = 3;
 
 /// A read or a write failed.

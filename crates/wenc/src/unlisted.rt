@@ -6,7 +6,7 @@ ghost use Rattle.wenc_list.specs.declared.fault.ListFault.TheVariants.{Memory};
 use std::alloc::AllocError;
 use wenc_list::ListFault;
 
-/// Why a component isn't listed.
+/// Why a component can't be listed.
 #[derive(Clone, Copy, Debug)]
 pub enum Unlisted {
     /// The text isn't an even number of hexadecimal digits, followed by at most one LF.

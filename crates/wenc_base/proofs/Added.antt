@@ -1,12 +1,13 @@
 -- A member that is made of values which an iterator gives, and how a holder takes it.
-use Rattle.std.proofs.Common.{◌≡◌, ℕ, ◌+◌, ◌-◌, ◌≤◌, true, false, List, [], ◌++◌, length, take, drop, Option, Some, None, Result, Ok, Err, IsErrAnd, refl, ap, ◌∙◌, ◌⊎◌, inl, inr, arith, ◌^◌, ◌<◌, min, length-append}
+use Rattle.std.proofs.Common.{◌≡◌, ℕ, ◌+◌, ◌-◌, ◌≤◌, true, false, List, [], ◌++◌, length, take, drop, Option, Some, None, Result, Ok, Err}
+use Rattle.std.proofs.Common.{IsErrAnd, refl, ap, ◌∙◌, ◌⊎◌, inl, inr, arith, ◌^◌, ◌<◌, min, length-append}
 use Rattle.std.proofs.lemmas.List.{append-nil, take-append-le, drop-append-le, drop-take, length-take, take-take}
 use Rattle.std.specs.Iterator.Runs.{SomeRun, WholeRun}
 use Rattle.wenc_base.specs.Encode.{Appended}
 use Rattle.wenc_base.specs.Fault.{IsWarranted, NoCause, either}
 use Rattle.wenc_base.specs.Piece.{Piece}
 use Rattle.wenc_base.specs.Holder.{HolderState, is_finished, holding, content_size, with_member, OneMoreCause, AddCause, AddsListed}
-use Rattle.wenc_base.specs.Lender.{ExtendsListed}
+use Rattle.wenc_base.specs.Parent.{ExtendsListed}
 use Rattle.wenc_base.specs.Openings.{member_begun, member_appended, member_ended, member_given_up, no_room_in_holder}
 use Rattle.wenc_base.specs.declared.fault.Fault.{Fault}
 use Rattle.wenc_base.specs.declared.fault.Fault.TheVariants.{Memory, TooMany, TooLarge, Unfinished}
@@ -31,7 +32,8 @@ no_room_for_more : (old : HolderState) (text : List ℕ) (cause : Fault → Type
 no_room_for_more old text cause fault h = elim h [
   | inl own ↦ absurd own
   | inr more ↦ elim more [
-    | inl count ↦ inr (inl (still_one_more old.count (length (old.body ++ [])) (length (old.body ++ text)) (omega (arith, length-append old.body text, length-append old.body [])) fault count))
+    | inl count ↦ inr (inl (still_one_more old.count (length (old.body ++ [])) (length (old.body ++ text))
+        (omega (arith, length-append old.body text, length-append old.body [])) fault count))
     | inr stopped ↦ inr (inr stopped)
   ]
 ]
@@ -50,13 +52,15 @@ module _ {S B : Type 0} (steps : S → Option B → S → Type 0) (s : S) (piece
 
   -- a call that is refused
   refused : (outcome : Result (Unit {0}) Fault) (fault : Fault) → IsErrAnd outcome (λ e. e ≡ fault) → new ≡ old
-      → SomeRun steps s (λ p. IsWarranted (AddCause old (piece p.items).text (piece p.items).Cause) fault) → (is_finished old ≡ false → fault ≡ Unfinished) → Adds outcome
+      → SomeRun steps s (λ p. IsWarranted (AddCause old (piece p.items).text (piece p.items).Cause) fault)
+      → (is_finished old ≡ false → fault ≡ Unfinished) → Adds outcome
   refused (Ok u) fault e same h first = absurd e
   refused (Err other) fault e same h first = rw e (record { ok = tt; err = same; warranted = h; unfinished_first = λ f. rw (first f) refl })
 
   pub unfinished_listed : is_finished old ≡ false → new ≡ old → Adds (Err Unfinished)
   unfinished_listed f same =
-      refused (Err Unfinished) Unfinished refl same (no_run steps s (λ vs. AddCause old (piece vs).text (piece vs).Cause Unfinished) (inr (inr (refl, f)))) (λ g. refl)
+      refused (Err Unfinished) Unfinished refl same (no_run steps s (λ vs. AddCause old (piece vs).text (piece vs).Cause Unfinished)
+      (inr (inr (refl, f)))) (λ g. refl)
 
   -- before a member is opened
   pub not_opened : (fault told : Fault) (lead : Piece) → new ≡ old → is_finished old ≡ true
@@ -66,12 +70,14 @@ module _ {S B : Type 0} (steps : S → Option B → S → Type 0) (s : S) (piece
       refused (Err told) told refl same (no_run steps s (λ vs. IsWarranted (AddCause old (piece vs).text (piece vs).Cause) told) (warranted t)) (λ g. absurd cc)
     where
       warranted : (told ≡ fault) ⊎ IsWarranted lead.Cause told → IsWarranted (AddCause old (piece []).text (piece []).Cause) told
-      warranted (inl e) = rw e (still_warranted (AddCause old [] (λ _. ⊥)) (AddCause old (piece []).text (piece []).Cause) (no_room_for_more old (piece []).text (piece []).Cause) fault h)
+      warranted (inl e) = rw e (still_warranted (AddCause old [] (λ _. ⊥)) (AddCause old (piece []).text (piece []).Cause)
+          (no_room_for_more old (piece []).text (piece []).Cause) fault h)
       warranted (inr own) = own_cause old (piece []).text (piece []).Cause told (still_warranted lead.Cause (piece []).Cause of_lead told own)
 
   module _ (mid : HolderState) (f : is_finished old ≡ true) where
     abbrev Grown : Result (Unit {0}) Fault → Type 0
-    Grown outcome = ExtendsListed steps s (member_begun old []) mid outcome (member_appended (member_begun old [])) (no_room_in_holder (member_begun old [])) piece
+    Grown outcome = ExtendsListed steps s (member_begun old []) mid outcome (member_appended (member_begun old []))
+        (no_room_in_holder (member_begun old [])) piece
 
     -- the opened member was written, and ended
     pub opened_and_ended : NoCause (AddCause old [] (λ _. ⊥)) → Grown (Ok tt) → new ≡ member_ended mid → Adds (Ok tt)
@@ -103,7 +109,12 @@ module _ {S B : Type 0} (steps : S → Option B → S → Type 0) (s : S) (piece
     -- it was refused, and given up
     pub opened_and_given_up : (fault : Fault) → Grown (Err fault) → new ≡ member_given_up mid → Adds (Err fault)
     opened_and_given_up fault a e =
-        refused (Err fault) fault refl (e ∙ ap member_given_up a.err ∙ opened_back old [] f) (a.warranted.0, a.warranted.1, still_warranted (either p.Cause (no_room_in_holder (member_begun old []) p.text)) (AddCause old p.text p.Cause) among fault a.warranted.2)
+        refused (Err fault) fault refl (e ∙ ap member_given_up a.err ∙ opened_back old [] f) (
+          a.warranted.0,
+          a.warranted.1,
+          still_warranted (either p.Cause (no_room_in_holder (member_begun old []) p.text))
+              (AddCause old p.text p.Cause) among fault a.warranted.2,
+        )
         (λ g. absurd cc)
       where
         p : Piece
@@ -137,12 +148,15 @@ came_behind steps s piece kept before after le came = (
 -- the first bytes of the body, after those that are kept
 module _ (before after : List ℕ) (kept : ℕ) where
   cut_length : (bytes : ℕ) → after ≡ take (kept + bytes) before → kept ≤ length before → kept ≤ length after
-  cut_length bytes e le = rw e (let long : length (take (kept + bytes) before) ≡ min (kept + bytes) (length before) = length-take (kept + bytes) before in omega (arith, long))
+  cut_length bytes e le = rw e (let long : length (take (kept + bytes) before) ≡ min (kept + bytes) (length before) =
+      length-take (kept + bytes) before in omega (arith, long))
 
-  pub cut_fits : (count len bytes : ℕ) → after ≡ take (kept + bytes) before → kept ≤ length before → content_size count (length (drop kept before)) < 2 ^ 32 → len ≤ count
+  pub cut_fits : (count len bytes : ℕ) → after ≡ take (kept + bytes) before → kept ≤ length before
+      → content_size count (length (drop kept before)) < 2 ^ 32 → len ≤ count
       → (kept ≤ length after) × (content_size len (length (drop kept after)) < 2 ^ 32)
   cut_fits count len bytes e le fits fewer =
-      let size : length (drop kept after) ≡ min bytes (length (drop kept before)) = rw (e, drop-take kept bytes before) (length-take bytes (drop kept before)) in
+      let size : length (drop kept after) ≡ min bytes (length (drop kept before)) =
+      rw (e, drop-take kept bytes before) (length-take bytes (drop kept before)) in
       (cut_length bytes e le, omega (arith, size, size_monotone len count fewer))
 
   pub cut_view : (len bytes : ℕ) (opening : Option Opening) → after ≡ take (kept + bytes) before → kept ≤ length before
@@ -151,7 +165,8 @@ module _ (before after : List ℕ) (kept : ℕ) where
   cut_view len bytes opening e le = rw (e, drop-take kept bytes before, take-take kept (kept + bytes) before (omega arith)) refl
 
   -- and the member that began after them is given up
-  pub given_up_view : (count len : ℕ) (opening : Option Opening) (o : Opening) (h : HolderState) → after ≡ take (kept + o.member_start) before → kept ≤ length before
+  pub given_up_view : (count len : ℕ) (opening : Option Opening) (o : Opening) (h : HolderState)
+      → after ≡ take (kept + o.member_start) before → kept ≤ length before
       → record { kept = take kept before; count = count; body = drop kept before; opening = opening } ≡ h → opening ≡ Some o → len ≡ count - 1
       → holding (take kept after) len (drop kept after) ≡ member_given_up h
   given_up_view count len opening o h e le view is fewer = rw (← view, is, fewer) (cut_view (count - 1) o.member_start None e le)

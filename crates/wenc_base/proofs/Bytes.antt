@@ -14,6 +14,7 @@ last_below [] bytes all = all
 last_below (b ∷ before) bytes all = last_below before bytes all.1
 
 -- what was appended is bytes, as all that there is now
-pub text_below : (before bytes now : List ℕ) (outcome : Result (Unit {0}) Fault) → OnOk outcome (now ≡ before ++ bytes) → AreBytes now → OnOk outcome (AreBytes bytes)
+pub text_below : (before bytes now : List ℕ) (outcome : Result (Unit {0}) Fault) → OnOk outcome (now ≡ before ++ bytes) → AreBytes now
+    → OnOk outcome (AreBytes bytes)
 text_below before bytes now (Ok u) e all = last_below before bytes (rw e at all)
 text_below before bytes now (Err fault) e all = tt

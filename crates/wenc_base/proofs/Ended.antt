@@ -1,12 +1,12 @@
--- What the encoder of core types writes is a whole member of its lender.
+-- What the encoder of core types writes is a whole member of its parent.
 use Rattle.std.proofs.Common.{◌≡◌, ℕ, Bool, true, false, List, [], ◌∷◌, ◌++◌, map}
 use Rattle.wenc_base.specs.Composites.{Composite, Func, composite_type, final, Sub, sub_type, RecType, Single, Rec, standing}
 use Rattle.wenc_base.specs.Forms.{list}
-use Rattle.wenc_base.specs.Lender.{MakesWhole}
+use Rattle.wenc_base.specs.Parent.{MakesWhole}
 use Rattle.wenc_base.specs.Piece.{◌▸◌}
 use Rattle.wenc_base.specs.Types.{val_type}
 use Rattle.wenc_base.specs.declared.types.ValType.{ValType}
-use Rattle.wenc_base.specs.laws.Lenders.{whole_for}
+use Rattle.wenc_base.specs.laws.Parents.{whole_for}
 use Rattle.wenc_base.specs.laws.Serves.{listed_serves, serves_itself}
 
 module _ {T : Type 0} (is_whole : T → Type 0) (written : T → List ℕ → T) where
@@ -18,7 +18,8 @@ module _ {T : Type 0} (is_whole : T → Type 0) (written : T → List ℕ → T)
 
   -- a function type, whose parameters have been written
   pub function_ends : ((x : T) (text more : List ℕ) → written (written x text) more ≡ written x (text ++ more)) → (x mid : T) (guard : Bool)
-      → ((g : RecType) → MakesWhole is_whole written x (standing guard g)) → (params : List ValType) → mid ≡ written x (0x60 ▸ list val_type params).text → (list val_type params).Fits
+      → ((g : RecType) → MakesWhole is_whole written x (standing guard g)) → (params : List ValType)
+      → mid ≡ written x (0x60 ▸ list val_type params).text → (list val_type params).Fits
       → (results : List ValType) → MakesWhole is_whole written mid (list val_type results)
   function_ends joins x mid guard whole params e fit results fits =
       rw (e, joins x (0x60 ▸ list val_type params).text (list val_type results).text) (final_ends x guard whole (Func params results) (fit, fits))
@@ -26,5 +27,7 @@ module _ {T : Type 0} (is_whole : T → Type 0) (written : T → List ℕ → T)
   -- types that refer to each other
   pub group_ends : {A : Type 0} (view : A → Sub) (x : T) (guard : Bool) → ((g : RecType) → MakesWhole is_whole written x (standing guard g))
       → (types : List A) → MakesWhole is_whole written x (0x4e ▸ list (λ s. sub_type (view s)) types)
-  group_ends view x true whole types = whole_for is_whole written x (listed_serves (λ s. sub_type (view s)) view sub_type (λ s. serves_itself) (0x4e ∷ []) types) (whole (Rec (map view types)))
-  group_ends view x false whole types = whole_for is_whole written x (listed_serves (λ s. sub_type (view s)) view sub_type (λ s. serves_itself) (0x4e ∷ []) types) (whole (Rec (map view types)))
+  group_ends view x true whole types = whole_for is_whole written x (listed_serves (λ s. sub_type (view s)) view sub_type
+      (λ s. serves_itself) (0x4e ∷ []) types) (whole (Rec (map view types)))
+  group_ends view x false whole types = whole_for is_whole written x (listed_serves (λ s. sub_type (view s)) view sub_type
+      (λ s. serves_itself) (0x4e ∷ []) types) (whole (Rec (map view types)))

@@ -1,5 +1,6 @@
 -- Numbers in groups of seven bits.
-use Rattle.std.proofs.Common.{◌≡◌, ℕ, ℤ, pos, negsuc, zero, suc, ◌+◌, ◌/◌, ◌%◌, ◌^◌, ◌<◌, ◌≤◌, Bool, true, false, cond, List, [], ◌∷◌, ◌++◌, length, refl, sym, ap, ◌∙◌, arith, inl, inr, append_assoc, length-append, add-one, take, drop}
+use Rattle.std.proofs.Common.{◌≡◌, ℕ, ℤ, pos, negsuc, zero, suc, ◌+◌, ◌/◌, ◌%◌, ◌^◌, ◌<◌, ◌≤◌, Bool, true, false, cond, List, [], ◌∷◌, ◌++◌}
+use Rattle.std.proofs.Common.{length, refl, sym, ap, ◌∙◌, arith, inl, inr, append_assoc, length-append, add-one, take, drop}
 use Rattle.std.proofs.lemmas.Bool.{cases_lt}
 use Rattle.std.proofs.lemmas.List.{length-map, set_split}
 use Rattle.std.specs.Prelude.{slice_set, slice_index}
@@ -38,7 +39,8 @@ groups_monotone top (suc room) m n h =
       | inl lt ↦ rw (groups_below top (suc room) m lt) (groups_some top (suc room) n)
       | inr le ↦
           rw (groups_from top room m le, groups_from top room n (omega arith))
-          (let t : length (groups top room (m / 128)) ≤ length (groups top room (n / 128)) = groups_monotone top room (m / 128) (n / 128) (omega arith) in omega (arith, t))
+          (let t : length (groups top room (m / 128)) ≤ length (groups top room (n / 128)) =
+          groups_monotone top room (m / 128) (n / 128) (omega arith) in omega (arith, t))
     ]
 
 -- a larger number has no shorter text
@@ -58,7 +60,8 @@ one_byte (b ∷ []) some few = rw (groups_below 128 9 1 (omega arith)) refl
 one_byte (b ∷ c ∷ bytes) some few = absurd (omega (arith, few))
 
 -- a number of one byte in the place of a byte
-pub put_over : (bytes : List ℕ) (start n : ℕ) → start < length bytes → n < 128 → slice_set bytes start n ≡ take start bytes ++ unsigned_text n ++ drop (start + 1) bytes
+pub put_over : (bytes : List ℕ) (start n : ℕ) → start < length bytes → n < 128
+    → slice_set bytes start n ≡ take start bytes ++ unsigned_text n ++ drop (start + 1) bytes
 put_over bytes start n within short =
     rw (groups_below 128 9 n short, add-one start, append_assoc (take start bytes) (n ∷ []) (drop (suc start) bytes)) (set_split bytes start n within)
 
@@ -69,11 +72,24 @@ text_2 n h l = rw (groups_from 128 8 n h, groups_below 128 8 (n / 128) (omega ar
 pub text_3 : (n : ℕ) → 16384 ≤ n → n < 2097152 → groups 128 9 n ≡ (n % 128 + 128) ∷ (n / 128 % 128 + 128) ∷ n / 128 / 128 ∷ []
 text_3 n h l = rw (groups_from 128 8 n (omega arith), groups_from 128 7 (n / 128) (omega arith), groups_below 128 7 (n / 128 / 128) (omega arith)) refl
 
-pub text_4 : (n : ℕ) → 2097152 ≤ n → n < 268435456 → groups 128 9 n ≡ (n % 128 + 128) ∷ (n / 128 % 128 + 128) ∷ (n / 128 / 128 % 128 + 128) ∷ n / 128 / 128 / 128 ∷ []
-text_4 n h l = rw (groups_from 128 8 n (omega arith), groups_from 128 7 (n / 128) (omega arith), groups_from 128 6 (n / 128 / 128) (omega arith), groups_below 128 6 (n / 128 / 128 / 128) (omega arith)) refl
+pub text_4 : (n : ℕ) → 2097152 ≤ n → n < 268435456 → groups 128 9 n ≡ (n % 128 + 128) ∷ (n / 128 % 128 + 128) ∷ (n / 128 / 128 % 128 + 128)
+    ∷ n / 128 / 128 / 128 ∷ []
+text_4 n h l = rw (
+  groups_from 128 8 n (omega arith),
+  groups_from 128 7 (n / 128) (omega arith),
+  groups_from 128 6 (n / 128 / 128) (omega arith),
+  groups_below 128 6 (n / 128 / 128 / 128) (omega arith),
+) refl
 
-pub text_5 : (n : ℕ) → 268435456 ≤ n → n < 34359738368 → groups 128 9 n ≡ (n % 128 + 128) ∷ (n / 128 % 128 + 128) ∷ (n / 128 / 128 % 128 + 128) ∷ (n / 128 / 128 / 128 % 128 + 128) ∷ n / 128 / 128 / 128 / 128 ∷ []
-text_5 n h l = rw (groups_from 128 8 n (omega arith), groups_from 128 7 (n / 128) (omega arith), groups_from 128 6 (n / 128 / 128) (omega arith), groups_from 128 5 (n / 128 / 128 / 128) (omega arith), groups_below 128 5 (n / 128 / 128 / 128 / 128) (omega arith)) refl
+pub text_5 : (n : ℕ) → 268435456 ≤ n → n < 34359738368 → groups 128 9 n ≡ (n % 128 + 128) ∷ (n / 128 % 128 + 128)
+    ∷ (n / 128 / 128 % 128 + 128) ∷ (n / 128 / 128 / 128 % 128 + 128) ∷ n / 128 / 128 / 128 / 128 ∷ []
+text_5 n h l = rw (
+  groups_from 128 8 n (omega arith),
+  groups_from 128 7 (n / 128) (omega arith),
+  groups_from 128 6 (n / 128 / 128) (omega arith),
+  groups_from 128 5 (n / 128 / 128 / 128) (omega arith),
+  groups_below 128 5 (n / 128 / 128 / 128 / 128) (omega arith),
+) refl
 
 -- the texts of one to three bytes, of signed numbers that are not negative
 pub signed_below : (n : ℕ) → n < 64 → groups 64 9 n ≡ n ∷ []
@@ -89,10 +105,21 @@ pub size_3 : (n : ℕ) → 16384 ≤ n → n < 2097152 → number_size n ≡ 3
 size_3 n h l = rw (groups_from 128 8 n (omega arith), groups_from 128 7 (n / 128) (omega arith), groups_below 128 7 (n / 128 / 128) (omega arith)) refl
 
 pub size_4 : (n : ℕ) → 2097152 ≤ n → n < 268435456 → number_size n ≡ 4
-size_4 n h l = rw (groups_from 128 8 n (omega arith), groups_from 128 7 (n / 128) (omega arith), groups_from 128 6 (n / 128 / 128) (omega arith), groups_below 128 6 (n / 128 / 128 / 128) (omega arith)) refl
+size_4 n h l = rw (
+  groups_from 128 8 n (omega arith),
+  groups_from 128 7 (n / 128) (omega arith),
+  groups_from 128 6 (n / 128 / 128) (omega arith),
+  groups_below 128 6 (n / 128 / 128 / 128) (omega arith),
+) refl
 
 pub size_5 : (n : ℕ) → 268435456 ≤ n → n < 34359738368 → number_size n ≡ 5
-size_5 n h l = rw (groups_from 128 8 n (omega arith), groups_from 128 7 (n / 128) (omega arith), groups_from 128 6 (n / 128 / 128) (omega arith), groups_from 128 5 (n / 128 / 128 / 128) (omega arith), groups_below 128 5 (n / 128 / 128 / 128 / 128) (omega arith)) refl
+size_5 n h l = rw (
+  groups_from 128 8 n (omega arith),
+  groups_from 128 7 (n / 128) (omega arith),
+  groups_from 128 6 (n / 128 / 128) (omega arith),
+  groups_from 128 5 (n / 128 / 128 / 128) (omega arith),
+  groups_below 128 5 (n / 128 / 128 / 128 / 128) (omega arith),
+) refl
 
 pub size_at_most_5 : (n : ℕ) → n < 4294967296 → number_size n ≤ 5
 size_at_most_5 n h =
@@ -146,7 +173,8 @@ writing_more top negative whole now rest t w h = from w.room w.fits w.text
       room = room;
       fits = omega arith;
       text = append_assoc now (cond negative (complement (rest % 128 + 128)) (rest % 128 + 128) ∷ []) (turned negative (groups top room (rest / 128)))
-          ∙ ap (λ (bs : List ℕ). now ++ bs) (sym (turned_cons negative (rest % 128 + 128) (groups top room (rest / 128))) ∙ ap (turned negative) (sym (groups_from top room rest h)))
+          ∙ ap (λ (bs : List ℕ). now ++ bs) (sym (turned_cons negative (rest % 128 + 128) (groups top room (rest / 128)))
+          ∙ ap (turned negative) (sym (groups_from top room rest h)))
           ∙ e;
     }
 
@@ -157,4 +185,16 @@ writing_last top negative whole now rest w h =
 
 pub writing_room : (top : ℕ) (negative : Bool) (whole now : List ℕ) (rest : ℕ) → Writing top negative whole now rest → length now < length whole
 writing_room top negative whole now rest w =
-    omega (arith, ap length w.text, length-append now (turned negative (groups top w.room rest)), turned_some negative (groups top w.room rest) (groups_some top w.room rest))
+    omega (
+      arith,
+      ap length w.text,
+      length-append now (turned negative (groups top w.room rest)),
+      turned_some negative (groups top w.room rest) (groups_some top w.room rest),
+    )
+
+-- what `auto` is given where a number is written
+pub ruleset unsigned_texts = (groups_below, text_2, text_3)
+
+pub ruleset signed_texts = (signed_below, signed_2, signed_3)
+
+pub ruleset sizes = (size_1, size_2, size_3, size_4, size_5)

@@ -1,10 +1,10 @@
--- What is added to a lender: values that an iterator gives, and what comes in several calls.
+-- What is added to a parent: values that an iterator gives, and what comes in several calls.
 use Rattle.std.proofs.Common.{◌≡◌, ℕ, ◌≤◌, ◌<◌, ◌^◌, List, length, Option, Result, Ok, Err, OnOk, OnErr, IfErr, IsErrAnd, refl, ap, ◌∙◌, inl, inr, arith}
 use Rattle.std.specs.Iterator.Runs.{SomeRun, WholeRun}
 use Rattle.wenc_base.specs.Encode.{Appended}
 use Rattle.wenc_base.specs.Fault.{IsWarranted, either}
 use Rattle.wenc_base.specs.Holder.{HolderState, content_size}
-use Rattle.wenc_base.specs.Lender.{ExtendsListed, EndsListed, EndsLists}
+use Rattle.wenc_base.specs.Parent.{ExtendsListed, EndsListed, EndsLists}
 use Rattle.wenc_base.specs.Openings.{member_appended, no_room_in_holder}
 use Rattle.wenc_base.specs.Piece.{Piece}
 use Rattle.wenc_base.specs.declared.fault.Fault.{Fault}
@@ -20,15 +20,18 @@ on_err (Err fault) f h = f h
 module _ {T : Type 0} (written : T → List ℕ → T) (ended : T → T) (refuses : T → List ℕ → Fault → Type 0) where
   -- a list was added, then the member is ended
   pub ended_listed : {S B : Type 0} (steps : S → Option B → S → Type 0) (values : S) (old mid new : T) (piece : List B → Piece)
-      → ExtendsListed steps values old mid (Ok tt) (written old) (refuses old) piece → new ≡ ended mid → EndsListed written ended refuses steps values old new (Ok tt) piece
+      → ExtendsListed steps values old mid (Ok tt) (written old) (refuses old) piece → new ≡ ended mid
+      → EndsListed written ended refuses steps values old new (Ok tt) piece
   ended_listed steps values old mid new piece a e =
       let x = a.ok.3 in
       record { ok = (a.ok.0, a.ok.1, a.ok.2, record { state = e ∙ ap ended x.state; fits = x.fits; free = x.free }); err = tt; warranted = tt }
 
   -- a list was added, then another one
   pub ended_lists : {S R B C : Type 0} (steps : S → Option B → S → Type 0) (values : S)
-      (more_steps : R → Option C → R → Type 0) (more : R) (old mid new : T) (outcome : Result (Unit {0}) Fault) (piece : List B → Piece) (more_piece : List C → Piece)
-      → ExtendsListed steps values old mid (Ok tt) (written old) (refuses old) piece → EndsListed written ended refuses more_steps more mid new outcome more_piece
+      (more_steps : R → Option C → R → Type 0) (more : R) (old mid new : T) (outcome : Result (Unit {0}) Fault) (piece : List B → Piece)
+      (more_piece : List C → Piece)
+      → ExtendsListed steps values old mid (Ok tt) (written old) (refuses old) piece
+      → EndsListed written ended refuses more_steps more mid new outcome more_piece
       → EndsLists written ended refuses steps values more_steps more old new outcome piece more_piece
   ended_lists steps values more_steps more old mid new (Ok u) piece more_piece a b =
       let x = a.ok.3 in
@@ -63,7 +66,8 @@ module _ {S B : Type 0} (steps : S → Option B → S → Type 0) (s : S) (piece
 
   -- what was written is kept, or cut off for its size
   pub kept_or_cut : (new : HolderState) (body : List ℕ) (outcome : Result (Unit {0}) Fault) → Came body
-      → OnOk outcome (new ≡ record { kept = old.kept; count = old.count; body = body; opening = old.opening }) → OnOk outcome (content_size old.count (length body) < 2 ^ 32)
+      → OnOk outcome (new ≡ record { kept = old.kept; count = old.count; body = body; opening = old.opening })
+      → OnOk outcome (content_size old.count (length body) < 2 ^ 32)
       → OnErr outcome (new ≡ old) → IfErr outcome (λ fault. (fault ≡ TooLarge) × (2 ^ 32 ≤ content_size old.count (length body))) → Grows new outcome
   kept_or_cut new body (Err fault) came e fits same large =
       refused new (Err fault) fault refl same (came.0, came.1, rw large.0 (inr (refl, rw came.3.items at large.1)))

@@ -1,5 +1,6 @@
 -- Bytes in the middle of a list are replaced by fewer ones, and what follows them moves up.
-use Rattle.std.proofs.Common.{◌≡◌, ℕ, ◌+◌, ◌-◌, ◌≤◌, ◌<◌, ◌^◌, List, ◌++◌, length, take, drop, refl, arith, append_assoc, length-drop, length-append, length-take-le, take-append-drop, Option, ap, rules}
+use Rattle.std.proofs.Common.{◌≡◌, ℕ, ◌+◌, ◌-◌, ◌≤◌, ◌<◌, ◌^◌, List, ◌++◌, length, take, drop, refl, arith, append_assoc, length-drop}
+use Rattle.std.proofs.Common.{length-append, length-take-le, take-append-drop, Option, ap, rules}
 use Rattle.std.proofs.lemmas.Slice.{take-put_mid, drop-put_mid, overwrites}
 use Rattle.std.proofs.lemmas.List.{places, take_at, drop_at, take-append-le, drop-append-le}
 use Rattle.std.proofs.lemmas.List.Edits.{take-paste}
@@ -13,15 +14,24 @@ all_of_drop : (k n : ℕ) (xs : List ℕ) → n ≡ length xs - k → take n (dr
 all_of_drop k n xs e = search (rules, overwrites)
 
 pub filled : (xs head : List ℕ) (e n : ℕ) → e ≤ n → n ≤ length xs → length head ≤ n - e
-    → take (length xs - (n - e - length head)) (paste (put_mid e (length head) xs head) (e + length head) (drop n (put_mid e (length head) xs head)) (length xs - n))
+    → take (length xs - (n - e - length head)) (paste (put_mid e (length head) xs head) (e + length head)
+    (drop n (put_mid e (length head) xs head)) (length xs - n))
     ≡ take e xs ++ (head ++ drop n xs)
 filled xs head e n order room short =
     let at_most : e + length head ≤ length (put_mid e (length head) xs head) = search (rules, places, arith) in
-    let front : take (e + length head) (put_mid e (length head) xs head) ≡ take e xs ++ head = take-put_mid e (length head) xs head (e + length head) refl (omega arith) in
+    let front : take (e + length head) (put_mid e (length head) xs head) ≡ take e xs ++ head =
+    take-put_mid e (length head) xs head (e + length head) refl (omega arith) in
     let back : drop n (put_mid e (length head) xs head) ≡ drop n xs = drop-put_mid e (length head) xs head n (omega arith) (omega arith) refl in
     let cut : length xs - (n - e - length head) ≡ e + length head + (length xs - n) = omega arith in
     let enough : length xs - n ≤ length (drop n (put_mid e (length head) xs head)) = rw back (omega (arith, length-drop n xs)) in
-    rw (cut, take-paste (put_mid e (length head) xs head) (e + length head) (drop n (put_mid e (length head) xs head)) (length xs - n) at_most enough, front, back, all_of_drop n (length xs - n) xs refl)
+    rw (
+      cut,
+      take-paste (put_mid e (length head) xs head) (e + length head) (drop n (put_mid e (length head) xs head))
+          (length xs - n) at_most enough,
+      front,
+      back,
+      all_of_drop n (length xs - n) xs refl,
+    )
     (append_assoc (take e xs) head (drop n xs))
 
 -- ---- bytes that are kept in front of others
@@ -41,18 +51,42 @@ module _ (kept body head : List ℕ) (start end : ℕ) (order : start ≤ end) (
   in_front = rw (take-append-le start kept body (omega arith), drop-append-le end kept body room) (regrouped (take start kept) head (drop end kept) body)
 
   front_length : length front ≡ length kept - (end - start - length head)
-  front_length = omega (arith, length-append (take start kept) (head ++ drop end kept), length-append head (drop end kept), length-take-le start kept (omega arith), length-drop end kept)
+  front_length = omega (
+    arith,
+    length-append (take start kept) (head ++ drop end kept),
+    length-append head (drop end kept),
+    length-take-le start kept (omega arith),
+    length-drop end kept,
+  )
 
   filled_view : (count : ℕ) (opening : Option Opening) (after : List ℕ) → after ≡ take start (kept ++ body) ++ (head ++ drop end (kept ++ body))
-      → let h : HolderState = record { kept = take (length kept - (end - start - length head)) after; count = count; body = drop (length kept - (end - start - length head)) after; opening = opening } in
+      → let h : HolderState = record {
+        kept = take (length kept - (end - start - length head)) after;
+        count = count;
+        body =
+            drop (length kept - (end - start - length head)) after;
+        opening = opening;
+      } in
       h ≡ record { kept = front; count = count; body = body; opening = opening }
-  filled_view count opening after e = rw (e, in_front, take_at front body (length kept - (end - start - length head)) front_length, drop_at front body (length kept - (end - start - length head)) front_length) refl
+  filled_view count opening after e = rw (
+    e,
+    in_front,
+    take_at front body (length kept - (end - start - length head)) front_length,
+    drop_at front body (length kept - (end - start - length head)) front_length,
+  ) refl
 
 -- the kept bytes are the first of all
 pub kept_filled : (bytes after head : List ℕ) (kept start end count : ℕ) (opening : Option Opening) (h : HolderState) → kept ≤ length bytes
-    → record { kept = take kept bytes; count = count; body = drop kept bytes; opening = opening } ≡ h → start ≤ end → end ≤ length h.kept → length head ≤ end - start
+    → record { kept = take kept bytes; count = count; body = drop kept bytes; opening = opening } ≡ h → start ≤ end → end ≤ length h.kept
+    → length head ≤ end - start
     → after ≡ take start bytes ++ (head ++ drop end bytes)
-    → record { kept = take (kept - (end - start - length head)) after; count = count; body = drop (kept - (end - start - length head)) after; opening = opening }
+    → record {
+      kept = take (kept - (end - start - length head)) after;
+      count = count;
+      body =
+          drop (kept - (end - start - length head)) after;
+      opening = opening;
+    }
     ≡ with_kept h (take start h.kept ++ (head ++ drop end h.kept))
 kept_filled bytes after head kept start end count opening h le view order room short e =
     let size : length (take kept bytes) ≡ kept = length-take-le kept bytes le in

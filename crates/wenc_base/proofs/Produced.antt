@@ -7,14 +7,16 @@ use Rattle.wenc_base.specs.Forms.{list, name}
 use Rattle.wenc_base.specs.Holder.{HolderState, is_finished, content_size, held_members, held_text, AddCause, Accepted, AddsMember, Contains}
 use Rattle.wenc_base.specs.Number.{groups, unsigned_text, u32}
 use Rattle.wenc_base.specs.Piece.{refused_for}
-use Rattle.wenc_base.specs.Producers.{Producer, producer, Producers, producers_field, held_field, FieldCause, producers_label, producers_section, producers_held}
+use Rattle.wenc_base.specs.Producers.{Producer, producer, Producers, producers_field, held_field, FieldCause, producers_label}
+use Rattle.wenc_base.specs.Producers.{producers_section, producers_held}
 use Rattle.wenc_base.specs.laws.Holders.{adds_as}
 use Rattle.wenc_base.specs.laws.Numbers.{size_free}
 use Rattle.wenc_base.specs.declared.fault.Fault.{Fault}
 use Rattle.wenc_base.specs.declared.fault.Fault.TheVariants.{Unfinished}
 
 pub field_added : (old new : HolderState) (field : List ℕ) (tools : HolderState) → Accepted (in_order (name field) (held_members tools)) old new
-    → 10 + content_size new.count (length new.body) < 2 ^ 32 → is_finished tools ≡ true → AddsMember (refused_for (FieldCause old field tools) (held_field field tools)) old new (Ok tt)
+    → 10 + content_size new.count (length new.body) < 2 ^ 32 → is_finished tools ≡ true
+    → AddsMember (refused_for (FieldCause old field tools) (held_field field tools)) old new (Ok tt)
 field_added old new field tools a small finished = record {
   ok = record { state = a.state; fits = a.fits; free = free };
   err = tt;
@@ -35,7 +37,8 @@ field_added old new field tools a small finished = record {
     ]
 
 -- a field of the tools that are held is added as one of these tools
-pub typed_field : (old new : HolderState) (outcome : Result (Unit {0}) Fault) (field : List ℕ) (tools : HolderState) (each : List Producer) → Contains producer tools each
+pub typed_field : (old new : HolderState) (outcome : Result (Unit {0}) Fault) (field : List ℕ) (tools : HolderState) (each : List Producer)
+    → Contains producer tools each
     → AddsMember (refused_for (FieldCause old field tools) (held_field field tools)) old new outcome
     → AddsMember (refused_for (FieldCause old field tools) (producers_field (record { field = field; tools = each }))) old new outcome
 typed_field old new outcome field tools each holds a = adds_as old new outcome serves a
@@ -55,7 +58,8 @@ unfolding groups
 label_size h = omega (arith, length-append (unsigned_text h.count) h.body)
 
 -- the section's parts serve as it
-pub section_serves : (h : HolderState) (size : ℕ) → size ≡ 10 + content_size h.count (length h.body) → size < 2 ^ 32 → Serves (in_order (u32 size) (in_order (name producers_label) (held_members h))) (producers_held h)
+pub section_serves : (h : HolderState) (size : ℕ) → size ≡ 10 + content_size h.count (length h.body) → size < 2 ^ 32
+    → Serves (in_order (u32 size) (in_order (name producers_label) (held_members h))) (producers_held h)
 section_serves h size e small = record {
   text = rw (← bytes) refl;
   fits = λ fits. (rw bytes at small, (fits.1.0, fits.1.1));
@@ -76,10 +80,12 @@ section_serves h size e small = record {
     among fault (inr (none, inr c)) = c.1
 
 -- a section that has these fields
-pub section_of_fields : (section : HolderState) (fields : List Producers) → Contains producers_field section fields → (producers_held section).text ≡ (producers_section fields).text
+pub section_of_fields : (section : HolderState) (fields : List Producers) → Contains producers_field section fields
+    → (producers_held section).text ≡ (producers_section fields).text
 unfolding groups
 section_of_fields section fields holds = rw (← holds.count, holds.body) refl
 
 -- the data of a section that has these fields
-pub data_of_fields : (section : HolderState) (fields : List Producers) → Contains producers_field section fields → held_text section ≡ (list producers_field fields).text
+pub data_of_fields : (section : HolderState) (fields : List Producers) → Contains producers_field section fields
+    → held_text section ≡ (list producers_field fields).text
 data_of_fields section fields holds = rw (← holds.count, holds.body) refl

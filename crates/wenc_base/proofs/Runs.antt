@@ -1,5 +1,6 @@
 -- Values that come from an iterator, and their runs.
-use Rattle.std.proofs.Common.{◌≡◌, ℕ, ◌+◌, ◌^◌, ◌<◌, List, [], ◌∷◌, ◌++◌, length, length-append, take, drop, Option, Result, Ok, Err, OnOk, IfErr, IsErrAnd, false, refl, ap, append_assoc, ◌∙◌, inl, inr, arith}
+use Rattle.std.proofs.Common.{◌≡◌, ℕ, ◌+◌, ◌^◌, ◌<◌, List, [], ◌∷◌, ◌++◌, length, length-append, take, drop, Option, Result, Ok, Err, OnOk}
+use Rattle.std.proofs.Common.{IfErr, IsErrAnd, false, refl, ap, append_assoc, ◌∙◌, inl, inr, arith}
 use Rattle.std.proofs.iter.runs.Made.{run}
 use Rattle.std.specs.Iterator.Runs.{Run, SomeRun, WholeRun}
 use Rattle.wenc_base.specs.Encode.{Appended, drawn_in_order}
@@ -33,8 +34,12 @@ module _ {S A : Type 0} (steps : S → Option A → S → Type 0) (form : Form A
   -- the value that came last is refused
   pub refused_run : (run : Run steps) (vs : List A) (v : A) (fault : Fault) → run.from ≡ s → run.items ≡ vs ++ v ∷ []
       → NoCause (member_cause Causes vs) → IsWarranted (Causes v) fault → SomeRun steps s (λ p. IsWarranted (drawn_cause Causes p.items) fault)
-  refused_run run vs v fault begins gave free h =
-      (run, begins, rw gave (still_warranted (Causes v) (drawn_cause Causes (vs ++ v ∷ [])) (λ f g. inl (cause_of_later Causes vs (v ∷ []) f free (inl g))) fault h))
+  refused_run run vs v fault begins gave free h = (
+    run,
+    begins,
+    rw gave (still_warranted (Causes v) (drawn_cause Causes (vs ++ v ∷ []))
+        (λ f g. inl (cause_of_later Causes vs (v ∷ []) f free (inl g))) fault h),
+  )
 
   -- where all came after a byte, and their number is put in its place
   module _ (old now : List ℕ) (lead count : ℕ) (outcome : Result (Unit {0}) Fault) where
@@ -68,7 +73,8 @@ module _ {S A : Type 0} (steps : S → Option A → S → Type 0) (form : Form A
     pub memory_run : AllCame → IfErr outcome IsMemory → IfErr outcome (λ fault. SomeRun steps s (λ run. IsWarranted (drawn_cause Causes run.items) fault))
     memory_run came h = go outcome h
       where
-        go : (outcome : Result (Unit {0}) Fault) → IfErr outcome IsMemory → IfErr outcome (λ fault. SomeRun steps s (λ run. IsWarranted (drawn_cause Causes run.items) fault))
+        go : (outcome : Result (Unit {0}) Fault) → IfErr outcome IsMemory → IfErr outcome
+            (λ fault. SomeRun steps s (λ run. IsWarranted (drawn_cause Causes run.items) fault))
         go (Err fault) h = (came.0, came.1, still_warranted (λ f. ⊥) (drawn_cause Causes came.0.items) (λ f g. absurd g) fault h)
         go (Ok u) h = tt
 
@@ -83,13 +89,18 @@ module _ {S A : Type 0} (steps : S → Option A → S → Type 0) (lead : Piece)
 
   -- the first piece is refused, before any value came
   pub lead_refused : (fault : Fault) → IsWarranted lead.Cause fault → Refused fault
-  lead_refused fault h = no_run steps s (λ vs. IsWarranted (listed lead form tail vs).Cause fault) (still_warranted lead.Cause (listed lead form tail []).Cause (λ f g. inl g) fault h)
+  lead_refused fault h = no_run steps s (λ vs. IsWarranted (listed lead form tail vs).Cause fault)
+      (still_warranted lead.Cause (listed lead form tail []).Cause (λ f g. inl g) fault h)
 
   -- a value is refused, or the number of values
   pub values_refused : (fault : Fault) → SomeRun steps s (λ p. IsWarranted (drawn_in_order form p.items).Cause fault) → Refused fault
   values_refused fault h =
-      let vs : List A = h.0.items in
-      (h.0, h.1, still_warranted (drawn_in_order form vs).Cause (listed lead form tail vs).Cause (λ f g. inr (inl ((drawn_is_list form vs).among f g))) fault h.2)
+      let vs : List A = h.0.items in (
+        h.0,
+        h.1,
+        still_warranted (drawn_in_order form vs).Cause (listed lead form tail vs).Cause
+            (λ f g. inr (inl ((drawn_is_list form vs).among f g))) fault h.2,
+      )
 
   module _ (old now : List ℕ) where
     abbrev Came : Type 0
@@ -100,7 +111,8 @@ module _ {S A : Type 0} (steps : S → Option A → S → Type 0) (lead : Piece)
     tail_refused fault came h = (came.0, came.1, still_warranted tail.Cause (listed lead form tail came.0.items).Cause (λ f g. inr (inr g)) fault h)
 
     -- all was written
-    pub all_listed : (start new : List ℕ) → Appended start lead old → Came → Appended now tail new → WholeRun steps s (λ p. Appended start (listed lead form tail p.items) new)
+    pub all_listed : (start new : List ℕ) → Appended start lead old → Came → Appended now tail new
+        → WholeRun steps s (λ p. Appended start (listed lead form tail p.items) new)
     all_listed start new begins came ends = (
       came.0,
       came.1,

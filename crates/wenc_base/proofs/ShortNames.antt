@@ -41,4 +41,7 @@ short_name_added old new entry state finished few small short index utf8 = recor
     fits = (index, (omega (arith, short), utf8))
 
     none : NoCause (AddCause old (name_association entry).text (name_association entry).Cause)
-    none fault h = elim h [ inl own ↦ (name_association_lawful entry).free fits fault own | inr more ↦ elim more [ inl count ↦ uncounted fault count | inr stopped ↦ absurd cc ] ]
+    none fault h = elim h [
+      | inl own ↦ (name_association_lawful entry).free fits fault own
+      | inr more ↦ elim more [ inl count ↦ uncounted fault count | inr stopped ↦ absurd cc ]
+    ]

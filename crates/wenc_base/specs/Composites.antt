@@ -45,7 +45,7 @@ pub record Sub : Type 0 where
   pub supertype : Option ℕ
   pub composite : Composite
 
--- The short spelling is that of a final type without supertype alone.
+-- Only a final type without supertype has the short spelling.
 abbrev pub sub_type_of : Bool → Option ℕ → Form Composite
 sub_type_of true None c = composite_type c
 sub_type_of true (Some n) c = 0x4f ▸ (option u32 (Some n) ⨾ composite_type c)

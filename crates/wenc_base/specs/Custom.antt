@@ -8,6 +8,6 @@ pub record Custom : Type 0 where
   pub label : List ℕ
   pub bytes : List ℕ
 
--- after its id: how many bytes, the name, the data
+-- after its id: the size, the name, the data
 abbrev pub custom : Form Custom
 custom c = sized (name c.label ⨾ raw AreBytes c.bytes)

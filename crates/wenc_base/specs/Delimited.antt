@@ -1,5 +1,5 @@
--- What it is that a text tells which value it is: a form, what is seen of a value, and what ties
--- both to its encoding.
+-- Why an encoding determines its value: a form, what is seen of a value, and what ties both to the
+-- encoding.
 use Rattle.std.specs.Prelude.{◌≡◌, ℕ, Bool, true}
 use Rattle.wenc_base.specs.Encode.{Serves}
 use Rattle.wenc_base.specs.Piece.{Form, ◌⨾◌}
@@ -9,7 +9,7 @@ use Rattle.wenc_base.specs.Readers.{Reader, LawfulForm}
 abbrev pub IsReadable : {A : Type 0} → Form A → Type 0
 IsReadable {A} form = (read : ℕ → Reader A) × LawfulForm form read
 
--- each value is written as the form says of what is seen of it
+-- each value is written as the form writes what is seen of it
 abbrev pub IsWritten : {A S : Type 0} → Form A → (A → S) → Form S → Type 0
 IsWritten {A} piece seen form = (v : A) → Serves (piece v) (form (seen v))
 

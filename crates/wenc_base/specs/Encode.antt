@@ -1,4 +1,4 @@
--- What it is to append a text.
+-- Appending an encoding.
 use Rattle.std.specs.Prelude.{◌≡◌, ℕ, List, length, ◌++◌, Result, Err, OnOk, OnErr, IfErr}
 use Rattle.wenc_base.specs.Fault.{IsWarranted, NoCause, size_cause, first_of}
 use Rattle.wenc_base.specs.Fault.{list_cause, drawn_cause}
@@ -22,17 +22,17 @@ pub record Appended (old : List ℕ) (p : Piece) (new : List ℕ) : Type 0 where
   pub fits : p.Fits
   pub no_cause : NoCause p.Cause
 
--- ---- what is asked first is answered first
+-- ---- the first error takes precedence
 
 -- one piece, then another
 abbrev pub in_order : Piece → Piece → Piece
 in_order p q = refused_for (first_of p.Cause q.Cause) (p ⨾ q)
 
--- how many values there are, then each
+-- the number of values, then each
 abbrev pub list_in_order : {A : Type 0} → Form A → Form (List A)
 list_in_order form vs = refused_for (list_cause (λ v. (form v).Cause) vs) (list form vs)
 
--- how many values came, which is known last, then each
+-- the number of values, which is known last, then each
 abbrev pub drawn_in_order : {A : Type 0} → Form A → Form (List A)
 drawn_in_order form vs = refused_for (drawn_cause (λ v. (form v).Cause) vs) (list form vs)
 
@@ -43,8 +43,8 @@ sized_in_order p =
 
 -- ---- one piece for another
 
--- Who writes p writes q: the text is the same, what fits still fits, each cause of p is one of q,
--- and where p has none, q has none.
+-- Writing p writes q: the text is the same, what fits still fits, each cause of p is one of q, and
+-- where p has none, q has none.
 pub record Serves (p q : Piece) : Type 0 where
   pub text : p.text ≡ q.text
   pub fits : p.Fits → q.Fits

@@ -1,5 +1,5 @@
--- Types of what modules import and export (WebAssembly 3.0, binary format, "Limits", "Table Types",
--- "Memory Types", "Global Types", "Tag Types" and "External Types").
+-- Types of the imports and exports of modules (WebAssembly 3.0, binary format, "Limits", "Table
+-- Types", "Memory Types", "Global Types", "Tag Types" and "External Types").
 use Rattle.std.specs.Prelude.{ℕ, ◌+◌, Bool, true, false, if◌then◌else◌}
 use Rattle.std.specs.Prelude.{Option, Some, None}
 use Rattle.wenc_base.specs.Piece.{Piece, Form, ◌▸◌, ◌⨾◌}

@@ -1,5 +1,4 @@
--- The kinds of what a module exports and imports (WebAssembly 3.0, binary format, "Export
--- Section").
+-- The kinds of a module's exports and imports (WebAssembly 3.0, binary format, "Export Section").
 use Rattle.std.specs.Prelude.{ℕ}
 use Rattle.wenc_base.specs.Piece.{Form, byte}
 use Rattle.wenc_base.specs.declared.exports.ExportKind.{ExportKind}

@@ -10,7 +10,7 @@ fault_number TooMany = 2
 fault_number TooLarge = 3
 fault_number Unfinished = 4
 
--- A call may fail with this fault: for want of memory, or with this cause.
+-- A call may fail with this fault: for a failed allocation, or with this cause.
 abbrev pub IsWarranted : (Fault → Type 0) → Fault → Type 0
 IsWarranted cause (Memory e) = Unit {0}
 IsWarranted cause fault = cause fault
@@ -23,18 +23,17 @@ NoCause cause = (fault : Fault) → cause fault → ⊥
 abbrev pub either : (Fault → Type 0) → (Fault → Type 0) → Fault → Type 0
 either one other fault = one fault ⊎ other fault
 
--- why so many bytes can't be a text, or what a size is of: their number isn't one of 32 bits
+-- why this many bytes can't be a string, or follow their size: their number exceeds 32 bits
 abbrev pub size_cause : ℕ → Fault → Type 0
 size_cause n TooLarge = 2 ^ 32 ≤ n
 size_cause n other = ⊥
 
--- why so many values can't be a list: their number isn't one of 32 bits
+-- why this many values can't be a list: their number exceeds 32 bits
 abbrev pub count_cause : ℕ → Fault → Type 0
 count_cause n TooMany = 2 ^ 32 ≤ n
 count_cause n other = ⊥
 
--- the cause of one thing or, where that has none, of the next: what is asked first is answered
--- first
+-- the cause of one thing or, if that has none, of the next: the first error takes precedence
 abbrev pub first_of : (Fault → Type 0) → (Fault → Type 0) → Fault → Type 0
 first_of one next fault = one fault ⊎ (NoCause one × next fault)
 
@@ -51,6 +50,6 @@ list_cause cause vs = first_of (count_cause (length vs)) (member_cause cause vs)
 abbrev pub drawn_cause : {A : Type 0} → (A → Fault → Type 0) → List A → Fault → Type 0
 drawn_cause cause vs = first_of (member_cause cause vs) (count_cause (length vs))
 
--- The fault is want of memory.
+-- The fault is a failed allocation.
 abbrev pub IsMemory : Fault → Type 0
 IsMemory = IsWarranted (λ fault. ⊥)

@@ -1,4 +1,4 @@
--- What holds of a form: of each value of a type and its piece.
+-- The laws of a form: of each value of a type and its piece.
 use Rattle.std.specs.Prelude.{◌≡◌, ℕ, List, ◌++◌}
 use Rattle.wenc_base.specs.Fault.{NoCause}
 use Rattle.wenc_base.specs.Piece.{Form, Spelling, Strict, Wide}

@@ -6,11 +6,11 @@ use Rattle.wenc_base.specs.Piece.{Piece, Form, byte, ◌▸◌, ◌⨾◌, each,
 use Rattle.wenc_base.specs.Number.{u32, count, size}
 use Rattle.std.specs.List.{AllByRecursion}
 
--- whether it holds
+-- a flag
 abbrev pub flag : Form Bool
 flag holds = byte (if holds then 0x01 else 0x00)
 
--- how many, then each
+-- the number of values, then each
 abbrev pub list : {A : Type 0} → Form A → Form (List A)
 list form vs = count (length vs) ⨾ each form vs
 
@@ -19,11 +19,11 @@ abbrev pub option : {A : Type 0} → Form A → Form (Option A)
 option form None = byte 0x00
 option form (Some v) = 0x01 ▸ form v
 
--- these bytes, which are text
+-- these bytes, which are UTF-8
 abbrev pub utf8 : Form (List ℕ)
 utf8 = raw IsUtf8
 
--- how many bytes, then a text of so many
+-- the number of bytes, then as many, which are UTF-8
 abbrev pub name : Form (List ℕ)
 name bs = size (length bs) ⨾ utf8 bs
 
@@ -31,17 +31,17 @@ name bs = size (length bs) ⨾ utf8 bs
 abbrev pub AreBytes : List ℕ → Type 0
 AreBytes = AllByRecursion (λ b. b < 256)
 
--- how many bytes, then that many, which are all of it
+-- the number of bytes, then that many, which are all of it
 abbrev pub sized : Piece → Piece
 sized p = record (size (length p.text) ⨾ p) {
   Reads = λ mode bytes rest. (content : List ℕ) ×
       (u32 (length content)).Reads mode bytes (content ++ rest) × p.Reads mode content [];
 }
 
--- how many bytes, then the bytes
+-- the number of bytes, then the bytes
 abbrev pub byte_list : Form (List ℕ)
 byte_list bs = sized (raw AreBytes bs)
 
--- a counted section, after its id: how many bytes, how many items, the items
+-- a counted section, after its id: the size, the number of items, the items
 abbrev pub counted : {A : Type 0} → Form A → Form (List A)
 counted form items = sized (list form items)

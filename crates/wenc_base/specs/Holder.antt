@@ -1,4 +1,4 @@
--- What counted sections and types keep: how many members, and their texts.
+-- The content of counted sections and types: the number of members, and their texts.
 use Rattle.std.specs.Prelude.{◌≡◌, ℕ, ◌+◌, ◌<◌, ◌≤◌, ◌^◌, ◌⊎◌, Bool, true, false, is_none, List, []}
 use Rattle.std.specs.Prelude.{◌++◌, length, take, drop, Option, None, Result, Err, OnOk}
 use Rattle.std.specs.Prelude.{OnErr, IfErr}
@@ -12,8 +12,8 @@ use Rattle.wenc_base.specs.declared.fault.Fault.{Fault}
 use Rattle.wenc_base.specs.declared.fault.Fault.TheVariants.{Memory, TooMany, TooLarge, Unfinished}
 use Rattle.wenc_base.specs.declared.holder.openings.Opening.{Opening}
 
--- What contracts see of a holder: the bytes that it keeps in front, which are not its own, how many
--- members it has, their texts, and, while one is being written, where that begins.
+-- A holder in contracts: the bytes that it keeps in front, which are not its own, the number of its
+-- members, their texts, and, while one is being written, where that begins.
 pub record HolderState : Type 0 where
   pub kept : List ℕ
   pub count : ℕ
@@ -50,7 +50,7 @@ all_bytes h = h.kept ++ h.body
 abbrev pub with_kept : HolderState → List ℕ → HolderState
 with_kept h kept = record { kept = kept; count = h.count; body = h.body; opening = h.opening }
 
--- the first bytes of all, of which some are kept, and the others are the texts of so many members
+-- the first of all bytes, of which some are kept, and the rest are the texts of this many members
 abbrev pub gone_back : HolderState → ℕ → ℕ → ℕ → HolderState
 gone_back h kept len count =
     holding (take kept (all_bytes h)) count (drop kept (take len (all_bytes h)))
@@ -80,7 +80,7 @@ content_size count body = number_size count + body
 abbrev pub held_text : HolderState → List ℕ
 held_text h = unsigned_text h.count ++ h.body
 
--- a counted section: how many bytes, how many members, the members (component model, binary format,
+-- a counted section: the size, the number of members, the members (component model, binary format,
 -- `vec`)
 abbrev pub section_text : HolderState → List ℕ
 section_text h = unsigned_text (content_size h.count (length h.body)) ++ held_text h
@@ -91,14 +91,14 @@ EncodeCause h fault = (fault ≡ Unfinished) × (is_finished h ≡ false)
 
 -- ---- adding a member
 
--- Why one member more can't be counted, with which all texts have so many bytes.
+-- Why one more member can't be counted, with which all texts have this many bytes.
 abbrev pub OneMoreCause : ℕ → ℕ → Fault → Type 0
 OneMoreCause count size (Memory e) = ⊥
 OneMoreCause count size TooMany = 2 ^ 32 ≤ count + 1
 OneMoreCause count size TooLarge = 2 ^ 32 ≤ content_size (count + 1) size
 OneMoreCause count size Unfinished = ⊥
 
--- Why a member with this text can't be added: for its own cause, for number or size, or since one
+-- Why a member with this text can't be added: for its own cause, for number or size, or because one
 -- is being written.
 abbrev pub AddCause : HolderState → List ℕ → (Fault → Type 0) → Fault → Type 0
 AddCause h text cause fault =

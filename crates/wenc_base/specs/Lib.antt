@@ -13,7 +13,7 @@ pub mod Producers
 pub mod Modules
 pub mod Holder
 pub mod Names
-pub mod Lender
+pub mod Parent
 pub mod Openings
 pub mod FormLaws
 pub mod Readers

@@ -19,6 +19,6 @@ name_association n = u32 n.index ⨾ name_form n.name
 abbrev pub names_text : List NameAssociation → List ℕ
 names_text ns = flat_map (λ n. (name_association n).text) ns
 
--- how many names, then each
+-- the number of names, then each
 abbrev pub name_map : Form (List NameAssociation)
 name_map ns = list name_association ns

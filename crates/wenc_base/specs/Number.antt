@@ -57,11 +57,11 @@ number top room bound n = record (verbatim (groups top 9 n)) {
 abbrev pub u32 : Form ℕ
 u32 = number 128 4 (2 ^ 32)
 
--- how many values there are
+-- the number of values
 abbrev pub count : Form ℕ
 count n = refused_for (count_cause n) (u32 n)
 
--- how many bytes there are
+-- the number of bytes
 abbrev pub size : Form ℕ
 size n = refused_for (size_cause n) (u32 n)
 
@@ -77,7 +77,7 @@ index = number 64 4 (2 ^ 32)
 abbrev pub i64 : Form ℤ
 i64 z = raw (λ text. FitsSigned w64 z) (signed_text z)
 
--- how many bytes the text of a number has
+-- the number of bytes in the text of a number
 abbrev pub number_size : ℕ → ℕ
 number_size n = length (unsigned_text n)
 

@@ -6,7 +6,7 @@ use Rattle.wenc_base.specs.Fault.{IsWarranted, NoCause}
 use Rattle.wenc_base.specs.Piece.{Piece}
 use Rattle.wenc_base.specs.Holder.{HolderState, is_finished, holding, content_size, AddCause}
 use Rattle.wenc_base.specs.Holder.{ContainsSome}
-use Rattle.wenc_base.specs.Lender.{Extends}
+use Rattle.wenc_base.specs.Parent.{Extends}
 use Rattle.wenc_base.specs.declared.fault.Fault.{Fault}
 use Rattle.wenc_base.specs.declared.fault.Fault.TheVariants.{TooLarge, Unfinished}
 use Rattle.wenc_base.specs.declared.holder.openings.Opening.{Opening}
@@ -53,7 +53,7 @@ member_text_at body (Some o) = drop o.member_start body
 abbrev pub member_text : HolderState → List ℕ
 member_text h = member_text_at h.body h.opening
 
--- a member that is being written is one of so many, and begins within so many bytes
+-- a member that is being written is one of this many, and begins within this many bytes
 abbrev pub OpeningStands : Option Opening → ℕ → ℕ → Type 0
 OpeningStands None count size = Unit {0}
 OpeningStands (Some o) count size = (o.member_start ≤ size) × (1 ≤ count)
@@ -72,7 +72,7 @@ pub record BeginsMember (old new : HolderState) (outcome : Result (Unit {0}) Fau
   pub warranted : IfErr outcome (IsWarranted (AddCause old lead (λ _. ⊥)))
   pub unfinished_first : is_finished old ≡ false → outcome ≡ Err Unfinished
 
--- the members have no room for so many more bytes
+-- the members have no room for this many more bytes
 abbrev pub no_room_in_holder : HolderState → List ℕ → Fault → Type 0
 no_room_in_holder h text fault =
     (fault ≡ TooLarge) × (2 ^ 32 ≤ content_size h.count (length (h.body ++ text)))

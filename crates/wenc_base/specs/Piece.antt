@@ -1,4 +1,4 @@
--- One thing that is written: its text, why it can't be encoded, and what it is to read it.
+-- A piece of an encoding: its text, why it can't be encoded, and how it is read.
 use Rattle.std.specs.List.{flat_map, AllByRecursion}
 use Rattle.std.specs.Prelude.{◌≡◌, ℕ, ◌⊎◌, List, [], ◌∷◌, ◌++◌}
 use Rattle.wenc_base.specs.declared.fault.Fault.{Fault}

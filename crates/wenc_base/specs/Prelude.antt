@@ -32,8 +32,8 @@ pub use Rattle.wenc_base.specs.Holder.{all_bytes, content_size, cut_to, filled, 
 pub use Rattle.wenc_base.specs.Holder.{held_members, held_section, held_text, holding, is_finished}
 pub use Rattle.wenc_base.specs.Holder.{listed, no_members, section_text, with_kept, with_member}
 pub use Rattle.wenc_base.specs.Names.{NameAssociation, name_association}
-pub use Rattle.wenc_base.specs.Lender.{Ends, EndsListed, EndsLists, Extends, ExtendsListed, GivesUp}
-pub use Rattle.wenc_base.specs.Lender.{Lends, MakesWhole}
+pub use Rattle.wenc_base.specs.Parent.{Ends, EndsListed, EndsLists, Extends, ExtendsListed, GivesUp}
+pub use Rattle.wenc_base.specs.Parent.{Borrows, MakesWhole}
 pub use Rattle.wenc_base.specs.Openings.{AppendsToMember, BeginsMember, HasMembers, is_opened}
 pub use Rattle.wenc_base.specs.Openings.{member_appended, member_begun, member_ended}
 pub use Rattle.wenc_base.specs.Openings.{member_given_up, member_text, no_room_in_holder}

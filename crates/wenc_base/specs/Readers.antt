@@ -29,15 +29,15 @@ abbrev pub ◌>>=◌ : {A B : Type 0} → Reader A → (A → Reader B) → Read
 abbrev pub give : {A : Type 0} → A → Reader A
 give v bytes = Ok (v, bytes)
 
--- nothing, whatever is there
+-- no value, whatever the bytes are
 abbrev pub nowhere : {A : Type 0} → Reader A
 nowhere bytes = Err Bad
 
--- what is there, of which no more may open
+-- too deep, since no more types may open
 abbrev pub too_deep : {A : Type 0} → Reader A
 too_deep bytes = Err Deep
 
--- so many values
+-- this many values
 abbrev pub times : {A : Type 0} → Reader A → ℕ → Reader (List A)
 times read zero = give []
 times read (suc n) = read >>= λ v. times read n >>= λ vs. give (v ∷ vs)

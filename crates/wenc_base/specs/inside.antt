@@ -1,3 +1,3 @@
--- What private functions and proofs need alone: no contract of a public call reaches it.
+-- What only private functions and proofs need: no contract of a public call reaches it.
 pub mod Sections
 pub mod Written

@@ -16,4 +16,4 @@ pub mod Serves
 pub mod Holders
 pub mod Members
 pub mod Names
-pub mod Lenders
+pub mod Parents

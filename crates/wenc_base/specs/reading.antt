@@ -1,5 +1,5 @@
--- What finds a value at the front of bytes, a reader for each form. Contracts of what reads cite
--- them.
+-- Readers, one for each form, which find a value at the beginning of bytes. Contracts of functions
+-- that read cite them.
 pub mod Numbers
 pub mod Forms
 pub mod Exports

@@ -1,7 +1,12 @@
 //! The trait `Delimited`: values that can be read back from their encoding.
 ghost use Rattle.std.specs.Cmp.{IsEquivalence};
 ghost use Rattle.std.specs.Prelude.{Bool, ℕ, ℤ, List};
-ghost use Rattle.wenc_base.specs.Prelude.{IsReadable, IsWritten, AlikeIsEqual, Form, itself, serves_itself, flag, flag_lawful, read_flag, u32 as number, u32_lawful, read_u32, u64 as long_number, u64_lawful, read_u64, i64 as signed_number, i64_lawful, read_signed, name, name_lawful, read_name, byte_list, byte_list_lawful, read_byte_list};
+ghost use Rattle.wenc_base.specs.Prelude.{IsReadable, IsWritten, AlikeIsEqual, Form, itself};
+ghost use Rattle.wenc_base.specs.Prelude.{serves_itself, flag, flag_lawful, read_flag};
+ghost use Rattle.wenc_base.specs.Prelude.{u32 as number, u32_lawful, read_u32, u64 as long_number};
+ghost use Rattle.wenc_base.specs.Prelude.{u64_lawful, read_u64, i64 as signed_number, i64_lawful};
+ghost use Rattle.wenc_base.specs.Prelude.{read_signed, name, name_lawful, read_name, byte_list};
+ghost use Rattle.wenc_base.specs.Prelude.{byte_list_lawful, read_byte_list};
 
 mod made;
 

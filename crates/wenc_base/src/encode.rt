@@ -1,6 +1,10 @@
 //! The trait `Encode`, which appends numbers and other values to a vector of bytes.
-ghost use Rattle.std.specs.Prelude.{◌≡◌, ◌+◌, ◌<◌, ◌≤◌, ◌^◌, ◌++◌, ◌∷◌, [], length, vec_len, vec_capacity, OnOk, true};
-ghost use Rattle.wenc_base.specs.Prelude.{Appends, size_cause, AreBytes, number_size, unsigned_text, signed_text, Piece, ◌▸◌, nothing, flag, u64 as long_number, count, i64 as signed_number, name, byte_list, option, in_order, verbatim};
+ghost use Rattle.std.specs.Prelude.{◌≡◌, ◌+◌, ◌<◌, ◌≤◌, ◌^◌, ◌++◌, ◌∷◌, [], length, vec_len};
+ghost use Rattle.std.specs.Prelude.{vec_capacity, OnOk, true};
+ghost use Rattle.wenc_base.specs.Prelude.{Appends, size_cause, AreBytes, number_size};
+ghost use Rattle.wenc_base.specs.Prelude.{unsigned_text, signed_text, Piece, ◌▸◌, nothing, flag};
+ghost use Rattle.wenc_base.specs.Prelude.{u64 as long_number, count, i64 as signed_number, name};
+ghost use Rattle.wenc_base.specs.Prelude.{byte_list, option, in_order, verbatim};
 
 mod front;
 mod lists;
@@ -94,7 +98,7 @@ impl Encode for usize {
 impl Encode for i64 {
     ghost piece = { signed_number };
 
-    #[tactic(auto, using(crate::proofs::Groups::signed_below, crate::proofs::Groups::signed_2, crate::proofs::Groups::signed_3))]
+    #[tactic(auto, using(crate::proofs::Groups::signed_texts))]
     fn encode<A: Allocator>(&self, sink: &mut Vec<u8, A>) -> Result<(), Fault> {
         if *self < 0 || *self >= 1 << 20 || !has_room(sink, 3) {
             return encode_long_signed(*self, sink);
@@ -209,7 +213,7 @@ fn encode_long_bytes<A: Allocator>(bytes: &[u8], sink: &mut Vec<u8, A>) -> Resul
 }
 
 /// Appends the encoding of a number. Fast path: at most three bytes, within the capacity.
-#[tactic(auto, using(crate::proofs::Groups::groups_below, crate::proofs::Groups::text_2, crate::proofs::Groups::text_3))]
+#[tactic(auto, using(crate::proofs::Groups::unsigned_texts))]
 fn encode_number<A: Allocator>(n: u64, sink: &mut Vec<u8, A>) -> Result<(), Fault>
     ensures { Appends (unsigned_text n) (λ _. ⊥) ⊥ sink.old.items sink.new.items result }
 {
@@ -342,7 +346,7 @@ fn encode_byte_apart<A: Allocator>(byte: u8, sink: &mut Vec<u8, A>) -> Result<()
 
 /// Appends the encodings of two numbers within the capacity: of `n`, which has at most three bytes,
 /// and of `last`, which has one.
-#[tactic(auto, using(crate::proofs::Groups::groups_below, crate::proofs::Groups::text_2, crate::proofs::Groups::text_3))]
+#[tactic(auto, using(crate::proofs::Groups::unsigned_texts))]
 #[inline]
 pub(crate) fn short_numbers_in_room<A: Allocator>(n: u32, last: u8, sink: &mut Vec<u8, A>)
     requires first { n < 2097152 }
@@ -399,7 +403,7 @@ pub fn extend_in_room<A: Allocator>(sink: &mut Vec<u8, A>, bytes: &[u8])
     }
 }
 
-/// A byte that says what follows, such as an opcode, then a value.
+/// A tag byte that says what follows, such as an opcode, then a value.
 #[derive(Clone, Copy)]
 pub struct Tagged<'a, T>(pub u8, pub &'a T);
 

@@ -1,6 +1,8 @@
 //! Kinds of the exports and imports of core modules.
 ghost use Rattle.std.specs.Prelude.{◌≡◌};
-ghost use Rattle.wenc_base.specs.Prelude.{export_kind_byte, itself, serves_itself, core_export_kind, core_export_kind_lawful, read_core_export_kind, ExportKind as Seen'};
+ghost use Rattle.wenc_base.specs.Prelude.{export_kind_byte, itself, serves_itself};
+ghost use Rattle.wenc_base.specs.Prelude.{core_export_kind, core_export_kind_lawful};
+ghost use Rattle.wenc_base.specs.Prelude.{read_core_export_kind, ExportKind as Seen'};
 
 use crate::delimited::{Delimited, DelimitedEq};
 use crate::encode::Encode;

@@ -1,5 +1,6 @@
 //! Types of global variables.
-ghost use Rattle.wenc_base.specs.Prelude.{itself, serves_itself, global_type, global_type_lawful, read_global_type, GlobalType as Seen'};
+ghost use Rattle.wenc_base.specs.Prelude.{itself, serves_itself, global_type, global_type_lawful};
+ghost use Rattle.wenc_base.specs.Prelude.{read_global_type, GlobalType as Seen'};
 
 use crate::delimited::{Delimited, DelimitedEq};
 use crate::encode::Encode;

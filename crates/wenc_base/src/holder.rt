@@ -1,9 +1,15 @@
 //! `Holder`, the storage of counted sections and types: the number of their members, and the
 //! members' encodings.
-ghost use Rattle.std.specs.Prelude.{◌≡◌, ◌+◌, ◌-◌, ◌<◌, ◌≤◌, ◌^◌, ◌⊎◌, length, OnOk, OnErr, IfOk, IfErr, true, false, take, drop};
+ghost use Rattle.std.specs.Prelude.{◌≡◌, ◌+◌, ◌-◌, ◌<◌, ◌≤◌, ◌^◌, ◌⊎◌, length, OnOk, OnErr, IfOk};
+ghost use Rattle.std.specs.Prelude.{IfErr, true, false, take, drop};
 ghost use Rattle.std.specs.Iterator.{IsFinite};
 ghost use Rattle.std.specs.Iterator.Runs.{SomeRun, WholeRun};
-ghost use Rattle.wenc_base.specs.Prelude.{Appends, Appended, IsWarranted, IsMemory, no_members, all_bytes, holding, is_finished, content_size, section_text, cut_to, OneMoreCause, AddsMember, AddsListed, listed, held_members, held_section, EncodeCause, ExtendsListed, member_appended, no_room_in_holder, verbatim, Fault as FaultSpec};
+ghost use Rattle.wenc_base.specs.Prelude.{Appends, Appended, IsWarranted, IsMemory, no_members};
+ghost use Rattle.wenc_base.specs.Prelude.{all_bytes, holding, is_finished, content_size};
+ghost use Rattle.wenc_base.specs.Prelude.{section_text, cut_to, OneMoreCause, AddsMember};
+ghost use Rattle.wenc_base.specs.Prelude.{AddsListed, listed, held_members, held_section};
+ghost use Rattle.wenc_base.specs.Prelude.{EncodeCause, ExtendsListed, member_appended};
+ghost use Rattle.wenc_base.specs.Prelude.{no_room_in_holder, verbatim, Fault as FaultSpec};
 ghost use Rattle.wenc_base.specs.declared.fault.Fault.TheVariants.{TooLarge, Unfinished};
 
 mod kept;

@@ -1,5 +1,6 @@
 //! Types of the imports and exports of core modules.
-ghost use Rattle.wenc_base.specs.Prelude.{itself, serves_itself, entity_type, entity_type_lawful, read_entity_type, EntityType as Seen'};
+ghost use Rattle.wenc_base.specs.Prelude.{itself, serves_itself, entity_type, entity_type_lawful};
+ghost use Rattle.wenc_base.specs.Prelude.{read_entity_type, EntityType as Seen'};
 
 use crate::delimited::{Delimited, DelimitedEq};
 use crate::encode::{Encode, Tagged};

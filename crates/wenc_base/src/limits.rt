@@ -37,7 +37,7 @@ impl Encode for Limits {
     }
 }
 
-/// Returns the flags byte, which says whether a maximum follows, and of what.
+/// Returns the flags byte: whether a maximum follows, and whether sizes are shared and 64-bit.
 fn flags(is_bounded: bool, is_shared: bool, is_long: bool) -> u8
     ensures { result ≡ limit_flags is_bounded is_shared is_long }
 {

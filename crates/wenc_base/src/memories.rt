@@ -1,5 +1,6 @@
 //! Types of memories.
-ghost use Rattle.wenc_base.specs.Prelude.{itself, serves_itself, memory_type, memory_type_lawful, read_memory_type, MemoryType as Seen'};
+ghost use Rattle.wenc_base.specs.Prelude.{itself, serves_itself, memory_type, memory_type_lawful};
+ghost use Rattle.wenc_base.specs.Prelude.{read_memory_type, MemoryType as Seen'};
 
 use crate::delimited::{Delimited, DelimitedEq};
 use crate::encode::Encode;

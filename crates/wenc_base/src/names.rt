@@ -1,6 +1,7 @@
 //! Name maps.
 ghost use Rattle.std.specs.Prelude.{◌≡◌, ◌==◌, ◌<◌, ◌≤◌, ◌^◌, [], length, IfOk, IfErr};
-ghost use Rattle.wenc_base.specs.Prelude.{IsMemory, no_members, holding, held_text, cut_to, AddsMember, NameAssociation, name_association, verbatim};
+ghost use Rattle.wenc_base.specs.Prelude.{IsMemory, no_members, holding, held_text, cut_to};
+ghost use Rattle.wenc_base.specs.Prelude.{AddsMember, NameAssociation, name_association, verbatim};
 
 use crate::encode::{
     Encode, Verbatim, extend_in_room, has_room, number_in_room, short_numbers_in_room,
@@ -40,7 +41,7 @@ impl<A: Allocator> Model for NameMap<A> {
     ghost invariant = { λ m. content_size m.count (length m.names.items) < 2 ^ 32 };
 }
 
-/// The number of bytes from which on one more short name could be too many.
+/// The number of bytes from which on another short name could be too many.
 const NEARLY_FULL: u64 = (1 << 32) - 256;
 
 impl<A: Allocator> NameMap<A> {

@@ -3,7 +3,7 @@ ghost use Rattle.std.specs.Prelude.{◌≡◌, ◌≤◌};
 ghost use Rattle.wenc_base.specs.Prelude.{number_size};
 
 /// Returns the number of bytes in the encoding of a number, from 1 to 5.
-#[tactic(auto, using(crate::proofs::Groups::size_1, crate::proofs::Groups::size_2, crate::proofs::Groups::size_3, crate::proofs::Groups::size_4, crate::proofs::Groups::size_5))]
+#[tactic(auto, using(crate::proofs::Groups::sizes))]
 pub fn encoding_size(n: u32) -> usize
     ensures is { result ≡ number_size n }
     ensures at_least_one { 1 ≤ result }

@@ -1,6 +1,10 @@
 //! The producers section: which tools made a module or a component.
-ghost use Rattle.std.specs.Prelude.{◌≡◌, ◌<◌, ◌+◌, ◌++◌, ◌^◌, List, false, length, IfOk, IfErr, OnOk};
-ghost use Rattle.wenc_base.specs.Prelude.{Appends, IsMemory, list, no_members, is_finished, held_members, Contains, AddsMember, EncodeCause, held_text, refused_for, Producer, Producers, producer, producers_field, producers_held, FieldCause, held_field};
+ghost use Rattle.std.specs.Prelude.{◌≡◌, ◌<◌, ◌+◌, ◌++◌, ◌^◌, List, false, length, IfOk, IfErr};
+ghost use Rattle.std.specs.Prelude.{OnOk};
+ghost use Rattle.wenc_base.specs.Prelude.{Appends, IsMemory, list, no_members, is_finished};
+ghost use Rattle.wenc_base.specs.Prelude.{held_members, Contains, AddsMember, EncodeCause};
+ghost use Rattle.wenc_base.specs.Prelude.{held_text, refused_for, Producer, Producers, producer};
+ghost use Rattle.wenc_base.specs.Prelude.{producers_field, producers_held, FieldCause, held_field};
 ghost use Rattle.wenc_base.specs.declared.fault.Fault.TheVariants.{Unfinished};
 
 use crate::encode::{ByRef, Encode};
@@ -79,8 +83,8 @@ impl<A: Allocator> Encode for ProducersField<A> {
     }
 }
 
-/// The tools that made a module or a component, by what each did: a custom section (tool
-/// conventions, "Producers Section").
+/// The tools that produced a module or a component, by field: a custom section (tool conventions,
+/// "Producers Section").
 ///
 /// ```
 /// let mut languages = ProducersField::new(alloc);

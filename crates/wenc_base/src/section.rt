@@ -33,8 +33,8 @@ pub trait Section: Encode {
     }
 }
 
-/// The ids of sections in a core module (WebAssembly 3.0, binary format, "Sections"): of those that
-/// the standard names, the one of a section that this crate writes.
+/// The ids of sections in a core module (WebAssembly 3.0, binary format, "Sections"): only that of
+/// the section which this crate writes.
 #[derive(Clone, Copy, Debug, PartialEq, Eq)]
 #[repr(u8)]
 pub enum SectionId {

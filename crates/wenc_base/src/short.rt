@@ -91,7 +91,7 @@ impl Short {
     }
 }
 
-/// Returns a byte of a signed number, its seven bits inverted if the number is negative.
+/// Returns a byte of a signed number, with its seven bits inverted if the number is negative.
 fn turned_byte(byte: u8, is_negative: bool) -> u8
     ensures { result ≡ (if is_negative then complement byte else byte) }
 {

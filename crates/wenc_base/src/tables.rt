@@ -1,5 +1,6 @@
 //! Types of tables.
-ghost use Rattle.wenc_base.specs.Prelude.{itself, serves_itself, table_type, table_type_lawful, read_table_type, TableType as Seen'};
+ghost use Rattle.wenc_base.specs.Prelude.{itself, serves_itself, table_type, table_type_lawful};
+ghost use Rattle.wenc_base.specs.Prelude.{read_table_type, TableType as Seen'};
 
 use crate::delimited::{Delimited, DelimitedEq};
 use crate::encode::Encode;

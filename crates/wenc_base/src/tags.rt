@@ -1,5 +1,6 @@
 //! Types of exception tags.
-ghost use Rattle.wenc_base.specs.Prelude.{itself, serves_itself, tag_type, tag_type_lawful, read_tag_type, TagType as Seen'};
+ghost use Rattle.wenc_base.specs.Prelude.{itself, serves_itself, tag_type, tag_type_lawful};
+ghost use Rattle.wenc_base.specs.Prelude.{read_tag_type, TagType as Seen'};
 
 use crate::delimited::{Delimited, DelimitedEq};
 use crate::encode::{Encode, Tagged};

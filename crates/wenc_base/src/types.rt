@@ -1,7 +1,11 @@
 //! Core types: value types, reference types and heap types. The submodules have the types that core
 //! modules define.
 ghost use Rattle.std.specs.Prelude.{◌≡◌};
-ghost use Rattle.wenc_base.specs.Prelude.{itself, serves_itself, val_type, val_type_lawful, read_val_type, reference, reference_lawful, read_reference, heap_type_lawful, read_heap_type, abstract_byte, abstract_type, abstract_type_lawful, read_abstract};
+ghost use Rattle.wenc_base.specs.Prelude.{itself, serves_itself, val_type, val_type_lawful};
+ghost use Rattle.wenc_base.specs.Prelude.{read_val_type, reference, reference_lawful};
+ghost use Rattle.wenc_base.specs.Prelude.{read_reference, heap_type_lawful, read_heap_type};
+ghost use Rattle.wenc_base.specs.Prelude.{abstract_byte, abstract_type, abstract_type_lawful};
+ghost use Rattle.wenc_base.specs.Prelude.{read_abstract};
 
 pub mod composite;
 pub mod encoder;
@@ -116,7 +120,7 @@ impl DelimitedEq for RefType {
     ghost alike = { itself _ };
 }
 
-/// The type of what a reference refers to (WebAssembly 3.0, binary format, "Heap Types").
+/// The type of a reference's referent (WebAssembly 3.0, binary format, "Heap Types").
 #[derive(Clone, Copy, Debug, PartialEq, Eq)]
 pub enum HeapType {
     /// An abstract heap type.
@@ -156,7 +160,7 @@ impl DelimitedEq for HeapType {
     ghost alike = { itself _ };
 }
 
-/// An abstract heap type, which the standard names (WebAssembly 3.0, binary format, "Heap Types").
+/// An abstract heap type (WebAssembly 3.0, binary format, "Heap Types").
 #[derive(Clone, Copy, Debug, PartialEq, Eq)]
 pub enum AbstractHeapType {
     /// All functions.

@@ -7,7 +7,7 @@ pub mod Viewed
 pub mod Standing
 pub mod Texts
 pub mod Taken
-pub mod Alone
+pub mod OwnSections
 pub mod Entered
 pub mod Listed
 pub mod Named

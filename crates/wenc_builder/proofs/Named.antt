@@ -1,5 +1,6 @@
 -- The names so far, and their section.
-use Rattle.std.proofs.Common.{◌≡◌, ◌⊎◌, ℕ, zero, suc, ◌+◌, ◌<◌, ◌≤◌, ◌^◌, inl, inr, List, [], ◌∷◌, ◌++◌, length, length-append, map, take, get_or, nat_eq, true, false, is_none, None, Result, Ok, Err, refl, sym, ap, ◌∙◌, subst, arith}
+use Rattle.std.proofs.Common.{◌≡◌, ◌⊎◌, ℕ, zero, suc, ◌+◌, ◌<◌, ◌≤◌, ◌^◌, inl, inr, List, [], ◌∷◌, ◌++◌, length, length-append, map, take}
+use Rattle.std.proofs.Common.{get_or, nat_eq, true, false, is_none, None, Result, Ok, Err, refl, sym, ap, ◌∙◌, subst, arith}
 use Rattle.std.proofs.Math.Numerals.{add-one}
 use Rattle.std.proofs.Math.Seq.{take-suc}
 use Rattle.std.proofs.lemmas.Bool.Decides.{eqb_tells}
@@ -22,18 +23,18 @@ use Rattle.wenc_sections.specs.declared.space.Space.TheVariants as spaces
 use Rattle.wenc_builder.specs.Entry.{Entry, custom_entry, names}
 use Rattle.wenc_builder.specs.Builder.{namespace_at, State, builder_is_finished}
 use Rattle.wenc_builder.specs.Enters.{EntersWithoutIndex}
-use Rattle.wenc_builder.specs.inside.Alone.{with_bytes}
-use Rattle.wenc_builder.specs.inside.Takes.{TakesNoIndex}
+use Rattle.wenc_builder.specs.inside.SectionBodies.{with_bytes}
+use Rattle.wenc_builder.specs.inside.Adds.{AddsUnindexedSection}
 use Rattle.wenc_builder.specs.Holds.{Holds}
 use Rattle.wenc_builder.specs.Names.{named_spaces, name_subsections, by_space, named_entry, AddsNames, names_held, space_names, none_named, kept_names}
 use Rattle.wenc_sections.specs.declared.space.Space.{Space}
 use Rattle.wenc_builder.specs.Item.{CustomItem, item}
-use Rattle.wenc_builder.specs.inside.Layout.{Buffered, StandsAlone}
-use Rattle.wenc_builder.specs.LenderState.{IsItemText}
+use Rattle.wenc_builder.specs.inside.Layout.{Buffered, AppendsSection}
+use Rattle.wenc_builder.specs.ParentState.{IsItemText}
 use Rattle.wenc_builder.specs.inside.Spaces.{Spaced}
 use Rattle.wenc_builder.specs.inside.View.{Agree, builder_view}
 use Rattle.wenc_base.proofs.Bytes.{last_below}
-use Rattle.wenc_builder.proofs.Alone.{stands_as, stood_nowhere}
+use Rattle.wenc_builder.proofs.OwnSections.{stands_as, stood_nowhere}
 use Rattle.wenc_builder.proofs.Entered.{without_index_enters}
 use Rattle.wenc_builder.proofs.Texts.{plain_serves}
 use Rattle.wenc_builder.proofs.Viewed.{finished_is}
@@ -44,16 +45,19 @@ all_names ps = (each space_names ps).text
 
 -- ---- whether there are any
 
-pub none_next : {N : Type 0} (seen : N → Space × HolderState) (ns : List N) (n : N) → none_named (map seen ns) ≡ true → nat_eq (seen n).1.count 0 ≡ true → none_named (map seen (ns ++ n ∷ [])) ≡ true
+pub none_next : {N : Type 0} (seen : N → Space × HolderState) (ns : List N) (n : N) → none_named (map seen ns) ≡ true
+    → nat_eq (seen n).1.count 0 ≡ true → none_named (map seen (ns ++ n ∷ [])) ≡ true
 none_next seen [] n h e = rw e refl
 none_next seen (m ∷ ns) n h e = elim (eqb_tells (seen m).1.count 0) [ inl t ↦ rw t.0 (none_next seen ns n (rw t.0 at h) e) | inr t ↦ let f = rw t.0 at h in cc ]
 
-pub none_at : {N : Type 0} (seen : N → Space × HolderState) (ns : List N) (i : ℕ) (n : N) → none_named (map seen (take i ns)) ≡ true → i < length ns → n ≡ get_or ns i n → nat_eq (seen n).1.count 0 ≡ true → none_named (map seen (take (i + 1) ns)) ≡ true
+pub none_at : {N : Type 0} (seen : N → Space × HolderState) (ns : List N) (i : ℕ) (n : N) → none_named (map seen (take i ns)) ≡ true
+    → i < length ns → n ≡ get_or ns i n → nat_eq (seen n).1.count 0 ≡ true → none_named (map seen (take (i + 1) ns)) ≡ true
 none_at seen ns i n h lt is e =
     let one : take (i + 1) ns ≡ take i ns ++ n ∷ [] = rw (add-one i, take-suc ns i n lt) (ap (λ u. take i ns ++ u ∷ []) (sym is)) in
     rw one (none_next seen (take i ns) n h e)
 
-pub some_at : {N : Type 0} (seen : N → Space × HolderState) (ns : List N) (i : ℕ) (n : N) → i < length ns → n ≡ get_or ns i n → nat_eq (seen n).1.count 0 ≡ false → none_named (map seen ns) ≡ false
+pub some_at : {N : Type 0} (seen : N → Space × HolderState) (ns : List N) (i : ℕ) (n : N) → i < length ns → n ≡ get_or ns i n
+    → nat_eq (seen n).1.count 0 ≡ false → none_named (map seen ns) ≡ false
 some_at seen [] i n lt is e = absurd (omega arith)
 some_at seen (m ∷ ns) zero n lt is e = rw (← is, e) refl
 some_at seen (m ∷ ns) (suc i) n lt is e = elim (eqb_tells (seen m).1.count 0) [ inl t ↦ rw t.0 (some_at seen ns i n (omega arith) is e) | inr t ↦ rw t.0 refl ]
@@ -68,7 +72,10 @@ kept_at p = (p.0, kept p.1)
 
 one_text : (space : Space) (ns : List NameAssociation) → (space_names (space, kept ns)).text ≡ subsections_text (item_names space ns)
 one_text space [] = refl
-one_text space (n ∷ ns) = elim (eqb_tells (length (n ∷ ns)) 0) [ inl t ↦ absurd (omega (arith, t.1)) | inr t ↦ rw t.0 (sym (one (subsection (ItemNames space (n ∷ ns))).text)) ]
+one_text space (n ∷ ns) = elim (eqb_tells (length (n ∷ ns)) 0) [
+  | inl t ↦ absurd (omega (arith, t.1))
+  | inr t ↦ rw t.0 (sym (one (subsection (ItemNames space (n ∷ ns))).text))
+]
   where
     one : (t : List ℕ) → t ++ [] ≡ t
     one [] = refl
@@ -92,12 +99,14 @@ some_text [] h e = cc
 some_text (p ∷ ps) h e = elim (eqb_tells p.1.count 0) [ inl t ↦ some_text ps (rw t.0 at h) (rw t.0 at e) | inr t ↦ let f = rw t.0 at e in cc ]
 
 -- what a builder keeps is what it holds
-same_by_space : {A : Type 0} (f g : Space → A) → ((s : Space) → f s ≡ g s) → (ss : List Space) → map {B = Space × A} (λ s. (s, f s)) ss ≡ map {B = Space × A} (λ s. (s, g s)) ss
+same_by_space : {A : Type 0} (f g : Space → A) → ((s : Space) → f s ≡ g s) → (ss : List Space)
+    → map {B = Space × A} (λ s. (s, f s)) ss ≡ map {B = Space × A} (λ s. (s, g s)) ss
 same_by_space f g same [] = refl
 same_by_space f g same (s ∷ ss) = rw (same s, same_by_space f g same ss) refl
 
 kept_is : (old : State) (es : List Entry) → Holds old es → by_space (λ k. names_held (namespace_at old.settled.spaces k)) ≡ map kept_at (by_space (names es))
-kept_is old es h = same_by_space (λ k. names_held (namespace_at old.settled.spaces k)) (λ k. kept (names es k)) (λ s. ap names_held (h.spaces.each s)) named_spaces
+kept_is old es h = same_by_space (λ k. names_held (namespace_at old.settled.spaces k)) (λ k. kept (names es k))
+    (λ s. ap names_held (h.spaces.each s)) named_spaces
 
 -- ---- the section
 
@@ -132,7 +141,8 @@ one_long p fault c = elim (eqb_tells p.1.count 0) [
     content : List ℕ
     content = (item_sort p.0).text ++ held_text p.1
 
-    large : size_cause (length content) fault ⊎ ((item_sort p.0).Cause fault ⊎ ⊥) → (fault ≡ TooLarge) × (2 ^ 32 ≤ length (0x01 ∷ (unsigned_text (length content) ++ content)))
+    large : size_cause (length content) fault ⊎ ((item_sort p.0).Cause fault ⊎ ⊥)
+        → (fault ≡ TooLarge) × (2 ^ 32 ≤ length (0x01 ∷ (unsigned_text (length content) ++ content)))
     large (inl k) = let l = too_large (length content) fault k in (l.0, omega (arith, l.1, length-append (unsigned_text (length content)) content))
     large (inr (inl k)) = absurd (sort_free p.0 fault k)
     large (inr (inr k)) = absurd k
@@ -143,7 +153,8 @@ module _ {N : Type 0} (seen : N → Space × HolderState) where
 
   all_long : (ns : List N) (fault : Fault) → (seen_names ns).Cause fault → (fault ≡ TooLarge) × (2 ^ 32 ≤ length (seen_names ns).text)
   all_long [] fault c = absurd c
-  all_long (n ∷ ns) fault (inl c) = let k = one_long (seen n) fault c in (k.0, omega (arith, k.1, length-append (space_names (seen n)).text (seen_names ns).text))
+  all_long (n ∷ ns) fault (inl c) = let k =
+      one_long (seen n) fault c in (k.0, omega (arith, k.1, length-append (space_names (seen n)).text (seen_names ns).text))
   all_long (n ∷ ns) fault (inr c) = let k = all_long ns fault c in (k.0, omega (arith, k.1, length-append (space_names (seen n)).text (seen_names ns).text))
 
   -- the section as it is written, whose text is bytes
@@ -162,15 +173,25 @@ module _ {N : Type 0} (seen : N → Space × HolderState) where
   body_of ns = (name_form names_label).text ++ (seen_names ns).text
 
   -- it serves as the custom section of these bytes
-  pub names_serve : (ns : List N) (bytes : List ℕ) → (seen_names ns).text ≡ bytes → Serves (written ns) (item (CustomItem (record { label = names_label; bytes = bytes })))
-  names_serve ns bytes e = subst (λ (bs : List ℕ). Serves (written ns) (item (CustomItem (record { label = names_label; bytes = bs })))) e (record { text = refl; fits = fits; among = among; free = free })
+  pub names_serve : (ns : List N) (bytes : List ℕ) → (seen_names ns).text ≡ bytes
+      → Serves (written ns) (item (CustomItem (record { label = names_label; bytes = bytes })))
+  names_serve ns bytes e = subst (λ (bs : List ℕ). Serves (written ns) (item (CustomItem (record { label = names_label; bytes = bs })))) e
+      (record { text = refl; fits = fits; among = among; free = free })
     where
       fits : (written ns).Fits → (item (CustomItem (record { label = names_label; bytes = (seen_names ns).text }))).Fits
-      fits h = (h.0.0, (h.0.1.0, last_below (name_form names_label).text (seen_names ns).text (last_below (unsigned_text (length (body_of ns))) (body_of ns) h.1.1)))
+      fits h = (
+        h.0.0,
+        (
+          h.0.1.0,
+          last_below (name_form names_label).text (seen_names ns).text
+              (last_below (unsigned_text (length (body_of ns))) (body_of ns) h.1.1),
+        ),
+      )
 
       among : (fault : Fault) → (written ns).Cause fault → (item (CustomItem (record { label = names_label; bytes = (seen_names ns).text }))).Cause fault
       among fault (inl (inl c)) = inr (inl c)
-      among fault (inl (inr c)) = let k = all_long ns fault c.1 in subst (λ (f : Fault). (item (CustomItem (record { label = names_label; bytes = (seen_names ns).text }))).Cause f) (sym k.0)
+      among fault (inl (inr c)) = let k = all_long ns fault c.1 in
+          subst (λ (f : Fault). (item (CustomItem (record { label = names_label; bytes = (seen_names ns).text }))).Cause f) (sym k.0)
           (inl (omega (arith, k.1, length-append (name_form names_label).text (seen_names ns).text)))
       among fault (inr c) = inl c.1
 
@@ -181,14 +202,18 @@ module _ {N : Type 0} (seen : N → Space × HolderState) where
 
 -- ---- the call
 
-module _ {N : Type 0} (seen : N → Space × HolderState) (ns : List N) (old new : State) (result : Result (Unit {0}) Fault) (is : map seen ns ≡ kept_names old) (some : none_named (map seen ns) ≡ false) (t : TakesNoIndex old new result (written seen ns)) where
+module _ {N : Type 0} (seen : N → Space × HolderState) (ns : List N) (old new : State) (result : Result (Unit {0}) Fault)
+    (is : map seen ns ≡ kept_names old) (some : none_named (map seen ns) ≡ false)
+    (t : AddsUnindexedSection old new result (written seen ns)) where
   as_kept : (bytes : List ℕ) → (seen_names seen ns).text ≡ bytes → EntersWithoutIndex old new result (custom_entry names_label bytes)
-  as_kept bytes e = without_index_enters old new result (custom_entry names_label bytes) (record { alone = refl; defined = refl; named = refl }) (names_serve seen ns bytes e) t
+  as_kept bytes e = without_index_enters old new result (custom_entry names_label bytes)
+      (record { alone = refl; defined = refl; named = refl }) (names_serve seen ns bytes e) t
 
   seen_text : (seen_names seen ns).text ≡ all_names (map seen ns)
   seen_text = sym (flat_map-map (λ p. (space_names p).text) seen ns)
 
-  at : (ss : List Subsection) → all_names (map seen ns) ≡ subsections_text ss → MatchOption (named_entry ss) ((result ≡ Ok tt) × (new ≡ old)) (λ x. EntersWithoutIndex old new result x)
+  at : (ss : List Subsection) → all_names (map seen ns) ≡ subsections_text ss → MatchOption (named_entry ss)
+      ((result ≡ Ok tt) × (new ≡ old)) (λ x. EntersWithoutIndex old new result x)
   at [] e = absurd (some_text (map seen ns) some e)
   at (s ∷ ss) e = as_kept (subsections_text (s ∷ ss)) (seen_text ∙ e)
 
@@ -201,7 +226,8 @@ module _ {N : Type 0} (seen : N → Space × HolderState) (ns : List N) (old new
     unfinished = (as_kept (seen_names seen ns).text refl).unfinished;
   }
 
-pub nothing_named : (old : State) (ps : List (Space × HolderState)) → ps ≡ kept_names old → none_named ps ≡ true → builder_is_finished old ≡ true → AddsNames old old (Ok tt)
+pub nothing_named : (old : State) (ps : List (Space × HolderState)) → ps ≡ kept_names old → none_named ps ≡ true
+    → builder_is_finished old ≡ true → AddsNames old old (Ok tt)
 nothing_named old ps is none finished = record {
   held = λ es h. rw (none_text (by_space (names es)) (rw (is ∙ kept_is old es h) at none)) (refl, refl);
   none = λ n f. (refl, refl);
@@ -216,7 +242,8 @@ both_fit : (P Q : Type 0) (r : Result (Unit {0}) Fault) → OnOk r P → OnOk r 
 both_fit P Q (Ok u) h k = (h, k)
 both_fit P Q (Err f) h k = tt
 
-module _ {N : Type 0} (b : Buffered) (s : Spaced) (old : State) (seen : N → Space × HolderState) (ns : List N) (agree : Agree b.writing s.taking) (view : builder_view b s ≡ old) (finished : is_none b.writing ≡ true)
+module _ {N : Type 0} (b : Buffered) (s : Spaced) (old : State) (seen : N → Space × HolderState) (ns : List N)
+    (agree : Agree b.writing s.taking) (view : builder_view b s ≡ old) (finished : is_none b.writing ≡ true)
     (is : map seen ns ≡ by_space (λ k. names_held (namespace_at s.settled k))) where
   is_there : map seen ns ≡ by_space (λ k. names_held (namespace_at old.settled.spaces k))
   is_there = subst (λ (x : State). map seen ns ≡ by_space (λ k. names_held (namespace_at x.settled.spaces k))) view is
@@ -233,11 +260,13 @@ module _ {N : Type 0} (b : Buffered) (s : Spaced) (old : State) (seen : N → Sp
     is = refl;
   } ∣₁
 
-  module _ (next : Buffered) (result : Result (Unit {0}) Fault) (lead : StandsAlone b next result (with_bytes (section_of seen ns) [])) (bytes : OnOk result (AreBytes (section_of seen ns).text)) where
-    pub names_stood : StandsAlone b next result (written seen ns)
+  module _ (next : Buffered) (result : Result (Unit {0}) Fault) (lead : AppendsSection b next result (with_bytes (section_of seen ns) []))
+      (bytes : OnOk result (AreBytes (section_of seen ns).text)) where
+    pub names_stood : AppendsSection b next result (written seen ns)
     names_stood =
         let stood = stands_as b next result plain_serves lead in
         record { ok = stood.ok; fits = both_fit _ _ result stood.fits bytes; free = stood.free; err = stood.err; warranted = stood.warranted }
 
     pub names_there : none_named (map seen ns) ≡ false → AddsNames old (builder_view next s) result
-    names_there some = adds_names seen ns old (builder_view next s) result is_there some (stood_nowhere b next s old result (written seen ns) agree view finished names_stood)
+    names_there some = adds_names seen ns old (builder_view next s) result is_there some
+        (stood_nowhere b next s old result (written seen ns) agree view finished names_stood)

@@ -15,12 +15,12 @@ use Rattle.wenc_builder.specs.Enters.{EntersWithoutIndex}
 use Rattle.wenc_builder.specs.Entry.{custom_entry}
 use Rattle.wenc_builder.specs.Producers.{producers_entry}
 use Rattle.wenc_builder.specs.Item.{Item, CustomItem, item}
-use Rattle.wenc_builder.specs.inside.Alone.{with_bytes}
-use Rattle.wenc_builder.specs.inside.Layout.{Buffered, StandsAlone}
+use Rattle.wenc_builder.specs.inside.SectionBodies.{with_bytes}
+use Rattle.wenc_builder.specs.inside.Layout.{Buffered, AppendsSection}
 use Rattle.wenc_builder.specs.inside.Spaces.{Spaced}
 use Rattle.wenc_builder.specs.inside.View.{Agree, IsBuilder, builder_view}
 use Rattle.wenc_base.proofs.Bytes.{last_below}
-use Rattle.wenc_builder.proofs.Alone.{stands_as, stood_nowhere}
+use Rattle.wenc_builder.proofs.OwnSections.{stands_as, stood_nowhere}
 use Rattle.wenc_builder.proofs.Entered.{without_index_enters}
 use Rattle.wenc_builder.proofs.Standing.{without_index_outcome}
 use Rattle.wenc_builder.proofs.Texts.{item_piece, plain_serves}
@@ -45,12 +45,14 @@ module _ (h : HolderState) where
   item_free (Err f) fits = tt
 
   -- what is finished is refused for want of memory alone
-  item_warranted : is_finished h ≡ true → (r : Result (Unit {0}) Fault) → IfErr r (IsWarranted (written h).Cause) → IfErr r (IsWarranted (item (held_item h)).Cause)
+  item_warranted : is_finished h ≡ true → (r : Result (Unit {0}) Fault) → IfErr r (IsWarranted (written h).Cause)
+      → IfErr r (IsWarranted (item (held_item h)).Cause)
   item_warranted finished (Ok u) w = tt
   item_warranted finished (Err f) w = still_warranted (written h).Cause (item (held_item h)).Cause (λ fault c. let unfinished = c.1 in cc) f w
 
-  module _ (b : Buffered) (s : Spaced) (next : Buffered) (result : Result (Unit {0}) Fault) (settled : is_none b.writing ≡ true) (lead : StandsAlone b next result (with_bytes (written h) [])) (bytes : OnOk result (AreBytes (written h).text)) where
-    stood : StandsAlone b next result (written h)
+  module _ (b : Buffered) (s : Spaced) (next : Buffered) (result : Result (Unit {0}) Fault) (settled : is_none b.writing ≡ true)
+      (lead : AppendsSection b next result (with_bytes (written h) [])) (bytes : OnOk result (AreBytes (written h).text)) where
+    stood : AppendsSection b next result (written h)
     stood = stands_as b next result plain_serves lead
 
     fits : OnOk result (item (held_item h)).Fits
@@ -62,9 +64,19 @@ module _ (h : HolderState) where
     module _ (old : State) (agree : Agree b.writing s.taking) (view : builder_view b s ≡ old) where
       pub section_enters : is_finished h ≡ true → EntersWithoutIndex old (builder_view next s) result (custom_entry producers_label (held_text h))
       section_enters finished =
-          without_index_enters old (builder_view next s) result (custom_entry producers_label (held_text h)) (record { alone = refl; defined = refl; named = refl }) (serves_itself {p = item (held_item h)})
-          (stood_nowhere b next s old result (item (held_item h)) agree view settled (record { ok = stood.ok; fits = fits; free = item_free result fits; err = stood.err; warranted = item_warranted finished result stood.warranted }))
+          without_index_enters old (builder_view next s) result (custom_entry producers_label (held_text h))
+          (record { alone = refl; defined = refl; named = refl }) (serves_itself {p = item (held_item h)})
+          (stood_nowhere b next s old result (item (held_item h)) agree view settled
+          (record {
+            ok = stood.ok;
+            fits = fits;
+            free = item_free result fits;
+            err = stood.err;
+            warranted =
+                item_warranted finished result stood.warranted;
+          }))
 
       -- with the fields that it has
-      pub fields_enter : (fields : List Producers) → Contains producers_field h fields → EntersWithoutIndex old (builder_view next s) result (producers_entry fields)
+      pub fields_enter : (fields : List Producers) → Contains producers_field h fields
+          → EntersWithoutIndex old (builder_view next s) result (producers_entry fields)
       fields_enter fields holds = rw (← holds.count, holds.body) at (section_enters holds.finished)

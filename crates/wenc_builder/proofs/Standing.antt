@@ -1,6 +1,6 @@
 -- A builder stays one: its buffer and its spaces agree, and it holds some entries.
 use Rattle.std.proofs.Common.{◌≡◌, ℕ, List, true, is_none, Option, Some, None, Result, Ok, Err, OnOk, OnErr, [], refl, sym, subst}
-use Rattle.wenc_base.specs.Lender.{Extends, ExtendsListed}
+use Rattle.wenc_base.specs.Parent.{Extends, ExtendsListed}
 use Rattle.wenc_base.specs.declared.fault.Fault.{Fault}
 use Rattle.wenc_base.specs.Fault.{NoCause}
 use Rattle.wenc_base.specs.Piece.{Piece}
@@ -8,8 +8,9 @@ use Rattle.wenc_base.specs.laws.Serves.{right_free}
 use Rattle.wenc_builder.specs.Builder.{SectionsState, content_of, item_appended}
 use Rattle.wenc_builder.specs.Cause.{SectionCause, NoRoom}
 use Rattle.wenc_builder.specs.inside.HoldsSome.{HoldsSome}
-use Rattle.wenc_builder.specs.inside.Layout.{Buffered, section_begun, section_appended, buffer_begun, buffer_appended, buffer_ended, buffer_given_up, buffer_with}
-use Rattle.wenc_builder.specs.LenderState.{IsItemText, is_whole}
+use Rattle.wenc_builder.specs.inside.Layout.{Buffered, section_begun, section_appended, buffer_begun, buffer_appended, buffer_ended}
+use Rattle.wenc_builder.specs.inside.Layout.{buffer_given_up, buffer_with}
+use Rattle.wenc_builder.specs.ParentState.{IsItemText, is_whole}
 use Rattle.wenc_sections.specs.declared.space.Space.{Space}
 use Rattle.wenc_builder.specs.inside.Spaces.{Spaced, spaces_begun, spaces_ended, spaces_given_up}
 use Rattle.wenc_builder.specs.inside.View.{builder_view, IsBuilder}
@@ -36,11 +37,13 @@ module _ (b : Buffered) (s : Spaced) (i : IsBuilder b s) where
       there : NoCause (NoRoom (content_of (item_appended (builder_view b s) text)).sections.current)
       there = subst (λ (k : SectionsState). NoCause (NoRoom k.current)) (sym (appended_section b s (builder_view b s) text i.agree refl)) large
 
-  pub value_stands : (new : Buffered) (outcome : Result (Unit {0}) Fault) (p : Piece) → Extends b new (buffer_appended b p.text) outcome p (NoRoom (section_appended b p.text)) → IsBuilder new s
+  pub value_stands : (new : Buffered) (outcome : Result (Unit {0}) Fault) (p : Piece)
+      → Extends b new (buffer_appended b p.text) outcome p (NoRoom (section_appended b p.text)) → IsBuilder new s
   value_stands new (Ok u) p a = rw a.ok (longer_stands p.text (right_free a.free))
   value_stands new (Err f) p a = rw a.err i
 
-  pub list_stands : {S B : Type 0} (steps : S → Option B → S → Type 0) (values : S) (new : Buffered) (outcome : Result (Unit {0}) Fault) (piece : List B → Piece)
+  pub list_stands : {S B : Type 0} (steps : S → Option B → S → Type 0) (values : S) (new : Buffered) (outcome : Result (Unit {0}) Fault)
+      (piece : List B → Piece)
       → ExtendsListed steps values b new outcome (buffer_appended b) (λ bytes. NoRoom (section_appended b bytes)) piece → IsBuilder new s
   list_stands steps values new (Ok u) piece a = rw a.ok.3.state (longer_stands (piece a.ok.0.items).text (right_free a.ok.3.free))
   list_stands steps values new (Err f) piece a = rw a.err i
@@ -69,17 +72,20 @@ module _ (b : Buffered) (s : Spaced) (i : IsBuilder b s) where
         let same : spaces_given_up (spaces_begun s space number name) ≡ s = rw (← not_taken) refl in
         subst (IsBuilder b) (sym same) i
 
-    pub begun_stands : (id : ℕ) (space : Space) (name : Option (List ℕ)) → NoCause (SectionCause (section_begun b id)) → IsBuilder (buffer_begun b id) (spaces_begun s space 1 name)
+    pub begun_stands : (id : ℕ) (space : Space) (name : Option (List ℕ)) → NoCause (SectionCause (section_begun b id))
+        → IsBuilder (buffer_begun b id) (spaces_begun s space 1 name)
     begun_stands id space name room = record {
       agree = tt;
       holds = some_begun (builder_view b s) (record { id = id; space = space; name = name; text = [] }) room i.holds;
     }
 
-    pub alone_stands : (space : Space) (number : ℕ) (name : Option (List ℕ)) (text : List ℕ) → (space ≡ Values → name ≡ None) → ∥ IsItemText None (Some (record { space = space; number = number })) text ∥₁
+    pub alone_stands : (space : Space) (number : ℕ) (name : Option (List ℕ)) (text : List ℕ) → (space ≡ Values → name ≡ None)
+        → ∥ IsItemText None (Some (record { space = space; number = number })) text ∥₁
         → IsBuilder (buffer_with b text) (spaces_ended (spaces_begun s space number name))
     alone_stands space number name text nameless whole = record {
       agree = tt;
-      holds = some_alone (builder_view b s) (Some (record { space = space; number = number })) name text (λ v takes start e. nameless (start_takes_values v (record { space = space; number = number }) start takes e)) whole i.holds;
+      holds = some_alone (builder_view b s) (Some (record { space = space; number = number })) name text
+          (λ v takes start e. nameless (start_takes_values v (record { space = space; number = number }) start takes e)) whole i.holds;
     }
 
     pub without_index_stands : (text : List ℕ) → ∥ IsItemText None None text ∥₁ → IsBuilder (buffer_with b text) s
@@ -88,7 +94,8 @@ module _ (b : Buffered) (s : Spaced) (i : IsBuilder b s) where
       holds = some_alone (builder_view b s) None None text (λ v takes start e. refl) whole i.holds;
     }
 
-    pub without_index_outcome : (new : Buffered) (outcome : Result (Unit {0}) Fault) (p : Piece) → (p.Fits → ∥ IsItemText None None p.text ∥₁) → OnOk outcome p.Fits
+    pub without_index_outcome : (new : Buffered) (outcome : Result (Unit {0}) Fault) (p : Piece)
+        → (p.Fits → ∥ IsItemText None None p.text ∥₁) → OnOk outcome p.Fits
         → OnOk outcome (new ≡ buffer_with b p.text) → OnErr outcome (new ≡ b) → IsBuilder new s
     without_index_outcome new (Ok u) p whole fits ok err = rw ok (without_index_stands p.text (whole fits))
     without_index_outcome new (Err f) p whole fits ok err = rw err i

@@ -5,11 +5,11 @@ use Rattle.wenc_base.specs.Piece.{Piece, nothing}
 use Rattle.wenc_base.specs.declared.fault.Fault.{Fault}
 use Rattle.wenc_base.specs.declared.fault.Fault.TheVariants.{Unfinished}
 use Rattle.wenc_base.specs.laws.Serves.{still_warranted}
-use Rattle.wenc_builder.specs.Builder.{entered, State, namespace_at, Draft, draft, space_with, item_begun, item_appended, item_ended, item_given_up}
+use Rattle.wenc_builder.specs.Builder.{entered, State, namespace_at, NewItem, new_item, space_with, item_begun, item_appended, item_ended, item_given_up}
 use Rattle.wenc_builder.specs.Cause.{SectionCause, SpaceCause}
-use Rattle.wenc_builder.specs.Enters.{Takes, TakesDraft}
+use Rattle.wenc_builder.specs.inside.Adds.{AddsItem, AddsWholeItem}
 use Rattle.wenc_builder.specs.inside.Layout.{Buffered}
-use Rattle.wenc_builder.specs.LenderState.{no_room_in_section}
+use Rattle.wenc_builder.specs.ParentState.{no_room_in_section}
 use Rattle.wenc_sections.specs.declared.space.Space.{Space}
 use Rattle.wenc_builder.specs.inside.Spaces.{Spaced}
 use Rattle.wenc_builder.specs.inside.View.{Agree, builder_view}
@@ -30,9 +30,10 @@ none_is (Some x) e = cc
 pub settled_before : (b : Buffered) (s : Spaced) (old : State) → Agree b.writing s.taking → builder_view b s ≡ old → is_none b.writing ≡ true → old.begun ≡ None
 settled_before b s old a view w = none_is old.begun (sym (finished_is b s old a view) ∙ w)
 
-pub space_refused : (b : Buffered) (s : Spaced) (old new next : State) (fault : Fault) (d : Draft) → Agree b.writing s.taking → builder_view b s ≡ old → is_none b.writing ≡ true → new ≡ old
+pub space_refused : (b : Buffered) (s : Spaced) (old new next : State) (fault : Fault) (d : NewItem) → Agree b.writing s.taking
+    → builder_view b s ≡ old → is_none b.writing ≡ true → new ≡ old
     → length old.settled.spaces ≡ 13 → IsWarranted (SpaceCause (space_with old d)) fault
-    → Takes old new next (Err fault) d nothing
+    → AddsItem old new next (Err fault) d nothing
 space_refused b s old new next fault d a view w same all refused = record {
   returned = tt;
   ok = tt;
@@ -43,10 +44,11 @@ space_refused b s old new next fault d a view w same all refused = record {
   unfinished_first = λ e. let none = settled_before b s old a view w in cc;
 }
 
-pub begins : (b : Buffered) (s : Spaced) (old new next : State) (index : ℕ) (d : Draft) → Agree b.writing s.taking → builder_view b s ≡ old → is_none b.writing ≡ true → new ≡ next
+pub begins : (b : Buffered) (s : Spaced) (old new next : State) (index : ℕ) (d : NewItem) → Agree b.writing s.taking
+    → builder_view b s ≡ old → is_none b.writing ≡ true → new ≡ next
     → index ≡ (namespace_at old.settled.spaces d.space).count → length old.settled.spaces ≡ 13
     → NoCause (SpaceCause (space_with old d)) → NoCause (SectionCause (entered old.settled.sections d.id d.text).current)
-    → Takes old new next (Ok index) d nothing
+    → AddsItem old new next (Ok index) d nothing
 begins b s old new next index d a view w is counted all space section = record {
   returned = counted;
   ok = is;
@@ -60,7 +62,7 @@ begins b s old new next index d a view w is counted all space section = record {
 -- ---- an item is written
 
 pub not_begun : (old new next whole : State) (fault : Fault) (id : ℕ) (space : Space) (name : Option (List ℕ)) (p : Piece)
-    → Takes old new next (Err fault) (draft id space name []) nothing → Takes old new whole (Err fault) (draft id space name p.text) p
+    → AddsItem old new next (Err fault) (new_item id space name []) nothing → AddsItem old new whole (Err fault) (new_item id space name p.text) p
 not_begun old new next whole fault id space name p t = record {
   returned = tt;
   ok = tt;
@@ -72,9 +74,9 @@ not_begun old new next whole fault id space name p t = record {
 }
 
 pub added : (old begun written new : State) (index id : ℕ) (space : Space) (name : Option (List ℕ)) (p : Piece)
-    → Takes old begun (item_begun old (draft id space name [])) (Ok index) (draft id space name []) nothing
+    → AddsItem old begun (item_begun old (new_item id space name [])) (Ok index) (new_item id space name []) nothing
     → written ≡ item_appended begun p.text → p.Fits → NoCause (either p.Cause (no_room_in_section begun p.text)) → new ≡ item_ended written
-    → TakesDraft old new (Ok index) (draft id space name) p
+    → AddsWholeItem old new (Ok index) (new_item id space name) p
 added old begun written new index id space name p t w fits free e = record {
   returned = t.returned;
   ok = rw (e, w, t.ok) refl;
@@ -89,16 +91,16 @@ added old begun written new index id space name p t w fits free e = record {
     never i e = cc
 
 pub partly_written : (old begun written new whole : State) (fault : Fault) (index id : ℕ) (space : Space) (name : Option (List ℕ)) (p : Piece)
-    → Takes old begun (item_begun old (draft id space name [])) (Ok index) (draft id space name []) nothing
+    → AddsItem old begun (item_begun old (new_item id space name [])) (Ok index) (new_item id space name []) nothing
     → IsWarranted (either p.Cause (no_room_in_section begun p.text)) fault → written.settled ≡ begun.settled → new ≡ item_given_up written
-    → Takes old new whole (Err fault) (draft id space name p.text) p
+    → AddsItem old new whole (Err fault) (new_item id space name p.text) p
 partly_written old begun written new whole fault index id space name p t refused w e = record {
   returned = tt;
   ok = tt;
   fits = tt;
   free = tt;
   err = rw (e, w, t.ok) (back old (none_of old.begun (λ u. never index (t.unfinished_first u))));
-  warranted = still_warranted _ _ (text_refuses old (draft id space name p.text) p.Cause) fault (rw t.ok at refused);
+  warranted = still_warranted _ _ (text_refuses old (new_item id space name p.text) p.Cause) fault (rw t.ok at refused);
   unfinished_first = λ u. absurd (never index (t.unfinished_first u));
 }
   where

@@ -1,5 +1,6 @@
 -- What the calls of a builder write serves as items.
-use Rattle.std.proofs.Common.{◌≡◌, ℕ, ◌+◌, ◌<◌, ◌^◌, List, [], ◌∷◌, ◌++◌, length, Option, Result, Ok, Err, OnOk, refl, ap, inl, inr, arith, append_assoc, length-append}
+use Rattle.std.proofs.Common.{◌≡◌, ℕ, ◌+◌, ◌<◌, ◌^◌, List, [], ◌∷◌, ◌++◌, length, Option, Result, Ok, Err, OnOk, refl, ap, inl, inr, arith}
+use Rattle.std.proofs.Common.{append_assoc, length-append}
 use Rattle.std.proofs.lemmas.List.{append-nil}
 use Rattle.wenc_base.specs.Encode.{Serves, in_order}
 use Rattle.wenc_base.specs.Forms.{option, byte_list, name}
@@ -13,8 +14,8 @@ use Rattle.wenc_parts.specs.Imports.{ExternName, extern_name, type_reference}
 use Rattle.wenc_parts.specs.declared.exports.ComponentExportKind.{ComponentExportKind}
 use Rattle.wenc_parts.specs.declared.imports.ComponentTypeRef.{ComponentTypeRef}
 use Rattle.wenc_builder.specs.Item.{Item, CustomItem, ExportItem, RawItem, item, collected}
-use Rattle.wenc_builder.specs.inside.Alone.{with_bytes, custom_lead}
-use Rattle.wenc_builder.specs.inside.Takes.{IsItemPiece}
+use Rattle.wenc_builder.specs.inside.SectionBodies.{with_bytes, custom_lead}
+use Rattle.wenc_builder.specs.inside.Adds.{IsItemPiece}
 use Rattle.wenc_builder.specs.Space.{defines}
 
 -- a piece that serves as an item is one
@@ -35,16 +36,22 @@ pub bytes_serve : (id : ℕ) (bytes : List ℕ) → Serves (with_bytes (id ▸ s
 bytes_serve id bytes = record { text = refl; fits = λ h. h; among = λ fault c. c; free = λ none. none }
 
 -- the data of a custom section after its size and its name
-pub custom_serves : (label bytes : List ℕ) → Serves (with_bytes (0x00 ▸ custom_lead label bytes) bytes) (item (CustomItem (record { label = label; bytes = bytes })))
+pub custom_serves : (label bytes : List ℕ) → Serves (with_bytes (0x00 ▸ custom_lead label bytes) bytes)
+    (item (CustomItem (record { label = label; bytes = bytes })))
 custom_serves label bytes = record {
   text = ap (λ (text : List ℕ). 0x00 ∷ text) (append_assoc (unsigned_text (length ((name label).text ++ bytes))) (name label).text bytes);
   fits = λ h. (h.0.0, (h.0.1, h.1));
   among = λ fault c. elim c [ inl own ↦ elim own [ inl large ↦ inl large | inr long ↦ inr (inl long) ] | inr never ↦ absurd never ];
-  free = λ none fault c. elim c [ inl large ↦ none fault (inl (inl large)) | inr more ↦ elim more [ inl long ↦ none fault (inl (inr long)) | inr never ↦ never ] ];
+  free = λ none fault c. elim c [
+    | inl large ↦ none fault (inl (inl large))
+    | inr more ↦
+        elim more [ inl long ↦ none fault (inl (inr long)) | inr never ↦ never ]
+  ];
 }
 
 -- and what is before them fits where it was written
-pub lead_fits : (label bytes : List ℕ) (name_len n : ℕ) (outcome : Result (Unit {0}) Fault) → name_len ≡ length label → (n ≡ content_size name_len (name_len + length bytes)) × (n < 2 ^ 32) → OnOk outcome ((n < 2 ^ 32) × (name label).Fits)
+pub lead_fits : (label bytes : List ℕ) (name_len n : ℕ) (outcome : Result (Unit {0}) Fault) → name_len ≡ length label
+    → (n ≡ content_size name_len (name_len + length bytes)) × (n < 2 ^ 32) → OnOk outcome ((n < 2 ^ 32) × (name label).Fits)
     → OnOk outcome (custom_lead label bytes).Fits
 lead_fits label bytes name_len n (Ok u) e s fits =
     let small : content_size (length label) (length label + length bytes) < 2 ^ 32 = rw (s.0, e) at s.1 in
@@ -62,6 +69,9 @@ raw_serves bytes = record {
 
 -- an export's name, kind, index and type
 pub export_serves : (n : ExternName) (kind : ComponentExportKind) (index : ℕ) (what : Option ComponentTypeRef)
-    → Serves (in_order (extern_name n) (in_order (component_export_kind kind) (in_order (u32 index) (option type_reference what)))) (item (ExportItem (record { name = n; kind = kind; index = index; ty = what })))
+    → Serves (in_order (extern_name n) (in_order (component_export_kind kind) (in_order (u32 index) (option type_reference what))))
+    (item (ExportItem (record { name = n; kind = kind; index = index; ty = what })))
 export_serves n kind index what =
-    order_serves (serves_itself {p = extern_name n}) (order_serves (serves_itself {p = component_export_kind kind}) (order_serves (serves_itself {p = u32 index}) (serves_itself {p = option type_reference what})))
+    order_serves (serves_itself {p = extern_name n})
+    (order_serves (serves_itself {p = component_export_kind kind})
+    (order_serves (serves_itself {p = u32 index}) (serves_itself {p = option type_reference what})))

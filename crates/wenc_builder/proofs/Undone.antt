@@ -17,16 +17,20 @@ before_with : (i : Space) (n : ℕ) (s : Namespace) (name : Option (List ℕ)) �
 before_with i n s None = rw (take_all (length s.names) s.names (omega arith)) refl
 before_with i n s (Some name) = rw (take_at s.names (name_association (record { index = s.count; name = name })).text (length s.names) refl) refl
 
-back_at : (spaces : List Namespace) (i : Space) (n : ℕ) (old new : Namespace) (name : Option (List ℕ)) → space_number i < length spaces → new ≡ namespace_with old n name
+back_at : (spaces : List Namespace) (i : Space) (n : ℕ) (old new : Namespace) (name : Option (List ℕ)) → space_number i < length spaces
+    → new ≡ namespace_with old n name
     → spaces_before (undo_at i old) (namespace_at (namespace_set spaces i new) i).names ≡ old
 back_at spaces i n old new name h f = rw (get_or-set_same spaces (space_number i) new no_names h, f) (before_with i n old name)
 
-kept : (spaces : List Namespace) (i : Space) (n : ℕ) (old new : Namespace) (name : Option (List ℕ)) → space_number i < length spaces → old ≡ namespace_at spaces i → new ≡ namespace_with old n name
+kept : (spaces : List Namespace) (i : Space) (n : ℕ) (old new : Namespace) (name : Option (List ℕ)) → space_number i < length spaces
+    → old ≡ namespace_at spaces i → new ≡ namespace_with old n name
     → namespace_set (namespace_set spaces i new) i (spaces_before (undo_at i old) (namespace_at (namespace_set spaces i new) i).names) ≡ spaces
-kept spaces i n old new name h e f = rw (back_at spaces i n old new name h f, set-set spaces (space_number i) new old, e) (set-get_or spaces (space_number i) no_names)
+kept spaces i n old new name h e f =
+    rw (back_at spaces i n old new name h f, set-set spaces (space_number i) new old, e) (set-get_or spaces (space_number i) no_names)
 
 -- a space has no less than it had
-no_less : (n : ℕ) (s : Namespace) (name : Option (List ℕ)) → (s.named ≤ (namespace_with s n name).named) × (length s.names ≤ length (namespace_with s n name).names)
+no_less : (n : ℕ) (s : Namespace) (name : Option (List ℕ)) → (s.named ≤ (namespace_with s n name).named)
+    × (length s.names ≤ length (namespace_with s n name).names)
 no_less n s None = (omega arith, omega arith)
 no_less n s (Some name) = (omega arith, omega (arith, length-append s.names (name_association (record { index = s.count; name = name })).text))
 
@@ -38,7 +42,8 @@ thirteen : (spaces : List Namespace) (undo : Option Undo) → CanUndo spaces und
 thirteen spaces None h = h
 thirteen spaces (Some u) h = h.0
 
-pub begun_view : (spaces : List Namespace) (undo : Option Undo) (now : Spaced) (i : Space) (n : ℕ) (one new : Namespace) (count names len : ℕ) (name : Option (List ℕ))
+pub begun_view : (spaces : List Namespace) (undo : Option Undo) (now : Spaced) (i : Space) (n : ℕ) (one new : Namespace)
+    (count names len : ℕ) (name : Option (List ℕ))
     → CanUndo spaces undo → spaced_view spaces undo ≡ now → now.taking ≡ None → one ≡ get_or spaces (space_number i) one → new ≡ namespace_with one n name
     → count ≡ one.count → names ≡ one.named → len ≡ length one.names
     → spaced_view (namespace_set spaces i new) (Some (record { space = i; count = count; named = names; len = len }))
@@ -54,7 +59,11 @@ pub begun_can : (spaces : List Namespace) (undo : Option Undo) (i : Space) (n : 
     → CanUndo (namespace_set spaces i new) (Some (record { space = i; count = count; named = names; len = len }))
 begun_can spaces undo i n one new count names len name k f m l =
     let inside : space_number i < length spaces = omega (arith, thirteen spaces undo k, space_within i) in
-    rw (m, l, get_or-set_same spaces (space_number i) new no_names inside, f) (length-set spaces (space_number i) (namespace_with one n name) ∙ thirteen spaces undo k, (no_less n one name).0, (no_less n one name).1)
+    rw (m, l, get_or-set_same spaces (space_number i) new no_names inside, f) (
+      length-set spaces (space_number i) (namespace_with one n name) ∙ thirteen spaces undo k,
+      (no_less n one name).0,
+      (no_less n one name).1,
+    )
 
 -- the spaces with the item that is being written
 pub taken_is : (spaces : List Namespace) (undo : Option Undo) (now : Spaced) → spaced_view spaces undo ≡ now → spaces ≡ taken now.settled now.taking
@@ -62,11 +71,14 @@ taken_is spaces undo now e = subst (λ (x : Spaced). spaces ≡ taken x.settled 
   where
     of_view : (spaces : List Namespace) (undo : Option Undo) → taken (spaced_view spaces undo).settled (spaced_view spaces undo).taking ≡ spaces
     of_view spaces None = refl
-    of_view spaces (Some u) = set-set spaces (space_number u.space) (spaces_before u (namespace_at spaces u.space).names) (namespace_at spaces u.space) ∙ set-get_or spaces (space_number u.space) no_names
+    of_view spaces (Some u) = set-set spaces (space_number u.space) (spaces_before u (namespace_at spaces u.space).names)
+        (namespace_at spaces u.space) ∙ set-get_or spaces (space_number u.space) no_names
 
 pub count_is : (spaces : List Namespace) (undo : Option Undo) (now : Spaced) (k : Space) (d : Namespace) → CanUndo spaces undo → spaced_view spaces undo ≡ now
     → (get_or spaces (space_number k) d).count ≡ (namespace_at (taken now.settled now.taking) k).count
 count_is spaces undo now k d c e =
-    let there : get_or spaces (space_number k) d ≡ namespace_at spaces k = get_or_default spaces (space_number k) d no_names (omega (arith, thirteen spaces undo c, space_within k)) in
-    let same : namespace_at spaces k ≡ namespace_at (taken now.settled now.taking) k = ap (λ (xs : List Namespace). namespace_at xs k) (taken_is spaces undo now e) in
+    let there : get_or spaces (space_number k) d ≡ namespace_at spaces k =
+    get_or_default spaces (space_number k) d no_names (omega (arith, thirteen spaces undo c, space_within k)) in
+    let same : namespace_at spaces k ≡ namespace_at (taken now.settled now.taking) k =
+    ap (λ (xs : List Namespace). namespace_at xs k) (taken_is spaces undo now e) in
     ap (λ (x : Namespace). x.count) (there ∙ same)

@@ -1,6 +1,6 @@
 -- A builder's state, by those of its buffer and its spaces.
 use Rattle.std.proofs.Common.{◌≡◌, List, ℕ, is_none, Option, Some, None, Result, Ok, Err, refl, ap, sym, subst, ◌∙◌}
-use Rattle.wenc_base.specs.Lender.{Extends, ExtendsListed}
+use Rattle.wenc_base.specs.Parent.{Extends, ExtendsListed}
 use Rattle.wenc_base.specs.Fault.{either}
 use Rattle.wenc_base.specs.Piece.{Piece}
 use Rattle.wenc_base.specs.declared.fault.Fault.{Fault}
@@ -8,7 +8,7 @@ use Rattle.wenc_base.specs.laws.Serves.{still_warranted}
 use Rattle.wenc_builder.specs.Builder.{SectionsState, Content, State, builder_is_finished, content_of, item_appended, item_ended}
 use Rattle.wenc_builder.specs.inside.Layout.{Writing, Buffered, buffered_content, buffer_appended, section_appended, buffer_ended}
 use Rattle.wenc_builder.specs.Cause.{NoRoom}
-use Rattle.wenc_builder.specs.LenderState.{no_room_in_section}
+use Rattle.wenc_builder.specs.ParentState.{no_room_in_section}
 use Rattle.wenc_builder.specs.inside.Spaces.{Taking, Spaced, taken, spaces_ended}
 use Rattle.wenc_builder.specs.inside.View.{Agree, begun_of, builder_view}
 
@@ -37,7 +37,8 @@ content_at b s None (Some t) e f a = absurd a
 content_at b s (Some w) None e f a = absurd a
 content_at b s (Some w) (Some t) e f a = rw (e, f) refl
 
-pub content_is : (b : Buffered) (s : Spaced) → Agree b.writing s.taking → content_of (builder_view b s) ≡ record { sections = buffered_content b; spaces = taken s.settled s.taking }
+pub content_is : (b : Buffered) (s : Spaced) → Agree b.writing s.taking → content_of (builder_view b s)
+    ≡ record { sections = buffered_content b; spaces = taken s.settled s.taking }
 content_is b s a = content_at b s b.writing s.taking refl refl a
 
 appended_at : (b : Buffered) (s : Spaced) (text : List ℕ) (w : Option Writing) (t : Option Taking) → b.writing ≡ w → s.taking ≡ t → Agree w t
@@ -46,7 +47,8 @@ appended_at b s text None t e f a = rw e refl
 appended_at b s text (Some w) None e f a = absurd a
 appended_at b s text (Some w) (Some t) e f a = rw (e, f) refl
 
-pub appended_is : (b : Buffered) (s : Spaced) (text : List ℕ) → Agree b.writing s.taking → builder_view (buffer_appended b text) s ≡ item_appended (builder_view b s) text
+pub appended_is : (b : Buffered) (s : Spaced) (text : List ℕ) → Agree b.writing s.taking
+    → builder_view (buffer_appended b text) s ≡ item_appended (builder_view b s) text
 appended_is b s text a = appended_at b s text b.writing s.taking refl refl a
 
 still_agree_at : (w : Option Writing) (t : Option Taking) (b : Buffered) (text : List ℕ) → b.writing ≡ w → Agree w t → Agree (buffer_appended b text).writing t
@@ -74,25 +76,47 @@ module _ (b : Buffered) (s : Spaced) (now : State) (agree : Agree b.writing s.ta
   longer_view : (text : List ℕ) → builder_view (buffer_appended b text) s ≡ item_appended now text
   longer_view text = appended_is b s text agree ∙ ap (λ (n : State). item_appended n text) view
 
-  there : (cause : Fault → Type 0) (text : List ℕ) (fault : Fault) → either cause (NoRoom (section_appended b text)) fault → either cause (no_room_in_section now text) fault
+  there : (cause : Fault → Type 0) (text : List ℕ) (fault : Fault) → either cause (NoRoom (section_appended b text)) fault
+      → either cause (no_room_in_section now text) fault
   there cause text fault c = subst (λ (k : SectionsState). either cause (NoRoom k.current) fault) (sym (appended_section b s now text agree view)) c
 
-  back : (cause : Fault → Type 0) (text : List ℕ) (fault : Fault) → either cause (no_room_in_section now text) fault → either cause (NoRoom (section_appended b text)) fault
+  back : (cause : Fault → Type 0) (text : List ℕ) (fault : Fault) → either cause (no_room_in_section now text) fault
+      → either cause (NoRoom (section_appended b text)) fault
   back cause text fault c = subst (λ (k : SectionsState). either cause (NoRoom k.current) fault) (appended_section b s now text agree view) c
 
-  pub appended_value : (new : Buffered) (outcome : Result (Unit {0}) Fault) (p : Piece) → Extends b new (buffer_appended b p.text) outcome p (NoRoom (section_appended b p.text))
+  pub appended_value : (new : Buffered) (outcome : Result (Unit {0}) Fault) (p : Piece)
+      → Extends b new (buffer_appended b p.text) outcome p (NoRoom (section_appended b p.text))
       → Extends now (builder_view new s) (item_appended now p.text) outcome p (no_room_in_section now p.text)
-  appended_value new (Ok u) p a = record { ok = rw a.ok (longer_view p.text); fits = a.fits; free = λ fault c. a.free fault (back p.Cause p.text fault c); err = tt; warranted = tt }
-  appended_value new (Err f) p a = record { ok = tt; fits = tt; free = tt; err = rw a.err view; warranted = still_warranted _ _ (there p.Cause p.text) f a.warranted }
+  appended_value new (Ok u) p a = record {
+    ok = rw a.ok (longer_view p.text);
+    fits = a.fits;
+    free =
+        λ fault c. a.free fault (back p.Cause p.text fault c);
+    err = tt;
+    warranted = tt;
+  }
+  appended_value new (Err f) p a =
+      record { ok = tt; fits = tt; free = tt; err = rw a.err view; warranted = still_warranted _ _ (there p.Cause p.text) f a.warranted }
 
-  pub appended_list : {S B : Type 0} (steps : S → Option B → S → Type 0) (values : S) (new : Buffered) (outcome : Result (Unit {0}) Fault) (piece : List B → Piece)
+  pub appended_list : {S B : Type 0} (steps : S → Option B → S → Type 0) (values : S) (new : Buffered) (outcome : Result (Unit {0}) Fault)
+      (piece : List B → Piece)
       → ExtendsListed steps values b new outcome (buffer_appended b) (λ bytes. NoRoom (section_appended b bytes)) piece
       → ExtendsListed steps values now (builder_view new s) outcome (item_appended now) (no_room_in_section now) piece
   appended_list steps values new (Ok u) piece a =
       let e = a.ok.3 in
       let p : Piece = piece a.ok.0.items in
       record {
-        ok = (a.ok.0, a.ok.1, a.ok.2, record { state = rw e.state (longer_view p.text); fits = e.fits; free = λ fault c. e.free fault (back p.Cause p.text fault c) });
+        ok = (
+          a.ok.0,
+          a.ok.1,
+          a.ok.2,
+          record {
+            state = rw e.state (longer_view p.text);
+            fits = e.fits;
+            free =
+                λ fault c. e.free fault (back p.Cause p.text fault c);
+          },
+        );
         err = tt;
         warranted = tt;
       }

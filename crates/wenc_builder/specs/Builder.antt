@@ -1,4 +1,4 @@
--- What a builder is seen as: settled content and, where an item is being written, that item.
+-- The state of a builder: settled content and, while an item is being written, that item.
 use Rattle.std.specs.Prelude.{ℕ, List, [], ◌∷◌, ◌++◌, ◌+◌, Option, Some, None, Bool, is_none}
 use Rattle.std.specs.Prelude.{nat_eq, if◌then◌else◌, slice_set, slice_index_or}
 use Rattle.wenc_base.specs.Holder.{holding, section_text}
@@ -55,22 +55,22 @@ entered_at closed (Some o) id text =
 abbrev pub entered : SectionsState → ℕ → List ℕ → SectionsState
 entered s id text = entered_at s.closed s.current id text
 
--- an item that stands alone
-abbrev pub stood_alone : SectionsState → List ℕ → SectionsState
-stood_alone s text = record { closed = sections_text s ++ text; current = None }
+-- a section of its own after all others
+abbrev pub with_section : SectionsState → List ℕ → SectionsState
+with_section s text = record { closed = sections_text s ++ text; current = None }
 
--- one more item: in a section of this id, or one that stands alone
+-- one more item: in a section of this id, or a section of its own
 abbrev pub with_item_at : Option ℕ → SectionsState → List ℕ → SectionsState
-with_item_at None s text = stood_alone s text
+with_item_at None s text = with_section s text
 with_item_at (Some id) s text = entered s id text
 
--- one more item, in a section or alone as its kind has it
+-- one more item, in a section of its kind or of its own
 abbrev pub with_item : SectionsState → Item → SectionsState
 with_item s x = with_item_at (collected x) s (item x).text
 
 -- ---- index spaces
 
--- how many items a space has, how many of them have names, and the text of those names
+-- the number of items in a space, the number of their names, and the text of those names
 pub record Namespace : Type 0 where
   pub count : ℕ
   pub named : ℕ
@@ -79,7 +79,7 @@ pub record Namespace : Type 0 where
 abbrev pub no_names : Namespace
 no_names = record { count = 0; named = 0; names = [] }
 
--- so many more items, the first of them with this name or none
+-- this many more items, the first of them with this name or none
 abbrev pub namespace_with : Namespace → ℕ → Option (List ℕ) → Namespace
 namespace_with s number None = record { count = s.count + number; named = s.named; names = s.names }
 namespace_with s number (Some name) = record {
@@ -117,8 +117,8 @@ with_entry c e =
       spaces = spaces_with c.spaces (defines e.item) e.name;
     }
 
--- an item that is being written: its section's id, its text so far, its space, and what that is
--- with it
+-- an item that is being written: its section's id, its text so far, its space, and that space with
+-- it
 pub record BegunItem : Type 0 where
   pub id : ℕ
   pub text : List ℕ
@@ -161,29 +161,29 @@ abbrev pub count_in : State → Space → ℕ
 count_in s space = (namespace_at (content_of s).spaces space).count
 
 -- what is to be written: an item of the section with this id, which takes one index in this space
-pub record Draft : Type 0 where
+pub record NewItem : Type 0 where
   pub id : ℕ
   pub space : Space
   pub name : Option (List ℕ)
   pub text : List ℕ
 
-abbrev pub draft : ℕ → Space → Option (List ℕ) → List ℕ → Draft
-draft id space name text = record { id = id; space = space; name = name; text = text }
+abbrev pub new_item : ℕ → Space → Option (List ℕ) → List ℕ → NewItem
+new_item id space name text = record { id = id; space = space; name = name; text = text }
 
 -- what is to be written, by the section itself
-abbrev pub draft_in : ComponentSectionId → Space → Option (List ℕ) → List ℕ → Draft
-draft_in section space name text = draft (section_number section) space name text
+abbrev pub new_item_in : ComponentSectionId → Space → Option (List ℕ) → List ℕ → NewItem
+new_item_in section space name text = new_item (section_number section) space name text
 
 -- its index
-abbrev pub draft_indices : Draft → Indices
-draft_indices d = record { space = d.space; number = 1 }
+abbrev pub new_item_indices : NewItem → Indices
+new_item_indices d = record { space = d.space; number = 1 }
 
 -- its space, as it is with it
-abbrev pub space_with : State → Draft → Namespace
+abbrev pub space_with : State → NewItem → Namespace
 space_with s d = namespace_with (namespace_at s.settled.spaces d.space) 1 d.name
 
--- this draft is begun: what is settled stays, and the item has the text of the draft
-abbrev pub item_begun : State → Draft → State
+-- this item is begun: what is settled stays, and the item has the text of the new one
+abbrev pub item_begun : State → NewItem → State
 item_begun s d = record {
   settled = s.settled;
   begun = Some (record { id = d.id; text = d.text; space = d.space; after = space_with s d });

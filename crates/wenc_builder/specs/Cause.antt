@@ -9,7 +9,7 @@ use Rattle.wenc_sections.specs.declared.space.Space.{Space}
 use Rattle.wenc_builder.specs.Entry.{Entry}
 use Rattle.wenc_builder.specs.Builder.{OpenSection, Namespace, namespace_at, Content, with_entry}
 use Rattle.wenc_builder.specs.Builder.{State, builder_is_finished, content_of}
-use Rattle.wenc_builder.specs.Builder.{Draft, draft_indices, item_begun}
+use Rattle.wenc_builder.specs.Builder.{NewItem, new_item_indices, item_begun}
 
 -- ---- too much of something
 
@@ -29,13 +29,12 @@ SpaceCause s TooMany = (2 ^ 32 ≤ s.count) ⊎ (2 ^ 32 ≤ s.named)
 SpaceCause s TooLarge = 2 ^ 32 ≤ number_size s.named + length s.names
 SpaceCause s other = ⊥
 
--- too much of what the space of these indices is
+-- too much in the space of these indices
 abbrev pub IndexCause : (Space → Namespace) → Option Indices → Fault → Type 0
 IndexCause space None fault = ⊥
 IndexCause space (Some d) fault = SpaceCause (space d.space) fault
 
--- Adding an item makes too much: of what keeps it from being encoded, of what its space is then, or
--- of what the open section is then.
+-- Adding an item is refused: for its own cause, that of its space, or that of the open section.
 abbrev pub AddingCause : (Fault → Type 0) → (Space → Namespace) → Option Indices → Option OpenSection
     → Fault → Type 0
 AddingCause cause space indices current fault =
@@ -50,10 +49,10 @@ CallCause old cause after indices fault =
     AddingCause cause (namespace_at after.spaces) indices after.sections.current fault
     ⊎ ((fault ≡ Unfinished) × (builder_is_finished old ≡ false))
 
--- why an item can't be begun as this draft
-abbrev pub BeginCause : State → Draft → Fault → Type 0
+-- why an item can't be begun as this
+abbrev pub BeginCause : State → NewItem → Fault → Type 0
 BeginCause old d =
-    CallCause old (λ _. ⊥) (content_of (item_begun old d)) (Some (draft_indices d))
+    CallCause old (λ _. ⊥) (content_of (item_begun old d)) (Some (new_item_indices d))
 
 -- why a call that adds this entry is refused
 abbrev pub EnterCause : State → Entry → Fault → Type 0

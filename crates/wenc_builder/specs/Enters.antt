@@ -9,10 +9,10 @@ use Rattle.wenc_base.specs.declared.fault.Fault.TheVariants.{Unfinished}
 use Rattle.wenc_builder.specs.Item.{item}
 use Rattle.wenc_builder.specs.Space.{Indices, defines, IsIndexOf, next_index}
 use Rattle.wenc_builder.specs.Entry.{Entry, items}
-use Rattle.wenc_builder.specs.Builder.{Content, State, step, builder_is_finished, namespace_at}
-use Rattle.wenc_builder.specs.Builder.{Draft, draft_indices, item_begun, content_of, item_ended}
+use Rattle.wenc_builder.specs.Builder.{State, step, builder_is_finished, namespace_at}
+use Rattle.wenc_builder.specs.Builder.{NewItem, item_begun}
 use Rattle.wenc_builder.specs.Holds.{Holds}
-use Rattle.wenc_builder.specs.Cause.{CallCause, BeginCause, EnterCause}
+use Rattle.wenc_builder.specs.Cause.{BeginCause, EnterCause}
 
 -- This is the number of items in the space of these indices.
 abbrev pub IsCountAt : State → Option Indices → ℕ → Type 0
@@ -20,8 +20,8 @@ IsCountAt s None i = ⊥
 IsCountAt s (Some d) i = i ≡ (namespace_at s.settled.spaces d.space).count
 
 -- A call that succeeds adds this entry, which has no cause, to every list that was held, and
--- returns this, by such a list and by the state; one that fails has a cause and changes nothing.
--- While an item is being written, and only then, it is `Unfinished`.
+-- returns this, by such a list and by the state; one that fails has a cause and changes nothing. It
+-- fails with `Unfinished` if and only if an item is being written.
 pub record EntersWith {R : Type 0} (old new : State) (result : Result R Fault) (x : Entry)
     (Returned : List Entry → R → Type 0) (Counted : Option Indices → R → Type 0) : Type 0 where
   pub held : (es : List Entry) → Holds old es
@@ -53,40 +53,11 @@ pub record EntersListed {S B : Type 0} (steps : S → Option B → S → Type 0)
 
 -- A call begins an item and returns its index and an encoder, which borrows the builder; or it
 -- fails for a cause.
-pub record BeginsItem {E : Type 0} (index : E → ℕ) (lent : E → State) (old : State)
-    (result : Result E Fault) (d : Draft) : Type 0 where
-  pub begun : IfOk result (λ e. lent e ≡ item_begun old d)
+pub record BeginsItem {E : Type 0} (index : E → ℕ) (parent : E → State) (old : State)
+    (result : Result E Fault) (d : NewItem) : Type 0 where
+  pub begun : IfOk result (λ e. parent e ≡ item_begun old d)
   pub indexed : IfOk result
       (λ e. (es : List Entry) → Holds old es → index e ≡ next_index (items es) d.space)
   pub free : OnOk result (NoCause (BeginCause old d))
   pub warranted : IfErr result (IsWarranted (BeginCause old d))
   pub unfinished_first : builder_is_finished old ≡ false → result ≡ Err Unfinished
-
--- A call that writes this piece takes these indices or none, which leaves `next` and would leave
--- this content when it is done, and returns this; or it fails for a cause and changes nothing.
-pub record TakesWith {R : Type 0} (old new next : State) (result : Result R Fault)
-    (after : Content) (indices : Option Indices) (p : Piece) (Returned : R → Type 0) : Type 0 where
-  pub returned : IfOk result Returned
-  pub ok : OnOk result (new ≡ next)
-  pub fits : OnOk result p.Fits
-  pub free : OnOk result (NoCause (CallCause old p.Cause after indices))
-  pub err : OnErr result (new ≡ old)
-  pub warranted : IfErr result (IsWarranted (CallCause old p.Cause after indices))
-  pub unfinished_first : builder_is_finished old ≡ false → result ≡ Err Unfinished
-
--- A call takes these indices and returns the number of items that their space had.
-abbrev pub TakesIndices : State → State → State → Result ℕ Fault → Content → Indices → Piece
-    → Type 0
-TakesIndices old new next result after d p =
-    TakesWith old new next result after (Some d) p
-    (λ i. i ≡ (namespace_at old.settled.spaces d.space).count)
-
--- A call takes the index of a draft, and returns it.
-abbrev pub Takes : State → State → State → Result ℕ Fault → Draft → Piece → Type 0
-Takes old new next result d p =
-    TakesIndices old new next result (content_of (item_begun old d)) (draft_indices d) p
-
--- A call takes the index of a draft, writes its item and ends it, and returns that index.
-abbrev pub TakesDraft : State → State → Result ℕ Fault → (List ℕ → Draft) → Piece → Type 0
-TakesDraft old new result d p =
-    Takes old new (item_ended (item_begun old (d p.text))) result (d p.text) p

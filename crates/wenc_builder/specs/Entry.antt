@@ -133,7 +133,7 @@ IndicesCause es (Some d) fault =
     count_cause (next_index (items es) d.space) fault
     ⊎ (sized (name_map (names es d.space))).Cause fault
 
--- why x is refused after these: the component with it can't be encoded, or its space is too much
+-- why x is refused after these: the component with it can't be encoded, or its space is too large
 abbrev pub EntryCause : List Entry → Entry → Fault → Type 0
 EntryCause es x fault =
     (component (runs (items (es ++ x ∷ [])))).Cause fault

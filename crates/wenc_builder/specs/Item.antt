@@ -45,7 +45,7 @@ collected (ImportItem i) = Some (section_number ids.Import)
 collected (ExportItem e) = Some (section_number ids.Export)
 collected other = None
 
--- bytes that no reading is of
+-- bytes that are never read
 abbrev pub unread : List ℕ → Piece
 unread bytes = record (verbatim bytes) { Reads = λ mode all rest. ⊥ }
 

@@ -6,7 +6,7 @@ pub mod Builder
 pub mod Holds
 pub mod Cause
 pub mod Enters
-pub mod LenderState
+pub mod ParentState
 pub mod Names
 pub mod Producers
 pub mod inside

@@ -71,8 +71,8 @@ kept_names s = by_space (λ k. names_held (namespace_at s.settled.spaces k))
 
 -- ---- the call
 
--- It adds that entry to every list that was held or, where there is none, changes nothing and is
--- never refused. By the names that are kept it does that whatever was held.
+-- It adds that entry to every list that was held or, if there is none, changes nothing and is never
+-- refused. The same holds for the entry of the names that are kept, whatever was held.
 pub record AddsNames (old new : State) (result : Result (Unit {0}) Fault) : Type 0 where
   pub held : (es : List Entry) → Holds old es
       → MatchOption (names_entry es) ((result ≡ Ok tt) × (new ≡ old))

@@ -11,31 +11,31 @@ pub use Rattle.wenc_builder.specs.Entry.{core_alias_export_entry, core_instance_
 pub use Rattle.wenc_builder.specs.Entry.{core_type_entry, custom_entry, export_entry, import_entry}
 pub use Rattle.wenc_builder.specs.Entry.{instance_entry, items, module_entry, names, raw_entry}
 pub use Rattle.wenc_builder.specs.Entry.{start_entry, type_entry}
-pub use Rattle.wenc_builder.specs.Builder.{Draft, Namespace, State, builder_is_finished, count_in}
-pub use Rattle.wenc_builder.specs.Builder.{draft_in, item_appended, item_begun, item_ended}
+pub use Rattle.wenc_builder.specs.Builder.{NewItem, Namespace, State, builder_is_finished, count_in}
+pub use Rattle.wenc_builder.specs.Builder.{new_item_in, item_appended, item_begun, item_ended}
 pub use Rattle.wenc_builder.specs.Builder.{item_given_up, namespace_at, namespace_with, no_names}
 pub use Rattle.wenc_builder.specs.Builder.{sections_text}
 pub use Rattle.wenc_builder.specs.Holds.{Holds}
 pub use Rattle.wenc_builder.specs.Cause.{NoRoom, SectionCause, SpaceCause}
 pub use Rattle.wenc_builder.specs.Enters.{BeginsItem, Enters, EntersListed, EntersWithoutIndex}
-pub use Rattle.wenc_builder.specs.Enters.{Takes, TakesDraft}
-pub use Rattle.wenc_builder.specs.LenderState.{builder_is_opened, is_whole, no_room_in_section}
+pub use Rattle.wenc_builder.specs.ParentState.{builder_is_opened, is_whole, no_room_in_section}
 pub use Rattle.wenc_builder.specs.Names.{AddsNames, by_space, names_held, none_named, space_names}
 pub use Rattle.wenc_builder.specs.Producers.{producers_entry}
-pub use Rattle.wenc_builder.specs.inside.Alone.{custom_lead, with_bytes}
+pub use Rattle.wenc_builder.specs.inside.SectionBodies.{custom_lead, with_bytes}
 pub use Rattle.wenc_builder.specs.inside.Layout.{Buffered, IsLaidOut, OpensAnother, SectionFits}
-pub use Rattle.wenc_builder.specs.inside.Layout.{SectionIsIn, StandsAlone, buffer_appended}
+pub use Rattle.wenc_builder.specs.inside.Layout.{SectionIsIn, AppendsSection, buffer_appended}
 pub use Rattle.wenc_builder.specs.inside.Layout.{buffer_begun, buffer_ended, buffer_given_up}
-pub use Rattle.wenc_builder.specs.inside.Layout.{buffer_view, closed_with, draft_of, earlier_view}
+pub use Rattle.wenc_builder.specs.inside.Layout.{buffer_view, closed_with, new_item_of, earlier_view}
 pub use Rattle.wenc_builder.specs.inside.Layout.{kept_before, kept_with, kind_id, nothing_buffered}
 pub use Rattle.wenc_builder.specs.inside.Layout.{open_head, section_appended, section_begun}
 pub use Rattle.wenc_builder.specs.inside.Layout.{section_head}
 pub use Rattle.wenc_builder.specs.inside.Spaces.{CanUndo, NamesFit, Spaced, count_at, empty_spaces}
 pub use Rattle.wenc_builder.specs.inside.Spaces.{space_begun, space_view, spaced_view, spaces_begun}
 pub use Rattle.wenc_builder.specs.inside.Spaces.{spaces_ended, spaces_given_up}
-pub use Rattle.wenc_builder.specs.inside.Takes.{AppendsListed, IsItemPiece, TakesAlone, TakesListed}
-pub use Rattle.wenc_builder.specs.inside.Takes.{TakesNoIndex}
+pub use Rattle.wenc_builder.specs.inside.Adds.{AddsItem, AddsListedItem, AddsSection}
+pub use Rattle.wenc_builder.specs.inside.Adds.{AddsUnindexedSection, AddsWholeItem, AppendsListed}
+pub use Rattle.wenc_builder.specs.inside.Adds.{IsItemPiece}
 pub use Rattle.wenc_builder.specs.inside.View.{IsBuilder, builder_view}
-pub use Rattle.wenc_builder.specs.laws.LenderState.{item_appended_twice, opened_is_begun}
-pub use Rattle.wenc_builder.specs.laws.LenderState.{still_begun}
+pub use Rattle.wenc_builder.specs.laws.ParentState.{item_appended_twice, opened_is_begun}
+pub use Rattle.wenc_builder.specs.laws.ParentState.{still_begun}
 pub use Rattle.wenc_base.specs.declared.fault.Fault.{Fault}

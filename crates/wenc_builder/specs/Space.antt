@@ -19,7 +19,7 @@ abbrev pub canonical_space : Canonical → Space
 canonical_space (Lift function options ty) = Funcs
 canonical_space other = CoreFuncs
 
--- so many indices in this space
+-- this many indices in this space
 pub record Indices : Type 0 where
   pub space : Space
   pub number : ℕ

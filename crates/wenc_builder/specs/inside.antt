@@ -1,7 +1,7 @@
--- What private functions and proofs need alone: no contract of a public call reaches it.
-pub mod Alone
+-- What only private functions and proofs need: no contract of a public call reaches it.
+pub mod SectionBodies
 pub mod Layout
 pub mod Spaces
 pub mod HoldsSome
 pub mod View
-pub mod Takes
+pub mod Adds

@@ -5,7 +5,7 @@ pub mod Caused
 pub mod EntryCause
 pub mod Answered
 pub mod Held
-pub mod LenderState
+pub mod ParentState
 pub mod Typed
 pub mod Fits
 pub mod Reading

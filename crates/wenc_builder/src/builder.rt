@@ -1,16 +1,29 @@
 //! The component builder: its methods for modules, components, aliases, imports and exports.
-ghost use Rattle.std.specs.Prelude.{◌≡◌, ◌↔◌, [], ◌∷◌, ◌++◌, List, IfOk, IfErr, OnErr, IsOk, IsTrue, Some, None, Err, true, false};
+ghost use Rattle.std.specs.Prelude.{◌≡◌, ◌↔◌, [], ◌∷◌, ◌++◌, List, IfOk, IfErr, OnErr, IsOk};
+ghost use Rattle.std.specs.Prelude.{IsTrue, Some, None, Err, true, false};
 ghost use Rattle.std.specs.Iterator.{IsFinite};
 ghost use Rattle.std.specs.List.{AllByRecursion};
 ghost use Rattle.std.specs.Option.{option_copied};
 ghost use Rattle.wenc_base.specs.Prelude.{IsMemory, listed, nothing, Spelling, GivesUp};
 ghost use Rattle.wenc_base.specs.declared.fault.Fault.TheVariants.{Unfinished};
-ghost use Rattle.wenc_builder.specs.Prelude.{Section, runs, Reading, whole, Entry, items, module_entry, component_entry, canonical_entry, start_entry, custom_entry, raw_entry, StartIsNameless, import_entry, export_entry, alias_entry, alias_export_entry, core_alias_export_entry, builder_is_finished, sections_text, count_in, item_begun, item_ended, item_given_up, Holds, Enters, EntersWithoutIndex, Takes, TakesDraft, TakesAlone, TakesNoIndex, AppendsListed, TakesListed, IsItemPiece, indices_in, some_in, canonical_space, is_whole, HasNoRaw, with_bytes, draft_of, kind_id, AddsNames, item_appended, builder_is_opened, no_room_in_section, opened_is_begun, still_begun, item_appended_twice};
+ghost use Rattle.wenc_builder.specs.Prelude.{Section, runs, Reading, whole, Entry, items};
+ghost use Rattle.wenc_builder.specs.Prelude.{module_entry, component_entry, canonical_entry};
+ghost use Rattle.wenc_builder.specs.Prelude.{start_entry, custom_entry, raw_entry, StartIsNameless};
+ghost use Rattle.wenc_builder.specs.Prelude.{import_entry, export_entry, alias_entry};
+ghost use Rattle.wenc_builder.specs.Prelude.{alias_export_entry, core_alias_export_entry};
+ghost use Rattle.wenc_builder.specs.Prelude.{builder_is_finished, sections_text, count_in};
+ghost use Rattle.wenc_builder.specs.Prelude.{item_begun, item_ended, item_given_up, Holds, Enters};
+ghost use Rattle.wenc_builder.specs.Prelude.{EntersWithoutIndex, AddsItem, AddsWholeItem};
+ghost use Rattle.wenc_builder.specs.Prelude.{AddsSection, AddsUnindexedSection, AppendsListed};
+ghost use Rattle.wenc_builder.specs.Prelude.{AddsListedItem, IsItemPiece, indices_in, some_in};
+ghost use Rattle.wenc_builder.specs.Prelude.{canonical_space, is_whole, HasNoRaw, with_bytes};
+ghost use Rattle.wenc_builder.specs.Prelude.{new_item_of, kind_id, AddsNames, item_appended};
+ghost use Rattle.wenc_builder.specs.Prelude.{builder_is_opened, no_room_in_section};
+ghost use Rattle.wenc_builder.specs.Prelude.{opened_is_begun, still_begun, item_appended_twice};
 ghost use Rattle.wenc_parts.specs.Prelude.{extern_name_view, alias_view};
 ghost use Rattle.wenc_sections.specs.Prelude.{canon_view};
 ghost use Rattle.wenc_sections.specs.declared.space.Space.TheVariants as spaces;
 
-mod alone;
 mod buffer;
 mod canonicals;
 mod earlier;
@@ -21,18 +34,19 @@ mod kind;
 mod names;
 mod namespace;
 mod producers;
+mod section_body;
 mod spaces;
 mod trees;
 mod types;
 
-use alone::{CustomLead, Ready, Size};
 use buffer::Buffer;
 use kind::Kind;
+use section_body::{CustomLead, SectionBody, Size};
 use spaces::Spaces;
 use std::alloc::{Allocator, Global};
 use std::convert::AsSlice;
 use std::marker::Model;
-use wenc_base::{CustomSection, Encode, ExportKind, Fault, Lender, Module, Tagged, WithSize};
+use wenc_base::{CustomSection, Encode, ExportKind, Fault, Module, Parent, Tagged, WithSize};
 use wenc_canon::CanonicalOption;
 use wenc_parts::{
     Alias, ComponentExportKind, ComponentExternName, ComponentSectionId, ComponentTypeRef,
@@ -42,8 +56,8 @@ use wenc_sections::{CanonTree, ComponentStartSection, Space};
 
 /// Builds a component call by call.
 ///
-/// Neighbours of one kind are collected in one section, and each call returns the index of its
-/// item. A call that fails changes nothing: the builder goes on as if it had not been made.
+/// Adjacent items of one kind are collected in one section, and each call returns the index of its
+/// item. A call that fails changes nothing.
 ///
 /// # Errors
 ///
@@ -183,11 +197,11 @@ impl<A: Allocator> ComponentBuilder<A> {
         self.spaces.count(Space::Types)
     }
 
-    /// Begins an item, which `give_up` rolls back until it is ended. Returns its index.
+    /// Begins an item, which `discard` rolls back until it is ended. Returns its index.
     fn open(&mut self, kind: Kind, space: Space, name: Option<&str>) -> Result<u32, Fault>
-        ensures { Takes self.old self.new
-            (item_begun self.old (draft_of kind space (option_copied name.entry) []))
-            result (draft_of kind space (option_copied name.entry) []) nothing }
+        ensures { AddsItem self.old self.new
+            (item_begun self.old (new_item_of kind space (option_copied name.entry) []))
+            result (new_item_of kind space (option_copied name.entry) []) nothing }
     {
         if !self.buffer.is_finished() {
             return Err(Fault::Unfinished);
@@ -230,8 +244,8 @@ impl<A: Allocator> ComponentBuilder<A> {
         item: &E,
     ) -> Result<u32, Fault>
         requires { IsItemPiece (Some (kind_id kind)) (some_in space 1) (E.piece item.now) }
-        ensures { TakesDraft self.old self.new result
-            (draft_of kind space (option_copied name.entry)) (E.piece item.now) }
+        ensures { AddsWholeItem self.old self.new result
+            (new_item_of kind space (option_copied name.entry)) (E.piece item.now) }
     {
         let index = match self.open(kind, space, name) {
             Ok(index) => index,
@@ -287,8 +301,8 @@ impl<A: Allocator> ComponentBuilder<A> {
         requires ends { IsFinite (I.remaining values) }
         requires whole { (vs : List T) → IsItemPiece (Some (kind_id kind)) (some_in space 1)
             (listed (E.piece lead.now) T.piece (F.piece tail.now) vs) }
-        ensures { TakesListed I.next_gives values self.old self.new result
-            (draft_of kind space (option_copied name.entry))
+        ensures { AddsListedItem I.next_gives values self.old self.new result
+            (new_item_of kind space (option_copied name.entry))
             (listed (E.piece lead.now) T.piece (F.piece tail.now)) }
     {
         let index = match self.open(kind, space, name) {
@@ -307,20 +321,20 @@ impl<A: Allocator> ComponentBuilder<A> {
         }
     }
 
-    /// Adds a section of its own, the encoding of `lead` and these bytes, which takes `number`
+    /// Adds a separate section, the encoding of `lead` and these bytes, which takes `number`
     /// indices in a space. The first of them has an optional debug name, and is returned.
-    fn stand_alone<E: Encode>(
+    fn add_section<E: Encode>(
         &mut self,
         space: Space,
         number: u32,
         name: Option<&str>,
         lead: &E,
-        bytes: &Ready<'_>,
+        bytes: &SectionBody<'_>,
     ) -> Result<u32, Fault>
         requires whole { IsItemPiece None (some_in space number)
             (with_bytes (E.piece lead.now) bytes.now) }
         requires nameless { space ≡ spaces.Values → option_copied name ≡ None }
-        ensures { TakesAlone self.old self.new result (indices_in space number)
+        ensures { AddsSection self.old self.new result (indices_in space number)
             (option_copied name.entry) (with_bytes (E.piece lead.now) bytes.now) }
     {
         if !self.buffer.is_finished() {
@@ -328,7 +342,7 @@ impl<A: Allocator> ComponentBuilder<A> {
         }
         match self.spaces.open(space, number, name) {
             Err(fault) => Err(fault),
-            Ok(index) => match self.buffer.stand_alone(lead, bytes) {
+            Ok(index) => match self.buffer.add_section(lead, bytes) {
                 Ok(()) => {
                     self.spaces.finish_member();
                     Ok(index)
@@ -341,16 +355,20 @@ impl<A: Allocator> ComponentBuilder<A> {
         }
     }
 
-    /// Adds a section of its own without an index: the encoding of `lead`, and these bytes.
-    fn add_alone<E: Encode>(&mut self, lead: &E, bytes: &Ready<'_>) -> Result<(), Fault>
+    /// Adds a separate section without an index: the encoding of `lead`, and these bytes.
+    fn add_unindexed_section<E: Encode>(
+        &mut self,
+        lead: &E,
+        bytes: &SectionBody<'_>,
+    ) -> Result<(), Fault>
         requires { IsItemPiece None None (with_bytes (E.piece lead.now) bytes.now) }
-        ensures { TakesNoIndex self.old self.new result
+        ensures { AddsUnindexedSection self.old self.new result
             (with_bytes (E.piece lead.now) bytes.now) }
     {
         if !self.buffer.is_finished() {
             return Err(Fault::Unfinished);
         }
-        self.buffer.stand_alone(lead, bytes)
+        self.buffer.add_section(lead, bytes)
     }
 
     /// Adds a canonical function with an optional debug name, and returns its index in this space.
@@ -367,7 +385,7 @@ impl<A: Allocator> ComponentBuilder<A> {
         self.add(Kind::CanonicalFunction, space, name, function)
     }
 
-    /// Adds a custom section with the debug names so far, in the order of their sorts (component
+    /// Adds a custom section with the debug names so far, in the order of their kinds (component
     /// model, binary format, "Name Section").
     ///
     /// The names are kept, so a second call writes them again. Without names nothing is added, and
@@ -388,7 +406,7 @@ impl<A: Allocator> ComponentBuilder<A> {
         let content = (NAMES_LABEL, names);
         let sized = WithSize(&content);
         let section = Tagged(ComponentSectionId::CoreCustom.into(), &sized);
-        self.buffer.stand_alone(&section, &Ready::whole(&[]))
+        self.buffer.add_section(&section, &SectionBody::whole(&[]))
     }
 
     /// Adds a core module with an optional debug name, and returns its index (component model,
@@ -405,16 +423,16 @@ impl<A: Allocator> ComponentBuilder<A> {
     }
 
     /// Adds the core module with these bytes and an optional debug name, and returns its index
-    /// (component model, binary format, "Component Definitions"). That they encode a module isn't
-    /// checked. Fails as documented on `ComponentBuilder`.
+    /// (component model, binary format, "Component Definitions"). The bytes aren't checked. Fails
+    /// as documented on `ComponentBuilder`.
     pub fn core_module_raw(&mut self, debug_name: Option<&str>, bytes: &[u8]) -> Result<u32, Fault>
         ensures { Enters self.old self.new result
             (module_entry (option_copied debug_name.entry) bytes.now) }
     {
         let size = Size(bytes.len());
         let lead = Tagged(ComponentSectionId::CoreModule.into(), &size);
-        let bytes = Ready::whole(bytes);
-        self.stand_alone(Space::CoreModules, 1, debug_name, &lead, &bytes)
+        let bytes = SectionBody::whole(bytes);
+        self.add_section(Space::CoreModules, 1, debug_name, &lead, &bytes)
     }
 
     /// Adds an alias of a core instance's export with an optional debug name, and returns its index
@@ -439,7 +457,7 @@ impl<A: Allocator> ComponentBuilder<A> {
     }
 
     /// Adds an alias with an optional debug name, and returns its index, which is in the index
-    /// space of the aliased item's sort (component model, binary format, "Alias Definitions").
+    /// space of the aliased item's kind (component model, binary format, "Alias Definitions").
     /// Fails as documented on `ComponentBuilder`.
     pub fn alias(&mut self, debug_name: Option<&str>, alias: Alias<'_>) -> Result<u32, Fault>
         ensures { Enters self.old self.new result
@@ -482,7 +500,7 @@ impl<A: Allocator> ComponentBuilder<A> {
         self.add(Kind::Import, Space::from(ty.kind()), Some(name), &import)
     }
 
-    /// Exports the item of this sort with this index under this name, optionally ascribing a type,
+    /// Exports the item of this kind with this index under this name, optionally ascribing a type,
     /// and returns the index of the export (component model, binary format, "Import and Export
     /// Definitions"). The name is also the export's debug name. Fails as documented on
     /// `ComponentBuilder`.
@@ -504,7 +522,7 @@ impl<A: Allocator> ComponentBuilder<A> {
     /// Adds another builder's component as a nested component with an optional debug name, and
     /// returns its index (component model, binary format, "Component Definitions").
     ///
-    /// The other builder is dropped, also if the call fails. Fails as documented on
+    /// The other builder is dropped, even if the call fails. Fails as documented on
     /// `ComponentBuilder`, and with `Unfinished` if either builder is unfinished.
     pub fn component<B: Allocator>(
         &mut self,
@@ -526,7 +544,7 @@ impl<A: Allocator> ComponentBuilder<A> {
     /// Adds another builder's component as a nested component with an optional debug name, and
     /// returns its index (component model, binary format, "Component Definitions").
     ///
-    /// The other builder is unchanged, and may be used further. Fails as documented on
+    /// The other builder is unchanged, and may still be used. Fails as documented on
     /// `ComponentBuilder`, and with `Unfinished` if either builder is unfinished.
     pub fn component_ref<B: Allocator>(
         &mut self,
@@ -550,12 +568,12 @@ impl<A: Allocator> ComponentBuilder<A> {
         let bytes = component.buffer.ready();
         let size = Size(bytes.len());
         let lead = Tagged(ComponentSectionId::Component.into(), &size);
-        self.stand_alone(Space::Components, 1, debug_name, &lead, &bytes)
+        self.add_section(Space::Components, 1, debug_name, &lead, &bytes)
     }
 
     /// Adds the component with these bytes and an optional debug name, and returns its index
-    /// (component model, binary format, "Component Definitions"). That they encode a component
-    /// isn't checked. Fails as documented on `ComponentBuilder`.
+    /// (component model, binary format, "Component Definitions"). The bytes aren't checked. Fails
+    /// as documented on `ComponentBuilder`.
     pub fn component_raw(
         &mut self,
         debug_name: Option<&str>,
@@ -566,8 +584,8 @@ impl<A: Allocator> ComponentBuilder<A> {
     {
         let size = Size(component.len());
         let lead = Tagged(ComponentSectionId::Component.into(), &size);
-        let bytes = Ready::whole(component);
-        self.stand_alone(Space::Components, 1, debug_name, &lead, &bytes)
+        let bytes = SectionBody::whole(component);
+        self.add_section(Space::Components, 1, debug_name, &lead, &bytes)
     }
 
     /// Adds a start function, which is called with these values when the component is instantiated
@@ -588,7 +606,13 @@ impl<A: Allocator> ComponentBuilder<A> {
             results,
         };
         let section = Tagged(ComponentSectionId::Start.into(), &start);
-        self.stand_alone(Space::Values, results, None, &section, &Ready::whole(&[]))
+        self.add_section(
+            Space::Values,
+            results,
+            None,
+            &section,
+            &SectionBody::whole(&[]),
+        )
     }
 
     /// Adds a custom section (component model, binary format, "Component Definitions"). Fails as
@@ -599,21 +623,21 @@ impl<A: Allocator> ComponentBuilder<A> {
     {
         let lead = CustomLead(section);
         let lead = Tagged(ComponentSectionId::CoreCustom.into(), &lead);
-        self.add_alone(&lead, &Ready::whole(section.data))
+        self.add_unindexed_section(&lead, &SectionBody::whole(section.data))
     }
 
     /// Adds a custom section with these bytes after its id (component model, binary format,
-    /// "Component Definitions"). That they encode such a section isn't checked. Fails as documented
-    /// on `ComponentBuilder`.
+    /// "Component Definitions"). The bytes aren't checked. Fails as documented on
+    /// `ComponentBuilder`.
     pub fn raw_custom_section(&mut self, section: &[u8]) -> Result<(), Fault>
         ensures { EntersWithoutIndex self.old self.new result (raw_entry section.now) }
     {
         let lead = Tagged(ComponentSectionId::CoreCustom.into(), &());
-        self.add_alone(&lead, &Ready::whole(section))
+        self.add_unindexed_section(&lead, &SectionBody::whole(section))
     }
 
-    /// Returns whether no item is being written. If so, the builder holds a list of entries, of
-    /// which no start function has a name, whichever calls were made.
+    /// Returns whether no item is being written. If so, the builder holds a list of entries in
+    /// which no start function has a name, whatever calls were made.
     pub fn is_finished(&self) -> bool
         ensures finished { result ≡ builder_is_finished self.now }
         ensures holds { builder_is_finished self.now ≡ true
@@ -635,7 +659,7 @@ impl<A: Allocator> ComponentBuilder<A> {
         true
     }
 
-    /// Returns all bytes of the component, the encoding of the builder's entries, whichever calls
+    /// Returns all bytes of the component, the encoding of the builder's entries, whatever calls
     /// were made. Allocates nothing. Fails only with `Unfinished`, while an item is being written.
     pub fn finish(self) -> Result<Vec<u8, A>, Fault>
         ensures held { (es : List Entry) → Holds self es
@@ -661,9 +685,9 @@ impl<A: Allocator> ComponentBuilder<A> {
 }
 
 /// A builder is the parent of the encoders of its types. Until an encoder's last call has ended its
-/// item, whatever grows or finishes the builder fails with `Unfinished`; `discard_unfinished`
+/// item, calls that grow or finish the builder fail with `Unfinished`; `discard_unfinished`
 /// discards the item.
-impl<A: Allocator> Lender for ComponentBuilder<A> {
+impl<A: Allocator> Parent for ComponentBuilder<A> {
     ghost finished = { builder_is_finished };
 
     ghost opened = { builder_is_opened };

@@ -1,4 +1,4 @@
-//! Builds a component call by call: `ComponentBuilder` collects neighbours of one kind in one
+//! Builds a component call by call: `ComponentBuilder` collects adjacent items of one kind in one
 //! section, and returns the index of each item.
 #![tactic(auto)]
 

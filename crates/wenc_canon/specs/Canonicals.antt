@@ -69,7 +69,7 @@ fields (f ∷ g ∷ fs) vs = field f vs.0 ⨾ fields (g ∷ fs) vs.1
 
 -- ---- the table
 
--- a function that the component model provides
+-- a builtin of the component model
 pub data Builtin : Type 0 where
   ResourceNew ResourceDrop ResourceRep TaskCancel SubtaskCancel TaskReturn ContextGet : Builtin
   ContextSet ThreadYield SubtaskDrop StreamNew StreamRead StreamWrite StreamCancelRead : Builtin

@@ -1,3 +1,3 @@
--- What private functions and proofs need, and of public calls those alone by which section and
--- builder add a row: `AddsRow` and `AddsSlotRow`.
+-- What only private functions and proofs need, and those public calls by which section and builder
+-- add a row: `AddsRow` and `AddsSlotRow`.
 pub mod Rows

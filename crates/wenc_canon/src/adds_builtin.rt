@@ -1,7 +1,10 @@
 //! The builtins of the component model, for each type to which they can be added.
 ghost use Rattle.std.specs.Iterator.{IsFinite};
 ghost use Rattle.std.specs.Prelude.{◌≡◌, ◌∷◌, [], List, Option, Result};
-ghost use Rattle.wenc_canon.specs.Prelude.{Fault as FaultSpec, Canonical, OfBuiltin, CoreType, Index, ◌is◌takes◌, CanonicalOption as OptionSpec, row_with, HasName, builtin_by, and_options, builtin_with};
+ghost use Rattle.wenc_canon.specs.Prelude.{Fault as FaultSpec, Canonical, OfBuiltin, CoreType};
+ghost use Rattle.wenc_canon.specs.Prelude.{Index, ◌is◌takes◌, CanonicalOption as OptionSpec};
+ghost use Rattle.wenc_canon.specs.Prelude.{row_with, HasName, builtin_by, and_options};
+ghost use Rattle.wenc_canon.specs.Prelude.{builtin_with};
 ghost use Rattle.wenc_canon.specs.Canonicals as canon;
 
 use crate::canonicals::CanonicalOption;
@@ -10,29 +13,29 @@ use crate::rows::{self, Row};
 use wenc_base::{Fault, ValType};
 use wenc_parts::{ComponentValType, ResultList};
 
-/// Adds a builtin by its row.
+/// A type to which builtins are added by their rows.
 ///
-/// An implementation says to what it adds, and what that means. Callers use the methods of
+/// An implementation defines what a call adds and returns. Callers use the methods of
 /// `AddsBuiltin`.
 pub trait AddsRow {
-    /// What a call returns.
+    /// The result of a call.
     type Answer;
 
     /// A call adds this function: the receiver before and after, and the result.
     ghost adds: { Self → Self → Result Self.Answer FaultSpec → Canonical → Type 0 };
 
-    /// A call adds the function that takes the options which an iterator yields.
+    /// A call adds the function with the options that an iterator yields.
     ghost adds_with: { {S : Type 0} → (S → Option OptionSpec → S → Type 0) → S
         → Self → Self → Result Self.Answer FaultSpec → (List OptionSpec → Canonical) → Type 0 };
 
-    /// Adds the builtin of this row, with these fields, whose values are no part of its name.
+    /// Adds the builtin of this row, with these fields, whose values aren't part of its name.
     fn add_row<F: Fields>(&mut self, row: Row, fields: &F) -> Result<Self::Answer, Fault>
         requires row { row_with row.1 ≡ (row.0.now is row.1 takes F.kinds) }
         requires name { HasName row.1 row.0.now }
         ensures { adds self.old self.new result
             (builtin_by row.1 F.kinds (F.values fields.now)) };
 
-    /// Adds the builtin of this row, with options after these fields, whose values are no part of
+    /// Adds the builtin of this row, with options after these fields, whose values aren't part of
     /// its name.
     fn add_row_with<F: Fields, I: Iterator<Item = CanonicalOption> + Drop>(
         &mut self,
@@ -49,7 +52,7 @@ pub trait AddsRow {
             (builtin_with row.1 F.kinds (F.values fields.now)) };
 }
 
-/// Adds a builtin that has a task-local slot by its row.
+/// A type to which builtins with a task-local slot are added by their rows.
 pub trait AddsSlotRow: AddsRow {
     /// Adds the builtin of this row, with a slot of this value type.
     fn add_slot_row(&mut self, row: Row, ty: ValType, slot: u32) -> Result<Self::Answer, Fault>

@@ -1,8 +1,12 @@
 //! The section of canonical functions, and canonical options.
 ghost use Rattle.std.specs.Prelude.{◌≡◌, ◌==◌, false, OnOk, IfOk, IfErr};
 ghost use Rattle.std.specs.Iterator.{IsFinite};
-ghost use Rattle.wenc_base.specs.Prelude.{IsMemory, Appends, no_members, is_finished, held_section, ContainsSome, AddsMember, HasMembers, HasForm, itself, serves_itself};
-ghost use Rattle.wenc_canon.specs.Prelude.{AddsWithOptions, Lift, Lower, canonical, canonical_option, canonical_option_lawful, read_canonical_option, CanonicalOption as Seen'};
+ghost use Rattle.wenc_base.specs.Prelude.{IsMemory, Appends, no_members, is_finished, held_section};
+ghost use Rattle.wenc_base.specs.Prelude.{ContainsSome, AddsMember, HasMembers, HasForm, itself};
+ghost use Rattle.wenc_base.specs.Prelude.{serves_itself};
+ghost use Rattle.wenc_canon.specs.Prelude.{AddsWithOptions, Lift, Lower, canonical};
+ghost use Rattle.wenc_canon.specs.Prelude.{canonical_option, canonical_option_lawful};
+ghost use Rattle.wenc_canon.specs.Prelude.{read_canonical_option, CanonicalOption as Seen'};
 ghost use Rattle.wenc_parts.specs.Prelude.{section_number};
 
 use crate::adds_builtin::{AddsBuiltin, AddsRow, AddsSlot, AddsSlotRow};
@@ -123,10 +127,10 @@ impl<A: Allocator> CanonicalFunctionSection<A> {
     /// Creates a section whose functions are the members of this holder, which have to be encodings
     /// of canonical functions. Does not allocate.
     ///
-    /// With `Holder::over`, a section can thus be written after bytes that are already there:
-    /// adding functions leaves these bytes in place, and `encode` writes the section alone.
-    /// `into_holder` and `Holder::into_parts` return all bytes. If a member of the holder is open,
-    /// the section is unfinished: adding functions and `encode` fail with `Unfinished`.
+    /// With `Holder::over`, a section can thus be written after existing bytes: adding functions
+    /// leaves these bytes in place, and `encode` writes the section alone. `into_holder` and
+    /// `Holder::into_parts` return all bytes. If a member of the holder is open, the section is
+    /// unfinished: adding functions and `encode` fail with `Unfinished`.
     ///
     /// ```
     /// let kept = bytes.len();
@@ -180,7 +184,7 @@ impl<A: Allocator> CanonicalFunctionSection<A> {
     }
 
     /// Lifts the core function with the index `core_func` to a component function whose type has
-    /// the index `ty` (`canon lift`). Fails as described at the type.
+    /// the index `ty` (`canon lift`). Fails as documented on the type.
     pub fn lift<I: Iterator<Item = CanonicalOption> + Drop>(
         &mut self,
         core_func: u32,
@@ -198,7 +202,7 @@ impl<A: Allocator> CanonicalFunctionSection<A> {
     }
 
     /// Lowers the component function with the index `func` to a core function (`canon lower`).
-    /// Fails as described at the type.
+    /// Fails as documented on the type.
     pub fn lower<I: Iterator<Item = CanonicalOption> + Drop>(
         &mut self,
         func: u32,

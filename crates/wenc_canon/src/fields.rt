@@ -1,7 +1,8 @@
 //! The fields after the opcodes of builtins.
 ghost use Rattle.std.specs.Prelude.{List};
 ghost use Rattle.wenc_base.specs.Prelude.{IsWritten, serves_itself, byte};
-ghost use Rattle.wenc_canon.specs.Prelude.{Field, Values, fields, two_fields, Index, Flag, Zero, CoreType, Results};
+ghost use Rattle.wenc_canon.specs.Prelude.{Field, Values, fields, two_fields, Index, Flag, Zero};
+ghost use Rattle.wenc_canon.specs.Prelude.{CoreType, Results};
 
 use std::alloc::Allocator;
 use wenc_base::{Encode, Fault, ValType};

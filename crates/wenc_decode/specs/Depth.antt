@@ -19,7 +19,7 @@ pub record Front {A : Type 0} (form : Form A) (P : List ℕ → Type 0) (bytes :
 abbrev pub ByteThen : ℕ → (List ℕ → Type 0) → List ℕ → Type 0
 ByteThen b P bytes = (rest : List ℕ) × (bytes ≡ b ∷ rest) × P rest
 
--- A type of a component or of an instance opens here, and then so many more inside one another,
+-- A type of a component or of an instance opens here, and then this many more inside one another,
 -- each before anything that is no declaration.
 abbrev pub OpensTypes : ℕ → List ℕ → Type 0
 OpensTypes zero bytes =

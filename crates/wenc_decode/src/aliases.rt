@@ -1,5 +1,8 @@
-//! Aliases. Each begins with a sort, and refers to an instance's export or an outer item.
-ghost use Rattle.wenc_parts.specs.Prelude.{alias_tree_view, read_alias, read_export, read_core_export, read_outer, read_export_or_outer, read_exported_alias, read_core_alias, AliasOf, alias_sound, alias_lawful};
+//! Aliases. Each begins with a kind, and refers to an instance's export or an outer item.
+ghost use Rattle.wenc_parts.specs.Prelude.{alias_tree_view, read_alias, read_export};
+ghost use Rattle.wenc_parts.specs.Prelude.{read_core_export, read_outer, read_export_or_outer};
+ghost use Rattle.wenc_parts.specs.Prelude.{read_exported_alias, read_core_alias, AliasOf};
+ghost use Rattle.wenc_parts.specs.Prelude.{alias_sound, alias_lawful};
 ghost use Rattle.wenc_read.specs.Prelude.{Gives, exact_by};
 
 use crate::decode::Decode;
@@ -40,7 +43,7 @@ fn outer<A: Allocator + Copy>(
     Ok((AliasTree::Outer { kind, count, index }, rest))
 }
 
-/// Reads an alias of a core instance's export, after the sort.
+/// Reads an alias of a core instance's export, after the kind.
 #[tactic(auto, unfolding(wenc_base::specs::Readers::choose))]
 fn core_export<A: Allocator + Copy>(
     alloc: A,
@@ -64,7 +67,7 @@ fn core_export<A: Allocator + Copy>(
     }
 }
 
-/// Reads an alias of an instance's export, after a sort that no outer alias has.
+/// Reads an alias of an instance's export, after a kind that no outer alias has.
 #[tactic(auto, unfolding(wenc_base::specs::Readers::choose))]
 #[inline(always)]
 fn export_alone<A: Allocator + Copy>(
@@ -81,7 +84,7 @@ fn export_alone<A: Allocator + Copy>(
     }
 }
 
-/// Reads an alias of an instance's export or of an outer item, after the sort.
+/// Reads an alias of an instance's export or of an outer item, after the kind.
 #[tactic(auto, unfolding(wenc_base::specs::Readers::choose))]
 fn export_or_outer<A: Allocator + Copy>(
     alloc: A,
@@ -99,7 +102,7 @@ fn export_or_outer<A: Allocator + Copy>(
     }
 }
 
-/// Reads an alias of a core sort, after the sort's first byte.
+/// Reads an alias of a core item, after the first byte of its kind.
 #[tactic(auto, unfolding(wenc_base::specs::Readers::choose))]
 fn core<A: Allocator + Copy>(alloc: A, bytes: &[u8]) -> Result<(AliasTree<A>, &[u8]), Refusal>
     ensures { Gives (λ x. (alias_tree_view x.0, x.1.now)) result (read_core_alias bytes.now) }

@@ -1,6 +1,13 @@
 //! The types that core modules define, alone and in recursion groups.
 ghost use Rattle.std.specs.Prelude.{Some, false, true};
-ghost use Rattle.wenc_base.specs.Prelude.{composite_view, sub_view, rec_type_view, read_composite, read_sub_type, read_group, read_closed, read_extension, sub_of, read_storage_type, storage_type, storage_type_sound, storage_type_lawful, read_field_type, field_type, field_type_sound, field_type_lawful, Composite, composite_type_sound, composite_type_lawful, sub_type, sub_type_sound, sub_type_lawful, RecType, rec_type, group_sound, group_lawful};
+ghost use Rattle.wenc_base.specs.Prelude.{composite_view, sub_view, rec_type_view, read_composite};
+ghost use Rattle.wenc_base.specs.Prelude.{read_sub_type, read_group, read_closed, read_extension};
+ghost use Rattle.wenc_base.specs.Prelude.{sub_of, read_storage_type, storage_type};
+ghost use Rattle.wenc_base.specs.Prelude.{storage_type_sound, storage_type_lawful, read_field_type};
+ghost use Rattle.wenc_base.specs.Prelude.{field_type, field_type_sound, field_type_lawful};
+ghost use Rattle.wenc_base.specs.Prelude.{Composite, composite_type_sound, composite_type_lawful};
+ghost use Rattle.wenc_base.specs.Prelude.{sub_type, sub_type_sound, sub_type_lawful, RecType};
+ghost use Rattle.wenc_base.specs.Prelude.{rec_type, group_sound, group_lawful};
 ghost use Rattle.wenc_read.specs.Prelude.{Gives, exact_by};
 
 use crate::decode::Decode;

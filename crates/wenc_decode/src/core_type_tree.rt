@@ -1,7 +1,11 @@
 //! Core types in a component: recursion groups with guards, and module types.
 ghost use Rattle.wenc_decode.specs.Prelude.{read_guarded};
 ghost use Rattle.wenc_read.specs.Prelude.{Gives, exact_by};
-ghost use Rattle.wenc_types.specs.Prelude.{read_outer_type, module_declaration_view, core_type_view, ModuleDeclaration, module_declaration, read_module_declaration, module_declaration_sound, module_declaration_lawful, CoreType, core_type, read_core_type, core_type_sound, core_type_lawful};
+ghost use Rattle.wenc_types.specs.Prelude.{read_outer_type, module_declaration_view};
+ghost use Rattle.wenc_types.specs.Prelude.{core_type_view, ModuleDeclaration, module_declaration};
+ghost use Rattle.wenc_types.specs.Prelude.{read_module_declaration, module_declaration_sound};
+ghost use Rattle.wenc_types.specs.Prelude.{module_declaration_lawful, CoreType, core_type};
+ghost use Rattle.wenc_types.specs.Prelude.{read_core_type, core_type_sound, core_type_lawful};
 
 use crate::composites::open;
 use crate::decode::Decode;

@@ -1,19 +1,22 @@
 //! The trait `Decode`, and the parts of every form: numbers, flags, strings, lists and options.
 ghost use Rattle.std.specs.Prelude.{◌≡◌, ◌≤◌, ◌<◌, List, length, map};
-ghost use Rattle.wenc_base.specs.Prelude.{Form, Reader, times, read_u32, u32 as number, u32_sound, u32_lawful, read_flag, flag, flag_sound, flag_lawful, read_name, name, name_sound, name_lawful, read_list, list, read_option, option};
+ghost use Rattle.wenc_base.specs.Prelude.{Form, Reader, times, read_u32, u32 as number, u32_sound};
+ghost use Rattle.wenc_base.specs.Prelude.{u32_lawful, read_flag, flag, flag_sound, flag_lawful};
+ghost use Rattle.wenc_base.specs.Prelude.{read_name, name, name_sound, name_lawful, read_list};
+ghost use Rattle.wenc_base.specs.Prelude.{list, read_option, option};
 ghost use Rattle.wenc_read.specs.Prelude.{IsExact, Gives, exact_by, list_exact, option_exact};
 
 use std::alloc::Allocator;
 use wenc_read::{Refusal, byte, flag_of, name_of, u32_of};
 
-/// A value that can be read from the front of bytes (component model, binary format, from
+/// A value that can be read from the beginning of bytes (component model, binary format, from
 /// "Component Definitions" on). It is allocated in `A`.
 ///
 /// ```
 /// let (alias, rest) = AliasTree::decode(alloc, bytes)?;
 /// ```
 pub trait Decode<A: Allocator + Copy>: Sized + Drop {
-    /// What a contract sees of a value.
+    /// The value in contracts.
     ghost Value: { Type 0 };
 
     ghost view: { Self → Value };
@@ -95,8 +98,8 @@ impl<A: Allocator + Copy> Decode<A> for String<A> {
     }
 }
 
-/// Returns the capacity to reserve for `count` values of these bytes: `count`, if each can take a
-/// byte, and otherwise 0. So it never exceeds the number of bytes.
+/// Returns the capacity to reserve for `count` values in these bytes: `count` if there is at least
+/// a byte for each, otherwise 0. So it never exceeds the number of bytes.
 pub fn room_for(count: u32, bytes: &[u8]) -> usize
     ensures fits { count ≤ length bytes.now → result ≡ count }
     ensures unmet { length bytes.now < count → result ≡ 0 }

@@ -2,7 +2,11 @@
 ghost use Rattle.wenc_base.specs.Prelude.{pick, nowhere};
 ghost use Rattle.wenc_decode.specs.Prelude.{read_defined_row, handle_rows, defined_sound};
 ghost use Rattle.wenc_read.specs.Prelude.{Gives, exact_by};
-ghost use Rattle.wenc_types.specs.Prelude.{defined_view, LabelledType, labelled_type, labelled_type_view, read_labelled_type, named_sound, labelled_type_lawful, Case, case, case_view, read_case, case_sound, case_lawful, DefValType, def_val_type, read_defined, defined_type_lawful};
+ghost use Rattle.wenc_types.specs.Prelude.{defined_view, LabelledType, labelled_type};
+ghost use Rattle.wenc_types.specs.Prelude.{labelled_type_view, read_labelled_type, named_sound};
+ghost use Rattle.wenc_types.specs.Prelude.{labelled_type_lawful, Case, case, case_view, read_case};
+ghost use Rattle.wenc_types.specs.Prelude.{case_sound, case_lawful, DefValType, def_val_type};
+ghost use Rattle.wenc_types.specs.Prelude.{read_defined, defined_type_lawful};
 
 use crate::decode::Decode;
 use crate::types::primitive_of;

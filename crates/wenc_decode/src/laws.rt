@@ -9,14 +9,14 @@ use crate::decode::Decode;
 use std::alloc::Allocator;
 
 /// The reader of each `Decode` type is exact: what `decode` returns is read widely, with the bytes
-/// that follow, and what is read so it returns, unless an allocation fails.
+/// that follow, and it returns whatever is read so, unless an allocation fails.
 pub fn decoding_is_exact<A: Allocator + Copy, T: Decode<A>>()
     ensures { IsExact T.form T.read }
 {}
 
 /// What `type_of` returns is read widely, with the bytes that follow, and no deeper than its depth.
-/// What is read so it returns, unless an allocation fails; where that is deeper, it fails with
-/// `TooDeep`, and only where so many types open inside one another.
+/// It returns whatever is read so, unless an allocation fails; if that is deeper, it fails with
+/// `TooDeep`, and only if so many types open inside one another.
 pub fn types_are_exact()
     ensures given_is_read { (levels : ℕ) (t : DefType) (bytes rest : List ℕ)
         → read_type levels bytes ≡ Ok (t, rest)

@@ -1,4 +1,4 @@
-//! Reads the forms of items from the front of bytes.
+//! Reads the forms of items from the beginning of bytes.
 //!
 //! Each type that is read implements `Decode`; types of components and instances, which nest, are
 //! read by `type_of`. A function returns what the form's reader on lists finds, or fails if an

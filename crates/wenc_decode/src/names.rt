@@ -1,5 +1,6 @@
 //! Names of imports and exports.
-ghost use Rattle.wenc_parts.specs.Prelude.{ExternName, name_tree_view, extern_name, read_extern_name, extern_name_sound, extern_name_lawful};
+ghost use Rattle.wenc_parts.specs.Prelude.{ExternName, name_tree_view, extern_name};
+ghost use Rattle.wenc_parts.specs.Prelude.{read_extern_name, extern_name_sound, extern_name_lawful};
 ghost use Rattle.wenc_read.specs.Prelude.{exact_by};
 
 use crate::decode::Decode;

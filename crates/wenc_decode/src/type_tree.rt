@@ -2,7 +2,12 @@
 ghost use Rattle.std.specs.Prelude.{map};
 ghost use Rattle.wenc_base.specs.Prelude.{times};
 ghost use Rattle.wenc_read.specs.Prelude.{Gives, GivesNested};
-ghost use Rattle.wenc_types.specs.Prelude.{read_imported, read_exported, read_component_declaration, read_instance_declaration, read_type, read_component_type, read_instance_type, read_resource_type, read_signature, FunctionType, type_view, instance_declaration_view, component_declaration_view};
+ghost use Rattle.wenc_types.specs.Prelude.{read_imported, read_exported};
+ghost use Rattle.wenc_types.specs.Prelude.{read_component_declaration, read_instance_declaration};
+ghost use Rattle.wenc_types.specs.Prelude.{read_type, read_component_type, read_instance_type};
+ghost use Rattle.wenc_types.specs.Prelude.{read_resource_type, read_signature, FunctionType};
+ghost use Rattle.wenc_types.specs.Prelude.{type_view, instance_declaration_view};
+ghost use Rattle.wenc_types.specs.Prelude.{component_declaration_view};
 
 use crate::decode::Decode;
 use std::alloc::Allocator;

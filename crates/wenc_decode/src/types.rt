@@ -1,7 +1,10 @@
 //! Value types of components, and the results of functions.
 ghost use Rattle.std.specs.Prelude.{◌≡◌};
-ghost use Rattle.wenc_decode.specs.Prelude.{find, primitive_types, ComponentValType as Value', ComponentValType as ValueType};
-ghost use Rattle.wenc_parts.specs.Prelude.{primitive_byte, read_value_type, value_type, value_type_sound, value_type_lawful, read_result_list, result_list, result_list_sound, result_list_lawful};
+ghost use Rattle.wenc_decode.specs.Prelude.{find, primitive_types, ComponentValType as Value'};
+ghost use Rattle.wenc_decode.specs.Prelude.{ComponentValType as ValueType};
+ghost use Rattle.wenc_parts.specs.Prelude.{primitive_byte, read_value_type, value_type};
+ghost use Rattle.wenc_parts.specs.Prelude.{value_type_sound, value_type_lawful, read_result_list};
+ghost use Rattle.wenc_parts.specs.Prelude.{result_list, result_list_sound, result_list_lawful};
 ghost use Rattle.wenc_read.specs.Prelude.{exact_by};
 
 use crate::decode::Decode;

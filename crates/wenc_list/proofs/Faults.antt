@@ -17,13 +17,16 @@ everything [] = tt
 everything (s ∷ ss) = (tt, everything ss)
 
 -- where it stops, a section is read
-next_read : (all : ℕ) (bytes : List ℕ) (place : ℕ) (P : List ℕ → Type 0) (f : StopsAt all bytes place P) (ss : List Section) → (sections ss).Reads Wide bytes [] → (s : Section) × (rest : List ℕ) × (section_piece s).Reads Wide f.left rest
-next_read all bytes place P f ss r = let next = goes_past (λ s. Unit {0}) f.before ss bytes f.left f.read r (everything ss) f.some_left in (next.0, next.1, next.2)
+next_read : (all : ℕ) (bytes : List ℕ) (place : ℕ) (P : List ℕ → Type 0) (f : StopsAt all bytes place P) (ss : List Section)
+    → (sections ss).Reads Wide bytes [] → (s : Section) × (rest : List ℕ) × (section_piece s).Reads Wide f.left rest
+next_read all bytes place P f ss r = let next =
+    goes_past (λ s. Unit {0}) f.before ss bytes f.left f.read r (everything ss) f.some_left in (next.0, next.1, next.2)
 
 abbrev IsMemoryOrDeep : ListFault → Type 0
 IsMemoryOrDeep fault = (fault ≡ faults.Memory) ⊎ ((place : ℕ) × (fault ≡ faults.TooDeep place))
 
-memory_or_deep : (all : ℕ) (bytes : List ℕ) (fault : ListFault) → IsFaultBehind all bytes fault → (ss : List Section) → (sections ss).Reads Wide bytes [] → IsMemoryOrDeep fault
+memory_or_deep : (all : ℕ) (bytes : List ℕ) (fault : ListFault) → IsFaultBehind all bytes fault → (ss : List Section)
+    → (sections ss).Reads Wide bytes [] → IsMemoryOrDeep fault
 memory_or_deep all bytes faults.Memory f ss r = inl refl
 memory_or_deep all bytes (faults.NotAComponent place) f ss r = absurd f
 memory_or_deep all bytes (faults.BadSection place) f ss r =
@@ -34,12 +37,15 @@ memory_or_deep all bytes (faults.BadItem place) f ss r = let next = next_read al
 memory_or_deep all bytes (faults.TooDeep place) f ss r = inr (place, refl)
 
 -- memory is wanting, or a type is too deep, and that is said
-pub only_deep : (all : ℕ) (bytes : List ℕ) (fault : ListFault) → IsFaultBehind all bytes fault → (ss : List Section) → (sections ss).Reads Wide bytes [] → IsMemoryOrTooDeep ss fault
-only_deep all bytes fault f ss r = elim (memory_or_deep all bytes fault f ss r) [ inl e ↦ inl e | inr d ↦ inr (d.0, d.1, λ w. (let e = only_memory all bytes fault f ss r w in let g = d.1 in cc)) ]
+pub only_deep : (all : ℕ) (bytes : List ℕ) (fault : ListFault) → IsFaultBehind all bytes fault → (ss : List Section)
+    → (sections ss).Reads Wide bytes [] → IsMemoryOrTooDeep ss fault
+only_deep all bytes fault f ss r = elim (memory_or_deep all bytes fault f ss r)
+    [ inl e ↦ inl e | inr d ↦ inr (d.0, d.1, λ w. (let e = only_memory all bytes fault f ss r w in let g = d.1 in cc)) ]
 
 -- ---- of all bytes
 
-pub no_fault : (bytes : List ℕ) (ss : List Section) → Reading Wide bytes ss → AreWithin 100 ss → (fault : ListFault) → IsFaultOf bytes fault → fault ≡ faults.Memory
+pub no_fault : (bytes : List ℕ) (ss : List Section) → Reading Wide bytes ss → AreWithin 100 ss → (fault : ListFault) → IsFaultOf bytes fault
+    → fault ≡ faults.Memory
 no_fault bytes ss r w faults.Memory f = refl
 no_fault bytes ss r w (faults.NotAComponent place) f = absurd (f.1 r.0 r.1)
 no_fault bytes ss r w fault f = only_memory (length bytes) f.0 fault f.2 ss (rw (same_behind bytes r.0 f.0 r.1 f.1) at r.2) w

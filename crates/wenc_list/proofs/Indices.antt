@@ -1,10 +1,12 @@
 -- How many indices items take.
-use Rattle.std.proofs.Common.{◌≡◌, ℕ, ◌+◌, ◌<◌, ◌≤◌, ◌^◌, cond, List, [], ◌∷◌, ◌++◌, length, map, take, drop, get_or, set, Option, Some, None, refl, sym, ap, ◌∙◌, inl, inr, arith, get_or-set_other, get_or-set_same}
+use Rattle.std.proofs.Common.{◌≡◌, ℕ, ◌+◌, ◌<◌, ◌≤◌, ◌^◌, cond, List, [], ◌∷◌, ◌++◌, length, map, take, drop, get_or, set, Option, Some}
+use Rattle.std.proofs.Common.{None, refl, sym, ap, ◌∙◌, inl, inr, arith, get_or-set_other, get_or-set_same}
 use Rattle.std.proofs.lemmas.List.{take_more, take-append-drop, map-append}
 use Rattle.std.specs.List.{flat_map}
 use Rattle.std.specs.Prelude.{option_map}
 use Rattle.wenc_base.specs.Piece.{Wide, each}
-use Rattle.wenc_builder.specs.Item.{Item, ModuleItem, CoreInstanceItem, CoreTypeItem, ComponentItem, InstanceItem, AliasItem, TypeItem, CanonItem, StartItem, ImportItem, ExportItem, CustomItem, RawItem, collected}
+use Rattle.wenc_builder.specs.Item.{Item, ModuleItem, CoreInstanceItem, CoreTypeItem, ComponentItem, InstanceItem, AliasItem, TypeItem}
+use Rattle.wenc_builder.specs.Item.{CanonItem, StartItem, ImportItem, ExportItem, CustomItem, RawItem, collected}
 use Rattle.wenc_builder.specs.Sections.{Section, members, item_of, section_piece}
 use Rattle.wenc_sections.specs.Space.{space_number, kind_space, alias_space}
 use Rattle.wenc_builder.specs.Space.{Indices, indices_in, canonical_space, some_in, number_in, defined_in, next_index}
@@ -19,18 +21,23 @@ use Rattle.wenc_list.specs.declared.listing.ListedSection.{ListedSection}
 use Rattle.wenc_list.proofs.SectionLaws.{Fills, AloneIn, section_framed, members_of}
 
 -- the count of one space is raised
-pub raised : (counts : List ℕ) (s : Space) (m : ℕ) (k : Space) → space_number s < length counts → get_or (set counts (space_number s) (get_or counts (space_number s) 0 + m)) (space_number k) 0 ≡ get_or counts (space_number k) 0 + number_in k (some_in s m)
+pub raised : (counts : List ℕ) (s : Space) (m : ℕ) (k : Space) → space_number s < length counts
+    → get_or (set counts (space_number s) (get_or counts (space_number s) 0 + m)) (space_number k) 0 ≡ get_or counts (space_number k) 0
+    + number_in k (some_in s m)
 raised counts s m k lt =
     elim (space_tells s k) [
       | inl t ↦ rw (t.0, cond) (rw (sym t.1) (get_or-set_same counts (space_number s) (get_or counts (space_number s) 0 + m) 0 lt))
-      | inr t ↦ rw (t.0, cond) (get_or-set_other counts (space_number s) (space_number k) (get_or counts (space_number s) 0 + m) 0 (λ e. t.1 (sym (same_number k s e))) ∙ omega arith)
+      | inr t ↦ rw (t.0, cond) (get_or-set_other counts (space_number s) (space_number k) (get_or counts (space_number s) 0 + m) 0
+          (λ e. t.1 (sym (same_number k s e))) ∙ omega arith)
     ]
 
 -- what an item takes, as it says
-pub defined_so : (some : Option (Space × ℕ)) (d : Option Indices) (s : Space) (n : ℕ) (k : Space) → option_map (λ p. indices_in p.0 p.1) some ≡ d → some ≡ Some (s, n) → number_in k d ≡ number_in k (some_in s n)
+pub defined_so : (some : Option (Space × ℕ)) (d : Option Indices) (s : Space) (n : ℕ) (k : Space)
+    → option_map (λ p. indices_in p.0 p.1) some ≡ d → some ≡ Some (s, n) → number_in k d ≡ number_in k (some_in s n)
 defined_so some d s n k e f = ap (λ (o : Option Indices). number_in k o) (sym e ∙ ap (λ (o : Option (Space × ℕ)). option_map (λ p. indices_in p.0 p.1) o) f)
 
-pub defined_nowhere : (some : Option (Space × ℕ)) (d : Option Indices) (k : Space) → option_map (λ p. indices_in p.0 p.1) some ≡ d → some ≡ None → number_in k d ≡ 0
+pub defined_nowhere : (some : Option (Space × ℕ)) (d : Option Indices) (k : Space) → option_map (λ p. indices_in p.0 p.1) some ≡ d
+    → some ≡ None → number_in k d ≡ 0
 defined_nowhere some d k e f = ap (λ (o : Option Indices). number_in k o) (sym e ∙ ap (λ (o : Option (Space × ℕ)). option_map (λ p. indices_in p.0 p.1) o) f)
 
 pub own_space : (s : Space) (n : ℕ) → number_in s (some_in s n) ≡ n
@@ -42,11 +49,13 @@ index-append (x ∷ xs) ys k = omega (arith, index-append xs ys k)
 
 count-append : (ss : List Section) (t : Section) (k : Space) → count_of_sections k (ss ++ t ∷ []) ≡ count_of_sections k ss + next_index (members t) k
 count-append [] t k = index-append (members t) [] k ∙ omega arith
-count-append (s ∷ ss) t k = index-append (members s) (flat_map members (ss ++ t ∷ [])) k ∙ omega (arith, count-append ss t k, index-append (members s) (flat_map members ss) k)
+count-append (s ∷ ss) t k = index-append (members s) (flat_map members (ss ++ t ∷ [])) k
+    ∙ omega (arith, count-append ss t k, index-append (members s) (flat_map members ss) k)
 
 module _ {A : Type 0} where
   -- one item more
-  pub index_more : (items : List (ItemTree A)) (i : ℕ) (x : ItemTree A) (k : Space) → i < length items → x ≡ get_or items i x → next_index (map item_view (take (i + 1) items)) k ≡ next_index (map item_view (take i items)) k + defined_in k (item_view x)
+  pub index_more : (items : List (ItemTree A)) (i : ℕ) (x : ItemTree A) (k : Space) → i < length items → x ≡ get_or items i x
+      → next_index (map item_view (take (i + 1) items)) k ≡ next_index (map item_view (take i items)) k + defined_in k (item_view x)
   index_more items i x k lt e =
       let parts : take (i + 1) items ≡ take i items ++ x ∷ [] = take_more items i x lt ∙ ap (λ (y : ItemTree A). take i items ++ y ∷ []) (sym e) in
       rw (parts, map-append item_view (take i items) (x ∷ [])) (index-append (map item_view (take i items)) (item_view x ∷ []) k ∙ omega arith)
@@ -55,15 +64,20 @@ module _ {A : Type 0} where
   pub index_front : (items : List (ItemTree A)) (i : ℕ) (k : Space) → next_index (map item_view (take i items)) k ≤ next_index (map item_view items) k
   index_front items i k =
       let both : next_index (map item_view items) k ≡ next_index (map item_view (take i items)) k + next_index (map item_view (drop i items)) k =
-      ap (λ (xs : List (ItemTree A)). next_index (map item_view xs) k) (sym (take-append-drop i items)) ∙ rw (map-append item_view (take i items) (drop i items)) (index-append (map item_view (take i items)) (map item_view (drop i items)) k) in
+      ap (λ (xs : List (ItemTree A)). next_index (map item_view xs) k) (sym (take-append-drop i items))
+      ∙ rw (map-append item_view (take i items) (drop i items))
+      (index-append (map item_view (take i items)) (map item_view (drop i items)) k) in
       omega (arith, both)
 
   pub section_members : (s : ListedSection A) → members (section_view s) ≡ map item_view s.items.items
   section_members s = members_of s.id (map item_view s.items.items)
 
   -- one section more
-  pub count_more : (ss : List (ListedSection A)) (s : ListedSection A) (k : Space) → count_of_sections k (map section_view (ss ++ s ∷ [])) ≡ count_of_sections k (map section_view ss) + next_index (map item_view s.items.items) k
-  count_more ss s k = rw (map-append section_view ss (s ∷ [])) (count-append (map section_view ss) (section_view s) k ∙ ap (λ (xs : List Item). count_of_sections k (map section_view ss) + next_index xs k) (section_members s))
+  pub count_more : (ss : List (ListedSection A)) (s : ListedSection A) (k : Space)
+      → count_of_sections k (map section_view (ss ++ s ∷ [])) ≡ count_of_sections k (map section_view ss)
+      + next_index (map item_view s.items.items) k
+  count_more ss s k = rw (map-append section_view ss (s ∷ [])) (count-append (map section_view ss) (section_view s) k ∙ ap
+      (λ (xs : List Item). count_of_sections k (map section_view ss) + next_index xs k) (section_members s))
 
 -- ---- what is read takes few indices
 
@@ -100,7 +114,8 @@ filled_few : (id : ℕ) (k : Space) (xs : List Item) (content : List ℕ) → Fi
 filled_few id k xs content (inl h) = omega (arith, each_few id k xs h.1.0 [] h.1.2, h.1.1.0)
 filled_few id k xs content (inr h) = rw h.1 (omega (arith, alone_few id k h.0 content h.2))
 
-pub are_few : {A : Type 0} (s : ListedSection A) (bytes rest : List ℕ) → (section_piece (section_view s)).Reads Wide bytes rest → (k : Space) → next_index (map item_view s.items.items) k < 2 ^ 64
+pub are_few : {A : Type 0} (s : ListedSection A) (bytes rest : List ℕ) → (section_piece (section_view s)).Reads Wide bytes rest
+    → (k : Space) → next_index (map item_view s.items.items) k < 2 ^ 64
 are_few s bytes rest r k =
     let framed = section_framed (section_view s) bytes rest r in
     rw (section_members s) at (filled_few framed.id k (members (section_view s)) framed.content framed.fills)

@@ -1,5 +1,6 @@
 -- The bytes of a section are read as it, whatever follows. So they can be cut out.
-use Rattle.std.proofs.Common.{◌≡◌, ℕ, zero, suc, ◌+◌, ◌-◌, ◌<◌, ◌≤◌, List, [], ◌∷◌, ◌++◌, length, take, drop, map, Some, None, refl, sym, ap, subst, ◌∙◌, arith, append_assoc, length-append, inr}
+use Rattle.std.proofs.Common.{◌≡◌, ℕ, zero, suc, ◌+◌, ◌-◌, ◌<◌, ◌≤◌, List, [], ◌∷◌, ◌++◌, length, take, drop, map, Some, None, refl, sym}
+use Rattle.std.proofs.Common.{ap, subst, ◌∙◌, arith, append_assoc, length-append, inr}
 use Rattle.std.proofs.lemmas.List.{take_at}
 use Rattle.std.proofs.lemmas.Option.{same_Some}
 use Rattle.std.specs.Prelude.{remove, slice_get, slice_range}
@@ -17,13 +18,15 @@ use Rattle.wenc_list.proofs.Walked.{header, header_is}
 
 -- ---- a section
 
-groups_own : (room n : ℕ) (bytes rest : List ℕ) → ReadsGroups 128 room n bytes rest → (own : List ℕ) × (bytes ≡ own ++ rest) × ((other : List ℕ) → ReadsGroups 128 room n (own ++ other) other)
+groups_own : (room n : ℕ) (bytes rest : List ℕ) → ReadsGroups 128 room n bytes rest
+    → (own : List ℕ) × (bytes ≡ own ++ rest) × ((other : List ℕ) → ReadsGroups 128 room n (own ++ other) other)
 groups_own room n bytes rest (last lt) = (n ∷ [], refl, λ other. last lt)
 groups_own _ n _ rest (more {room = room} {b = b} {high = high} {bytes = bytes} low byte sum r) =
     let e = groups_own room high bytes rest r in
     (b ∷ e.0, ap (λ (t : List ℕ). b ∷ t) e.1, λ other. more low byte sum (e.2 other))
 
-frame_own : (bytes : List ℕ) (id : ℕ) (content rest : List ℕ) → IsFramed bytes id content rest → (own : List ℕ) × (bytes ≡ own ++ rest) × ((other : List ℕ) → IsFramed (own ++ other) id content other)
+frame_own : (bytes : List ℕ) (id : ℕ) (content rest : List ℕ) → IsFramed bytes id content rest
+    → (own : List ℕ) × (bytes ≡ own ++ rest) × ((other : List ℕ) → IsFramed (own ++ other) id content other)
 frame_own bytes id content rest f =
     let e = groups_own 4 (length content) f.middle (content ++ rest) (u32_groups Wide (length content) f.middle (content ++ rest) f.sized) in (
       id ∷ (e.0 ++ content),
@@ -36,11 +39,16 @@ frame_own bytes id content rest f =
       }),
     )
 
-section_own : (s : Section) (bytes rest : List ℕ) → (section_piece s).Reads Wide bytes rest → (own : List ℕ) × (bytes ≡ own ++ rest) × ((other : List ℕ) → (section_piece s).Reads Wide (own ++ other) other)
+section_own : (s : Section) (bytes rest : List ℕ) → (section_piece s).Reads Wide bytes rest
+    → (own : List ℕ) × (bytes ≡ own ++ rest) × ((other : List ℕ) → (section_piece s).Reads Wide (own ++ other) other)
 section_own s bytes rest r =
     let f = section_framed s bytes rest r in
-    let e = frame_own bytes f.id f.content rest f.framed in
-    (e.0, e.1, λ other. subst (λ (t : Section). (section_piece t).Reads Wide (e.0 ++ other) other) f.is (section_reads f.id (members s) (e.0 ++ other) f.content other (e.2 other) f.fills))
+    let e = frame_own bytes f.id f.content rest f.framed in (
+      e.0,
+      e.1,
+      λ other. subst (λ (t : Section). (section_piece t).Reads Wide (e.0 ++ other) other) f.is
+          (section_reads f.id (members s) (e.0 ++ other) f.content other (e.2 other) f.fills),
+    )
 
 -- ---- a section among others
 
@@ -56,7 +64,8 @@ record Parts {A : Type 0} (all : ℕ) (ss : List (ListedSection A)) (i : ℕ) (s
   anywhere : (rest : List ℕ) → (section_piece (section_view s)).Reads Wide (own ++ rest) rest
   others : (sections (remove (map section_view ss) i)).Reads Wide (before ++ after) []
 
-first_parts : {A : Type 0} (all : ℕ) (s : ListedSection A) (ss : List (ListedSection A)) (bytes : List ℕ) → AreFrom all (s ∷ ss) bytes [] → Parts all (s ∷ ss) 0 s bytes
+first_parts : {A : Type 0} (all : ℕ) (s : ListedSection A) (ss : List (ListedSection A)) (bytes : List ℕ) → AreFrom all (s ∷ ss) bytes []
+    → Parts all (s ∷ ss) 0 s bytes
 first_parts all s ss bytes f =
     let e = section_own (section_view s) bytes f.0 f.1 in
     record {
@@ -74,7 +83,8 @@ first_parts all s ss bytes f =
 none_is_some : {A : Type 0} (s : A) → None ≡ Some s → ⊥
 none_is_some s e = absurd cc
 
-parts_of : {A : Type 0} (all : ℕ) (ss : List (ListedSection A)) (i : ℕ) (s : ListedSection A) (bytes : List ℕ) → AreFrom all ss bytes [] → slice_get ss i ≡ Some s → Parts all ss i s bytes
+parts_of : {A : Type 0} (all : ℕ) (ss : List (ListedSection A)) (i : ℕ) (s : ListedSection A) (bytes : List ℕ) → AreFrom all ss bytes []
+    → slice_get ss i ≡ Some s → Parts all ss i s bytes
 parts_of all [] i s bytes f e = absurd (none_is_some s e)
 parts_of {A} all (t ∷ ss) zero s bytes f e = subst (λ (u : ListedSection A). Parts all (t ∷ ss) 0 u bytes) (same_Some t s e) (first_parts all t ss bytes f)
 parts_of all (t ∷ ss) (suc i) s bytes f e =
@@ -106,7 +116,8 @@ module _ {A : Type 0} (bytes : List ℕ) (ss : List (ListedSection A)) (i : ℕ)
       let o = parts_of (length bytes) ss i s p.0 p.2 e in
       (omega (arith, o.is_place, o.is_end, o.some, length-append o.own o.after), omega (arith, o.is_end))
 
-  pub own_anywhere : ArePlaced bytes ss → slice_get ss i ≡ Some s → (rest : List ℕ) → (section_piece (section_view s)).Reads Wide (slice_range bytes s.place s.ends ++ rest) rest
+  pub own_anywhere : ArePlaced bytes ss → slice_get ss i ≡ Some s → (rest : List ℕ)
+      → (section_piece (section_view s)).Reads Wide (slice_range bytes s.place s.ends ++ rest) rest
   own_anywhere p e rest =
       let o = parts_of (length bytes) ss i s p.0 p.2 e in
       let from : drop s.place bytes ≡ o.own ++ o.after = at_place bytes (o.own ++ o.after) s.place (header ++ o.before, all_parts p o) o.is_place in

@@ -1,5 +1,6 @@
 -- The readers of sections are exact.
-use Rattle.std.proofs.Common.{◌≡◌, ◌≢◌, ℕ, zero, suc, ◌<◌, ◌≤◌, true, false, true≢false, cond, eqb, ltb, List, [], ◌∷◌, ◌++◌, length, take, drop, Some, None, Result, Ok, Err, refl, sym, ap, subst, ◌∙◌, inl, inr, ◌⊎◌, arith, length-append}
+use Rattle.std.proofs.Common.{◌≡◌, ◌≢◌, ℕ, zero, suc, ◌<◌, ◌≤◌, true, false, true≢false, cond, eqb, ltb, List, [], ◌∷◌, ◌++◌, length, take}
+use Rattle.std.proofs.Common.{drop, Some, None, Result, Ok, Err, refl, sym, ap, subst, ◌∙◌, inl, inr, ◌⊎◌, arith, length-append}
 use Rattle.std.proofs.lemmas.Bool.{cases_lt, lt-ltb, le-ltb}
 use Rattle.std.proofs.lemmas.Bool.Decides.{eqb_tells}
 use Rattle.std.proofs.lemmas.List.{take_at, drop_at, take-append-drop, length-take-le}
@@ -13,15 +14,18 @@ use Rattle.wenc_base.specs.Readers.{Flaw, Bad, Deep, Reader}
 use Rattle.wenc_base.specs.laws.Lawful.{last, same_Ok_pair}
 use Rattle.wenc_base.specs.laws.Numbers.{u32_lawful, u32_sound}
 use Rattle.wenc_base.specs.reading.Numbers.{read_u32}
-use Rattle.wenc_base.specs.laws.Sound.{Told, Tells, deep_where, sound_tells, told_on, last_tells, nowhere_tells, tested, Agrees, Finds, or_deeper, last_finds, lawful_finds}
-use Rattle.wenc_builder.specs.Item.{Item, ModuleItem, CoreInstanceItem, CoreTypeItem, ComponentItem, InstanceItem, AliasItem, TypeItem, CanonItem, StartItem, ImportItem, ExportItem, CustomItem, RawItem, collected, item}
+use Rattle.wenc_base.specs.laws.Sound.{Told, Tells, deep_where, sound_tells, told_on, last_tells, nowhere_tells, tested, Agrees, Finds}
+use Rattle.wenc_base.specs.laws.Sound.{or_deeper, last_finds, lawful_finds}
+use Rattle.wenc_builder.specs.Item.{Item, ModuleItem, CoreInstanceItem, CoreTypeItem, ComponentItem, InstanceItem, AliasItem, TypeItem}
+use Rattle.wenc_builder.specs.Item.{CanonItem, StartItem, ImportItem, ExportItem, CustomItem, RawItem, collected, item}
 use Rattle.wenc_builder.specs.Sections.{Section, Run, Alone, members, collects, item_of, section_piece}
 use Rattle.wenc_canon.specs.laws.Canonicals.{canonical_lawful, canonical_sound}
 use Rattle.wenc_decode.specs.Depth.{OpensTypes}
 use Rattle.wenc_decode.specs.laws.TypeTrees.{type_tells, type_finds}
 use Rattle.wenc_parts.specs.laws.Aliases.{alias_lawful, alias_sound}
 use Rattle.wenc_sections.specs.Start.{start_content}
-use Rattle.wenc_sections.specs.laws.Items.{import_lawful, import_sound, inline_export_lawful, inline_export_sound, core_instance_lawful, core_instance_sound, instance_lawful, instance_sound}
+use Rattle.wenc_sections.specs.laws.Items.{import_lawful, import_sound, inline_export_lawful, inline_export_sound, core_instance_lawful}
+use Rattle.wenc_sections.specs.laws.Items.{core_instance_sound, instance_lawful, instance_sound}
 use Rattle.wenc_types.specs.laws.CoreTypes.{core_type_lawful, core_type_sound}
 use Rattle.wenc_list.specs.inside.Contents.{content_rows, content_row_of, read_content_item, read_frame}
 use Rattle.wenc_list.specs.Items.{alone, item_section}
@@ -61,7 +65,10 @@ item_tells d id = row_tells d (content_rows d) (
           deep_where (OpensTypes d) _ (last_tells TypeItem (type_tells d) (λ t bytes rest r. (r.0, (refl, r.1)))) (λ bytes g. (refl, g)),
           (
             sound_tells _ (last_tells CanonItem canonical_sound (λ f bytes rest r. (tt, (refl, r)))),
-            (sound_tells _ (last_tells ImportItem import_sound (λ i bytes rest r. (tt, (refl, r)))), (sound_tells _ (last_tells ExportItem inline_export_sound (λ e bytes rest r. (tt, (refl, r)))), tt)),
+            (
+              sound_tells _ (last_tells ImportItem import_sound (λ i bytes rest r. (tt, (refl, r)))),
+              (sound_tells _ (last_tells ExportItem inline_export_sound (λ e bytes rest r. (tt, (refl, r)))), tt),
+            ),
           ),
         ),
       ),
@@ -132,7 +139,16 @@ known_id id h =
     ]
   where
     unknown : 11 < id → collects id ≡ false
-    unknown lt = rw (other_than id 2 (omega arith), other_than id 3 (omega arith), other_than id 5 (omega arith), other_than id 6 (omega arith), other_than id 7 (omega arith), other_than id 8 (omega arith), other_than id 10 (omega arith), other_than id 11 (omega arith)) refl
+    unknown lt = rw (
+      other_than id 2 (omega arith),
+      other_than id 3 (omega arith),
+      other_than id 5 (omega arith),
+      other_than id 6 (omega arith),
+      other_than id 7 (omega arith),
+      other_than id 8 (omega arith),
+      other_than id 10 (omega arith),
+      other_than id 11 (omega arith),
+    ) refl
 
 -- ---- frames
 
@@ -144,7 +160,8 @@ frame_told [] = tt
 frame_told (id ∷ bytes) =
     elim (cases_lt 11 id) [
       | inl lt ↦ rw (lt-ltb 11 id lt, cond) tt
-      | inr le ↦ rw (le-ltb 11 id le, cond) (told_on (λ x. (u32 x.0).Reads Wide bytes x.1) ⊥ (Framed (id ∷ bytes)) ⊥ (cut id) (read_u32 bytes) (u32_sound.tells bytes) (λ e. e) (λ x r. inside le x.0 x.1 r))
+      | inr le ↦ rw (le-ltb 11 id le, cond) (told_on (λ x. (u32 x.0).Reads Wide bytes x.1) ⊥ (Framed (id ∷ bytes)) ⊥ (cut id)
+          (read_u32 bytes) (u32_sound.tells bytes) (λ e. e) (λ x r. inside le x.0 x.1 r))
     ]
   where
     cut : ℕ → ℕ → List ℕ → Result ((ℕ × List ℕ) × List ℕ) Flaw
@@ -154,12 +171,21 @@ frame_told (id ∷ bytes) =
     inside le size rest r =
         elim (cases_lt (length rest) size) [
           | inl lt ↦ rw (lt-ltb (length rest) size lt, cond) tt
-          | inr ge ↦ rw (le-ltb (length rest) size ge, cond) (record { middle = bytes; begins = refl; known = le; sized = rw (length-take-le size rest ge, take-append-drop size rest) r })
+          | inr ge ↦ rw (le-ltb (length rest) size ge, cond)
+              (record { middle = bytes; begins = refl; known = le; sized = rw (length-take-le size rest ge, take-append-drop size rest) r })
         ]
 
 pub frame_finds : (bytes : List ℕ) (id : ℕ) (content rest : List ℕ) → IsFramed bytes id content rest → read_frame bytes ≡ Ok ((id, content), rest)
 frame_finds bytes id content rest f =
-    rw (f.begins, le-ltb 11 id f.known, (u32_lawful (length content)).finds (u32_lawful (length content)).depth (omega arith) Wide f.middle (content ++ rest) f.sized, le-ltb (length (content ++ rest)) (length content) (omega (arith, length-append content rest)), take_at content rest (length content) refl, drop_at content rest (length content) refl) refl
+    rw (
+      f.begins,
+      le-ltb 11 id f.known,
+      (u32_lawful (length content)).finds (u32_lawful (length content)).depth (omega arith) Wide f.middle
+          (content ++ rest) f.sized,
+      le-ltb (length (content ++ rest)) (length content) (omega (arith, length-append content rest)),
+      take_at content rest (length content) refl,
+      drop_at content rest (length content) refl,
+    ) refl
 
 -- ---- one frame
 
@@ -179,7 +205,8 @@ pub record SameFrame (id other : ℕ) (content inside rest after : List ℕ) : T
   pub content_is : content ≡ inside
   pub rest_is : rest ≡ after
 
-pub same_frame : (bytes : List ℕ) (id other : ℕ) (content inside rest after : List ℕ) → read_frame bytes ≡ Ok ((id, content), rest) → IsFramed bytes other inside after → SameFrame id other content inside rest after
+pub same_frame : (bytes : List ℕ) (id other : ℕ) (content inside rest after : List ℕ) → read_frame bytes ≡ Ok ((id, content), rest)
+    → IsFramed bytes other inside after → SameFrame id other content inside rest after
 same_frame bytes id other content inside rest after e f =
     let parts = same_Ok_pair (id, content) (other, inside) rest after (sym e ∙ frame_finds bytes other inside after f) in
     record {
@@ -190,14 +217,16 @@ same_frame bytes id other content inside rest after e f =
 
 -- ---- sections
 
-alone_reads : (id : ℕ) (x : Item) (bytes content rest : List ℕ) → IsFramed bytes id content rest → AloneIn id x content → (section_piece (item_section id (x ∷ []))).Reads Wide bytes rest
+alone_reads : (id : ℕ) (x : Item) (bytes content rest : List ℕ) → IsFramed bytes id content rest → AloneIn id x content
+    → (section_piece (item_section id (x ∷ []))).Reads Wide bytes rest
 alone_reads id (CustomItem c) bytes content rest f a = rw a.0 (refl, (f.middle, rw a.0 at f.begins, (content, f.sized, a.1)))
 alone_reads id (ModuleItem bs) bytes content rest f a = rw a.0 (refl, (f.middle, rw a.0 at f.begins, (content, f.sized, a.1)))
 alone_reads id (ComponentItem bs) bytes content rest f a = rw a.0 (refl, (f.middle, rw a.0 at f.begins, (content, f.sized, a.1)))
 alone_reads id (StartItem s) bytes content rest f a = rw a.0 (refl, (f.middle, rw a.0 at f.begins, (content, f.sized, a.1)))
 alone_reads id other bytes content rest f a = absurd a
 
-pub section_reads : (id : ℕ) (xs : List Item) (bytes content rest : List ℕ) → IsFramed bytes id content rest → Fills id xs content → (section_piece (item_section id xs)).Reads Wide bytes rest
+pub section_reads : (id : ℕ) (xs : List Item) (bytes content rest : List ℕ) → IsFramed bytes id content rest → Fills id xs content
+    → (section_piece (item_section id xs)).Reads Wide bytes rest
 section_reads id xs bytes content rest f (inl h) = rw (h.0, cond) (h.0, (f.middle, f.begins, (content, f.sized, h.1)))
 section_reads id xs bytes content rest f (inr h) = rw h.1 (alone_reads id h.0 bytes content rest f h.2)
 
@@ -209,7 +238,9 @@ pub record HasFrame (s : Section) (bytes rest : List ℕ) : Type 0 where
   pub fills : Fills id (members s) content
   pub is : item_section id (members s) ≡ s
 
-alone_framed : (id : ℕ) (x : Item) (bytes middle content rest : List ℕ) → bytes ≡ id ∷ middle → id ≤ 11 → (u32 (length content)).Reads Wide middle (content ++ rest) → AloneIn id x content → (item_section id (x ∷ []) ≡ Alone x) → HasFrame (Alone x) bytes rest
+alone_framed : (id : ℕ) (x : Item) (bytes middle content rest : List ℕ) → bytes ≡ id ∷ middle → id ≤ 11
+    → (u32 (length content)).Reads Wide middle (content ++ rest) → AloneIn id x content → (item_section id (x ∷ []) ≡ Alone x)
+    → HasFrame (Alone x) bytes rest
 alone_framed id x bytes middle content rest e le sized a is = record {
   id = id;
   content = content;
@@ -228,7 +259,8 @@ section_framed (Run id xs) bytes rest r = record {
 }
 section_framed (Alone (CustomItem c)) bytes rest r = alone_framed 0 (CustomItem c) bytes r.1.0 r.1.2.0 rest r.1.1 (omega arith) r.1.2.1 (refl, r.1.2.2) refl
 section_framed (Alone (ModuleItem bs)) bytes rest r = alone_framed 1 (ModuleItem bs) bytes r.1.0 r.1.2.0 rest r.1.1 (omega arith) r.1.2.1 (refl, r.1.2.2) refl
-section_framed (Alone (ComponentItem bs)) bytes rest r = alone_framed 4 (ComponentItem bs) bytes r.1.0 r.1.2.0 rest r.1.1 (omega arith) r.1.2.1 (refl, r.1.2.2) refl
+section_framed (Alone (ComponentItem bs)) bytes rest r =
+    alone_framed 4 (ComponentItem bs) bytes r.1.0 r.1.2.0 rest r.1.1 (omega arith) r.1.2.1 (refl, r.1.2.2) refl
 section_framed (Alone (StartItem s)) bytes rest r = alone_framed 9 (StartItem s) bytes r.1.0 r.1.2.0 rest r.1.1 (omega arith) r.1.2.1 (refl, r.1.2.2) refl
 section_framed (Alone (RawItem bs)) bytes rest r = absurd r.1
 section_framed (Alone other) bytes rest r = absurd (some_kind r.0)

@@ -1,5 +1,7 @@
 -- What is taken of a section, item by item, and what that says of it.
-use Rattle.std.proofs.Common.{◌≡◌, ℕ, Bool, zero, suc, ◌+◌, ◌-◌, ◌<◌, ◌≤◌, true, false, true≢false, cond, List, [], ◌∷◌, ◌++◌, length, drop, Option, Some, None, Result, Ok, Err, refl, sym, ap, subst, ◌∙◌, inl, inr, ◌⊎◌, arith, append_assoc, length-append}
+use Rattle.std.proofs.Common.{◌≡◌, ℕ, Bool, zero, suc, ◌+◌, ◌-◌, ◌<◌, ◌≤◌, true, false, true≢false, cond, List, [], ◌∷◌, ◌++◌, length, drop}
+use Rattle.std.proofs.Common.{Option, Some, None, Result, Ok, Err, refl, sym, ap, subst, ◌∙◌, inl, inr, ◌⊎◌, arith, append_assoc}
+use Rattle.std.proofs.Common.{length-append}
 use Rattle.std.proofs.lemmas.Bool.Decides.{eqb_tells}
 use Rattle.std.proofs.lemmas.List.{append-nil, drop_at}
 use Rattle.std.proofs.lemmas.Option.{same_Some}
@@ -17,7 +19,8 @@ use Rattle.wenc_base.specs.laws.Sound.{Told, weaken, told_on, tested, Agrees}
 use Rattle.wenc_base.specs.reading.Forms.{read_raw}
 use Rattle.wenc_base.specs.reading.Numbers.{read_u32}
 use Rattle.wenc_base.specs.inside.Sections.{read_custom_content, labelled_section}
-use Rattle.wenc_builder.specs.Item.{Item, ModuleItem, CoreInstanceItem, CoreTypeItem, ComponentItem, InstanceItem, AliasItem, TypeItem, CanonItem, StartItem, ImportItem, ExportItem, CustomItem, RawItem}
+use Rattle.wenc_builder.specs.Item.{Item, ModuleItem, CoreInstanceItem, CoreTypeItem, ComponentItem, InstanceItem, AliasItem, TypeItem}
+use Rattle.wenc_builder.specs.Item.{CanonItem, StartItem, ImportItem, ExportItem, CustomItem, RawItem}
 use Rattle.wenc_builder.specs.Sections.{Section, members, collects, item_of, section_piece}
 use Rattle.wenc_builder.specs.laws.Reading.{item_of_lawful}
 use Rattle.wenc_decode.specs.Depth.{Front, OpensTypes}
@@ -35,7 +38,8 @@ use Rattle.wenc_list.specs.declared.cursor.SectionItems.{SectionItems}
 use Rattle.wenc_list.specs.declared.fault.ListFault.{ListFault}
 use Rattle.wenc_list.specs.declared.fault.ListFault.TheVariants as faults
 use Rattle.wenc_list.specs.inside.Contents.{read_content_item, whole_item, read_item_in, read_count, fault_of_content}
-use Rattle.wenc_list.proofs.SectionLaws.{ItemWithin, GoesIn, item_tells, item_finds, IsPast, AloneIn, Fills, section_reads, section_framed, members_of, told_ok, not_both, frame_finds, same_frame}
+use Rattle.wenc_list.proofs.SectionLaws.{ItemWithin, GoesIn, item_tells, item_finds, IsPast, AloneIn, Fills, section_reads, section_framed}
+use Rattle.wenc_list.proofs.SectionLaws.{members_of, told_ok, not_both, frame_finds, same_frame}
 
 -- ---- an item
 
@@ -50,7 +54,8 @@ in_of id (ComponentItem bs) bytes rest r = absurd (none_is_some r.0)
 in_of id (StartItem s) bytes rest r = absurd (none_is_some r.0)
 in_of id other bytes rest r = r
 
-whole_told : {A : Type 0} (P : A → Type 0) (Q : Item × List ℕ → Type 0) (D : Type 0) (make : A → Item) (found : Result A Flaw) → Told P ⊥ found → ((v : A) → P v → Q (make v, [])) → Told Q D (whole_item make found)
+whole_told : {A : Type 0} (P : A → Type 0) (Q : Item × List ℕ → Type 0) (D : Type 0) (make : A → Item) (found : Result A Flaw)
+    → Told P ⊥ found → ((v : A) → P v → Q (make v, [])) → Told Q D (whole_item make found)
 whole_told P Q D make (Ok v) h k = k v h
 whole_told P Q D make (Err Bad) h k = tt
 whole_told P Q D make (Err Deep) h k = absurd h
@@ -70,27 +75,42 @@ in_told d id bytes =
             | inl e ↦ rw (no0, cond, e.0, cond) (whole_told _ Is Goes ModuleItem (read_raw bytes) (raw_sound.tells bytes) (λ bs r. (tt, (e.1, (refl, r)))))
             | inr no1 ↦
                 elim (tested id 4) [
-                  | inl e ↦ rw (no0, cond, no1, cond, e.0, cond) (whole_told _ Is Goes ComponentItem (read_raw bytes) (raw_sound.tells bytes) (λ bs r. (tt, (e.1, (refl, r)))))
+                  | inl e ↦ rw (no0, cond, no1, cond, e.0, cond)
+                      (whole_told _ Is Goes ComponentItem (read_raw bytes) (raw_sound.tells bytes) (λ bs r. (tt, (e.1, (refl, r)))))
                   | inr no4 ↦
                       elim (tested id 9) [
-                        | inl e ↦ rw (no0, cond, no1, cond, no4, cond, e.0, cond) (told_on (λ x. (start_content x.0).Reads Wide bytes x.1) ⊥ Is Goes (λ s. give (StartItem s)) (read_start_content bytes) (start_content_sound.tells bytes) (λ f. absurd f) (λ x r. (tt, (e.1, r))))
-                        | inr no9 ↦ rw (no0, cond, no1, cond, no4, cond, no9, cond) (weaken (λ x. (ItemWithin d id x.0).Reads Wide bytes x.1) Is Goes Goes (read_content_item d id bytes) (λ x r. (r.0, in_of id x.0 bytes x.1 r.1)) (λ g. g) ((item_tells d id).tells bytes))
+                        | inl e ↦ rw (no0, cond, no1, cond, no4, cond, e.0, cond) (told_on
+                            (λ x. (start_content x.0).Reads Wide bytes x.1) ⊥ Is Goes (λ s. give (StartItem s)) (read_start_content bytes)
+                            (start_content_sound.tells bytes) (λ f. absurd f) (λ x r. (tt, (e.1, r))))
+                        | inr no9 ↦ rw (no0, cond, no1, cond, no4, cond, no9, cond) (weaken
+                            (λ x. (ItemWithin d id x.0).Reads Wide bytes x.1) Is Goes Goes (read_content_item d id bytes)
+                            (λ x r. (r.0, in_of id x.0 bytes x.1 r.1)) (λ g. g) ((item_tells d id).tells bytes))
                       ]
                 ]
           ]
     ]
 
-whole_agrees : {A : Type 0} (D : Type 0) (make : A → Item) (v : A) (found : Result A Flaw) (rest : List ℕ) → found ≡ Ok v → rest ≡ [] → Agrees D (make v, rest) (whole_item make found)
+whole_agrees : {A : Type 0} (D : Type 0) (make : A → Item) (v : A) (found : Result A Flaw) (rest : List ℕ) → found ≡ Ok v → rest ≡ []
+    → Agrees D (make v, rest) (whole_item make found)
 whole_agrees D make v found rest e z = rw (e, z) refl
 
-given_agrees : {A : Type 0} (D : Type 0) (make : A → Item) (v : A) (found : Result (A × List ℕ) Flaw) (rest : List ℕ) → found ≡ Ok (v, rest) → Agrees D (make v, rest) (go_on found (λ x. give (make x)))
+given_agrees : {A : Type 0} (D : Type 0) (make : A → Item) (v : A) (found : Result (A × List ℕ) Flaw) (rest : List ℕ) → found ≡ Ok (v, rest)
+    → Agrees D (make v, rest) (go_on found (λ x. give (make x)))
 given_agrees D make v found rest e = rw e refl
 
 pub in_agrees : (d id : ℕ) (x : Item) (bytes rest : List ℕ) → (item_in id x).Reads Wide bytes rest → Agrees (IsPast d x) (x, rest) (read_item_in d id bytes)
-in_agrees d id (CustomItem c) bytes rest r = rw r.0 (whole_agrees _ CustomItem c (read_custom_content bytes) rest ((custom_content_lawful c).finds (custom_content_lawful c).depth (omega arith) Wide bytes r.1.1) r.1.0)
-in_agrees d id (ModuleItem bs) bytes rest r = rw r.0 (whole_agrees _ ModuleItem bs (read_raw bytes) rest ((bytes_lawful (λ b. b) bs).finds (bytes_lawful (λ b. b) bs).depth (omega arith) Wide bytes r.1.1) r.1.0)
-in_agrees d id (ComponentItem bs) bytes rest r = rw r.0 (whole_agrees _ ComponentItem bs (read_raw bytes) rest ((bytes_lawful (λ b. b) bs).finds (bytes_lawful (λ b. b) bs).depth (omega arith) Wide bytes r.1.1) r.1.0)
-in_agrees d id (StartItem s) bytes rest r = rw r.0 (given_agrees _ StartItem s (read_start_content bytes) rest ((start_content_lawful s).finds (start_content_lawful s).depth (omega arith) Wide bytes rest r.1))
+in_agrees d id (CustomItem c) bytes rest r = rw r.0
+    (whole_agrees _ CustomItem c (read_custom_content bytes) rest
+    ((custom_content_lawful c).finds (custom_content_lawful c).depth (omega arith) Wide bytes r.1.1) r.1.0)
+in_agrees d id (ModuleItem bs) bytes rest r = rw r.0
+    (whole_agrees _ ModuleItem bs (read_raw bytes) rest
+    ((bytes_lawful (λ b. b) bs).finds (bytes_lawful (λ b. b) bs).depth (omega arith) Wide bytes r.1.1) r.1.0)
+in_agrees d id (ComponentItem bs) bytes rest r = rw r.0
+    (whole_agrees _ ComponentItem bs (read_raw bytes) rest
+    ((bytes_lawful (λ b. b) bs).finds (bytes_lawful (λ b. b) bs).depth (omega arith) Wide bytes r.1.1) r.1.0)
+in_agrees d id (StartItem s) bytes rest r = rw r.0
+    (given_agrees _ StartItem s (read_start_content bytes) rest
+    ((start_content_lawful s).finds (start_content_lawful s).depth (omega arith) Wide bytes rest r.1))
 in_agrees d id (CoreInstanceItem i) bytes rest r = rw (← same_Some 2 id r.0) ((item_finds d 2 (CoreInstanceItem i)).finds bytes rest (refl, r.1))
 in_agrees d id (CoreTypeItem t) bytes rest r = rw (← same_Some 3 id r.0) ((item_finds d 3 (CoreTypeItem t)).finds bytes rest (refl, r.1))
 in_agrees d id (InstanceItem i) bytes rest r = rw (← same_Some 5 id r.0) ((item_finds d 5 (InstanceItem i)).finds bytes rest (refl, r.1))
@@ -107,8 +127,10 @@ once D E v w (Err Bad) a never b = absurd a
 once D E v w (Err Deep) a never b = absurd (never a)
 
 -- one item is read here
-pub same_item : (id : ℕ) (x y : Item) (bytes rest after : List ℕ) → (item_in id x).Reads Wide bytes rest → HasDepth 100 x → (item_in id y).Reads Wide bytes after → ◌≡◌ {A = Item × List ℕ} (x, rest) (y, after)
-same_item id x y bytes rest after r w q = once (IsPast 100 x) (IsPast 100 y) (x, rest) (y, after) (read_item_in 100 id bytes) (in_agrees 100 id x bytes rest r) (λ past. past w) (in_agrees 100 id y bytes after q)
+pub same_item : (id : ℕ) (x y : Item) (bytes rest after : List ℕ) → (item_in id x).Reads Wide bytes rest → HasDepth 100 x
+    → (item_in id y).Reads Wide bytes after → ◌≡◌ {A = Item × List ℕ} (x, rest) (y, after)
+same_item id x y bytes rest after r w q = once (IsPast 100 x) (IsPast 100 y) (x, rest) (y, after) (read_item_in 100 id bytes)
+    (in_agrees 100 id x bytes rest r) (λ past. past w) (in_agrees 100 id y bytes after q)
 
 -- ---- what is left
 
@@ -120,7 +142,8 @@ item_leaves id (StartItem s) bytes rest r = (start_content_lawful s).leaves Wide
 item_leaves id other bytes rest r = (item_of_lawful id other).leaves Wide bytes rest r
 
 pub frame_leaves : (bytes : List ℕ) (id : ℕ) (content rest : List ℕ) → IsFramed bytes id content rest → EndsWith bytes (content ++ rest)
-frame_leaves bytes id content rest f = ends_on bytes f.middle (content ++ rest) (id ∷ [], f.begins) ((u32_lawful (length content)).leaves Wide f.middle (content ++ rest) f.sized)
+frame_leaves bytes id content rest f = ends_on bytes f.middle (content ++ rest) (id ∷ [], f.begins)
+    ((u32_lawful (length content)).leaves Wide f.middle (content ++ rest) f.sized)
 
 count_leaves : (id n : ℕ) (content items : List ℕ) → Holds id content n items → EndsWith content items
 count_leaves id n content items (inl h) = (u32_lawful n).leaves Wide content items h.1
@@ -130,8 +153,10 @@ count_leaves id n content items (inr h) = ([], sym h.2)
 ends_before : (bytes left rest : List ℕ) → EndsWith bytes left → EndsWith (bytes ++ rest) (left ++ rest)
 ends_before bytes left rest e = (e.0, ap (λ (t : List ℕ). t ++ rest) e.1 ∙ append_assoc e.0 left rest)
 
-pub section_leaves : (bytes : List ℕ) (id : ℕ) (content rest : List ℕ) (n : ℕ) (items : List ℕ) → IsFramed bytes id content rest → Holds id content n items → EndsWith bytes (items ++ rest)
-section_leaves bytes id content rest n items f h = ends_on bytes (content ++ rest) (items ++ rest) (frame_leaves bytes id content rest f) (ends_before content items rest (count_leaves id n content items h))
+pub section_leaves : (bytes : List ℕ) (id : ℕ) (content rest : List ℕ) (n : ℕ) (items : List ℕ) → IsFramed bytes id content rest
+    → Holds id content n items → EndsWith bytes (items ++ rest)
+section_leaves bytes id content rest n items f h = ends_on bytes (content ++ rest) (items ++ rest) (frame_leaves bytes id content rest f)
+    (ends_before content items rest (count_leaves id n content items h))
 
 -- what the bytes end with stands at its place
 pub at_place : (bytes left : List ℕ) (place : ℕ) → EndsWith bytes left → (length bytes ≡ place + length left) → drop place bytes ≡ left
@@ -141,7 +166,8 @@ at_place bytes left place e p =
 
 -- ---- items, one after the other
 
-pub each_more : {A : Type 0} (form : Form A) (vs : List A) (v : A) (bytes middle rest : List ℕ) → (each form vs).Reads Wide bytes middle → (form v).Reads Wide middle rest → (each form (vs ++ v ∷ [])).Reads Wide bytes rest
+pub each_more : {A : Type 0} (form : Form A) (vs : List A) (v : A) (bytes middle rest : List ℕ) → (each form vs).Reads Wide bytes middle
+    → (form v).Reads Wide middle rest → (each form (vs ++ v ∷ [])).Reads Wide bytes rest
 each_more form [] v bytes middle rest a b = (rest, rw (sym a) at b, refl)
 each_more form (w ∷ vs) v bytes middle rest a b = (a.0, a.1, each_more form vs v a.0 middle rest a.2 b)
 
@@ -156,7 +182,8 @@ record RestOf (id : ℕ) (left : List ℕ) (number : ℕ) (IsWithin : Type 0) : 
   are : length others ≡ number
   within : IsWithin → AllByRecursion (HasDepth 100) others
 
-goes_on : (id : ℕ) (before xs : List Item) (bytes left : List ℕ) (number : ℕ) → (each (item_in id) before).Reads Wide bytes left → AllByRecursion (HasDepth 100) before → (each (item_in id) xs).Reads Wide bytes [] → length xs ≡ length before + number
+goes_on : (id : ℕ) (before xs : List Item) (bytes left : List ℕ) (number : ℕ) → (each (item_in id) before).Reads Wide bytes left
+    → AllByRecursion (HasDepth 100) before → (each (item_in id) xs).Reads Wide bytes [] → length xs ≡ length before + number
     → RestOf id left number (AllByRecursion (HasDepth 100) xs)
 goes_on id [] xs bytes left number b w a n = record { others = xs; read = rw b at a; are = omega (arith, n); within = λ h. h }
 goes_on id (x ∷ before) [] bytes left number b w a n = absurd (omega (arith, n))
@@ -166,7 +193,8 @@ goes_on id (x ∷ before) (y ∷ xs) bytes left number b w a n =
     let on = goes_on id before xs b.0 left number b.2 w.1 (rw middle at a.2) (omega (arith, n)) in
     record { others = on.others; read = on.read; are = on.are; within = λ h. on.within h.1 }
 
-pub same_items : (id : ℕ) (xs ys : List Item) (bytes : List ℕ) → (each (item_in id) xs).Reads Wide bytes [] → AllByRecursion (HasDepth 100) xs → (each (item_in id) ys).Reads Wide bytes [] → length xs ≡ length ys → xs ≡ ys
+pub same_items : (id : ℕ) (xs ys : List Item) (bytes : List ℕ) → (each (item_in id) xs).Reads Wide bytes []
+    → AllByRecursion (HasDepth 100) xs → (each (item_in id) ys).Reads Wide bytes [] → length xs ≡ length ys → xs ≡ ys
 same_items id [] [] bytes a w b n = refl
 same_items id [] (y ∷ ys) bytes a w b n = absurd (omega (arith, n))
 same_items id (x ∷ xs) [] bytes a w b n = absurd (omega (arith, n))
@@ -184,7 +212,8 @@ bool_cases true = inl refl
 bool_cases false = inr refl
 
 counted_as : (id : ℕ) (content : List ℕ) (b : Bool) → collects id ≡ b → Told (λ x. Holds id content x.0 x.1) ⊥ (cond b (read_u32 content) (Ok (1, content)))
-counted_as id content true e = weaken (λ x. (u32 x.0).Reads Wide content x.1) (λ x. Holds id content x.0 x.1) ⊥ ⊥ (read_u32 content) (λ x r. inl (e, r)) (λ f. f) (u32_sound.tells content)
+counted_as id content true e = weaken (λ x. (u32 x.0).Reads Wide content x.1) (λ x. Holds id content x.0 x.1) ⊥ ⊥ (read_u32 content)
+    (λ x r. inl (e, r)) (λ f. f) (u32_sound.tells content)
 counted_as id content false e = inr (e, refl, refl)
 
 pub count_told : (id : ℕ) (content : List ℕ) → Told (λ x. Holds id content x.0 x.1) ⊥ (read_count id content)
@@ -207,7 +236,8 @@ of_in id (ComponentItem bs) bytes rest t r = absurd (true≢false (sym t ∙ ap 
 of_in id (StartItem s) bytes rest t r = absurd (true≢false (sym t ∙ ap collects r.0))
 of_in id other bytes rest t r = r
 
-each_of : (id : ℕ) (xs : List Item) (bytes rest : List ℕ) → IsTrue (collects id) → (each (item_in id) xs).Reads Wide bytes rest → (each (item_of id) xs).Reads Wide bytes rest
+each_of : (id : ℕ) (xs : List Item) (bytes rest : List ℕ) → IsTrue (collects id) → (each (item_in id) xs).Reads Wide bytes rest
+    → (each (item_of id) xs).Reads Wide bytes rest
 each_of id [] bytes rest t r = r
 each_of id (x ∷ xs) bytes rest t r = (r.0, of_in id x bytes r.0 t r.1, each_of id xs r.0 rest t r.2)
 
@@ -233,12 +263,14 @@ alone_of id (ImportItem i) content f r = absurd (collected_false id 10 f r.0 ref
 alone_of id (ExportItem x) content f r = absurd (collected_false id 11 f r.0 refl)
 alone_of id (RawItem bs) content f r = absurd (none_is_some r.0)
 
-fills_alone : (id : ℕ) (xs : List Item) (content : List ℕ) → IsFalse (collects id) → length xs ≡ 1 → (each (item_in id) xs).Reads Wide content [] → Fills id xs content
+fills_alone : (id : ℕ) (xs : List Item) (content : List ℕ) → IsFalse (collects id) → length xs ≡ 1
+    → (each (item_in id) xs).Reads Wide content [] → Fills id xs content
 fills_alone id [] content f n r = absurd (omega (arith, n))
 fills_alone id (x ∷ []) content f n r = inr (x, refl, alone_of id x content f (subst (λ (rest : List ℕ). (item_in id x).Reads Wide content rest) r.2 r.1))
 fills_alone id (x ∷ y ∷ xs) content f n r = absurd (omega (arith, n))
 
-fills_of : (id n : ℕ) (content items : List ℕ) (xs : List Item) → Holds id content n items → (each (item_in id) xs).Reads Wide items [] → length xs ≡ n → Fills id xs content
+fills_of : (id n : ℕ) (content items : List ℕ) (xs : List Item) → Holds id content n items → (each (item_in id) xs).Reads Wide items []
+    → length xs ≡ n → Fills id xs content
 fills_of id n content items xs (inl h) r e = inl (h.0, (items, rw (sym e) at h.1, each_of id xs items [] h.0 r))
 fills_of id n content items xs (inr h) r e = fills_alone id xs content h.0 (e ∙ h.1) (rw h.2 at r)
 
@@ -269,14 +301,18 @@ filled_once id xs ys content f w g =
 
 -- ---- a section, of which some items were taken
 
-fills_here : (bytes : List ℕ) (id : ℕ) (content rest : List ℕ) → IsFramed bytes id content rest → (s : Section) (after : List ℕ) → (section_piece s).Reads Wide bytes after → Fills id (members s) content
+fills_here : (bytes : List ℕ) (id : ℕ) (content rest : List ℕ) → IsFramed bytes id content rest → (s : Section) (after : List ℕ)
+    → (section_piece s).Reads Wide bytes after → Fills id (members s) content
 fills_here bytes id content rest framed s after r =
     let f = section_framed s bytes after r in
     let same = same_frame bytes id f.id content f.content rest after (frame_finds bytes id content rest framed) f.framed in
     rw (same.id_is, same.content_is) f.fills
 
-rest_read : (bytes : List ℕ) (id : ℕ) (content rest : List ℕ) (n : ℕ) (items : List ℕ) (before : List Item) (left : List ℕ) (number : ℕ) → IsFramed bytes id content rest → Holds id content n items
-    → (each (item_in id) before).Reads Wide items left → AllByRecursion (HasDepth 100) before → n ≡ length before + number → (s : Section) (after : List ℕ) → (section_piece s).Reads Wide bytes after → RestOf id left number (AllByRecursion (HasDepth 100) (members s))
+rest_read : (bytes : List ℕ) (id : ℕ) (content rest : List ℕ) (n : ℕ) (items : List ℕ) (before : List Item) (left : List ℕ) (number : ℕ)
+    → IsFramed bytes id content rest → Holds id content n items
+    → (each (item_in id) before).Reads Wide items left → AllByRecursion (HasDepth 100) before → n ≡ length before + number
+    → (s : Section) (after : List ℕ) → (section_piece s).Reads Wide bytes after
+    → RestOf id left number (AllByRecursion (HasDepth 100) (members s))
 rest_read bytes id content rest n items before left number framed holds b w e s after r =
     let all = all_held id (members s) content (fills_here bytes id content rest framed s after r) in
     let same = same_count id content (length (members s)) n all.items items all.holds holds in
@@ -295,7 +331,8 @@ record Known (bytes : List ℕ) (left : SectionItems) : Type 0 where
   within : AllByRecursion (HasDepth 100) before
   counted : n ≡ length before + left.left
 
-known : (ends : ℕ) (bytes rest : List ℕ) (s : SectionItems) (xs : List Item) (left : SectionItems) → Opens ends bytes s rest → HasTaken s xs left → Known bytes left
+known : (ends : ℕ) (bytes rest : List ℕ) (s : SectionItems) (xs : List Item) (left : SectionItems) → Opens ends bytes s rest
+    → HasTaken s xs left → Known bytes left
 known ends bytes rest s xs left o t = record {
   content = o.content;
   rest = rest;
@@ -309,8 +346,10 @@ known ends bytes rest s xs left o t = record {
   counted = t.counted;
 }
 
-rest_of : (bytes : List ℕ) (left : SectionItems) → Known bytes left → (s : Section) (after : List ℕ) → (section_piece s).Reads Wide bytes after → RestOf left.id left.rest.now left.left (AllByRecursion (HasDepth 100) (members s))
-rest_of bytes left k s after r = rest_read bytes left.id k.content k.rest k.n k.items k.before left.rest.now left.left k.framed k.holds k.read k.within k.counted s after r
+rest_of : (bytes : List ℕ) (left : SectionItems) → Known bytes left → (s : Section) (after : List ℕ)
+    → (section_piece s).Reads Wide bytes after → RestOf left.id left.rest.now left.left (AllByRecursion (HasDepth 100) (members s))
+rest_of bytes left k s after r = rest_read bytes left.id k.content k.rest k.n k.items k.before left.rest.now left.left k.framed k.holds
+    k.read k.within k.counted s after r
 
 -- ---- what stands against it
 
@@ -322,7 +361,8 @@ never_left : (id : ℕ) (left : List ℕ) (xs : List Item) → (each (item_in id
 never_left id left [] r some never = omega (arith, some)
 never_left id left (x ∷ xs) r some never = never x r.0 r.1
 
-none_left : (id : ℕ) (left : List ℕ) (xs : List Item) → (each (item_in id) xs).Reads Wide left [] → AllByRecursion (HasDepth 100) xs → 0 < length xs → IsNoItem id left → ⊥
+none_left : (id : ℕ) (left : List ℕ) (xs : List Item) → (each (item_in id) xs).Reads Wide left [] → AllByRecursion (HasDepth 100) xs
+    → 0 < length xs → IsNoItem id left → ⊥
 none_left id left [] r w some never = omega (arith, some)
 none_left id left (x ∷ xs) r w some never = never x r.0 r.1 w.0
 
@@ -331,8 +371,10 @@ abbrev IsStuck : SectionItems → Type 0
 IsStuck left = ((0 < left.left) × (left.id ≡ 0 → ⊥) × IsNeverItem left.id left.rest.now) ⊎ ((left.left ≡ 0) × (0 < length left.rest.now))
 
 stuck : (bytes : List ℕ) (left : SectionItems) → Known bytes left → IsStuck left → (s : Section) (after : List ℕ) → (section_piece s).Reads Wide bytes after → ⊥
-stuck bytes left k (inl f) s after r = let o = rest_of bytes left k s after r in never_left left.id left.rest.now o.others o.read (omega (arith, o.are, f.0)) f.2
-stuck bytes left k (inr f) s after r = let o = rest_of bytes left k s after r in nothing_left left.id left.rest.now o.others o.read (omega (arith, o.are, f.0)) f.1
+stuck bytes left k (inl f) s after r = let o =
+    rest_of bytes left k s after r in never_left left.id left.rest.now o.others o.read (omega (arith, o.are, f.0)) f.2
+stuck bytes left k (inr f) s after r = let o =
+    rest_of bytes left k s after r in nothing_left left.id left.rest.now o.others o.read (omega (arith, o.are, f.0)) f.1
 
 pub labelled_other : (id : ℕ) (content : List ℕ) → (id ≡ 0 → ⊥) → IsLabelled id content
 labelled_other zero content no0 = absurd (no0 refl)
@@ -395,7 +437,8 @@ unlabelled bytes left k some e =
     let n : length k.before ≡ 0 = omega (arith, k.counted, some, h.0) in
     sym h.1 ∙ nothing_before k.before k.items left.rest.now (rw e at k.read) n
 
-known_fault : (here : ℕ) (bytes : List ℕ) (left : SectionItems) (fault : ListFault) → Known bytes left → left.place ≡ here → IsFaultIn left fault → IsFaultHere here bytes fault
+known_fault : (here : ℕ) (bytes : List ℕ) (left : SectionItems) (fault : ListFault) → Known bytes left → left.place ≡ here
+    → IsFaultIn left fault → IsFaultHere here bytes fault
 known_fault here bytes left faults.Memory k p f = tt
 known_fault here bytes left (faults.NotAComponent place) k p f = absurd f
 known_fault here bytes left (faults.BadSection place) k p f =
@@ -422,7 +465,8 @@ known_fault here bytes left (faults.BadItem place) k p f = (
 known_fault here bytes left (faults.TooDeep place) k p f =
     let counted = seven_counts k.content k.n k.items (rw f.2 at k.holds) in (
       f.0 ∙ p,
-      (λ s after r w. (let o = rest_of bytes left k s after r in none_left left.id left.rest.now o.others o.read (o.within w.0) (omega (arith, o.are, f.1)) f.4)),
+      (λ s after r w. (let o = rest_of bytes left k s after r in none_left left.id left.rest.now o.others o.read (o.within w.0)
+          (omega (arith, o.are, f.1)) f.4)),
       record {
         content = k.content;
         rest = k.rest;
@@ -446,16 +490,19 @@ known_fault here bytes left (faults.TooDeep place) k p f =
 
 -- ---- what a loop over the items of a section finds
 
-pub taken_fault : (ends : ℕ) (bytes rest : List ℕ) (s : SectionItems) (xs : List Item) (left : SectionItems) (fault : ListFault) → Opens ends bytes s rest → HasTaken s xs left → IsFaultIn left fault → IsFaultHere s.place bytes fault
+pub taken_fault : (ends : ℕ) (bytes rest : List ℕ) (s : SectionItems) (xs : List Item) (left : SectionItems) (fault : ListFault)
+    → Opens ends bytes s rest → HasTaken s xs left → IsFaultIn left fault → IsFaultHere s.place bytes fault
 taken_fault ends bytes rest s xs left fault o t f = known_fault s.place bytes left fault (known ends bytes rest s xs left o t) t.same_place f
 
 pub none_taken : (s : SectionItems) → HasTaken s [] s
 none_taken s = record { read = refl; leaves = ([], refl); within = tt; counted = omega arith; same_id = refl; same_place = refl; same_end = refl }
 
-pub one_more_taken : (first middle left : SectionItems) (xs : List Item) (x : Item) → HasTaken first xs middle → HasTaken middle (x ∷ []) left → HasTaken first (xs ++ x ∷ []) left
+pub one_more_taken : (first middle left : SectionItems) (xs : List Item) (x : Item) → HasTaken first xs middle
+    → HasTaken middle (x ∷ []) left → HasTaken first (xs ++ x ∷ []) left
 one_more_taken first middle left xs x a b =
     let one : (item_in first.id x).Reads Wide middle.rest.now left.rest.now =
-    subst (λ (id : ℕ). (item_in id x).Reads Wide middle.rest.now left.rest.now) a.same_id (subst (λ (rest : List ℕ). (item_in middle.id x).Reads Wide middle.rest.now rest) b.read.2 b.read.1) in
+    subst (λ (id : ℕ). (item_in id x).Reads Wide middle.rest.now left.rest.now) a.same_id
+    (subst (λ (rest : List ℕ). (item_in middle.id x).Reads Wide middle.rest.now rest) b.read.2 b.read.1) in
     record {
       read = each_more (item_in first.id) xs x first.rest.now middle.rest.now left.rest.now a.read one;
       leaves = ends_on first.rest.now middle.rest.now left.rest.now a.leaves b.leaves;
@@ -466,10 +513,12 @@ one_more_taken first middle left xs x a b =
       same_end = b.same_end ∙ a.same_end;
     }
 
-all_fill : (ends : ℕ) (bytes rest : List ℕ) (s : SectionItems) (xs : List Item) (left : SectionItems) (o : Opens ends bytes s rest) → HasTaken s xs left → IsSpent left → Fills s.id xs o.content
+all_fill : (ends : ℕ) (bytes rest : List ℕ) (s : SectionItems) (xs : List Item) (left : SectionItems) (o : Opens ends bytes s rest)
+    → HasTaken s xs left → IsSpent left → Fills s.id xs o.content
 all_fill ends bytes rest s xs left o t p = fills_of s.id s.left o.content s.rest.now xs o.holds (rw p.1 at t.read) (omega (arith, t.counted, p.0))
 
-pub taken_read : (ends : ℕ) (bytes rest : List ℕ) (s : SectionItems) (xs : List Item) (left : SectionItems) → Opens ends bytes s rest → HasTaken s xs left → IsSpent left → (section_piece (item_section s.id xs)).Reads Wide bytes rest
+pub taken_read : (ends : ℕ) (bytes rest : List ℕ) (s : SectionItems) (xs : List Item) (left : SectionItems) → Opens ends bytes s rest
+    → HasTaken s xs left → IsSpent left → (section_piece (item_section s.id xs)).Reads Wide bytes rest
 taken_read ends bytes rest s xs left o t p = section_reads s.id xs bytes o.content rest o.framed (all_fill ends bytes rest s xs left o t p)
 
 pub taken_within : (id : ℕ) (xs : List Item) → AllByRecursion (HasDepth 100) xs → AreWithin 100 (item_section id xs ∷ [])
@@ -483,20 +532,26 @@ after_section ends bytes before rest s e o = ends_on bytes before rest e (ends_o
 pub stands_at_place : (bytes left : List ℕ) → EndsWith bytes left → drop (length bytes - length left) bytes ≡ left
 stands_at_place bytes left e = at_place bytes left (length bytes - length left) e (omega (arith, ap length e.1, length-append e.0 left))
 
-pub stands_where_reached : (bytes before rest : List ℕ) (first : SectionItems) (xs : List Item) (left : SectionItems) → EndsWith bytes before → Opens (length bytes) before first rest → HasTaken first xs left → drop (left.ends - length left.rest.now) bytes ≡ left.rest.now ++ rest
+pub stands_where_reached : (bytes before rest : List ℕ) (first : SectionItems) (xs : List Item) (left : SectionItems)
+    → EndsWith bytes before → Opens (length bytes) before first rest → HasTaken first xs left
+    → drop (left.ends - length left.rest.now) bytes ≡ left.rest.now ++ rest
 stands_where_reached bytes before rest first xs left e o t =
     let all = ends_on before (first.rest.now ++ rest) (left.rest.now ++ rest) o.leaves (ends_before first.rest.now left.rest.now rest t.leaves) in
     let f = ends_on bytes before (left.rest.now ++ rest) e all in
-    at_place bytes (left.rest.now ++ rest) (left.ends - length left.rest.now) f (omega (arith, t.same_end, o.is_end, ap length f.1, length-append f.0 (left.rest.now ++ rest), length-append left.rest.now rest))
+    at_place bytes (left.rest.now ++ rest) (left.ends - length left.rest.now) f
+    (omega (arith, t.same_end, o.is_end, ap length f.1, length-append f.0 (left.rest.now ++ rest), length-append left.rest.now rest))
 
 -- ---- where no count begins the content
 
 pub uncounted : (id : ℕ) (content : List ℕ) → read_count id content ≡ Err Bad → (n : ℕ) (items : List ℕ) → Holds id content n items → ⊥
 uncounted id content e n items h = not_both (read_count id content) (n, items) (count_found id content n items h) e
 
-pub uncounted_fault : (place : ℕ) (bytes : List ℕ) (id : ℕ) (content rest : List ℕ) → IsFramed bytes id content rest → (id ≡ 0 → ⊥) → read_count id content ≡ Err Bad → IsFaultHere place bytes (faults.BadItem place)
+pub uncounted_fault : (place : ℕ) (bytes : List ℕ) (id : ℕ) (content rest : List ℕ) → IsFramed bytes id content rest → (id ≡ 0 → ⊥)
+    → read_count id content ≡ Err Bad → IsFaultHere place bytes (faults.BadItem place)
 uncounted_fault place bytes id content rest framed no0 e =
-    let never : (s : Section) (after : List ℕ) → (section_piece s).Reads Wide bytes after → ⊥ = λ s after r. (let all = all_held id (members s) content (fills_here bytes id content rest framed s after r) in uncounted id content e (length (members s)) all.items all.holds) in (
+    let never : (s : Section) (after : List ℕ) → (section_piece s).Reads Wide bytes after → ⊥ =
+    λ s after r. (let all = all_held id (members s) content (fills_here bytes id content rest framed s after r) in
+    uncounted id content e (length (members s)) all.items all.holds) in (
       refl,
       (λ s after r w. never s after r),
       record { id = id; content = content; rest = rest; framed = framed; labelled = labelled_other id content no0; never = never },
@@ -523,8 +578,12 @@ name_leaves : (label content bytes : List ℕ) → (name label).Reads Wide conte
 name_leaves label content bytes r h = let e = (name_lawful label).leaves Wide content bytes r in behind_bytes e.0 bytes (rw e.1 at h)
 
 -- so a custom section with a name is read
-labelled_found : (label content bytes : List ℕ) → (name label).Reads Wide content bytes → AreBytes content → read_item_in 100 0 content ≡ Ok (CustomItem (labelled_section label bytes), [])
-labelled_found label content bytes r h = rw ((name_lawful label).finds (name_lawful label).depth (omega arith) Wide content bytes r, bytes_pass bytes (name_leaves label content bytes r h)) refl
+labelled_found : (label content bytes : List ℕ) → (name label).Reads Wide content bytes → AreBytes content
+    → read_item_in 100 0 content ≡ Ok (CustomItem (labelled_section label bytes), [])
+labelled_found label content bytes r h = rw (
+  (name_lawful label).finds (name_lawful label).depth (omega arith) Wide content bytes r,
+  bytes_pass bytes (name_leaves label content bytes r h),
+) refl
 
 pub no_label : (content : List ℕ) → AreBytes content → read_item_in 100 0 content ≡ Err Bad → IsLabelled 0 content → ⊥
 no_label content are bad l = not_both (read_item_in 100 0 content) (CustomItem (labelled_section l.0 l.1), []) (labelled_found l.0 content l.1 l.2 are) bad
@@ -553,7 +612,8 @@ item_found id bytes x rest e = told_ok (InWithin 100 id bytes) (GoesIn 100 id by
 pub count_holds : (id : ℕ) (content : List ℕ) (n : ℕ) (items : List ℕ) → read_count id content ≡ Ok (n, items) → Holds id content n items
 count_holds id content n items e = told_ok (λ x. Holds id content x.0 x.1) ⊥ (read_count id content) (n, items) (count_told id content) e
 
-pub item_fault : (s : SectionItems) (refusal : NestedRefusal) → 0 < s.left → AreBytes s.rest.now → FailsNested refusal (read_item_in 100 s.id s.rest.now) → IsFaultIn s (fault_of_content refusal s.id s.place)
+pub item_fault : (s : SectionItems) (refusal : NestedRefusal) → 0 < s.left → AreBytes s.rest.now
+    → FailsNested refusal (read_item_in 100 s.id s.rest.now) → IsFaultIn s (fault_of_content refusal s.id s.place)
 item_fault s (Flat refusals.Memory) some are h = tt
 item_fault s (Flat refusals.Malformed) some are h =
     elim (eqb_tells s.id 0) [

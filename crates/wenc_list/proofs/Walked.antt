@@ -1,5 +1,6 @@
 -- What the walk over a section's items finds, and what that says of the section.
-use Rattle.std.proofs.Common.{◌≡◌, ℕ, ◌+◌, ◌-◌, ◌<◌, ◌≤◌, List, [], ◌∷◌, ◌++◌, length, drop, Option, Some, None, Result, Ok, Err, refl, sym, ap, ◌∙◌, subst, ◌⊎◌, inl, inr, arith}
+use Rattle.std.proofs.Common.{◌≡◌, ℕ, ◌+◌, ◌-◌, ◌<◌, ◌≤◌, List, [], ◌∷◌, ◌++◌, length, drop, Option, Some, None, Result, Ok, Err, refl, sym}
+use Rattle.std.proofs.Common.{ap, ◌∙◌, subst, ◌⊎◌, inl, inr, arith}
 use Rattle.std.proofs.lemmas.List.{drop_all}
 use Rattle.std.specs.Prelude.{IsSome, IfOk, MatchOption}
 use Rattle.wenc_base.specs.Piece.{Wide, EndsWith, each}
@@ -32,23 +33,30 @@ past_end bytes place lt = rw (drop_all place bytes (omega (arith, lt))) (unframe
 
 all_read_here : (all : ℕ) (bytes : List ℕ) (s : SectionItems) (rest : List ℕ) (xs : List Item) → Opens all bytes s rest → TakesAll s xs → IsReadHere bytes
 all_read_here all bytes s rest xs o t id content after f l =
-    let same = same_frame bytes s.id id o.content content rest after (frame_finds bytes s.id o.content rest o.framed) f in
-    (item_section s.id xs, subst (λ (r : List ℕ). (section_piece (item_section s.id xs)).Reads Wide bytes r) same.rest_is (taken_read all bytes rest s xs t.left o t.taken t.spent), taken_within s.id xs t.taken.within)
+    let same = same_frame bytes s.id id o.content content rest after (frame_finds bytes s.id o.content rest o.framed) f in (
+      item_section s.id xs,
+      subst (λ (r : List ℕ). (section_piece (item_section s.id xs)).Reads Wide bytes r) same.rest_is
+          (taken_read all bytes rest s xs t.left o t.taken t.spent),
+      taken_within s.id xs t.taken.within,
+    )
 
-unlabelled_here : (all : ℕ) (bytes : List ℕ) (s : SectionItems) (rest : List ℕ) (place : ℕ) → Opens all bytes s rest → FaultsIn s (faults.BadSection place) → IsReadHere bytes
+unlabelled_here : (all : ℕ) (bytes : List ℕ) (s : SectionItems) (rest : List ℕ) (place : ℕ) → Opens all bytes s rest
+    → FaultsIn s (faults.BadSection place) → IsReadHere bytes
 unlabelled_here all bytes s rest place o t id content after f l =
     let fault = taken_fault all bytes rest s t.xs t.left (faults.BadSection place) o t.taken t.cause in
     absurd (fault.2 id content after f l)
 
 -- where bytes come behind the last item it isn't one without a name
-behind_labelled : (all : ℕ) (bytes : List ℕ) (s left : SectionItems) (rest : List ℕ) (xs : List Item) → (o : Opens all bytes s rest) → HasTaken s xs left → left.left ≡ 0 → 0 < length left.rest.now → IsLabelled s.id o.content
+behind_labelled : (all : ℕ) (bytes : List ℕ) (s left : SectionItems) (rest : List ℕ) (xs : List Item) → (o : Opens all bytes s rest)
+    → HasTaken s xs left → left.left ≡ 0 → 0 < length left.rest.now → IsLabelled s.id o.content
 behind_labelled all bytes s left rest xs o t none_left more =
     let fault = taken_fault all bytes rest s xs left (faults.BadItem left.place) o t (refl, inr (none_left, more)) in
     let f = fault.2 in
     let same = same_frame bytes f.id s.id f.content o.content f.rest rest (frame_finds bytes f.id f.content f.rest f.framed) o.framed in
     rw (same.id_is, same.content_is) at f.labelled
 
-pub of_section : (all : ℕ) (bytes : List ℕ) (s : SectionItems) (rest : List ℕ) (unread : Option Unread) → Opens all bytes s rest → IsUnreadOf s unread → MatchOption unread (IsReadHere bytes) (IsUnread all bytes)
+pub of_section : (all : ℕ) (bytes : List ℕ) (s : SectionItems) (rest : List ℕ) (unread : Option Unread) → Opens all bytes s rest
+    → IsUnreadOf s unread → MatchOption unread (IsReadHere bytes) (IsUnread all bytes)
 of_section all bytes s rest None o (inl h) = all_read_here all bytes s rest h.0 o h.1
 of_section all bytes s rest None o (inr h) = unlabelled_here all bytes s rest h.0 o h.1
 of_section all bytes s rest (Some (parts.Count here)) o h = absurd h
@@ -89,14 +97,18 @@ of_section all bytes s rest (Some (parts.Behind here)) o h = record {
 }
 
 -- where it stops
-pub behind_stops : (first s : SectionItems) (xs : List Item) (place here : ℕ) → HasTaken first xs s → s.left ≡ 0 → IsFaultIn s (faults.BadItem place) → (here ≡ s.ends - length s.rest.now) → (number : ℕ) × Stops first number here (λ left. (left.left ≡ 0) × (0 < length left.rest.now))
-behind_stops first s xs place here t zero_left f e = (length xs, record { xs = xs; left = s; taken = t; are = refl; is_place = e; next = (zero_left, behind f.1) })
+pub behind_stops : (first s : SectionItems) (xs : List Item) (place here : ℕ) → HasTaken first xs s → s.left ≡ 0
+    → IsFaultIn s (faults.BadItem place) → (here ≡ s.ends - length s.rest.now) → (number : ℕ) × Stops first number here
+    (λ left. (left.left ≡ 0) × (0 < length left.rest.now))
+behind_stops first s xs place here t zero_left f e =
+    (length xs, record { xs = xs; left = s; taken = t; are = refl; is_place = e; next = (zero_left, behind f.1) })
   where
     behind : (((0 < s.left) × (s.id ≡ 0 → ⊥) × IsNeverItem s.id s.rest.now) ⊎ ((s.left ≡ 0) × (0 < length s.rest.now))) → 0 < length s.rest.now
     behind (inl h) = absurd (omega (arith, h.0))
     behind (inr h) = h.1
 
-pub all_of_section : {E : Type 0} (all : ℕ) (bytes : List ℕ) (s : SectionItems) (rest : List ℕ) (result : Result (Option Unread) E) → Opens all bytes s rest → IfOk result (IsUnreadOf s) → IfOk result (λ u. MatchOption u (IsReadHere bytes) (IsUnread all bytes))
+pub all_of_section : {E : Type 0} (all : ℕ) (bytes : List ℕ) (s : SectionItems) (rest : List ℕ) (result : Result (Option Unread) E)
+    → Opens all bytes s rest → IfOk result (IsUnreadOf s) → IfOk result (λ u. MatchOption u (IsReadHere bytes) (IsUnread all bytes))
 all_of_section all bytes s rest (Ok unread) o h = of_section all bytes s rest unread o h
 all_of_section all bytes s rest (Err error) o h = tt
 
@@ -124,20 +136,27 @@ header_is bytes rest r = rw (r.1, r.2.1, r.2.2.1, r.2.2.2.1, r.2.2.2.2.1, r.2.2.
 pub header_leaves : (bytes rest : List ℕ) → preamble.Reads Wide bytes rest → EndsWith bytes rest
 header_leaves bytes rest r = (header, header_is bytes rest r)
 
-stops_here : (bytes behind : List ℕ) (place : ℕ) (P : List ℕ → Type 0) (f : StopsAt (length bytes) behind place P) → preamble.Reads Wide bytes behind → drop place bytes ≡ f.left
-stops_here bytes behind place P f r = at_place bytes f.left place (ends_on bytes behind f.left (header_leaves bytes behind r) (sections_leave f.before behind f.left f.read)) f.is_place
+stops_here : (bytes behind : List ℕ) (place : ℕ) (P : List ℕ → Type 0) (f : StopsAt (length bytes) behind place P)
+    → preamble.Reads Wide bytes behind → drop place bytes ≡ f.left
+stops_here bytes behind place P f r = at_place bytes f.left place
+    (ends_on bytes behind f.left (header_leaves bytes behind r) (sections_leave f.before behind f.left f.read)) f.is_place
 
-not_read : (all : ℕ) (behind : List ℕ) (place : ℕ) (P : List ℕ → Type 0) (f : StopsAt all behind place P) (id : ℕ) (content rest : List ℕ) → IsFramed f.left id content rest → IsLabelled id content → IsReadHere f.left → ⊥
+not_read : (all : ℕ) (behind : List ℕ) (place : ℕ) (P : List ℕ → Type 0) (f : StopsAt all behind place P) (id : ℕ) (content rest : List ℕ)
+    → IsFramed f.left id content rest → IsLabelled id content → IsReadHere f.left → ⊥
 not_read all behind place P f id content rest framed l h = let s = h id content rest framed l in f.none_within s.0 rest s.1 s.2
 
 pub named_none : (bytes : List ℕ) (place : ℕ) → IsNamed bytes place → IsReadHere (drop place bytes) → ⊥
-named_none bytes place (inl n) h = let f = n.2 in not_read _ _ _ _ f f.cause.id f.cause.content f.cause.rest f.cause.framed f.cause.labelled (rw (stops_here bytes n.0 place _ f n.1) at h)
-named_none bytes place (inr n) h = let f = n.2 in not_read _ _ _ _ f 7 f.cause.content f.cause.rest f.cause.framed tt (rw (stops_here bytes n.0 place _ f n.1) at h)
+named_none bytes place (inl n) h = let f = n.2 in not_read _ _ _ _ f f.cause.id f.cause.content f.cause.rest f.cause.framed f.cause.labelled
+    (rw (stops_here bytes n.0 place _ f n.1) at h)
+named_none bytes place (inr n) h = let f =
+    n.2 in not_read _ _ _ _ f 7 f.cause.content f.cause.rest f.cause.framed tt (rw (stops_here bytes n.0 place _ f n.1) at h)
 
-pub named_some : (bytes : List ℕ) (place : ℕ) (X : Unread → Type 0) (unread : Option Unread) → MatchOption unread (IsReadHere (drop place bytes)) X → IsNamed bytes place → IsSome unread
+pub named_some : (bytes : List ℕ) (place : ℕ) (X : Unread → Type 0) (unread : Option Unread)
+    → MatchOption unread (IsReadHere (drop place bytes)) X → IsNamed bytes place → IsSome unread
 named_some bytes place X None h n = absurd (named_none bytes place n h)
 named_some bytes place X (Some unread) h n = refl
 
-pub named_tells : {E : Type 0} (bytes : List ℕ) (place : ℕ) (X : Unread → Type 0) (result : Result (Option Unread) E) → IfOk result (λ u. MatchOption u (IsReadHere (drop place bytes)) X) → IsNamed bytes place → IfOk result IsSome
+pub named_tells : {E : Type 0} (bytes : List ℕ) (place : ℕ) (X : Unread → Type 0) (result : Result (Option Unread) E)
+    → IfOk result (λ u. MatchOption u (IsReadHere (drop place bytes)) X) → IsNamed bytes place → IfOk result IsSome
 named_tells bytes place X (Ok unread) h n = named_some bytes place X unread h n
 named_tells bytes place X (Err error) h n = tt

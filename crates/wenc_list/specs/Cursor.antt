@@ -1,5 +1,5 @@
--- What is taken of a component section by section, and of a section item by item (component model,
--- binary format, "Component Definitions").
+-- A component that is taken section by section, and a section item by item (component model, binary
+-- format, "Component Definitions").
 use Rattle.std.specs.List.{AllByRecursion}
 use Rattle.std.specs.Prelude.{◌≡◌, ◌⊎◌, ℕ, ◌+◌, ◌-◌, ◌<◌, List, [], ◌++◌, length, IsTrue, IsFalse}
 use Rattle.wenc_base.specs.Forms.{name, AreBytes}
@@ -29,8 +29,8 @@ item_in id (ComponentItem bytes) = only_where (id ≡ 4) (to_the_end (raw AreByt
 item_in id (StartItem s) = only_where (id ≡ 9) (start_content s)
 item_in id other = item_of id other
 
--- The content of a section with this id has so many items, in these bytes: it says how many where
--- the section collects, and else there is one.
+-- The content of a section with this id has this many items, in these bytes: the section's count,
+-- if it collects items, and otherwise one.
 abbrev pub Holds : ℕ → List ℕ → ℕ → List ℕ → Type 0
 Holds id content count items =
     (IsTrue (collects id) × (u32 count).Reads Wide content items)
@@ -38,8 +38,8 @@ Holds id content count items =
 
 -- ---- what was taken
 
--- A section begins these bytes, of so many in all up to the end, and the rest follows; none of its
--- items is taken. The bytes end with its items and that rest.
+-- A section begins these bytes, the last ones of a component with `ends` bytes, and the rest
+-- follows; none of its items is taken. The bytes end with its items and that rest.
 pub record Opens (ends : ℕ) (bytes : List ℕ) (s : SectionItems) (rest : List ℕ) : Type 0 where
   pub content : List ℕ
   pub framed : IsFramed bytes s.id content rest

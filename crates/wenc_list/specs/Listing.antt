@@ -1,5 +1,5 @@
--- What is listed of a component, and why none is (component model, binary format,
--- "Component Definitions").
+-- The listing of a component, and why there is none (component model, binary format, "Component
+-- Definitions").
 use Rattle.std.specs.List.{AllByRecursion, flat_map}
 use Rattle.std.specs.Prelude.{◌≡◌, ◌⊎◌, ℕ, zero, suc, ◌+◌, ◌<◌, ◌≤◌, List, [], ◌∷◌, ◌++◌, length}
 use Rattle.wenc_base.specs.Forms.{name}
@@ -69,8 +69,8 @@ pub record IsTooDeep (bytes : List ℕ) : Type 0 where
 abbrev pub BeginsWith : ℕ → List ℕ → Type 0
 BeginsWith byte bytes = (rest : List ℕ) × (bytes ≡ byte ∷ rest)
 
--- Each section is read where it is placed, where its id is the first byte, up to its end, of so many
--- bytes in all, one after the other up to the rest.
+-- Each section is read at its place, where its id is the first byte, up to its end, one after the
+-- other up to the rest; the component has this many bytes.
 abbrev pub AreFrom : {A : Type 0} → ℕ → List (ListedSection A) → List ℕ → List ℕ → Type 0
 AreFrom all [] bytes rest = bytes ≡ rest
 AreFrom all (s ∷ ss) bytes rest =
@@ -78,11 +78,11 @@ AreFrom all (s ∷ ss) bytes rest =
     (all ≡ s.place + length bytes) × (all ≡ s.ends + length middle) × BeginsWith s.id bytes ×
     AreFrom all ss middle rest
 
--- how many indices in space k the items of these sections take
+-- the number of indices in space k that the items of these sections take
 abbrev pub count_of_sections : Space → List Section → ℕ
 count_of_sections k ss = next_index (flat_map members ss) k
 
--- so it is of all of a component, after its header
+-- the same for all sections of a component, after its header
 abbrev pub ArePlaced : {A : Type 0} → List ℕ → List (ListedSection A) → Type 0
 ArePlaced bytes ss =
     (behind : List ℕ) × preamble.Reads Wide bytes behind × AreFrom (length bytes) ss behind []
@@ -105,8 +105,8 @@ IsFaultHere here bytes (faults.BadItem place) =
 IsFaultHere here bytes (faults.TooDeep place) =
     (place ≡ here) × IsNoneWithin bytes × IsTooDeep bytes
 
--- Sections are read within depth 100, of so many bytes in all, up to this place; the next one
--- isn't, and P holds of the bytes from there on.
+-- Sections are read within depth 100 up to this place; the next one isn't, and P holds of the bytes
+-- from there on. The component has this many bytes.
 pub record StopsAt (all : ℕ) (bytes : List ℕ) (place : ℕ) (P : List ℕ → Type 0) : Type 0 where
   pub before : List Section
   pub left : List ℕ
@@ -136,7 +136,7 @@ IsFaultOf bytes (faults.NotAComponent place) = (place ≡ 0) × HasNoHeader byte
 IsFaultOf bytes fault =
     (behind : List ℕ) × preamble.Reads Wide bytes behind × IsFaultBehind (length bytes) behind fault
 
--- memory is wanting, or one of the types of these sections is deeper than 100, and that is said
+-- a failed allocation; or `TooDeep`, if one of the types of these sections is deeper than 100
 abbrev pub IsMemoryOrTooDeep : List Section → ListFault → Type 0
 IsMemoryOrTooDeep ss fault =
     (fault ≡ faults.Memory) ⊎

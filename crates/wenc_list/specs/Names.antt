@@ -1,4 +1,4 @@
--- What comes after an id and a size, in a section of names and in a core module (component model,
+-- Content after an id and a size, in a section of names and in a core module (component model,
 -- binary format, "Name Section"; WebAssembly 3.0, binary format, "Sections").
 use Rattle.std.specs.Prelude.{ℕ, ◌≤◌, List, [], ◌∷◌, map, length, take, drop, Result, Ok, Err}
 use Rattle.std.specs.Prelude.{nat_eq, nat_lt, if◌then◌else◌}
@@ -28,7 +28,7 @@ use Rattle.wenc_list.specs.declared.names.Names.TheVariants as names
 abbrev pub part : Form (ℕ × List ℕ)
 part p = p.0 ▸ byte_list p.1
 
--- any id, and so many bytes as the size says
+-- any id, and as many bytes as the size says
 abbrev pub read_part : Reader (ℕ × List ℕ)
 read_part [] = Err Bad
 read_part (id ∷ bytes) = go_on (read_u32 bytes)
@@ -37,7 +37,7 @@ read_part (id ∷ bytes) = go_on (read_u32 bytes)
 
 -- ---- names
 
--- Raw it is only where its id has no content of its own.
+-- It is raw only if its id has no content of its own.
 abbrev pub IsById : Subsection → Type 0
 IsById (ComponentName name) = Unit {0}
 IsById (ItemNames sort names) = Unit {0}

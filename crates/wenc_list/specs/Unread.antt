@@ -1,4 +1,5 @@
--- What of a section isn't read (component model, binary format, "Component Definitions").
+-- The part of a section that can't be read (component model, binary format, "Component
+-- Definitions").
 use Rattle.std.specs.List.{AllByRecursion}
 use Rattle.std.specs.Prelude.{◌≡◌, ◌⊎◌, ℕ, ◌-◌, ◌<◌, List, [], ◌∷◌, length, IsTrue}
 use Rattle.wenc_base.specs.Number.{u32}
@@ -11,14 +12,14 @@ use Rattle.wenc_list.specs.declared.fault.ListFault.TheVariants as faults
 use Rattle.wenc_list.specs.declared.unread.Unread.{Unread}
 use Rattle.wenc_list.specs.declared.unread.Unread.TheVariants as parts
 
--- So many items of the section with this id are read, one after the other, each within depth 100.
+-- This many items of the section with this id are read, one after the other, each within depth 100.
 pub record ReadsItems (id : ℕ) (bytes : List ℕ) (number : ℕ) (left : List ℕ) : Type 0 where
   pub items : List Item
   pub read : (each (item_in id) items).Reads Wide bytes left
   pub within : AllByRecursion (HasDepth 100) items
   pub are : length items ≡ number
 
--- The content of a section, which ends at this place: its count is read, and so many items after
+-- The content of a section, which ends at this place: its count is read, and this many items after
 -- that. What is left begins at `here`, and P holds of the count and of that.
 pub record StopsInside (id : ℕ) (content : List ℕ) (ends number here : ℕ)
     (P : ℕ → List ℕ → Type 0) : Type 0 where
@@ -45,8 +46,8 @@ IsUnreadIn id content ends (parts.Behind here) =
     (number : ℕ) × StopsInside id content ends number here
     (λ count left. (number ≡ count) × (0 < length left))
 
--- this is the first that isn't read of the section that begins here, of so many bytes in all; that
--- is no custom section without a name
+-- this is the first part that isn't read of the section that begins here, in a component of this
+-- many bytes; that section is no custom one without a name
 pub record IsUnread (all : ℕ) (bytes : List ℕ) (unread : Unread) : Type 0 where
   pub id : ℕ
   pub content : List ℕ
@@ -55,7 +56,7 @@ pub record IsUnread (all : ℕ) (bytes : List ℕ) (unread : Unread) : Type 0 wh
   pub labelled : IsLabelled id content
   pub cause : IsUnreadIn id content (all - length rest) unread
 
--- Where a section begins here, and isn't a custom one without a name, it is read within depth 100.
+-- If a section begins here, and isn't a custom one without a name, it is read within depth 100.
 abbrev pub IsReadHere : List ℕ → Type 0
 IsReadHere bytes = (id : ℕ) (content rest : List ℕ) → IsFramed bytes id content rest
     → IsLabelled id content

@@ -1,4 +1,4 @@
-//! The items of sections: the trees that commands are made of.
+//! The items of sections: the trees that commands are made from.
 ghost use Rattle.std.specs.Prelude.{◌≡◌};
 ghost use Rattle.wenc_builder.specs.Prelude.{canonical_space, indices_in, defines};
 ghost use Rattle.wenc_list.specs.Prelude.{item_view};
@@ -50,7 +50,7 @@ pub enum ItemTree<A: Allocator = Global> {
     Export {
         /// Its name.
         name: NameTree<A>,
-        /// The sort of the exported item.
+        /// The kind of the exported item.
         kind: ComponentExportKind,
         /// The index of the exported item.
         index: u32,

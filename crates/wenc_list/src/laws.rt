@@ -1,8 +1,11 @@
 //! Laws about the definitions. A call of one does nothing.
-ghost use Rattle.std.specs.Prelude.{◌≡◌, ◌⊎◌, ℕ, ◌-◌, ◌<◌, ◌≤◌, List, [], ◌∷◌, ◌++◌, length, map, take, drop, remove, slice_get, slice_range};
+ghost use Rattle.std.specs.Prelude.{◌≡◌, ◌⊎◌, ℕ, ◌-◌, ◌<◌, ◌≤◌, List, [], ◌∷◌, ◌++◌, length, map};
+ghost use Rattle.std.specs.Prelude.{take, drop, remove, slice_get, slice_range};
 ghost use Rattle.wenc_base.specs.Prelude.{Wide, EndsWith};
 ghost use Rattle.wenc_builder.specs.Prelude.{Item, Section, Reading, section_piece, preamble};
-ghost use Rattle.wenc_list.specs.Prelude.{Opens, HasTaken, IsSpent, IsFaultIn, item_section, section_view, AreWithin, ArePlaced, IsFaultOf, IsFaultHere, SectionItems, ListFault, ListedSection};
+ghost use Rattle.wenc_list.specs.Prelude.{Opens, HasTaken, IsSpent, IsFaultIn, item_section};
+ghost use Rattle.wenc_list.specs.Prelude.{section_view, AreWithin, ArePlaced, IsFaultOf};
+ghost use Rattle.wenc_list.specs.Prelude.{IsFaultHere, SectionItems, ListFault, ListedSection};
 ghost use Rattle.wenc_list.specs.declared.fault.ListFault.TheVariants.{Memory, TooDeep};
 
 mod of_names;
@@ -55,7 +58,7 @@ pub fn where_it_stands()
 {}
 
 /// The bytes of a listed section, from `place` to `ends`, are read as that section, whatever bytes
-/// follow. Without them the component has its other sections.
+/// follow. Without them, the component has the other sections.
 pub fn own_bytes<A: Allocator>()
     ensures inside { (bytes : List ℕ) (ss : List (ListedSection A)) (i : ℕ) (s : ListedSection A)
         → ArePlaced bytes ss → slice_get ss i ≡ Some s

@@ -1,8 +1,8 @@
 //! Lists a finished component: its sections, their items, and the number of indices that these
 //! take.
 //!
-//! `list` reads the bytes of a component back into the trees that commands are made of. It returns
-//! the one reading that the bytes have, or the exact reason why they have none.
+//! `list` reads the bytes of a component back into the trees that commands are made from. It
+//! returns the one reading that the bytes have, or the exact reason why they have none.
 #![tactic(auto)]
 
 mod counts;

@@ -1,8 +1,12 @@
 //! A whole component: its header, and its sections up to the end.
-ghost use Rattle.std.specs.Prelude.{◌≡◌, ◌≤◌, ℕ, List, [], map, length, slice_index, IfOk, IfErr, Err, MatchResult};
+ghost use Rattle.std.specs.Prelude.{◌≡◌, ◌≤◌, ℕ, List, [], map, length, slice_index, IfOk, IfErr};
+ghost use Rattle.std.specs.Prelude.{Err, MatchResult};
 ghost use Rattle.wenc_base.specs.Prelude.{Wide};
 ghost use Rattle.wenc_builder.specs.Prelude.{Section, Reading};
-ghost use Rattle.wenc_list.specs.Prelude.{Space, item_view, section_view, AreWithin, AreFrom, ArePlaced, count_of_sections, IsFaultOf, IsMemoryOrTooDeep, HasNoHeader, IsFaultBehind, TakesAll, FaultsIn};
+ghost use Rattle.wenc_list.specs.Prelude.{Space, item_view, section_view, AreWithin, AreFrom};
+ghost use Rattle.wenc_list.specs.Prelude.{ArePlaced, count_of_sections, IsFaultOf};
+ghost use Rattle.wenc_list.specs.Prelude.{IsMemoryOrTooDeep, HasNoHeader, IsFaultBehind, TakesAll};
+ghost use Rattle.wenc_list.specs.Prelude.{FaultsIn};
 ghost use Rattle.wenc_list.specs.declared.fault.ListFault.TheVariants.{Memory, NotAComponent};
 ghost use Rattle.wenc_sections.specs.Prelude.{space_number};
 

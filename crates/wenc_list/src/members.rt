@@ -1,6 +1,9 @@
 //! Reads an item of a section.
 ghost use Rattle.std.specs.Prelude.{◌≡◌, ◌⊎◌};
-ghost use Rattle.wenc_list.specs.Prelude.{read_core_instance_item, read_core_type_item, read_instance_item, read_alias_item, read_type_item, read_canonical_item, read_import_item, read_export_item, read_item_in, item_view};
+ghost use Rattle.wenc_list.specs.Prelude.{read_core_instance_item, read_core_type_item};
+ghost use Rattle.wenc_list.specs.Prelude.{read_instance_item, read_alias_item, read_type_item};
+ghost use Rattle.wenc_list.specs.Prelude.{read_canonical_item, read_import_item, read_export_item};
+ghost use Rattle.wenc_list.specs.Prelude.{read_item_in, item_view};
 ghost use Rattle.wenc_read.specs.Prelude.{Gives, GivesNested};
 
 use crate::item::ItemTree;
@@ -12,7 +15,7 @@ use wenc_read::{NestedRefusal, Refusal, name_of, u32_of};
 use wenc_sections::{CanonTree, CoreInstanceTree, InstanceTree};
 use wenc_types::CoreTypeTree;
 
-/// How deep component types and instance types may nest.
+/// The maximum nesting depth of component types and instance types.
 const DEPTH: u32 = 100;
 
 /// Reads a core instance.
@@ -140,8 +143,8 @@ fn start<A: Allocator + Copy>(alloc: A, bytes: &[u8]) -> Result<(ItemTree<A>, &[
     Ok((item, rest))
 }
 
-/// Reads the item of a section that collects none. Not inlined, since room for what it holds would
-/// be cleared at every item.
+/// Reads the item of a section that has only one. Not inlined, since the room for its value would
+/// be cleared for every item.
 #[inline(never)]
 fn alone<A: Allocator + Copy>(
     alloc: A,

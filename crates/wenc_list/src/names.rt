@@ -1,8 +1,11 @@
 //! The subsections of a name section, and the sections of a core module.
 ghost use Rattle.std.specs.Prelude.{ℕ, List, MatchOption};
 ghost use Rattle.std.specs.String.{string_bytes};
-ghost use Rattle.wenc_base.specs.Prelude.{module_preamble, Wide, done, read_name, NameAssociation, name_association, name_association_lawful};
-ghost use Rattle.wenc_list.specs.Prelude.{names_view, read_part, read_core_sort, read_sort, read_item_names, read_names_in, read_names, item_name_view, read_item_name, item_name_sound};
+ghost use Rattle.wenc_base.specs.Prelude.{module_preamble, Wide, done, read_name, NameAssociation};
+ghost use Rattle.wenc_base.specs.Prelude.{name_association, name_association_lawful};
+ghost use Rattle.wenc_list.specs.Prelude.{names_view, read_part, read_core_sort, read_sort};
+ghost use Rattle.wenc_list.specs.Prelude.{read_item_names, read_names_in, read_names};
+ghost use Rattle.wenc_list.specs.Prelude.{item_name_view, read_item_name, item_name_sound};
 ghost use Rattle.wenc_read.specs.Prelude.{Gives, GivesAlways, exact_by};
 
 use std::alloc::{Allocator, Global};
@@ -84,9 +87,9 @@ pub fn part_of(bytes: &[u8]) -> Result<((u8, &[u8]), &[u8]), Refusal>
     Ok(((id, content), rest))
 }
 
-/// Reads a core sort, after its first byte, as its index space.
+/// Reads the kind of a core item, after its first byte, as an index space.
 #[tactic(auto, unfolding(wenc_base::specs::Readers::choose))]
-fn core_sort_of(bytes: &[u8]) -> Result<(Space, &[u8]), Refusal>
+fn core_space_of(bytes: &[u8]) -> Result<(Space, &[u8]), Refusal>
     ensures { Gives (λ x. (x.0, x.1.now)) result (read_core_sort bytes.now) }
 {
     match byte(bytes)? {
@@ -102,13 +105,13 @@ fn core_sort_of(bytes: &[u8]) -> Result<(Space, &[u8]), Refusal>
     }
 }
 
-/// Reads a sort, as its index space.
+/// Reads a kind of items, as its index space.
 #[tactic(auto, unfolding(wenc_base::specs::Readers::choose))]
-fn sort_of(bytes: &[u8]) -> Result<(Space, &[u8]), Refusal>
+fn space_of(bytes: &[u8]) -> Result<(Space, &[u8]), Refusal>
     ensures { Gives (λ x. (x.0, x.1.now)) result (read_sort bytes.now) }
 {
     match byte(bytes)? {
-        (0x00, rest) => core_sort_of(rest),
+        (0x00, rest) => core_space_of(rest),
         (0x01, rest) => Ok((Space::Funcs, rest)),
         (0x02, rest) => Ok((Space::Values, rest)),
         (0x03, rest) => Ok((Space::Types, rest)),
@@ -134,7 +137,7 @@ fn component_name<A: Allocator>(alloc: A, content: &[u8]) -> Result<String<A>, R
 fn item_names<A: Allocator + Copy>(alloc: A, content: &[u8]) -> Result<Names<A>, Refusal>
     ensures { Gives names_view result (done read_item_names content.now) }
 {
-    let (space, rest) = sort_of(content)?;
+    let (space, rest) = space_of(content)?;
     let (names, rest) = Vec::decode(alloc, rest)?;
     if rest.is_empty() {
         Ok(Names::Items(space, names))

@@ -1,7 +1,8 @@
 //! The first item of a section that can't be read.
 ghost use Rattle.std.specs.Prelude.{List, drop, length, IsSome, IfOk, IfErr, MatchOption};
 ghost use Rattle.wenc_builder.specs.Prelude.{Item};
-ghost use Rattle.wenc_list.specs.Prelude.{HasTaken, IsSpent, IsFaultIn, IsUnread, IsReadHere, IsNamed, IsUnreadOf};
+ghost use Rattle.wenc_list.specs.Prelude.{HasTaken, IsSpent, IsFaultIn, IsUnread, IsReadHere};
+ghost use Rattle.wenc_list.specs.Prelude.{IsNamed, IsUnreadOf};
 
 use crate::cursor::{SectionItems, counted};
 use crate::fault::ListFault;
@@ -71,8 +72,8 @@ fn unread_item<A: Allocator + Copy>(
 
 /// Returns the first part that can't be read of the section at this byte offset (component model,
 /// binary format, "Component Definitions"). Returns `None` if the section can be read, if none
-/// begins there, and if it is a custom section without a name. So where `list` fails with `BadItem`
-/// or `TooDeep`, this says more about the section at `place`.
+/// begins there, and if it is a custom section without a name. If `list` fails with `BadItem` or
+/// `TooDeep`, this is the part of the section at `place`.
 ///
 /// # Errors
 ///

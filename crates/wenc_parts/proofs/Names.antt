@@ -14,7 +14,8 @@ use Rattle.wenc_parts.specs.inside.NameOptions.{option_entry}
 -- ---- options
 
 -- an option, or none, then others
-entry_serves : (number : ℕ) (make : List ℕ → NameOption) (o : Option (List ℕ)) {p : Piece} (others : List NameOption) → ((text : List ℕ) → Serves (number ▸ name text) (name_option (make text)))
+entry_serves : (number : ℕ) (make : List ℕ → NameOption) (o : Option (List ℕ)) {p : Piece} (others : List NameOption)
+    → ((text : List ℕ) → Serves (number ▸ name text) (name_option (make text)))
     → Serves p (each name_option others) → Serves (in_order (option_entry number o) p) (each name_option (present make o ++ others))
 entry_serves number make None others one s = record {
   text = s.text;
@@ -77,7 +78,8 @@ plain_serves n none = plain_with n.name (name_options n) none
 abbrev pub entries : ExternName → Piece
 entries n = in_order (option_entry 0x00 n.implements) (in_order (option_entry 0x01 n.version_suffix) (option_entry 0x02 n.external_id))
 
-pub optioned_serves : (n : ExternName) → length (name_options n) ≢ 0 → Serves (0x02 ▸ in_order (name n.name) (in_order (u32 (length (name_options n))) (entries n))) (extern_name n)
+pub optioned_serves : (n : ExternName) → length (name_options n) ≢ 0 → Serves
+    (0x02 ▸ in_order (name n.name) (in_order (u32 (length (name_options n))) (entries n))) (extern_name n)
 optioned_serves n some =
     let last = last_serves n.external_id in
     let two = entry_serves 0x01 VersionSuffix n.version_suffix (present ExternalId n.external_id) (λ text. serves_itself) last in

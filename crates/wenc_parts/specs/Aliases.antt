@@ -31,7 +31,7 @@ pub data AliasOf : Type 0 where
   InstanceExport : (instance : ℕ) (kind : ComponentExportKind) (name : List ℕ) → AliasOf
   -- the export of this name of a core instance
   CoreInstanceExport : (instance : ℕ) (kind : ExportKind) (name : List ℕ) → AliasOf
-  -- an item of an enclosing component, so many scopes out
+  -- an item of an enclosing component, this many scopes out
   Outer : (kind : ComponentOuterAliasKind) (count : ℕ) (number : ℕ) → AliasOf
 
 -- its kind, then a byte that says where the item is, then what finds it there

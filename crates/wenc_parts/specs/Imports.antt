@@ -1,4 +1,4 @@
--- What an import or an export refers to, and its name (component model, binary format, "Import and
+-- The types and the names of imports and exports (component model, binary format, "Import and
 -- Export Definitions").
 use Rattle.std.specs.Prelude.{ℕ, List, [], ◌∷◌, ◌++◌, Option, Some, None, Box}
 use Rattle.wenc_base.specs.Piece.{Piece, Form, byte, ◌▸◌, ◌⨾◌, or_widely}
@@ -20,7 +20,7 @@ use Rattle.wenc_parts.specs.declared.imports.ComponentTypeRef.TheVariants.{Modul
 use Rattle.wenc_parts.specs.declared.imports.ComponentTypeRef.TheVariants.{«Type» as TypeRef}
 use Rattle.wenc_parts.specs.declared.imports.ComponentTypeRef.TheVariants.{Instance, Component}
 
--- the type with this index, or a resource type of its own
+-- the type with this index, or a fresh resource type
 abbrev pub type_bounds : Form TypeBounds
 type_bounds (Eq n) = 0x00 ▸ u32 n
 type_bounds SubResource = byte 0x01
@@ -64,12 +64,12 @@ name_option (Implements text) = 0x00 ▸ name text
 name_option (VersionSuffix text) = 0x01 ▸ name text
 name_option (ExternalId text) = 0x02 ▸ name text
 
--- this option, if its text is there
+-- this option, if it has a text
 abbrev pub present : (List ℕ → NameOption) → Option (List ℕ) → List NameOption
 present make None = []
 present make (Some text) = make text ∷ []
 
--- the options that are there, in ascending order of what they begin with
+-- the options of a name, in ascending order of their first bytes
 abbrev pub name_options : ExternName → List NameOption
 name_options n =
     present Implements n.implements ++

@@ -1,4 +1,4 @@
--- What an instance is made with (component model, binary format, "Instance Definitions").
+-- The arguments of instances (component model, binary format, "Instance Definitions").
 use Rattle.wenc_base.specs.Piece.{Form, ◌▸◌}
 use Rattle.wenc_base.specs.Number.{u32}
 use Rattle.wenc_parts.specs.declared.instances.ModuleArg.{ModuleArg}

@@ -1,14 +1,16 @@
 //! Aliases of the exports of instances, and of the items of enclosing components.
 ghost use Rattle.std.specs.Prelude.{◌≡◌};
 ghost use Rattle.wenc_base.specs.Prelude.{itself, serves_itself};
-ghost use Rattle.wenc_parts.specs.Prelude.{outer_kind, outer_kind_lawful, read_outer_kind, ComponentOuterAliasKind as Seen', alias, alias_view, AliasOf, alias_lawful, read_alias, alias_tree_view};
+ghost use Rattle.wenc_parts.specs.Prelude.{outer_kind, outer_kind_lawful, read_outer_kind};
+ghost use Rattle.wenc_parts.specs.Prelude.{ComponentOuterAliasKind as Seen', alias, alias_view};
+ghost use Rattle.wenc_parts.specs.Prelude.{AliasOf, alias_lawful, read_alias, alias_tree_view};
 
 use crate::component::{COMPONENT_SORT, CORE_MODULE_SORT, CORE_SORT, CORE_TYPE_SORT, TYPE_SORT};
 use crate::exports::ComponentExportKind;
 use std::alloc::{Allocator, Global};
 use wenc_base::{Delimited, DelimitedEq, Encode, ExportKind, Fault, Tagged};
 
-/// The sort of an item of an enclosing component that an alias can name (component model, binary
+/// The kind of an item of an enclosing component that an alias can name (component model, binary
 /// format, `sort`).
 #[derive(Clone, Copy, Debug, PartialEq, Eq)]
 pub enum ComponentOuterAliasKind {
@@ -26,13 +28,13 @@ impl Encode for ComponentOuterAliasKind {
     ghost piece = { λ k. outer_kind k };
 
     fn encode<A: Allocator>(&self, sink: &mut Vec<u8, A>) -> Result<(), Fault> {
-        let sort: &[u8] = match self {
+        let kind: &[u8] = match self {
             ComponentOuterAliasKind::CoreModule => &[CORE_SORT, CORE_MODULE_SORT],
             ComponentOuterAliasKind::CoreType => &[CORE_SORT, CORE_TYPE_SORT],
             ComponentOuterAliasKind::Type => &[TYPE_SORT],
             ComponentOuterAliasKind::Component => &[COMPONENT_SORT],
         };
-        sink.extend_from_slice(sort)?;
+        sink.extend_from_slice(kind)?;
         Ok(())
     }
 }
@@ -68,7 +70,7 @@ pub enum Alias<'a> {
     InstanceExport {
         /// The index of the instance, from 0 to 4294967295.
         instance: u32,
-        /// The sort of the export.
+        /// The kind of the export.
         kind: ComponentExportKind,
         /// The name of the export.
         name: &'a str,
@@ -77,14 +79,14 @@ pub enum Alias<'a> {
     CoreInstanceExport {
         /// The index of the core instance, from 0 to 4294967295.
         instance: u32,
-        /// The core sort of the export.
+        /// The kind of the export.
         kind: ExportKind,
         /// The name of the export.
         name: &'a str,
     },
     /// An item of an enclosing component.
     Outer {
-        /// The sort of the item.
+        /// The kind of the item.
         kind: ComponentOuterAliasKind,
         /// The number of scopes outwards: 0 is the component or type that contains the alias.
         count: u32,
@@ -134,7 +136,7 @@ pub enum AliasTree<A: Allocator = Global> {
     InstanceExport {
         /// The index of the instance, from 0 to 4294967295.
         instance: u32,
-        /// The sort of the export.
+        /// The kind of the export.
         kind: ComponentExportKind,
         /// The name of the export.
         name: String<A>,
@@ -143,14 +145,14 @@ pub enum AliasTree<A: Allocator = Global> {
     CoreInstanceExport {
         /// The index of the core instance, from 0 to 4294967295.
         instance: u32,
-        /// The core sort of the export.
+        /// The kind of the export.
         kind: ExportKind,
         /// The name of the export.
         name: String<A>,
     },
     /// An item of an enclosing component.
     Outer {
-        /// The sort of the item.
+        /// The kind of the item.
         kind: ComponentOuterAliasKind,
         /// The number of scopes outwards: 0 is the component or type that contains the alias.
         count: u32,

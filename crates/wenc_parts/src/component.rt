@@ -1,7 +1,8 @@
-//! `Component`, the trait `ComponentSection` of its sections, section ids, and the bytes of sorts.
+//! `Component`, the trait `ComponentSection` of its sections, section ids, and the bytes of kinds.
 ghost use Rattle.std.specs.Prelude.{◌≡◌, ℕ, IfOk, IfErr, OnOk};
 ghost use Rattle.wenc_base.specs.Prelude.{itself, Appends, IsMemory, ◌▸◌, serves_itself};
-ghost use Rattle.wenc_parts.specs.Prelude.{preamble, section_number, section_lawful, read_section, ComponentSectionId as Seen'};
+ghost use Rattle.wenc_parts.specs.Prelude.{preamble, section_number, section_lawful, read_section};
+ghost use Rattle.wenc_parts.specs.Prelude.{ComponentSectionId as Seen'};
 ghost use Rattle.wenc_parts.specs.declared.component.ComponentSectionId.TheVariants.{CoreCustom};
 
 use std::alloc::{Allocator, Global};
@@ -11,32 +12,32 @@ use wenc_base::{
     RawSection, Tagged,
 };
 
-// The bytes of sorts (component model, binary format, `sort` and `core:sort`).
-/// The first byte of the sort of a core item. The byte of the core sort follows.
+// The bytes of kinds of items (component model, binary format, `sort` and `core:sort`).
+/// The first byte of the kind of a core item. The byte of the core kind follows.
 pub const CORE_SORT: u8 = 0x00;
 
-/// The core sort of core types, after `CORE_SORT`.
+/// The core kind of core types, after `CORE_SORT`.
 pub const CORE_TYPE_SORT: u8 = 0x10;
 
-/// The core sort of core modules, after `CORE_SORT`.
+/// The core kind of core modules, after `CORE_SORT`.
 pub const CORE_MODULE_SORT: u8 = 0x11;
 
-/// The core sort of core instances, after `CORE_SORT`.
+/// The core kind of core instances, after `CORE_SORT`.
 pub const CORE_INSTANCE_SORT: u8 = 0x12;
 
-/// The sort of functions.
+/// The kind of functions.
 pub const FUNCTION_SORT: u8 = 0x01;
 
-/// The sort of values.
+/// The kind of values.
 pub const VALUE_SORT: u8 = 0x02;
 
-/// The sort of types.
+/// The kind of types.
 pub const TYPE_SORT: u8 = 0x03;
 
-/// The sort of components.
+/// The kind of components.
 pub const COMPONENT_SORT: u8 = 0x04;
 
-/// The sort of instances.
+/// The kind of instances.
 pub const INSTANCE_SORT: u8 = 0x05;
 
 /// A section of a component (component model, binary format, "Component Definitions"). You may

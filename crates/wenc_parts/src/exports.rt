@@ -1,6 +1,8 @@
-//! Sorts of the exports of components.
+//! Kinds of the exports of components.
 ghost use Rattle.wenc_base.specs.Prelude.{itself, serves_itself};
-ghost use Rattle.wenc_parts.specs.Prelude.{component_export_kind, component_export_kind_lawful, read_component_export_kind, ComponentExportKind as Seen'};
+ghost use Rattle.wenc_parts.specs.Prelude.{component_export_kind, component_export_kind_lawful};
+ghost use Rattle.wenc_parts.specs.Prelude.{read_component_export_kind};
+ghost use Rattle.wenc_parts.specs.Prelude.{ComponentExportKind as Seen'};
 
 use crate::component::{
     COMPONENT_SORT, CORE_MODULE_SORT, CORE_SORT, FUNCTION_SORT, INSTANCE_SORT, TYPE_SORT,
@@ -9,7 +11,7 @@ use crate::component::{
 use std::alloc::Allocator;
 use wenc_base::{Delimited, DelimitedEq, Encode, Fault};
 
-/// The sort of an export of a component (component model, binary format, `sort`).
+/// The kind of an export of a component (component model, binary format, `sort`).
 #[derive(Clone, Copy, Debug, PartialEq, Eq)]
 pub enum ComponentExportKind {
     /// A core module.
@@ -30,7 +32,7 @@ impl Encode for ComponentExportKind {
     ghost piece = { λ k. component_export_kind k };
 
     fn encode<A: Allocator>(&self, sink: &mut Vec<u8, A>) -> Result<(), Fault> {
-        let sort = match self {
+        let kind = match self {
             ComponentExportKind::Module => {
                 sink.extend_from_slice(&[CORE_SORT, CORE_MODULE_SORT])?;
                 return Ok(());
@@ -41,7 +43,7 @@ impl Encode for ComponentExportKind {
             ComponentExportKind::Instance => INSTANCE_SORT,
             ComponentExportKind::Component => COMPONENT_SORT,
         };
-        sink.push(sort)?;
+        sink.push(kind)?;
         Ok(())
     }
 }

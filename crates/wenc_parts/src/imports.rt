@@ -1,7 +1,12 @@
 //! Names of imports and exports, and type references.
 ghost use Rattle.std.specs.Prelude.{◌≡◌, ◌≢◌, ◌++◌, ℕ, List, length, OnOk, IfOk, IfErr};
 ghost use Rattle.wenc_base.specs.Prelude.{Appends, itself, IsMemory, serves_itself};
-ghost use Rattle.wenc_parts.specs.Prelude.{type_bounds, type_bounds_lawful, read_type_bounds, component_export_kind, kind_of, type_reference, type_reference_lawful, read_type_reference, extern_name, extern_name_view, name_options, ExternName, extern_name_lawful, read_extern_name, option_entry, plain_name, name_tree_view};
+ghost use Rattle.wenc_parts.specs.Prelude.{type_bounds, type_bounds_lawful, read_type_bounds};
+ghost use Rattle.wenc_parts.specs.Prelude.{component_export_kind, kind_of, type_reference};
+ghost use Rattle.wenc_parts.specs.Prelude.{type_reference_lawful, read_type_reference, extern_name};
+ghost use Rattle.wenc_parts.specs.Prelude.{extern_name_view, name_options, ExternName};
+ghost use Rattle.wenc_parts.specs.Prelude.{extern_name_lawful, read_extern_name, option_entry};
+ghost use Rattle.wenc_parts.specs.Prelude.{plain_name, name_tree_view};
 ghost use Rattle.std.specs.Cow.{cow_str_bytes};
 ghost use Rattle.std.specs.Option.{option_map};
 ghost use Rattle.std.specs.String.{string_bytes};
@@ -72,7 +77,7 @@ pub enum ComponentTypeRef {
 }
 
 impl ComponentTypeRef {
-    /// Returns the sort of the item, whose encoding begins that of the reference.
+    /// Returns the kind of the item, whose encoding begins that of the reference.
     #[tactic(auto, using(crate::specs::laws::Imports::kind_begins))]
     pub fn kind(&self) -> ComponentExportKind
         ensures is { result ≡ kind_of self.now }

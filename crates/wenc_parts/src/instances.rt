@@ -1,6 +1,7 @@
 //! Arguments for the imports of core modules.
 ghost use Rattle.wenc_base.specs.Prelude.{itself, serves_itself};
-ghost use Rattle.wenc_parts.specs.Prelude.{module_argument, module_argument_lawful, read_module_argument, ModuleArg as Seen'};
+ghost use Rattle.wenc_parts.specs.Prelude.{module_argument, module_argument_lawful};
+ghost use Rattle.wenc_parts.specs.Prelude.{read_module_argument, ModuleArg as Seen'};
 
 use crate::component::CORE_INSTANCE_SORT;
 use std::alloc::Allocator;

@@ -1,4 +1,4 @@
-//! The parts of a component's items: names, aliases, sorts, type references and value types.
+//! The parts of a component's items: names, aliases, kinds, type references and value types.
 //!
 //! Each index is from 0 to 4294967295, and each string has at most 4294967295 bytes: encoding a
 //! longer one fails with `Fault::TooLarge`.

@@ -1,7 +1,11 @@
 //! Value types of components, and the results of functions.
 ghost use Rattle.std.specs.Prelude.{◌≡◌};
 ghost use Rattle.wenc_base.specs.Prelude.{itself, serves_itself};
-ghost use Rattle.wenc_parts.specs.Prelude.{primitive_byte, primitive, primitive_lawful, read_primitive, value_type, value_type_lawful, read_value_type, result_list, result_list_lawful, read_result_list, ComponentValType as ValueType, same_result_list};
+ghost use Rattle.wenc_parts.specs.Prelude.{primitive_byte, primitive, primitive_lawful};
+ghost use Rattle.wenc_parts.specs.Prelude.{read_primitive, value_type, value_type_lawful};
+ghost use Rattle.wenc_parts.specs.Prelude.{read_value_type, result_list, result_list_lawful};
+ghost use Rattle.wenc_parts.specs.Prelude.{read_result_list, ComponentValType as ValueType};
+ghost use Rattle.wenc_parts.specs.Prelude.{same_result_list};
 
 use std::alloc::Allocator;
 use wenc_base::{Delimited, DelimitedEq, Encode, Fault, Tagged, encode_byte};

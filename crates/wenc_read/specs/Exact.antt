@@ -1,4 +1,4 @@
--- What it is that a reader finds just what is read.
+-- Readers that find exactly what is read.
 use Rattle.std.specs.Prelude.{◌≡◌, ℕ, List, Ok, Err}
 use Rattle.wenc_base.specs.Piece.{Form, Wide}
 use Rattle.wenc_base.specs.Readers.{Reader, Deep}
@@ -12,6 +12,6 @@ pub record IsExactAt {A : Type 0} (form : Form A) (read : Reader A) (bytes : Lis
       → read bytes ≡ Ok (v, rest)
   pub never_deep : read bytes ≡ Err Deep → ⊥
 
--- So it is at all bytes.
+-- The same holds for all bytes.
 abbrev pub IsExact : {A : Type 0} → Form A → Reader A → Type 0
 IsExact form read = (bytes : List ℕ) → IsExactAt form read bytes

@@ -6,7 +6,7 @@ use Rattle.wenc_read.specs.declared.refusal.NestedRefusal.TheVariants.{Flat, Too
 use Rattle.wenc_read.specs.declared.refusal.Refusal.{Refusal}
 use Rattle.wenc_read.specs.declared.refusal.Refusal.TheVariants.{Memory, Malformed}
 
--- Memory may be wanting whatever is there.
+-- An allocation may fail whatever the bytes are.
 abbrev pub Fails : {A : Type 0} → Refusal → Result A Flaw → Type 0
 Fails Memory found = Unit {0}
 Fails Malformed found = found ≡ Err Bad
@@ -16,12 +16,12 @@ abbrev pub Gives : {X A : Type 0} → (X → A) → Result X Refusal → Result 
 Gives view (Ok x) found = found ≡ Ok (view x)
 Gives view (Err refusal) found = Fails refusal found
 
--- What was returned is what the reader finds: it asks for no memory.
+-- What was returned is what the reader finds: nothing is allocated.
 abbrev pub GivesAlways : {X A : Type 0} → (X → A) → Result X Refusal → Result A Flaw → Type 0
 GivesAlways view (Ok x) found = found ≡ Ok (view x)
 GivesAlways view (Err refusal) found = (refusal ≡ Malformed) × (found ≡ Err Bad)
 
--- What may nest is refused as what doesn't, or where it nests too deep.
+-- A form that may nest is refused like one that doesn't, or because it nests too deep.
 abbrev pub FailsNested : {A : Type 0} → NestedRefusal → Result A Flaw → Type 0
 FailsNested (Flat refusal) found = Fails refusal found
 FailsNested TooDeep found = found ≡ Err Deep

@@ -1,4 +1,4 @@
-//! Reads numbers, flags, strings and names from the front of bytes.
+//! Reads numbers, flags, strings and names from the beginning of bytes.
 //!
 //! Each function returns the value that it read and the bytes after it, or an error if it read
 //! none. Every spelling of the format is read, padded numbers among them: where several spell one

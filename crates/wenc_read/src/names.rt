@@ -1,7 +1,8 @@
 //! Names of imports and exports, with their options.
 ghost use Rattle.std.specs.Prelude.{◌≡◌, ◌≤◌};
 ghost use Rattle.std.specs.String.{string_bytes};
-ghost use Rattle.wenc_parts.specs.Prelude.{name_tree_view, option_number, with_option, read_name_option, read_extern_name};
+ghost use Rattle.wenc_parts.specs.Prelude.{name_tree_view, option_number, with_option};
+ghost use Rattle.wenc_parts.specs.Prelude.{read_name_option, read_extern_name};
 ghost use Rattle.wenc_read.specs.Prelude.{Gives, name_options_view, option_view, read_options};
 
 use crate::number::{byte, u32_of};

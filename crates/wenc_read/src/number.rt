@@ -55,8 +55,8 @@ fn long_groups(room: u8, bytes: &[u8]) -> Result<(u64, &[u8]), Refusal>
     }
 }
 
-/// Returns the number of a first byte, which isn't the last one, and of the bytes after it, which
-/// have the value `high`.
+/// Returns the number spelled by a first byte, which isn't the last one, and by the bytes after it,
+/// whose value is `high`.
 fn joined(low: u8, high: u32) -> u32
     requires low { 128 ≤ low }
     requires high { high < 2 ^ 25 }

@@ -14,7 +14,8 @@ use Rattle.wenc_base.specs.laws.Numbers.{size_free}
 use Rattle.wenc_base.specs.declared.fault.Fault.{Fault}
 use Rattle.wenc_base.specs.declared.fault.Fault.TheVariants.{Memory, TooMany, TooLarge, Unfinished}
 use Rattle.wenc_sections.specs.declared.space.Space.{Space}
-use Rattle.wenc_sections.specs.Names.{item_sort, ItemNames, subsection, held_subsection, names_label, names_custom, names_section, RoomCause, AppendsSubsection, AppendsNames}
+use Rattle.wenc_sections.specs.Names.{item_sort, ItemNames, subsection, held_subsection, names_label, names_custom, names_section}
+use Rattle.wenc_sections.specs.Names.{RoomCause, AppendsSubsection, AppendsNames}
 use Rattle.wenc_sections.specs.laws.Names.{held_subsection_is}
 
 -- ---- no room
@@ -26,7 +27,8 @@ size_among m n le TooLarge c = omega (arith, le, c)
 size_among m n le Unfinished c = c
 
 -- what has too many bytes after its size has no room
-no_room_behind : (before content : List ℕ) (id : ℕ) (fault : Fault) → size_cause (length content) fault → RoomCause before (id ∷ (unsigned_text (length content) ++ content)) fault
+no_room_behind : (before content : List ℕ) (id : ℕ) (fault : Fault) → size_cause (length content) fault
+    → RoomCause before (id ∷ (unsigned_text (length content) ++ content)) fault
 no_room_behind before content id (Memory e) c = absurd c
 no_room_behind before content id TooMany c = absurd c
 no_room_behind before content id TooLarge c =
@@ -34,13 +36,19 @@ no_room_behind before content id TooLarge c =
 no_room_behind before content id Unfinished c = absurd c
 
 -- bytes
-pub no_room : (before : List ℕ) (id : ℕ) (content : List ℕ) (fault : Fault) → (id ▸ byte_list content).Cause fault → RoomCause before (id ▸ byte_list content).text fault
+pub no_room : (before : List ℕ) (id : ℕ) (content : List ℕ) (fault : Fault) → (id ▸ byte_list content).Cause fault
+    → RoomCause before (id ▸ byte_list content).text fault
 no_room before id content fault c = elim c [ inl large ↦ no_room_behind before content id fault large | inr none ↦ absurd none ]
 
 -- and a name, which may be too long by itself
-pub no_room_for_name : (before text : List ℕ) (fault : Fault) → (0x00 ▸ sized_in_order (name text)).Cause fault → RoomCause before (0x00 ▸ sized_in_order (name text)).text fault
+pub no_room_for_name : (before text : List ℕ) (fault : Fault) → (0x00 ▸ sized_in_order (name text)).Cause fault
+    → RoomCause before (0x00 ▸ sized_in_order (name text)).text fault
 no_room_for_name before text fault c = no_room_behind before (name text).text 0x00 fault (elim c [
-  | inl own ↦ elim own [ inl large ↦ size_among (length text) (length (name text).text) (omega (arith, length-append (unsigned_text (length text)) text)) fault large | inr none ↦ absurd none ]
+  | inl own ↦ elim own [
+    | inl large ↦ size_among (length text) (length (name text).text)
+        (omega (arith, length-append (unsigned_text (length text)) text)) fault large
+    | inr none ↦ absurd none
+  ]
   | inr p ↦ p.1
 ])
 
@@ -49,15 +57,29 @@ no_room_for_name before text fault c = no_room_behind before (name text).text 0x
 -- no name is empty, with its index
 some_bytes : (ns : List NameAssociation) → length ns ≤ length (names_text ns)
 some_bytes [] = omega arith
-some_bytes (n ∷ ns) = omega (arith, some_bytes ns, groups_some 128 9 n.index, length-append (name_association n).text (names_text ns), length-append (unsigned_text n.index) (name n.name).text)
+some_bytes (n ∷ ns) = omega (
+  arith,
+  some_bytes ns,
+  groups_some 128 9 n.index,
+  length-append (name_association n).text (names_text ns),
+  length-append (unsigned_text n.index) (name n.name).text,
+)
 
-names_fit : (space : Space) (held : HolderState) (ns : List NameAssociation) → Contains name_association held ns → (held_subsection space held).Fits → (subsection (ItemNames space ns)).Fits
+names_fit : (space : Space) (held : HolderState) (ns : List NameAssociation) → Contains name_association held ns
+    → (held_subsection space held).Fits → (subsection (ItemNames space ns)).Fits
 names_fit space held ns holds h =
     let size : length ((item_sort space).text ++ (name_map ns).text) < 2 ^ 32 = rw (held_names held ns holds) at h.0 in
-    let few : length ns < 2 ^ 32 = omega (arith, size, some_bytes ns, length-append (item_sort space).text (name_map ns).text, length-append (unsigned_text (length ns)) (names_text ns)) in
+    let few : length ns < 2 ^ 32 = omega (
+      arith,
+      size,
+      some_bytes ns,
+      length-append (item_sort space).text (name_map ns).text,
+      length-append (unsigned_text (length ns)) (names_text ns),
+    ) in
     (size, (h.1.0, (few, holds.fit)))
 
-pub names_appended : (space : Space) (held : HolderState) (old new : List ℕ) (outcome : Result (Unit {0}) Fault) → AppendsSubsection (held_subsection space held) old new outcome → AppendsNames space held old new outcome
+pub names_appended : (space : Space) (held : HolderState) (old new : List ℕ) (outcome : Result (Unit {0}) Fault)
+    → AppendsSubsection (held_subsection space held) old new outcome → AppendsNames space held old new outcome
 names_appended space held old new outcome a = record {
   bytes = a;
   names = λ ns holds. record {
@@ -66,7 +88,8 @@ names_appended space held old new outcome a = record {
   };
 }
   where
-    fits : (outcome : Result (Unit {0}) Fault) (ns : List NameAssociation) → Contains name_association held ns → OnOk outcome (held_subsection space held).Fits → OnOk outcome (subsection (ItemNames space ns)).Fits
+    fits : (outcome : Result (Unit {0}) Fault) (ns : List NameAssociation) → Contains name_association held ns
+        → OnOk outcome (held_subsection space held).Fits → OnOk outcome (subsection (ItemNames space ns)).Fits
     fits (Ok u) ns holds h = names_fit space held ns holds h
     fits (Err fault) ns holds h = tt
 

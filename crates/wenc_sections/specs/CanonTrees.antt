@@ -1,4 +1,4 @@
--- Trees of canonical functions: what they are as pure data.
+-- Trees of canonical functions as pure data.
 use Rattle.wenc_sections.specs.declared.canon_tree.CanonTree.{CanonTree}
 use Rattle.wenc_sections.specs.declared.canon_tree.CanonTree.TheVariants as trees
 use Rattle.wenc_canon.specs.Canonicals as canon

@@ -39,7 +39,7 @@ instance (Instantiate component_index arguments) =
     0x00 ▸ u32 component_index ⨾ list (triple name component_export_kind u32) arguments
 instance (Exports exports) = 0x01 ▸ list (triple extern_name component_export_kind u32) exports
 
--- ---- what an iterator gives, and what the code's trees have, by what its names are seen as
+-- ---- the values of iterators and of the code's trees, by what their names are seen as
 
 abbrev pub named_pair : {N S A : Type 0} → (N → S) → N × A → S × A
 named_pair seen p = (seen p.0, p.1)

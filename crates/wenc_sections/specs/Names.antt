@@ -40,7 +40,7 @@ pub data Subsection : Type 0 where
   ItemNames : (space : Space) (names : List NameAssociation) → Subsection
   RawNames : (id : ℕ) (bytes : List ℕ) → Subsection
 
--- its id, how many bytes come, and these
+-- its id, its size, and these
 abbrev pub subsection : Form Subsection
 subsection (ComponentName text) = 0x00 ▸ sized (name text)
 subsection (ItemNames space names) = 0x01 ▸ sized (item_sort space ⨾ name_map names)
@@ -78,8 +78,8 @@ names_section bytes = refused_for (λ fault. ⊥) (custom (names_custom bytes))
 abbrev pub RoomCause : List ℕ → List ℕ → Fault → Type 0
 RoomCause before text fault = (fault ≡ TooLarge) × (2 ^ 32 ≤ 15 + length (before ++ text))
 
--- A call appends this subsection, which fits, or is refused for want of room or memory and changes
--- nothing.
+-- A call appends this subsection, which fits, or is refused for a lack of room or memory and
+-- changes nothing.
 pub record AppendsSubsection (p : Piece) (old new : List ℕ)
     (outcome : Result (Unit {0}) Fault) : Type 0 where
   pub appended : Appends p.text (RoomCause old p.text) ⊥ old new outcome

@@ -19,7 +19,7 @@ use Rattle.wenc_sections.specs.declared.space.Space.TheVariants.{Components, Typ
 use Rattle.wenc_sections.specs.contracts.space.SpacePartialEq.TheImpl as equality
 use Rattle.wenc_parts.specs.Aliases.{AliasOf, InstanceExport, CoreInstanceExport, Outer}
 
--- the thirteen spaces by their numbers, in the order in which a builder tells their counts
+-- the thirteen spaces by their numbers, in the order of a builder's counts
 abbrev pub space_number : Space → ℕ
 space_number CoreModules = 0
 space_number CoreFuncs = 1
@@ -56,14 +56,14 @@ core_kind_space core_kinds.Memory = CoreMemories
 core_kind_space core_kinds.Global = CoreGlobals
 core_kind_space core_kinds.Tag = CoreTags
 
--- the space of the item that an outer alias is of
+-- the space of the item to which an outer alias refers
 abbrev pub outer_kind_space : ComponentOuterAliasKind → Space
 outer_kind_space outer_kinds.CoreModule = CoreModules
 outer_kind_space outer_kinds.CoreType = CoreTypes
 outer_kind_space outer_kinds.«Type» = Types
 outer_kind_space outer_kinds.Component = Components
 
--- an alias has its index in the space of the item that it is of
+-- an alias has its index in the space of the item to which it refers
 abbrev pub alias_space : AliasOf → Space
 alias_space (InstanceExport instance kind name) = kind_space kind
 alias_space (CoreInstanceExport instance kind name) = core_kind_space kind

@@ -1,4 +1,4 @@
--- What private functions and proofs need alone: no contract of a public call reaches it.
+-- What only private functions and proofs need: no contract of a public call reaches it.
 pub mod InstanceTrees
 pub mod Items
 pub mod Operands

@@ -1,7 +1,9 @@
 //! Canonical functions, as trees.
 ghost use Rattle.std.specs.Prelude.{OnOk};
 ghost use Rattle.wenc_base.specs.Prelude.{Appends, Serves, serves_itself};
-ghost use Rattle.wenc_canon.specs.Prelude.{Lift, Lower, canonical, row_first_byte, row_then, builtin_name, Canonical, canonical_lawful, read_canonical};
+ghost use Rattle.wenc_canon.specs.Prelude.{Lift, Lower, canonical, row_first_byte, row_then};
+ghost use Rattle.wenc_canon.specs.Prelude.{builtin_name, Canonical, canonical_lawful};
+ghost use Rattle.wenc_canon.specs.Prelude.{read_canonical};
 ghost use Rattle.wenc_sections.specs.Prelude.{canon_view, operand_behind};
 
 use std::alloc::{Allocator, Global};
@@ -344,7 +346,7 @@ impl<A: Allocator> CanonTree<A> {
 #[derive(Drop)]
 enum Operands<'a, A: Allocator> {
     /// The core function and the type of a lifted function, and its options, which are encoded
-    /// between these.
+    /// between the two.
     Lifted(u32, u32, &'a Vec<CanonicalOption, A>),
     /// The function that is lowered, and its options.
     Lowered(u32, &'a Vec<CanonicalOption, A>),

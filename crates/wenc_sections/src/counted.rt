@@ -1,12 +1,13 @@
 //! Sections that consist of a count and items of one kind.
 ghost use Rattle.std.specs.Prelude.{◌≡◌, ◌==◌, ℕ, List, false, OnOk, IfOk, IfErr};
-ghost use Rattle.wenc_base.specs.Prelude.{Appends, IsMemory, no_members, is_finished, held_section, ContainsSome, HasMembers};
+ghost use Rattle.wenc_base.specs.Prelude.{Appends, IsMemory, no_members, is_finished, held_section};
+ghost use Rattle.wenc_base.specs.Prelude.{ContainsSome, HasMembers};
 ghost use Rattle.wenc_parts.specs.Prelude.{section_number};
 ghost use Rattle.wenc_sections.specs.Prelude.{ComponentSectionId};
 
-mod lender;
+mod parent;
 
-pub use lender::EncoderKind;
+pub use parent::EncoderKind;
 use std::alloc::{Allocator, Global};
 use std::marker::{Model, PhantomData};
 use wenc_base::{Encode, Fault, Holder};
@@ -67,10 +68,10 @@ impl<K: CountedKind, A: Allocator> Counted<K, A> {
     /// Creates a section whose items are the members of this holder, which have to be encodings of
     /// such items. Does not allocate.
     ///
-    /// With `Holder::over`, a section can thus be written after bytes that are already there:
-    /// adding items leaves these bytes in place, and `encode` writes the section alone.
-    /// `into_holder` and `Holder::into_parts` return all bytes. If a member of the holder is open,
-    /// the section is unfinished.
+    /// With `Holder::over`, a section can thus be written after existing bytes: adding items leaves
+    /// these bytes in place, and `encode` writes the section alone. `into_holder` and
+    /// `Holder::into_parts` return all bytes. If a member of the holder is open, the section is
+    /// unfinished.
     ///
     /// ```
     /// let kept = bytes.len();

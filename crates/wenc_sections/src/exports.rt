@@ -37,7 +37,7 @@ impl CountedKind for Exports {
 pub type ComponentExportSection<A = Global> = Counted<Exports, A>;
 
 impl<A: Allocator> Counted<Exports, A> {
-    /// Adds an export, with this name, of the item with this sort and index, optionally ascribing a
+    /// Adds an export, with this name, of the item with this kind and index, optionally ascribing a
     /// type.
     ///
     /// # Errors

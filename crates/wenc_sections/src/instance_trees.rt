@@ -1,7 +1,11 @@
 //! Instances with owned names, for commands.
 ghost use Rattle.std.specs.Prelude.{◌≡◌, ◌++◌, ℕ, List, OnOk, OnErr, IfErr};
-ghost use Rattle.wenc_base.specs.Prelude.{Appends, list_in_order, Written, IsWarranted, member_cause, serves_itself};
-ghost use Rattle.wenc_sections.specs.Prelude.{inline_export_tree, core_instance_tree_view, core_instance, CoreInstance, core_instance_lawful, read_core_instance, instance_tree_view, instance, Instance, instance_lawful, read_instance};
+ghost use Rattle.wenc_base.specs.Prelude.{Appends, list_in_order, Written, IsWarranted};
+ghost use Rattle.wenc_base.specs.Prelude.{member_cause, serves_itself};
+ghost use Rattle.wenc_sections.specs.Prelude.{inline_export_tree, core_instance_tree_view};
+ghost use Rattle.wenc_sections.specs.Prelude.{core_instance, CoreInstance, core_instance_lawful};
+ghost use Rattle.wenc_sections.specs.Prelude.{read_core_instance, instance_tree_view, instance};
+ghost use Rattle.wenc_sections.specs.Prelude.{Instance, instance_lawful, read_instance};
 
 use crate::instances::{CORE_EXPORTS, CORE_INSTANTIATE, EXPORTS, INSTANTIATE};
 use std::alloc::{Allocator, Global};
@@ -28,7 +32,7 @@ pub enum CoreInstanceTree<A: Allocator = Global> {
         /// The arguments, in order.
         args: Vec<(String<A>, ModuleArg), A>,
     },
-    /// Groups core items, which the instance exports: the name of each, its core sort, and its
+    /// Groups core items, which the instance exports: the name of each, its kind, and its
     /// index, from 0 to 4294967295.
     Exports(Vec<(String<A>, ExportKind, u32), A>),
 }
@@ -77,11 +81,11 @@ pub enum InstanceTree<A: Allocator = Global> {
     Instantiate {
         /// The index of the component, from 0 to 4294967295.
         component: u32,
-        /// The arguments, in order: the name of each, its sort, and its index, from 0 to
+        /// The arguments, in order: the name of each, its kind, and its index, from 0 to
         /// 4294967295.
         args: Vec<(String<A>, ComponentExportKind, u32), A>,
     },
-    /// Groups items, which the instance exports: the name of each, its sort, and its index, from 0
+    /// Groups items, which the instance exports: the name of each, its kind, and its index, from 0
     /// to 4294967295.
     Exports(Vec<(NameTree<A>, ComponentExportKind, u32), A>),
 }

@@ -3,7 +3,9 @@ ghost use Rattle.std.specs.Prelude.{map};
 ghost use Rattle.std.specs.Iterator.{IsFinite};
 ghost use Rattle.wenc_base.specs.Prelude.{AddsListed, HasForm};
 ghost use Rattle.wenc_parts.specs.Prelude.{extern_name_view};
-ghost use Rattle.wenc_sections.specs.Prelude.{CoreInstantiate, CoreExports, core_instance, Instantiate, Exports, instance, named_pair, named_triple};
+ghost use Rattle.wenc_sections.specs.Prelude.{CoreInstantiate, CoreExports, core_instance};
+ghost use Rattle.wenc_sections.specs.Prelude.{Instantiate, Exports, instance, named_pair};
+ghost use Rattle.wenc_sections.specs.Prelude.{named_triple};
 
 use crate::counted::{Counted, CountedKind};
 use std::alloc::{Allocator, Global};
@@ -78,7 +80,7 @@ impl<A: Allocator> Counted<CoreInstances, A> {
         self.items.add_listed(&lead, args, &())
     }
 
-    /// Adds a core instance that exports these items: the name of each, its core sort, and its
+    /// Adds a core instance that exports these items: the name of each, its kind, and its
     /// index.
     ///
     /// # Errors
@@ -134,7 +136,7 @@ pub type ComponentInstanceSection<A = Global> = Counted<Instances, A>;
 
 impl<A: Allocator> Counted<Instances, A> {
     /// Instantiates the component with this index, with these arguments: the name of each, its
-    /// sort, and its index.
+    /// kind, and its index.
     ///
     /// # Errors
     ///
@@ -155,7 +157,7 @@ impl<A: Allocator> Counted<Instances, A> {
         self.items.add_listed(&lead, args, &())
     }
 
-    /// Adds an instance that exports these items: the name of each, its sort, and its index.
+    /// Adds an instance that exports these items: the name of each, its kind, and its index.
     ///
     /// # Errors
     ///

@@ -1,5 +1,6 @@
 //! The section of a core module.
-ghost use Rattle.wenc_base.specs.Prelude.{serves_itself, byte_list, byte_list_lawful, read_byte_list};
+ghost use Rattle.wenc_base.specs.Prelude.{serves_itself, byte_list, byte_list_lawful};
+ghost use Rattle.wenc_base.specs.Prelude.{read_byte_list};
 ghost use Rattle.wenc_parts.specs.Prelude.{section_number};
 
 use std::alloc::{Allocator, Global};

@@ -2,7 +2,11 @@
 ghost use Rattle.std.specs.Prelude.{◌≡◌, ◌==◌, ◌+◌, ◌<◌, ◌^◌, [], length, IfOk, IfErr};
 ghost use Rattle.wenc_base.specs.Prelude.{IsMemory, serves_itself};
 ghost use Rattle.wenc_parts.specs.Prelude.{section_number};
-ghost use Rattle.wenc_sections.specs.Prelude.{Fault as FaultSpec, item_sort, ComponentName, RawNames, subsection, names_label, RoomCause, AppendsSubsection, AppendsNames, held_subsection, names_section, names_section_lawful, read_names_section};
+ghost use Rattle.wenc_sections.specs.Prelude.{Fault as FaultSpec, item_sort, ComponentName};
+ghost use Rattle.wenc_sections.specs.Prelude.{RawNames, subsection, names_label, RoomCause};
+ghost use Rattle.wenc_sections.specs.Prelude.{AppendsSubsection, AppendsNames, held_subsection};
+ghost use Rattle.wenc_sections.specs.Prelude.{names_section, names_section_lawful};
+ghost use Rattle.wenc_sections.specs.Prelude.{read_names_section};
 
 use crate::space::Space;
 use std::alloc::{Allocator, Global};
@@ -28,8 +32,8 @@ pub const NAMES_LABEL: &str = "component-name";
 /// The largest number of bytes in all subsections: the section's name and its length have 15 more.
 const LIMIT: usize = 4294967280;
 
-/// Returns the encoding of the sort of the items in a space.
-fn sort_bytes(space: Space) -> &'static [u8]
+/// Returns the encoding of the kind of the items in a space.
+fn kind_bytes(space: Space) -> &'static [u8]
     ensures { result.now ≡ (item_sort space).text }
 {
     match space {
@@ -60,12 +64,12 @@ impl<'a, A: Allocator> Encode for NamesOf<'a, A> {
     ghost piece = { λ n. held_subsection n.0 n.1.now };
 
     fn encode<B: Allocator>(&self, sink: &mut Vec<u8, B>) -> Result<(), Fault> {
-        let sort = sort_bytes(self.0);
-        // 32 bits: a map has less than 2^31 bytes of names, and `sort` two.
-        let Ok(size) = u32::try_from(sort.len() + self.1.size()) else {
+        let kind = kind_bytes(self.0);
+        // 32 bits: a map has less than 2^31 bytes of names, and `kind` has two.
+        let Ok(size) = u32::try_from(kind.len() + self.1.size()) else {
             return Err(Fault::TooLarge);
         };
-        Tagged(ITEM_NAMES, &(size, Verbatim(sort), ByRef(self.1))).encode(sink)
+        Tagged(ITEM_NAMES, &(size, Verbatim(kind), ByRef(self.1))).encode(sink)
     }
 }
 
@@ -253,8 +257,7 @@ impl<A: Allocator> ComponentNameSection<A> {
         self.bytes.is_empty()
     }
 
-    /// Returns the section as a custom section, as which a component contains it. Does not
-    /// allocate.
+    /// Returns the section as the custom section that a component contains. Does not allocate.
     pub fn as_custom(&self) -> CustomSection<'_>
         ensures name { result.name.now ≡ names_label }
         ensures bytes { result.«data».now ≡ self.now }

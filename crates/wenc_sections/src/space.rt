@@ -1,6 +1,7 @@
 //! The index spaces, by name and number.
 ghost use Rattle.wenc_parts.specs.Prelude.{alias_view};
-ghost use Rattle.wenc_sections.specs.Prelude.{space_number, alias_space, kind_space, core_kind_space, outer_kind_space};
+ghost use Rattle.wenc_sections.specs.Prelude.{space_number, alias_space, kind_space};
+ghost use Rattle.wenc_sections.specs.Prelude.{core_kind_space, outer_kind_space};
 
 use wenc_base::ExportKind;
 use wenc_parts::{Alias, ComponentExportKind, ComponentOuterAliasKind};

@@ -15,7 +15,7 @@ use wenc_parts::{ComponentSection, ComponentSectionId};
 /// if more than 4294967295 bytes follow the section's size.
 ///
 /// ```
-/// // the component has function 0 and value 0, with which it is called; it answers nothing
+/// // the component has function 0 and value 0, which it is called with; it returns nothing
 /// let start = ComponentStartSection {
 ///     function_index: 0,
 ///     args: [0],

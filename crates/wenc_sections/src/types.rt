@@ -1,10 +1,17 @@
 //! The sections of core types and of types.
 ghost use Rattle.std.specs.Borrow.{sem};
 ghost use Rattle.std.specs.Prelude.{◌≡◌, [], List, false, IfOk, IfErr, Err};
-ghost use Rattle.wenc_base.specs.Prelude.{is_finished, held_members, AddCause, AddsMember, EncodeCause, Lends, member_begun, ◌▸◌, refused_for, HasForm};
+ghost use Rattle.wenc_base.specs.Prelude.{is_finished, held_members, AddCause, AddsMember};
+ghost use Rattle.wenc_base.specs.Prelude.{EncodeCause, Borrows, member_begun, ◌▸◌, refused_for};
+ghost use Rattle.wenc_base.specs.Prelude.{HasForm};
 ghost use Rattle.wenc_base.specs.declared.fault.Fault.TheVariants.{Unfinished};
-ghost use Rattle.wenc_types.specs.Prelude.{InstanceDeclaration, ComponentDeclaration, ComponentType as ComponentTypeSpec, InstanceType as InstanceTypeSpec, ResourceType, components_of, instances_of, def_type, ComponentDeclares, InstanceDeclares, unchanged_on_err, core_type};
-ghost use Rattle.wenc_types.specs.declared.func_type.FuncStage.TheVariants as stages;
+ghost use Rattle.wenc_types.specs.Prelude.{InstanceDeclaration, ComponentDeclaration};
+ghost use Rattle.wenc_types.specs.Prelude.{ComponentType as ComponentTypeSpec};
+ghost use Rattle.wenc_types.specs.Prelude.{InstanceType as InstanceTypeSpec, ResourceType};
+ghost use Rattle.wenc_types.specs.Prelude.{components_of, instances_of, def_type};
+ghost use Rattle.wenc_types.specs.Prelude.{ComponentDeclares, InstanceDeclares, unchanged_on_err};
+ghost use Rattle.wenc_types.specs.Prelude.{core_type};
+ghost use Rattle.wenc_types.specs.declared.encoders.func_type.FuncStage.TheVariants as stages;
 
 use crate::counted::{Counted, CountedKind, EncoderKind};
 use std::alloc::{Allocator, Global};
@@ -56,9 +63,9 @@ impl<A: Allocator> Counted<CoreTypes, A> {
     pub fn ty(&mut self) -> Result<ComponentCoreTypeEncoder<'_, CoreTypeSection<A>>, Fault>
         ensures* refused { sem 𝓛 (unchanged_on_err
             (the_row kind A.row ⟦<CoreTypes as CountedKind>⟧ A.Allocator) self.entry
-            (λ e. e.lender) result) }
-        ensures same_reference { IfOk result (λ e. e.lender.ghost_name ≡ self.entry.ghost_name) }
-        ensures lent { Lends (λ e. e.lender.now) (member_begun self.old [])
+            (λ e. e.parent) result) }
+        ensures same_reference { IfOk result (λ e. e.parent.ghost_name ≡ self.entry.ghost_name) }
+        ensures borrowed { Borrows (λ e. e.parent.now) (member_begun self.old [])
             (is_finished self.old) result (AddCause self.old [] (λ _. ⊥)) }
         ensures no_memory { IfErr result (AddCause self.old [] (λ _. ⊥)) }
     {
@@ -111,9 +118,9 @@ impl<A: Allocator> Counted<ComponentTypes, A> {
     pub fn ty(&mut self) -> Result<ComponentTypeEncoder<'_, ComponentTypeSection<A>>, Fault>
         ensures* refused { sem 𝓛 (unchanged_on_err
             (the_row kind A.row ⟦<ComponentTypes as CountedKind>⟧ A.Allocator) self.entry
-            (λ e. e.lender) result) }
-        ensures same_reference { IfOk result (λ e. e.lender.ghost_name ≡ self.entry.ghost_name) }
-        ensures lent { Lends (λ e. e.lender.now) (member_begun self.old [])
+            (λ e. e.parent) result) }
+        ensures same_reference { IfOk result (λ e. e.parent.ghost_name ≡ self.entry.ghost_name) }
+        ensures borrowed { Borrows (λ e. e.parent.now) (member_begun self.old [])
             (is_finished self.old) result (AddCause self.old [] (λ _. ⊥)) }
         ensures no_memory { IfErr result (AddCause self.old [] (λ _. ⊥)) }
     {
@@ -131,9 +138,9 @@ impl<A: Allocator> Counted<ComponentTypes, A> {
     ) -> Result<ComponentFuncTypeEncoder<'_, ComponentTypeSection<A>>, Fault>
         ensures* refused { sem 𝓛 (unchanged_on_err
             (the_row kind A.row ⟦<ComponentTypes as CountedKind>⟧ A.Allocator) self.entry
-            (λ e. e.lender) result) }
-        ensures same_reference { IfOk result (λ e. e.lender.ghost_name ≡ self.entry.ghost_name) }
-        ensures lent { Lends (λ e. e.lender.now) (member_begun self.old [])
+            (λ e. e.parent) result) }
+        ensures same_reference { IfOk result (λ e. e.parent.ghost_name ≡ self.entry.ghost_name) }
+        ensures borrowed { Borrows (λ e. e.parent.now) (member_begun self.old [])
             (is_finished self.old) result (AddCause self.old [] (λ _. ⊥)) }
         ensures no_memory { IfErr result (AddCause self.old [] (λ _. ⊥)) }
         ensures stage { IfOk result (λ e. e.stage ≡ stages.Start) }
@@ -152,9 +159,9 @@ impl<A: Allocator> Counted<ComponentTypes, A> {
     ) -> Result<ComponentDefinedTypeEncoder<'_, ComponentTypeSection<A>>, Fault>
         ensures* refused { sem 𝓛 (unchanged_on_err
             (the_row kind A.row ⟦<ComponentTypes as CountedKind>⟧ A.Allocator) self.entry
-            (λ e. e.lender) result) }
-        ensures same_reference { IfOk result (λ e. e.lender.ghost_name ≡ self.entry.ghost_name) }
-        ensures lent { Lends (λ e. e.lender.now) (member_begun self.old [])
+            (λ e. e.parent) result) }
+        ensures same_reference { IfOk result (λ e. e.parent.ghost_name ≡ self.entry.ghost_name) }
+        ensures borrowed { Borrows (λ e. e.parent.now) (member_begun self.old [])
             (is_finished self.old) result (AddCause self.old [] (λ _. ⊥)) }
         ensures no_memory { IfErr result (AddCause self.old [] (λ _. ⊥)) }
     {

@@ -18,7 +18,7 @@ mutual
     FunctionType : (ty : Function) → DefType
     ComponentType : (declarations : ComponentDeclarations) → DefType
     InstanceType : (declarations : InstanceDeclarations) → DefType
-    -- a resource: how it is represented, and the index of the function that ends it
+    -- a resource: its representation, and the index of its destructor
     ResourceType : (rep : ValType) (dtor : Option ℕ) → DefType
 
   -- what an instance type declares
@@ -54,7 +54,7 @@ abbrev pub components_of : List ComponentDeclaration → ComponentDeclarations
 components_of [] = no_component
 components_of (d ∷ ds) = and_component d (components_of ds)
 
--- how many there are
+-- the number of declarations
 abbrev pub instance_count : InstanceDeclarations → ℕ
 instance_count no_instance = 0
 instance_count (and_instance first others) = suc (instance_count others)

@@ -11,7 +11,7 @@ use Rattle.wenc_base.specs.declared.imports.EntityType.{EntityType}
 pub data ModuleDeclaration : Type 0 where
   ModuleImport : (from : List ℕ) (name : List ℕ) (ty : EntityType) → ModuleDeclaration
   ModuleRecType : (ty : RecType) → ModuleDeclaration
-  -- a core type of the scope that is so many scopes out
+  -- a core type of the scope that is this many scopes out
   ModuleOuter : (count : ℕ) (number : ℕ) → ModuleDeclaration
   ModuleExport : (name : List ℕ) (ty : EntityType) → ModuleDeclaration
 

@@ -18,64 +18,64 @@ use Rattle.wenc_types.specs.CoreTypes.{ModuleDeclaration, ModuleImport, ModuleRe
 use Rattle.wenc_types.specs.CoreTypes.{ModuleOuter as OuterType}
 use Rattle.wenc_types.specs.CoreTypes.{ModuleExport, module_declaration}
 use Rattle.wenc_types.specs.declared.counts.Counts.{Counts}
-use Rattle.wenc_types.specs.declared.counts.Sort.{Sort}
-use Rattle.wenc_types.specs.declared.counts.Sort.TheVariants.{CoreType, «Type» as TypeSort}
-use Rattle.wenc_types.specs.declared.counts.Sort.TheVariants.{Instance}
+use Rattle.wenc_types.specs.declared.counts.IndexSpace.{IndexSpace}
+use Rattle.wenc_types.specs.declared.counts.IndexSpace.TheVariants.{CoreType, «Type» as TypeSpace}
+use Rattle.wenc_types.specs.declared.counts.IndexSpace.TheVariants.{Instance}
 
 -- ---- what a declaration counts as: a core type, a type, an instance, or nothing
 
-abbrev pub sort_of_kind : ComponentExportKind → Option Sort
-sort_of_kind kinds.Module = None
-sort_of_kind kinds.Func = None
-sort_of_kind kinds.Value = None
-sort_of_kind kinds.«Type» = Some TypeSort
-sort_of_kind kinds.Instance = Some Instance
-sort_of_kind kinds.Component = None
+abbrev pub space_of_kind : ComponentExportKind → Option IndexSpace
+space_of_kind kinds.Module = None
+space_of_kind kinds.Func = None
+space_of_kind kinds.Value = None
+space_of_kind kinds.«Type» = Some TypeSpace
+space_of_kind kinds.Instance = Some Instance
+space_of_kind kinds.Component = None
 
-abbrev pub sort_of_outer : ComponentOuterAliasKind → Option Sort
-sort_of_outer outers.CoreModule = None
-sort_of_outer outers.CoreType = Some CoreType
-sort_of_outer outers.«Type» = Some TypeSort
-sort_of_outer outers.Component = None
+abbrev pub space_of_outer : ComponentOuterAliasKind → Option IndexSpace
+space_of_outer outers.CoreModule = None
+space_of_outer outers.CoreType = Some CoreType
+space_of_outer outers.«Type» = Some TypeSpace
+space_of_outer outers.Component = None
 
-abbrev pub sort_of_alias : AliasOf → Option Sort
-sort_of_alias (InstanceExport instance kind name) = sort_of_kind kind
-sort_of_alias (CoreInstanceExport instance kind name) = None
-sort_of_alias (Outer kind count number) = sort_of_outer kind
+abbrev pub space_of_alias : AliasOf → Option IndexSpace
+space_of_alias (InstanceExport instance kind name) = space_of_kind kind
+space_of_alias (CoreInstanceExport instance kind name) = None
+space_of_alias (Outer kind count number) = space_of_outer kind
 
-abbrev pub module_sort : ModuleDeclaration → Option Sort
-module_sort (ModuleImport from name ty) = None
-module_sort (ModuleRecType g) = Some TypeSort
-module_sort (OuterType count number) = Some TypeSort
-module_sort (ModuleExport name ty) = None
+abbrev pub module_space : ModuleDeclaration → Option IndexSpace
+module_space (ModuleImport from name ty) = None
+module_space (ModuleRecType g) = Some TypeSpace
+module_space (OuterType count number) = Some TypeSpace
+module_space (ModuleExport name ty) = None
 
-abbrev pub instance_sort : InstanceDeclaration → Option Sort
-instance_sort (CoreTyped ty) = Some CoreType
-instance_sort (Typed ty) = Some TypeSort
-instance_sort (Aliased to) = sort_of_alias to
-instance_sort (Exported name ty) = sort_of_kind (kind_of ty)
+abbrev pub instance_space : InstanceDeclaration → Option IndexSpace
+instance_space (CoreTyped ty) = Some CoreType
+instance_space (Typed ty) = Some TypeSpace
+instance_space (Aliased to) = space_of_alias to
+instance_space (Exported name ty) = space_of_kind (kind_of ty)
 
-abbrev pub component_sort : ComponentDeclaration → Option Sort
-component_sort (Imported name ty) = sort_of_kind (kind_of ty)
-component_sort (Declared d) = instance_sort d
+abbrev pub component_space : ComponentDeclaration → Option IndexSpace
+component_space (Imported name ty) = space_of_kind (kind_of ty)
+component_space (Declared d) = instance_space d
 
 abbrev pub no_counts : Counts
 no_counts = record { core_types = 0; types = 0; instances = 0 }
 
--- one more of this sort
-abbrev pub one_more : Option Sort → Counts → Counts
+-- one more of this space
+abbrev pub one_more : Option IndexSpace → Counts → Counts
 one_more None n = n
 one_more (Some CoreType) n =
     record { core_types = n.core_types + 1; types = n.types; instances = n.instances }
-one_more (Some TypeSort) n =
+one_more (Some TypeSpace) n =
     record { core_types = n.core_types; types = n.types + 1; instances = n.instances }
 one_more (Some Instance) n =
     record { core_types = n.core_types; types = n.types; instances = n.instances + 1 }
 
--- how many there are of each sort
-abbrev pub counts_of : {D : Type 0} → (D → Option Sort) → List D → Counts
-counts_of sort [] = no_counts
-counts_of sort (d ∷ ds) = one_more (sort d) (counts_of sort ds)
+-- how many there are of each space
+abbrev pub counts_of : {D : Type 0} → (D → Option IndexSpace) → List D → Counts
+counts_of space [] = no_counts
+counts_of space (d ∷ ds) = one_more (space d) (counts_of space ds)
 
 -- ---- what contracts see of a type with declarations
 
@@ -83,7 +83,7 @@ counts_of sort (d ∷ ds) = one_more (sort d) (counts_of sort ds)
 pub record TypeState : Type 0 where
   pub held : HolderState
   pub counts : Counts
-  pub begun : Option Sort
+  pub begun : Option IndexSpace
 
 abbrev pub no_declarations : TypeState
 no_declarations = record { held = no_members; counts = no_counts; begun = None }
@@ -94,57 +94,57 @@ pub record NoneBegun (t : TypeState) : Type 0 where
   pub none_begun : t.begun ≡ None
 
 -- It has just these declarations, each with its text, and counts them.
-pub record Declares {D : Type 0} (form : Form D) (sort : D → Option Sort) (t : TypeState)
+pub record Declares {D : Type 0} (form : Form D) (space : D → Option IndexSpace) (t : TypeState)
     (ds : List D) : Type 0 where
   pub contained : Contains form t.held ds
-  pub counts : t.counts ≡ counts_of sort ds
+  pub counts : t.counts ≡ counts_of space ds
 
 -- the type of a module, of an instance or of a component has just these declarations
 abbrev pub ModuleDeclares : TypeState → List ModuleDeclaration → Type 0
-ModuleDeclares = Declares module_declaration module_sort
+ModuleDeclares = Declares module_declaration module_space
 
 abbrev pub InstanceDeclares : TypeState → List InstanceDeclaration → Type 0
-InstanceDeclares = Declares instance_declaration instance_sort
+InstanceDeclares = Declares instance_declaration instance_space
 
 abbrev pub ComponentDeclares : TypeState → List ComponentDeclaration → Type 0
-ComponentDeclares = Declares component_declaration component_sort
+ComponentDeclares = Declares component_declaration component_space
 
 -- These bytes are the text of a declaration that fits and counts as this.
-pub record IsDeclaration {D : Type 0} (form : Form D) (sort : D → Option Sort) (bytes : List ℕ)
-    (counts_as : Option Sort) : Type 0 where
+pub record IsDeclaration {D : Type 0} (form : Form D) (space : D → Option IndexSpace) (bytes : List ℕ)
+    (counts_as : Option IndexSpace) : Type 0 where
   pub declaration : D
   pub fits : (form declaration).Fits
   pub text_is : bytes ≡ (form declaration).text
-  pub sort_is : counts_as ≡ sort declaration
+  pub space_is : counts_as ≡ space declaration
 
 -- It has some declarations, each with its text, and counts them.
-pub record DeclaresSome {D : Type 0} (form : Form D) (sort : D → Option Sort)
+pub record DeclaresSome {D : Type 0} (form : Form D) (space : D → Option IndexSpace)
     (t : TypeState) : Type 0 where
   pub declarations : List D
-  pub declared : Declares form sort t declarations
+  pub declared : Declares form space t declarations
 
 -- A call adds this declaration, or is refused for a cause and changes nothing.
-pub record AddsDeclaration {D : Type 0} (form : Form D) (sort : D → Option Sort)
+pub record AddsDeclaration {D : Type 0} (form : Form D) (space : D → Option IndexSpace)
     (old new : TypeState) (outcome : Result (Unit {0}) Fault) (d : D) : Type 0 where
   pub added : AddsMember (form d) old.held new.held outcome
-  pub counts : OnOk outcome (new.counts ≡ one_more (sort d) old.counts)
+  pub counts : OnOk outcome (new.counts ≡ one_more (space d) old.counts)
   pub begun : OnOk outcome (new.begun ≡ old.begun)
   pub declared : OnOk outcome
-      ((ds : List D) → Declares form sort old ds → Declares form sort new (ds ++ d ∷ []))
+      ((ds : List D) → Declares form space old ds → Declares form space new (ds ++ d ∷ []))
   pub err : OnErr outcome (new ≡ old)
 
 -- a call adds this declaration to the type of a module, of an instance or of a component
 abbrev pub AddsToModule : TypeState → TypeState → Result (Unit {0}) Fault → ModuleDeclaration
     → Type 0
-AddsToModule = AddsDeclaration module_declaration module_sort
+AddsToModule = AddsDeclaration module_declaration module_space
 
 abbrev pub AddsToInstance : TypeState → TypeState → Result (Unit {0}) Fault → InstanceDeclaration
     → Type 0
-AddsToInstance = AddsDeclaration instance_declaration instance_sort
+AddsToInstance = AddsDeclaration instance_declaration instance_space
 
 abbrev pub AddsToComponent : TypeState → TypeState → Result (Unit {0}) Fault
     → ComponentDeclaration → Type 0
-AddsToComponent = AddsDeclaration component_declaration component_sort
+AddsToComponent = AddsDeclaration component_declaration component_space
 
 -- how a call ended that returns an index if it succeeds
 abbrev pub indexed_outcome : Result ℕ Fault → Result (Unit {0}) Fault
@@ -154,9 +154,9 @@ indexed_outcome (Err fault) = Err fault
 -- ---- a type that is written by an encoder
 
 -- its first byte
-abbrev pub lead_of : Sort → List ℕ
+abbrev pub lead_of : IndexSpace → List ℕ
 lead_of CoreType = 0x00 ∷ []
-lead_of TypeSort = 0x01 ∷ []
+lead_of TypeSpace = 0x01 ∷ []
 lead_of Instance = []
 
 -- the type with these declarations
@@ -164,12 +164,12 @@ abbrev pub with_held : TypeState → HolderState → TypeState
 with_held t held = record { held = held; counts = t.counts; begun = t.begun }
 
 -- one type more, of which there is the first byte
-abbrev pub type_begun : Sort → TypeState → TypeState
-type_begun sort t =
+abbrev pub type_begun : IndexSpace → TypeState → TypeState
+type_begun space t =
     record {
-      held = member_begun t.held (lead_of sort);
-      counts = one_more (Some sort) t.counts;
-      begun = Some sort;
+      held = member_begun t.held (lead_of space);
+      counts = one_more (Some space) t.counts;
+      begun = Some space;
     }
 
 -- more of that type
@@ -180,12 +180,12 @@ type_appended t text = with_held t (member_appended t.held text)
 abbrev pub type_ended : TypeState → TypeState
 type_ended t = record { held = member_ended t.held; counts = t.counts; begun = None }
 
--- one less of this sort
-abbrev pub one_less : Option Sort → Counts → Counts
+-- one less of this space
+abbrev pub one_less : Option IndexSpace → Counts → Counts
 one_less None n = n
 one_less (Some CoreType) n =
     record { core_types = n.core_types - 1; types = n.types; instances = n.instances }
-one_less (Some TypeSort) n =
+one_less (Some TypeSpace) n =
     record { core_types = n.core_types; types = n.types - 1; instances = n.instances }
 one_less (Some Instance) n =
     record { core_types = n.core_types; types = n.types; instances = n.instances - 1 }

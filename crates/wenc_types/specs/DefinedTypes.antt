@@ -17,8 +17,8 @@ pub record LabelledType : Type 0 where
 abbrev pub labelled_type : Form LabelledType
 labelled_type f = name_form f.name ⨾ value_type f.ty
 
--- a case, with a value or without; the byte is for cases that refine another, which there are none
--- of
+-- a case, with a value or without; the byte is for cases that refine another, of which there are
+-- none
 pub record Case : Type 0 where
   pub name : List ℕ
   pub ty : Option ComponentValType
@@ -74,8 +74,8 @@ function_type f = async_byte f.is_async ▸ (list labelled_type f.params ⨾ res
 
 -- ---- what an iterator gives, as pure values
 
-abbrev pub lent_labelled_type : Bor (List ℕ) × ComponentValType → LabelledType
-lent_labelled_type f = record { name = f.0.now; ty = f.1 }
+abbrev pub borrowed_labelled_type : Bor (List ℕ) × ComponentValType → LabelledType
+borrowed_labelled_type f = record { name = f.0.now; ty = f.1 }
 
-abbrev pub lent_case : Bor (List ℕ) × Option ComponentValType → Case
-lent_case c = record { name = c.0.now; ty = c.1 }
+abbrev pub borrowed_case : Bor (List ℕ) × Option ComponentValType → Case
+borrowed_case c = record { name = c.0.now; ty = c.1 }

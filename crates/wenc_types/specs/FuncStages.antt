@@ -1,12 +1,12 @@
--- How far the type of a function is written (component model, binary format, "Type Definitions").
+-- The progress of a function type (component model, binary format, "Type Definitions").
 use Rattle.std.specs.Prelude.{ℕ, Bool, true, not, List, [], ◌∷◌, Option}
 use Rattle.wenc_base.specs.Forms.{list}
 use Rattle.wenc_base.specs.Piece.{Form, ◌⨾◌, behind_bytes, HasForm}
 use Rattle.wenc_parts.specs.Types.{result_list}
 use Rattle.wenc_parts.specs.declared.types.ComponentValType.{ComponentValType}
 use Rattle.wenc_types.specs.DefinedTypes.{LabelledType, labelled_type, function_type}
-use Rattle.wenc_types.specs.declared.func_type.FuncStage.{FuncStage}
-use Rattle.wenc_types.specs.declared.func_type.FuncStage.TheVariants.{Start, Tagged, Params, Done}
+use Rattle.wenc_types.specs.declared.encoders.func_type.FuncStage.{FuncStage}
+use Rattle.wenc_types.specs.declared.encoders.func_type.FuncStage.TheVariants.{Start, Tagged, Params, Done}
 
 -- parameters may come
 abbrev pub BeforeParams : FuncStage → Type 0
@@ -46,5 +46,5 @@ Remains Done bytes = ⊥
 
 -- from this stage on, what remains makes the type whole
 abbrev pub RestMakesWhole : {T : Type 0} → (T → Type 0) → (T → List ℕ → T) → FuncStage → T → Type 0
-RestMakesWhole is_whole written stage lender =
-    (bytes : List ℕ) → Remains stage bytes → ∥ is_whole (written lender bytes) ∥₁
+RestMakesWhole is_whole written stage parent =
+    (bytes : List ℕ) → Remains stage bytes → ∥ is_whole (written parent bytes) ∥₁

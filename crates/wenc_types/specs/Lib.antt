@@ -3,7 +3,7 @@ pub mod DefinedTypes
 pub mod ComponentTypes
 pub mod Declarations
 pub mod FuncStages
-pub mod Loans
+pub mod Borrows
 pub mod CoreTypeTrees
 pub mod TypeTrees
 pub mod inside

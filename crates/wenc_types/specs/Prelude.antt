@@ -7,7 +7,7 @@ pub use Rattle.wenc_types.specs.DefinedTypes.{FixedLengthList, Flags, Function, 
 pub use Rattle.wenc_types.specs.DefinedTypes.{LabelledType, ListOf, MapOf, OptionOf, Own, Primitive}
 pub use Rattle.wenc_types.specs.DefinedTypes.{Record, ResultOf, Stream, Tuple, Variant, async_byte}
 pub use Rattle.wenc_types.specs.DefinedTypes.{case, def_val_type, function_type, labelled_type}
-pub use Rattle.wenc_types.specs.DefinedTypes.{lent_case, lent_labelled_type}
+pub use Rattle.wenc_types.specs.DefinedTypes.{borrowed_case, borrowed_labelled_type}
 pub use Rattle.wenc_types.specs.ComponentTypes.{Aliased, ComponentDeclaration, ComponentType}
 pub use Rattle.wenc_types.specs.ComponentTypes.{CoreTyped, Declared, DefType, DefinedType, Exported}
 pub use Rattle.wenc_types.specs.ComponentTypes.{FunctionType, Imported, InstanceDeclaration}
@@ -18,14 +18,14 @@ pub use Rattle.wenc_types.specs.ComponentTypes.{no_component, no_instance}
 pub use Rattle.wenc_types.specs.Declarations.{AddsDeclaration, AddsToComponent, AddsToInstance}
 pub use Rattle.wenc_types.specs.Declarations.{AddsToModule, ComponentDeclares, DeclaresSome}
 pub use Rattle.wenc_types.specs.Declarations.{InstanceDeclares, IsDeclaration, ModuleDeclares}
-pub use Rattle.wenc_types.specs.Declarations.{NoneBegun, TypeState, component_sort, indexed_outcome}
-pub use Rattle.wenc_types.specs.Declarations.{instance_sort, lead_of, module_sort, no_counts}
-pub use Rattle.wenc_types.specs.Declarations.{no_declarations, one_less, one_more, sort_of_alias}
-pub use Rattle.wenc_types.specs.Declarations.{sort_of_kind, type_appended, type_begun, type_ended}
+pub use Rattle.wenc_types.specs.Declarations.{NoneBegun, TypeState, component_space, indexed_outcome}
+pub use Rattle.wenc_types.specs.Declarations.{instance_space, lead_of, module_space, no_counts}
+pub use Rattle.wenc_types.specs.Declarations.{no_declarations, one_less, one_more, space_of_alias}
+pub use Rattle.wenc_types.specs.Declarations.{space_of_kind, type_appended, type_begun, type_ended}
 pub use Rattle.wenc_types.specs.Declarations.{type_given_up}
 pub use Rattle.wenc_types.specs.FuncStages.{BeforeParams, RestMakesWhole, goes_on, lead_from}
 pub use Rattle.wenc_types.specs.FuncStages.{params_from}
-pub use Rattle.wenc_types.specs.Loans.{unchanged_on_err}
+pub use Rattle.wenc_types.specs.Borrows.{unchanged_on_err}
 pub use Rattle.wenc_types.specs.CoreTypeTrees.{core_type_view, module_declaration_view}
 pub use Rattle.wenc_types.specs.TypeTrees.{case_view, component_declaration_view, defined_view}
 pub use Rattle.wenc_types.specs.TypeTrees.{function_view, instance_declaration_view}
@@ -50,4 +50,4 @@ pub use Rattle.wenc_types.specs.laws.Declarations.{is_declaration, type_appended
 pub use Rattle.wenc_types.specs.laws.DefinedTypes.{case_lawful, case_sound, defined_type_lawful}
 pub use Rattle.wenc_types.specs.laws.DefinedTypes.{labelled_type_lawful, named_sound}
 pub use Rattle.wenc_types.specs.laws.TypeTrees.{case_sees, defined_sees, named_sees}
-pub use Rattle.wenc_types.specs.declared.counts.Sort.{Sort}
+pub use Rattle.wenc_types.specs.declared.counts.IndexSpace.{IndexSpace}

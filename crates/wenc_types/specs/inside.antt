@@ -1,2 +1,2 @@
--- What private functions and proofs need, and of public calls `Counts::counted` alone.
+-- What only private functions and proofs need, and the public call `Counts::counted`.
 pub mod TypeState

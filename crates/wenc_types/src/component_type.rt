@@ -5,9 +5,11 @@ ghost use Rattle.wenc_parts.specs.Prelude.{alias_view, InstanceExport, Outer, ex
 ghost use Rattle.wenc_parts.specs.declared.aliases.ComponentOuterAliasKind.TheVariants as outers;
 ghost use Rattle.wenc_parts.specs.declared.exports.ComponentExportKind.TheVariants as kinds;
 ghost use Rattle.wenc_parts.specs.declared.imports.ComponentTypeRef.TheVariants as references;
-ghost use Rattle.wenc_types.specs.Prelude.{Imported, Declared, Aliased, Exported, AddsToComponent, indexed_outcome, ComponentDeclaration, component_declaration, component_sort, is_declaration};
+ghost use Rattle.wenc_types.specs.Prelude.{Imported, Declared, Aliased, Exported, AddsToComponent};
+ghost use Rattle.wenc_types.specs.Prelude.{indexed_outcome, ComponentDeclaration};
+ghost use Rattle.wenc_types.specs.Prelude.{component_declaration, component_space, is_declaration};
 
-use crate::counts::{sort_of_alias, sort_of_kind};
+use crate::counts::{space_of_alias, space_of_kind};
 use crate::declarations::{Declarations, DeclaredKind, DeclaringKind};
 use std::alloc::{Allocator, Global};
 use wenc_base::{Fault, Tagged};
@@ -28,13 +30,13 @@ impl DeclaredKind for ComponentTypes {
 
     ghost form = { component_declaration };
 
-    ghost sort = { component_sort };
+    ghost space = { component_space };
 }
 
 impl DeclaringKind for ComponentTypes {
     ghost use Rattle.std.proofs.Common.{refl};
 
-    ghost declares = { λ d. is_declaration component_declaration component_sort (Declared d)
+    ghost declares = { λ d. is_declaration component_declaration component_space (Declared d)
         serves_itself refl };
 }
 
@@ -64,8 +66,8 @@ impl<A: Allocator> Declarations<ComponentTypes, A> {
         ensures { AddsToComponent self.old self.new result
             (Declared (Aliased (alias_view alias.entry))) }
     {
-        let sort = sort_of_alias(&alias);
-        self.add(&Tagged(0x02, &alias), sort)
+        let space = space_of_alias(&alias);
+        self.add(&Tagged(0x02, &alias), space)
     }
 
     /// Declares an import with this name.
@@ -81,7 +83,7 @@ impl<A: Allocator> Declarations<ComponentTypes, A> {
         ensures { AddsToComponent self.old self.new result
             (Imported (extern_name_view name.entry) ty) }
     {
-        self.add(&Tagged(0x03, &(name, ty)), sort_of_kind(ty.kind()))
+        self.add(&Tagged(0x03, &(name, ty)), space_of_kind(ty.kind()))
     }
 
     /// Declares an export with this name.
@@ -97,7 +99,7 @@ impl<A: Allocator> Declarations<ComponentTypes, A> {
         ensures { AddsToComponent self.old self.new result
             (Declared (Exported (extern_name_view name.entry) ty)) }
     {
-        self.add(&Tagged(0x04, &(name, ty)), sort_of_kind(ty.kind()))
+        self.add(&Tagged(0x04, &(name, ty)), space_of_kind(ty.kind()))
     }
 
     /// Declares an alias of a type, which the instance with the index `instance` exports under this

@@ -1,7 +1,11 @@
 //! Core types of components, as trees.
 ghost use Rattle.std.specs.Prelude.{refl};
 ghost use Rattle.wenc_base.specs.Prelude.{serves_itself};
-ghost use Rattle.wenc_types.specs.Prelude.{core_type, core_type_view, CoreType, core_type_lawful, read_core_type, alike_by, composite_sees, group_sees, declaration_sees, core_type_sees, module_declaration, module_declaration_view, ModuleDeclaration, module_declaration_lawful, read_module_declaration};
+ghost use Rattle.wenc_types.specs.Prelude.{core_type, core_type_view, CoreType, core_type_lawful};
+ghost use Rattle.wenc_types.specs.Prelude.{read_core_type, alike_by, composite_sees, group_sees};
+ghost use Rattle.wenc_types.specs.Prelude.{declaration_sees, core_type_sees, module_declaration};
+ghost use Rattle.wenc_types.specs.Prelude.{module_declaration_view, ModuleDeclaration};
+ghost use Rattle.wenc_types.specs.Prelude.{module_declaration_lawful, read_module_declaration};
 
 use std::alloc::{Allocator, Global};
 use wenc_base::{

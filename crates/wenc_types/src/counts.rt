@@ -1,14 +1,14 @@
-//! The number of declarations by sort: core types, types and instances.
+//! The number of declarations by index space: core types, types and instances.
 ghost use Rattle.std.specs.Prelude.{◌≡◌, ◌<◌};
 ghost use Rattle.wenc_parts.specs.Prelude.{alias_view};
-ghost use Rattle.wenc_types.specs.Prelude.{sort_of_kind, sort_of_alias, one_more, one_less, no_counts, total};
+ghost use Rattle.wenc_types.specs.Prelude.{space_of_kind, space_of_alias, one_more, one_less};
+ghost use Rattle.wenc_types.specs.Prelude.{no_counts, total};
 
 use wenc_parts::{Alias, ComponentExportKind, ComponentOuterAliasKind};
 
-/// The sort of a declaration that takes an index, by its index space (component model, explainer,
-/// "Index Spaces").
+/// The index space of a declaration (component model, explainer, "Index Spaces").
 #[derive(Clone, Copy)]
-pub enum Sort {
+pub enum IndexSpace {
     /// A core type.
     CoreType,
     /// A type.
@@ -17,37 +17,36 @@ pub enum Sort {
     Instance,
 }
 
-/// Returns the sort of an item of this kind, if it takes an index.
-pub fn sort_of_kind(kind: ComponentExportKind) -> Option<Sort>
-    ensures { result ≡ sort_of_kind kind }
+/// Returns the index space of items of this kind, if they take an index.
+pub fn space_of_kind(kind: ComponentExportKind) -> Option<IndexSpace>
+    ensures { result ≡ space_of_kind kind }
 {
     match kind {
-        ComponentExportKind::Type => Some(Sort::Type),
-        ComponentExportKind::Instance => Some(Sort::Instance),
+        ComponentExportKind::Type => Some(IndexSpace::Type),
+        ComponentExportKind::Instance => Some(IndexSpace::Instance),
         _ => None,
     }
 }
 
-/// Returns the sort of an alias, if it takes an index.
-pub fn sort_of_alias(alias: &Alias<'_>) -> Option<Sort>
-    ensures { result ≡ sort_of_alias (alias_view alias.now) }
+/// Returns the index space of the item that an alias defines, if it takes an index.
+pub fn space_of_alias(alias: &Alias<'_>) -> Option<IndexSpace>
+    ensures { result ≡ space_of_alias (alias_view alias.now) }
 {
     match alias {
-        Alias::InstanceExport { kind, .. } => sort_of_kind(*kind),
+        Alias::InstanceExport { kind, .. } => space_of_kind(*kind),
         Alias::Outer {
             kind: ComponentOuterAliasKind::Type,
             ..
-        } => Some(Sort::Type),
+        } => Some(IndexSpace::Type),
         Alias::Outer {
             kind: ComponentOuterAliasKind::CoreType,
             ..
-        } => Some(Sort::CoreType),
+        } => Some(IndexSpace::CoreType),
         _ => None,
     }
 }
 
-/// The number of declarations of each sort, which is the size of each index space (component model,
-/// explainer, "Index Spaces").
+/// The size of each index space (component model, explainer, "Index Spaces").
 #[derive(Clone, Copy)]
 pub struct Counts {
     /// The number of core types.
@@ -59,7 +58,7 @@ pub struct Counts {
 }
 
 impl Counts {
-    /// Returns zero of each sort.
+    /// Returns the sizes of empty index spaces.
     pub fn none() -> Counts
         ensures { result ≡ no_counts }
     {
@@ -70,31 +69,31 @@ impl Counts {
         }
     }
 
-    /// Returns the counts with one more of this sort, when there are `declarations` in all. They
-    /// have to exceed the sum of the counts before.
-    pub fn counted(self, sort: Option<Sort>, declarations: u32) -> Counts
+    /// Returns the counts with one more in this space, when there are `declarations` in all, which
+    /// have to exceed the sum of the earlier counts.
+    pub fn counted(self, space: Option<IndexSpace>, declarations: u32) -> Counts
         requires { total self < declarations }
-        ensures { result ≡ one_more sort self }
+        ensures { result ≡ one_more space self }
     {
         let mut counts = self;
-        match sort {
-            Some(Sort::CoreType) => counts.core_types += 1,
-            Some(Sort::Type) => counts.types += 1,
-            Some(Sort::Instance) => counts.instances += 1,
+        match space {
+            Some(IndexSpace::CoreType) => counts.core_types += 1,
+            Some(IndexSpace::Type) => counts.types += 1,
+            Some(IndexSpace::Instance) => counts.instances += 1,
             None => {}
         }
         counts
     }
 
-    /// Returns the counts with one less of this sort.
-    pub fn uncounted(self, sort: Option<Sort>) -> Counts
-        ensures { result ≡ one_less sort self }
+    /// Returns the counts with one less in this space.
+    pub fn uncounted(self, space: Option<IndexSpace>) -> Counts
+        ensures { result ≡ one_less space self }
     {
         let mut counts = self;
-        match sort {
-            Some(Sort::CoreType) => counts.core_types = counts.core_types.saturating_sub(1),
-            Some(Sort::Type) => counts.types = counts.types.saturating_sub(1),
-            Some(Sort::Instance) => counts.instances = counts.instances.saturating_sub(1),
+        match space {
+            Some(IndexSpace::CoreType) => counts.core_types = counts.core_types.saturating_sub(1),
+            Some(IndexSpace::Type) => counts.types = counts.types.saturating_sub(1),
+            Some(IndexSpace::Instance) => counts.instances = counts.instances.saturating_sub(1),
             None => {}
         }
         counts

@@ -1,20 +1,29 @@
 //! Declarations, of which the types of modules, components and instances consist.
 ghost use Rattle.std.specs.Borrow.{sem};
-ghost use Rattle.std.specs.Prelude.{◌≡◌, ◌==◌, ◌∷◌, ℕ, [], Option as Optional, Some, OnOk, OnErr, IfOk, IfErr, true, false};
-ghost use Rattle.wenc_base.specs.Prelude.{Appends, Serves, IsMemory, IsWarranted, NoCause, is_finished, held_members, held_text, EncodeCause, AddCause, Lends, GivesUp, ◌▸◌, Form, no_room_in_holder, is_opened, member_text, opened_is_unfinished};
+ghost use Rattle.std.specs.Prelude.{◌≡◌, ◌==◌, ◌∷◌, ℕ, [], Option as Optional, Some, OnOk, OnErr};
+ghost use Rattle.std.specs.Prelude.{IfOk, IfErr, true, false};
+ghost use Rattle.wenc_base.specs.Prelude.{Appends, Serves, IsMemory, IsWarranted, NoCause};
+ghost use Rattle.wenc_base.specs.Prelude.{is_finished, held_members, held_text, EncodeCause};
+ghost use Rattle.wenc_base.specs.Prelude.{AddCause, Borrows, GivesUp, ◌▸◌, Form, no_room_in_holder};
+ghost use Rattle.wenc_base.specs.Prelude.{is_opened, member_text, opened_is_unfinished};
 ghost use Rattle.wenc_base.specs.declared.fault.Fault.TheVariants.{Unfinished};
-ghost use Rattle.wenc_types.specs.Prelude.{InstanceDeclaration, instance_declaration, instance_sort, no_declarations, lead_of, type_begun, type_given_up, NoneBegun, DeclaresSome, IsDeclaration, AddsDeclaration, unchanged_on_err, Sort as SortSpec, type_appended, type_ended, type_appended_twice};
-ghost use Rattle.wenc_types.specs.declared.counts.Sort.TheVariants as sorts;
-ghost use Rattle.wenc_types.specs.declared.func_type.FuncStage.TheVariants as stages;
+ghost use Rattle.wenc_types.specs.Prelude.{InstanceDeclaration, instance_declaration};
+ghost use Rattle.wenc_types.specs.Prelude.{instance_space, no_declarations, lead_of, type_begun};
+ghost use Rattle.wenc_types.specs.Prelude.{type_given_up, NoneBegun, DeclaresSome, IsDeclaration};
+ghost use Rattle.wenc_types.specs.Prelude.{AddsDeclaration, unchanged_on_err};
+ghost use Rattle.wenc_types.specs.Prelude.{IndexSpace as SpaceSpec, type_appended, type_ended};
+ghost use Rattle.wenc_types.specs.Prelude.{type_appended_twice};
+ghost use Rattle.wenc_types.specs.declared.counts.IndexSpace.TheVariants as spaces;
+ghost use Rattle.wenc_types.specs.declared.encoders.func_type.FuncStage.TheVariants as stages;
 
-use crate::core_type::ComponentCoreTypeEncoder;
-use crate::counts::{Counts, Sort};
-use crate::defined_type::ComponentDefinedTypeEncoder;
-use crate::func_type::ComponentFuncTypeEncoder;
-use crate::ty::ComponentTypeEncoder;
+use crate::counts::{Counts, IndexSpace};
+use crate::encoders::core_type::ComponentCoreTypeEncoder;
+use crate::encoders::defined_type::ComponentDefinedTypeEncoder;
+use crate::encoders::func_type::ComponentFuncTypeEncoder;
+use crate::encoders::ty::ComponentTypeEncoder;
 use std::alloc::{Allocator, Global};
 use std::marker::{Model, PhantomData};
-use wenc_base::{Encode, Fault, Holder, Lender, Tagged};
+use wenc_base::{Encode, Fault, Holder, Parent, Tagged};
 
 /// The kinds of types that consist of declarations: those of modules, components and instances
 /// (component model, binary format, "Core Definitions" and "Type Definitions").
@@ -33,17 +42,17 @@ pub trait DeclaredKind {
     /// How a declaration is written.
     ghost form: { Form Declaration };
 
-    /// The sort of a declaration, if it takes an index.
-    ghost sort: { Declaration → Optional SortSpec };
+    /// The space of a declaration, if it takes an index.
+    ghost space: { Declaration → Optional SpaceSpec };
 }
 
 /// The kinds of types that allow all declarations of instance types: those of components and
 /// instances (component model, binary format, "Type Definitions").
 pub trait DeclaringKind: DeclaredKind {
     /// The encoding of a declaration of an instance type is that of a declaration of such a type,
-    /// of the same sort.
+    /// of the same space.
     ghost declares: { (d : InstanceDeclaration) → (instance_declaration d).Fits
-        → IsDeclaration Self.form Self.sort (instance_declaration d).text (instance_sort d) };
+        → IsDeclaration Self.form Self.space (instance_declaration d).text (instance_space d) };
 }
 
 /// The type of a module, a component or an instance, as its declarations (component model, binary
@@ -67,8 +76,8 @@ pub trait DeclaringKind: DeclaredKind {
 pub struct Declarations<K: DeclaredKind, A: Allocator = Global> {
     held: Holder<A>,
     counts: Counts,
-    /// The sort of the type that is being written.
-    begun: Option<Sort>,
+    /// The space of the type that is being written.
+    begun: Option<IndexSpace>,
     kind: PhantomData<K>,
 }
 
@@ -79,7 +88,7 @@ impl<K: DeclaredKind, A: Allocator> Model for Declarations<K, A> {
 
     ghost view = { λ t. record { held = t.held; counts = t.counts; begun = t.begun } };
 
-    ghost invariant = { λ t. IsTypeState K.form K.sort
+    ghost invariant = { λ t. IsTypeState K.form K.space
         (record { held = t.held; counts = t.counts; begun = t.begun }) };
 }
 
@@ -96,38 +105,38 @@ impl<K: DeclaredKind, A: Allocator> Declarations<K, A> {
         }
     }
 
-    /// Adds a declaration with the encoding of this value, of this sort.
+    /// Adds a declaration with the encoding of this value, in this space.
     pub(crate) fn add<E: Encode>(
         &mut self,
         declaration: &E,
-        sort: Option<Sort>,
+        space: Option<IndexSpace>,
     ) -> Result<(), Fault>
         requires { (E.piece declaration.now).Fits
-            → IsDeclaration K.form K.sort (E.piece declaration.now).text sort }
+            → IsDeclaration K.form K.space (E.piece declaration.now).text space }
         ensures { (d : K.Declaration) → Serves (E.piece declaration.now) (K.form d)
-            → sort ≡ K.sort d → AddsDeclaration K.form K.sort self.old self.new result d }
+            → space ≡ K.space d → AddsDeclaration K.form K.space self.old self.new result d }
     {
         self.held.add_encoded(declaration)?;
         let count = self.held.len();
-        self.counts = self.counts.counted(sort, count);
+        self.counts = self.counts.counted(space, count);
         Ok(())
     }
 
     /// Begins a nested type: opens a member with its first byte.
-    pub(crate) fn begin(&mut self, lead: u8, sort: Sort) -> Result<(), Fault>
-        requires { lead_of sort ≡ lead ∷ [] }
-        ensures ok { OnOk result (self.new ≡ type_begun sort self.old) }
+    pub(crate) fn begin(&mut self, lead: u8, space: IndexSpace) -> Result<(), Fault>
+        requires { lead_of space ≡ lead ∷ [] }
+        ensures ok { OnOk result (self.new ≡ type_begun space self.old) }
         ensures settled { OnOk result (NoneBegun self.old) }
-        ensures free { OnOk result (NoCause (AddCause self.old.held (lead_of sort) (λ _. ⊥))) }
+        ensures free { OnOk result (NoCause (AddCause self.old.held (lead_of space) (λ _. ⊥))) }
         ensures err { OnErr result (self.new ≡ self.old) }
         ensures warranted { IfErr result (IsWarranted
-            (AddCause self.old.held (lead_of sort) (λ _. ⊥))) }
+            (AddCause self.old.held (lead_of space) (λ _. ⊥))) }
         ensures unfinished_first { is_finished self.old.held ≡ false → result ≡ Err Unfinished }
     {
         self.held.open(&[lead])?;
         let count = self.held.len();
-        self.counts = self.counts.counted(Some(sort), count);
-        self.begun = Some(sort);
+        self.counts = self.counts.counted(Some(space), count);
+        self.begun = Some(space);
         Ok(())
     }
 
@@ -145,7 +154,7 @@ impl<K: DeclaredKind, A: Allocator> Declarations<K, A> {
         ensures finished { result ≡ is_finished self.now.held }
         ensures settled { is_finished self.now.held ≡ true → NoneBegun self.now }
         ensures declares { is_finished self.now.held ≡ true
-            → ∥ DeclaresSome K.form K.sort self.now ∥₁ }
+            → ∥ DeclaresSome K.form K.space self.now ∥₁ }
     {
         self.held.is_finished()
     }
@@ -195,14 +204,14 @@ impl<K: DeclaringKind, A: Allocator> Declarations<K, A> {
     /// declarations would exceed 4294967295, and with `TooLarge` if their bytes would.
     pub fn core_type(&mut self) -> Result<ComponentCoreTypeEncoder<'_, Declarations<K, A>>, Fault>
         ensures* refused { sem 𝓛 (unchanged_on_err (the_row K.row A.row K.DeclaredKind A.Allocator)
-            self.entry (λ e. e.lender) result) }
-        ensures same_reference { IfOk result (λ e. e.lender.ghost_name ≡ self.entry.ghost_name) }
-        ensures lent { Lends (λ e. e.lender.now) (type_begun sorts.CoreType self.old)
+            self.entry (λ e. e.parent) result) }
+        ensures same_reference { IfOk result (λ e. e.parent.ghost_name ≡ self.entry.ghost_name) }
+        ensures borrowed { Borrows (λ e. e.parent.now) (type_begun spaces.CoreType self.old)
             (is_finished self.old.held) result
-            (AddCause self.old.held (lead_of sorts.CoreType) (λ _. ⊥)) }
+            (AddCause self.old.held (lead_of spaces.CoreType) (λ _. ⊥)) }
         ensures settled { OnOk result (NoneBegun self.old) }
     {
-        self.begin(0x00, Sort::CoreType)?;
+        self.begin(0x00, IndexSpace::CoreType)?;
         Ok(ComponentCoreTypeEncoder::new(self))
     }
 
@@ -213,14 +222,14 @@ impl<K: DeclaringKind, A: Allocator> Declarations<K, A> {
     /// Fails as `core_type` does.
     pub fn ty(&mut self) -> Result<ComponentTypeEncoder<'_, Declarations<K, A>>, Fault>
         ensures* refused { sem 𝓛 (unchanged_on_err (the_row K.row A.row K.DeclaredKind A.Allocator)
-            self.entry (λ e. e.lender) result) }
-        ensures same_reference { IfOk result (λ e. e.lender.ghost_name ≡ self.entry.ghost_name) }
-        ensures lent { Lends (λ e. e.lender.now) (type_begun sorts.«Type» self.old)
+            self.entry (λ e. e.parent) result) }
+        ensures same_reference { IfOk result (λ e. e.parent.ghost_name ≡ self.entry.ghost_name) }
+        ensures borrowed { Borrows (λ e. e.parent.now) (type_begun spaces.«Type» self.old)
             (is_finished self.old.held) result
-            (AddCause self.old.held (lead_of sorts.«Type») (λ _. ⊥)) }
+            (AddCause self.old.held (lead_of spaces.«Type») (λ _. ⊥)) }
         ensures settled { OnOk result (NoneBegun self.old) }
     {
-        self.begin(0x01, Sort::Type)?;
+        self.begin(0x01, IndexSpace::Type)?;
         Ok(ComponentTypeEncoder::new(self))
     }
 
@@ -233,16 +242,16 @@ impl<K: DeclaringKind, A: Allocator> Declarations<K, A> {
         &mut self,
     ) -> Result<(u32, ComponentDefinedTypeEncoder<'_, Declarations<K, A>>), Fault>
         ensures* refused { sem 𝓛 (unchanged_on_err (the_row K.row A.row K.DeclaredKind A.Allocator)
-            self.entry (λ e. e.1.lender) result) }
-        ensures same_reference { IfOk result (λ e. e.1.lender.ghost_name ≡ self.entry.ghost_name) }
-        ensures lent { Lends (λ e. e.1.lender.now) (type_begun sorts.«Type» self.old)
+            self.entry (λ e. e.1.parent) result) }
+        ensures same_reference { IfOk result (λ e. e.1.parent.ghost_name ≡ self.entry.ghost_name) }
+        ensures borrowed { Borrows (λ e. e.1.parent.now) (type_begun spaces.«Type» self.old)
             (is_finished self.old.held) result
-            (AddCause self.old.held (lead_of sorts.«Type») (λ _. ⊥)) }
+            (AddCause self.old.held (lead_of spaces.«Type») (λ _. ⊥)) }
         ensures index { IfOk result (λ e. e.0 ≡ self.old.counts.types) }
         ensures settled { OnOk result (NoneBegun self.old) }
     {
         let index = self.type_count();
-        self.begin(0x01, Sort::Type)?;
+        self.begin(0x01, IndexSpace::Type)?;
         Ok((index, ComponentDefinedTypeEncoder::new(self)))
     }
 
@@ -255,17 +264,17 @@ impl<K: DeclaringKind, A: Allocator> Declarations<K, A> {
         &mut self,
     ) -> Result<(u32, ComponentFuncTypeEncoder<'_, Declarations<K, A>>), Fault>
         ensures* refused { sem 𝓛 (unchanged_on_err (the_row K.row A.row K.DeclaredKind A.Allocator)
-            self.entry (λ e. e.1.lender) result) }
-        ensures same_reference { IfOk result (λ e. e.1.lender.ghost_name ≡ self.entry.ghost_name) }
-        ensures lent { Lends (λ e. e.1.lender.now) (type_begun sorts.«Type» self.old)
+            self.entry (λ e. e.1.parent) result) }
+        ensures same_reference { IfOk result (λ e. e.1.parent.ghost_name ≡ self.entry.ghost_name) }
+        ensures borrowed { Borrows (λ e. e.1.parent.now) (type_begun spaces.«Type» self.old)
             (is_finished self.old.held) result
-            (AddCause self.old.held (lead_of sorts.«Type») (λ _. ⊥)) }
+            (AddCause self.old.held (lead_of spaces.«Type») (λ _. ⊥)) }
         ensures index { IfOk result (λ e. e.0 ≡ self.old.counts.types) }
         ensures settled { OnOk result (NoneBegun self.old) }
         ensures stage { IfOk result (λ e. e.1.stage ≡ stages.Start) }
     {
         let index = self.type_count();
-        self.begin(0x01, Sort::Type)?;
+        self.begin(0x01, IndexSpace::Type)?;
         Ok((index, ComponentFuncTypeEncoder::new(self)))
     }
 
@@ -311,20 +320,20 @@ impl<K: DeclaredKind, A: Allocator> Encode for Declarations<K, A> {
         ensures appended { Appends (K.LEAD ∷ held_text self.now.held) (EncodeCause self.now.held)
             (is_finished self.now.held ≡ false) sink.old.items sink.new.items result }
         ensures fits { OnOk result (K.LEAD ▸ held_members self.now.held).Fits }
-        ensures declares { OnOk result (∥ DeclaresSome K.form K.sort self.now ∥₁) }
+        ensures declares { OnOk result (∥ DeclaresSome K.form K.space self.now ∥₁) }
     {
         Tagged(K::LEAD, &self.held).encode(sink)
     }
 }
 
-impl<K: DeclaredKind, A: Allocator> Lender for Declarations<K, A> {
+impl<K: DeclaredKind, A: Allocator> Parent for Declarations<K, A> {
     ghost finished = { λ t. is_finished t.held };
 
     ghost opened = { λ t. is_opened t.held };
 
     ghost appended = { type_appended };
 
-    ghost is_whole = { λ t. IsDeclaration K.form K.sort (member_text t.held) t.begun };
+    ghost is_whole = { λ t. IsDeclaration K.form K.space (member_text t.held) t.begun };
 
     ghost ended = { type_ended };
 

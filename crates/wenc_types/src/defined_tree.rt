@@ -1,7 +1,10 @@
 //! Defined types, as trees.
 ghost use Rattle.std.specs.Prelude.{refl};
 ghost use Rattle.wenc_base.specs.Prelude.{serves_itself};
-ghost use Rattle.wenc_types.specs.Prelude.{def_val_type, defined_view, DefValType, defined_type_lawful, read_defined, labelled_type_view, case_view, alike_by, each_sees, named_sees, case_sees, defined_sees, case, Case, case_lawful, read_case};
+ghost use Rattle.wenc_types.specs.Prelude.{def_val_type, defined_view, DefValType};
+ghost use Rattle.wenc_types.specs.Prelude.{defined_type_lawful, read_defined, labelled_type_view};
+ghost use Rattle.wenc_types.specs.Prelude.{case_view, alike_by, each_sees, named_sees, case_sees};
+ghost use Rattle.wenc_types.specs.Prelude.{defined_sees, case, Case, case_lawful, read_case};
 
 use std::alloc::{Allocator, Global};
 use wenc_base::{Delimited, DelimitedEq, Encode, Fault, Tagged};
@@ -133,7 +136,7 @@ impl<A: Allocator> Encode for CaseTree<A> {
     ghost piece = { λ c. case (case_view c) };
 
     fn encode<B: Allocator>(&self, sink: &mut Vec<u8, B>) -> Result<(), Fault> {
-        // The last byte would say which case this one refines.
+        // The last byte says that the case refines no other.
         (self.name.as_str(), self.ty, Tagged(0x00, &())).encode(sink)
     }
 }

@@ -5,9 +5,11 @@ ghost use Rattle.wenc_parts.specs.Prelude.{alias_view, InstanceExport, Outer, ex
 ghost use Rattle.wenc_parts.specs.declared.aliases.ComponentOuterAliasKind.TheVariants as outers;
 ghost use Rattle.wenc_parts.specs.declared.exports.ComponentExportKind.TheVariants as kinds;
 ghost use Rattle.wenc_parts.specs.declared.imports.ComponentTypeRef.TheVariants as references;
-ghost use Rattle.wenc_types.specs.Prelude.{Aliased, Exported, AddsToInstance, indexed_outcome, InstanceDeclaration, instance_declaration, instance_sort, is_declaration};
+ghost use Rattle.wenc_types.specs.Prelude.{Aliased, Exported, AddsToInstance, indexed_outcome};
+ghost use Rattle.wenc_types.specs.Prelude.{InstanceDeclaration, instance_declaration};
+ghost use Rattle.wenc_types.specs.Prelude.{instance_space, is_declaration};
 
-use crate::counts::{sort_of_alias, sort_of_kind};
+use crate::counts::{space_of_alias, space_of_kind};
 use crate::declarations::{Declarations, DeclaredKind, DeclaringKind};
 use std::alloc::{Allocator, Global};
 use wenc_base::{Fault, Tagged};
@@ -28,13 +30,13 @@ impl DeclaredKind for InstanceTypes {
 
     ghost form = { instance_declaration };
 
-    ghost sort = { instance_sort };
+    ghost space = { instance_space };
 }
 
 impl DeclaringKind for InstanceTypes {
     ghost use Rattle.std.proofs.Common.{refl};
 
-    ghost declares = { λ d. is_declaration instance_declaration instance_sort d
+    ghost declares = { λ d. is_declaration instance_declaration instance_space d
         serves_itself refl };
 }
 
@@ -64,8 +66,8 @@ impl<A: Allocator> Declarations<InstanceTypes, A> {
         ensures { AddsToInstance self.old self.new result
             (Aliased (alias_view alias.entry)) }
     {
-        let sort = sort_of_alias(&alias);
-        self.add(&Tagged(0x02, &alias), sort)
+        let space = space_of_alias(&alias);
+        self.add(&Tagged(0x02, &alias), space)
     }
 
     /// Declares an export with this name.
@@ -81,7 +83,7 @@ impl<A: Allocator> Declarations<InstanceTypes, A> {
         ensures { AddsToInstance self.old self.new result
             (Exported (extern_name_view name.entry) ty) }
     {
-        self.add(&Tagged(0x04, &(name, ty)), sort_of_kind(ty.kind()))
+        self.add(&Tagged(0x04, &(name, ty)), space_of_kind(ty.kind()))
     }
 
     /// Declares an alias of a type, which the instance with the index `instance` exports under this

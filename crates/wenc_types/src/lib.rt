@@ -10,26 +10,23 @@
 #![tactic(auto)]
 
 pub mod component_type;
-pub mod core_type;
 pub mod core_type_tree;
 pub mod counts;
 pub mod declarations;
 pub mod defined_tree;
-pub mod defined_type;
-pub mod func_type;
+pub mod encoders;
 pub mod instance_type;
 pub mod module_type;
-pub mod ty;
 pub mod type_tree;
 
 pub use component_type::ComponentType;
-pub use core_type::ComponentCoreTypeEncoder;
 pub use core_type_tree::{CoreTypeTree, ModuleDecl};
 pub use declarations::{Declarations, DeclaredKind, DeclaringKind};
 pub use defined_tree::{CaseTree, DefinedTree};
-pub use defined_type::ComponentDefinedTypeEncoder;
-pub use func_type::{ComponentFuncTypeEncoder, FuncStage};
+pub use encoders::core_type::ComponentCoreTypeEncoder;
+pub use encoders::defined_type::ComponentDefinedTypeEncoder;
+pub use encoders::func_type::{ComponentFuncTypeEncoder, FuncStage};
+pub use encoders::ty::ComponentTypeEncoder;
 pub use instance_type::InstanceType;
 pub use module_type::ModuleType;
-pub use ty::ComponentTypeEncoder;
 pub use type_tree::{ComponentDecl, InstanceDecl, TypeTree};

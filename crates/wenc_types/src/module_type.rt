@@ -1,11 +1,14 @@
 //! Types of core modules.
 ghost use Rattle.std.specs.Borrow.{sem};
 ghost use Rattle.std.specs.Prelude.{◌≡◌, false, OnOk, IfOk};
-ghost use Rattle.wenc_base.specs.Prelude.{is_finished, AddCause, Lends};
-ghost use Rattle.wenc_types.specs.Prelude.{ModuleImport, ModuleOuter, ModuleExport, AddsToModule, NoneBegun, indexed_outcome, lead_of, type_begun, unchanged_on_err, ModuleDeclaration, module_declaration, module_sort};
-ghost use Rattle.wenc_types.specs.declared.counts.Sort.TheVariants as sorts;
+ghost use Rattle.wenc_base.specs.Prelude.{is_finished, AddCause, Borrows};
+ghost use Rattle.wenc_types.specs.Prelude.{ModuleImport, ModuleOuter, ModuleExport, AddsToModule};
+ghost use Rattle.wenc_types.specs.Prelude.{NoneBegun, indexed_outcome, lead_of, type_begun};
+ghost use Rattle.wenc_types.specs.Prelude.{unchanged_on_err, ModuleDeclaration, module_declaration};
+ghost use Rattle.wenc_types.specs.Prelude.{module_space};
+ghost use Rattle.wenc_types.specs.declared.counts.IndexSpace.TheVariants as spaces;
 
-use crate::counts::Sort;
+use crate::counts::IndexSpace;
 use crate::declarations::{Declarations, DeclaredKind};
 use std::alloc::{Allocator, Global};
 use wenc_base::{CoreTypeEncoder, EntityType, Fault, Tagged, Verbatim};
@@ -22,7 +25,7 @@ impl DeclaredKind for ModuleTypes {
 
     ghost form = { module_declaration };
 
-    ghost sort = { module_sort };
+    ghost space = { module_space };
 }
 
 /// The type of a core module: its imports and exports, and the types that these refer to (component
@@ -65,7 +68,7 @@ impl<A: Allocator> Declarations<ModuleTypes, A> {
         let sort_and_kind = Verbatim(&[0x10, 0x01]);
         self.add(
             &Tagged(0x02, &(sort_and_kind, count, index)),
-            Some(Sort::Type),
+            Some(IndexSpace::Type),
         )
     }
 
@@ -105,15 +108,15 @@ impl<A: Allocator> Declarations<ModuleTypes, A> {
     pub fn ty(&mut self) -> Result<CoreTypeEncoder<'_, ModuleType<A>>, Fault>
         ensures* refused { sem 𝓛 (unchanged_on_err
             (the_row kind A.row ⟦<ModuleTypes as DeclaredKind>⟧ A.Allocator) self.entry
-            (λ e. e.lender) result) }
-        ensures same_reference { IfOk result (λ e. e.lender.ghost_name ≡ self.entry.ghost_name) }
-        ensures lent { Lends (λ e. e.lender.now) (type_begun sorts.«Type» self.old)
+            (λ e. e.parent) result) }
+        ensures same_reference { IfOk result (λ e. e.parent.ghost_name ≡ self.entry.ghost_name) }
+        ensures borrowed { Borrows (λ e. e.parent.now) (type_begun spaces.«Type» self.old)
             (is_finished self.old.held) result
-            (AddCause self.old.held (lead_of sorts.«Type») (λ _. ⊥)) }
+            (AddCause self.old.held (lead_of spaces.«Type») (λ _. ⊥)) }
         ensures settled { OnOk result (NoneBegun self.old) }
         ensures unguarded { IfOk result (λ e. e.guard ≡ false) }
     {
-        self.begin(0x01, Sort::Type)?;
+        self.begin(0x01, IndexSpace::Type)?;
         Ok(CoreTypeEncoder::new(self, false))
     }
 }

@@ -2,7 +2,13 @@
 ghost use Rattle.std.specs.Prelude.{OnOk};
 ghost use Rattle.wenc_base.specs.Prelude.{Appends, list_in_order, ◌▸◌, ◌⨾◌, serves_itself};
 ghost use Rattle.wenc_parts.specs.Prelude.{extern_name, name_tree_view, type_reference};
-ghost use Rattle.wenc_types.specs.Prelude.{function_type, function_view, def_type, type_view, instance_declaration, instance_declaration_view, component_declaration, component_declaration_view, DefType, type_lawful, read_type, InstanceDeclaration, instance_declaration_lawful, read_instance_declaration, ComponentDeclaration, component_declaration_lawful, read_component_declaration};
+ghost use Rattle.wenc_types.specs.Prelude.{function_type, function_view, def_type, type_view};
+ghost use Rattle.wenc_types.specs.Prelude.{instance_declaration, instance_declaration_view};
+ghost use Rattle.wenc_types.specs.Prelude.{component_declaration, component_declaration_view};
+ghost use Rattle.wenc_types.specs.Prelude.{DefType, type_lawful, read_type, InstanceDeclaration};
+ghost use Rattle.wenc_types.specs.Prelude.{instance_declaration_lawful, read_instance_declaration};
+ghost use Rattle.wenc_types.specs.Prelude.{ComponentDeclaration, component_declaration_lawful};
+ghost use Rattle.wenc_types.specs.Prelude.{read_component_declaration};
 
 use crate::core_type_tree::CoreTypeTree;
 use crate::defined_tree::DefinedTree;
@@ -65,7 +71,7 @@ pub enum InstanceDecl<A: Allocator = Global> {
     CoreType(CoreTypeTree<A>),
     /// A type, which takes the next index in the index space of types.
     Type(TypeTree<A>),
-    /// An alias, which takes the next index in the index space of its sort. A string of more than
+    /// An alias, which takes the next index in the index space of its kind. A string of more than
     /// 4294967295 bytes can't be encoded.
     Alias(AliasTree<A>),
     /// An export of the instance.
@@ -90,7 +96,7 @@ pub enum ComponentDecl<A: Allocator = Global> {
         /// 4294967295.
         ty: ComponentTypeRef,
     },
-    /// A declaration that an instance type may have as well.
+    /// A declaration that an instance type can have too.
     Decl(InstanceDecl<A>),
 }
 

@@ -21,7 +21,7 @@ pub record Answers (old new : State) (answer : Result (Option ℕ) Fault)
   pub held : (es : List Entry) → Holds old es
       → Holds new (entries_after es c answer) × IsDue es c answer
 
--- A command's type was refused by its encoder. What was held is held once the type is given up.
+-- A command's type was refused by its encoder. What was held is held once the type is discarded.
 pub record StepsStop (old given_up : State) (fault : Fault) (c : CommandTree) : Type 0 where
   pub entry : Entry
   pub adds : c ≡ Add entry
@@ -38,7 +38,7 @@ abbrev pub StepsRun : State → State → Result (Result (Option ℕ) Fault) Fau
 StepsRun old new outcome c =
     MatchResult outcome (λ answer. Answers old new answer c) (λ fault. StepsLeft old new fault c)
 
--- what it does, where that type is given up
+-- what it does, if that type is discarded
 abbrev pub StepsBack : State → State → Result (Result (Option ℕ) Fault) Fault → CommandTree → Type 0
 StepsBack old new outcome c =
     MatchResult outcome (λ answer. Answers old new answer c) (λ fault. StepsStop old new fault c)

@@ -1,10 +1,20 @@
 //! Laws about the results of a builder's calls.
 ghost use Rattle.std.specs.List.{AllByRecursion};
 ghost use Rattle.std.specs.List.Sorted.{IsStrictlyIncreasing};
-ghost use Rattle.std.specs.Prelude.{◌≡◌, ◌↔◌, ◌+◌, ◌<◌, ◌≤◌, ◌^◌, ◌++◌, ◌∷◌, [], ℕ, List, length, map, true, IsOk, Ok, Option, Result, Some};
-ghost use Rattle.wasm_encoder.specs.Prelude.{Fault, Space, ComponentSectionId, PrimitiveValType, added, led, first_cause, CommandTree, Commands, command_view, commands_listed, command_of, AddsNameless, Ran, AreEntered, ListedAreEntered, CoreFunctionsAreEntered, FunctionsAreEntered, Command};
+ghost use Rattle.std.specs.Prelude.{◌≡◌, ◌↔◌, ◌+◌, ◌<◌, ◌≤◌, ◌^◌, ◌++◌, ◌∷◌, [], ℕ, List, length};
+ghost use Rattle.std.specs.Prelude.{map, true, IsOk, Ok, Option, Result, Some};
+ghost use Rattle.wasm_encoder.specs.Prelude.{Fault, Space, ComponentSectionId, PrimitiveValType};
+ghost use Rattle.wasm_encoder.specs.Prelude.{added, led, first_cause, CommandTree, Commands};
+ghost use Rattle.wasm_encoder.specs.Prelude.{command_view, commands_listed, command_of};
+ghost use Rattle.wasm_encoder.specs.Prelude.{AddsNameless, Ran, AreEntered, ListedAreEntered};
+ghost use Rattle.wasm_encoder.specs.Prelude.{CoreFunctionsAreEntered, FunctionsAreEntered, Command};
 ghost use Rattle.wenc_base.specs.Prelude.{NoCause};
-ghost use Rattle.wenc_builder.specs.Prelude.{State, Draft, draft_in, builder_is_finished, item_begun, item_appended, item_ended, item_given_up, count_in, Enters, EntersWithoutIndex, Entry, items as items_of, names, StartIsNameless, Holds, Item, collected, HasNoRaw, Section, Run, runs, whole, defines, some_in, next_index};
+ghost use Rattle.wenc_builder.specs.Prelude.{State, NewItem, new_item_in, builder_is_finished};
+ghost use Rattle.wenc_builder.specs.Prelude.{item_begun, item_appended, item_ended, item_given_up};
+ghost use Rattle.wenc_builder.specs.Prelude.{count_in, Enters, EntersWithoutIndex, Entry};
+ghost use Rattle.wenc_builder.specs.Prelude.{items as items_of, names, StartIsNameless, Holds};
+ghost use Rattle.wenc_builder.specs.Prelude.{Item, collected, HasNoRaw, Section, Run, runs, whole};
+ghost use Rattle.wenc_builder.specs.Prelude.{defines, some_in, next_index};
 ghost use Rattle.wenc_parts.specs.Prelude.{value_type, primitive};
 ghost use Rattle.wenc_parts.specs.declared.types.ComponentValType.TheVariants as value_types;
 
@@ -12,7 +22,7 @@ use std::alloc::Allocator;
 use wenc_base::ValType;
 use wenc_parts::ComponentValType;
 
-/// No two neighbours among the sections into which items are cut collect items of one kind.
+/// No two adjacent sections, of those into which items are cut, collect items of one kind.
 pub fn neighbours_differ()
     ensures { (xs : List Item) (front behind : List Section) (id : ℕ) (ys zs : List Item)
         → runs xs ≡ front ++ Run id ys ∷ Run id zs ∷ behind → ⊥ }
@@ -22,7 +32,8 @@ pub fn neighbours_differ()
 /// a space, they take as many indices there as there are items.
 pub fn one_kind_is_one_section()
     ensures one { (id : ℕ) (x : Item) (xs : List Item)
-        → AllByRecursion (λ y. collected y ≡ Some id) (x ∷ xs) → runs (x ∷ xs) ≡ Run id (x ∷ xs) ∷ [] }
+        → AllByRecursion (λ y. collected y ≡ Some id) (x ∷ xs)
+        → runs (x ∷ xs) ≡ Run id (x ∷ xs) ∷ [] }
     ensures none_raw { (id : ℕ) (xs : List Item)
         → AllByRecursion (λ y. collected y ≡ Some id) xs → HasNoRaw xs }
     ensures indices { (space : Space) (xs : List Item)
@@ -38,8 +49,8 @@ pub fn held_items_tell_bytes()
 {}
 
 /// An accepted call that defines one item returns the previous count of the item's space, and
-/// raises that count alone, by one. So does one that begins a type: the next index of a space is
-/// its count.
+/// raises only that count, by one. The same holds for one that begins a type: the next index of a
+/// space is its count.
 pub fn one_item_counts_once()
     ensures answered { (old new : State) (i : ℕ) (x : Entry) (space : Space) (es : List Entry)
         → Holds old es → Enters old new (Ok i) x → defines x.item ≡ some_in space 1
@@ -52,14 +63,14 @@ pub fn one_item_counts_once()
         → (other ≡ space → ⊥) → count_in new other ≡ count_in old other }
     ensures next { (s : State) (es : List Entry) (space : Space) → Holds s es
         → next_index (items_of es) space ≡ count_in s space }
-    ensures begun_raised { (old lent : State) (id : ComponentSectionId) (space : Space)
+    ensures begun_raised { (old parent : State) (id : ComponentSectionId) (space : Space)
         (name : Option (List ℕ)) (text : List ℕ) (es : List Entry) → Holds old es
-        → lent ≡ item_begun old (draft_in id space name text)
-        → count_in lent space ≡ count_in old space + 1 }
-    ensures begun_alone { (old lent : State) (id : ComponentSectionId) (space other : Space)
+        → parent ≡ item_begun old (new_item_in id space name text)
+        → count_in parent space ≡ count_in old space + 1 }
+    ensures begun_alone { (old parent : State) (id : ComponentSectionId) (space other : Space)
         (name : Option (List ℕ)) (text : List ℕ) (es : List Entry) → Holds old es
-        → lent ≡ item_begun old (draft_in id space name text) → (other ≡ space → ⊥)
-        → count_in lent other ≡ count_in old other }
+        → parent ≡ item_begun old (new_item_in id space name text) → (other ≡ space → ⊥)
+        → count_in parent other ≡ count_in old other }
 {}
 
 /// The command made of an item adds that item alone, whatever was added before.
@@ -67,9 +78,9 @@ pub fn an_item_becomes_its_command()
     ensures { (es : List Entry) (x : Item) → items_of (added es (command_of x)) ≡ x ∷ [] }
 {}
 
-/// No call lowers the count of a space, whether it succeeds or fails: none that adds an entry or
-/// begins a type, and an encoder's leave the counts as they are. Discarding a type restores those
-/// before it was begun, where what was settled then still is.
+/// No call lowers the count of a space, whether it succeeds or fails: neither one that adds an
+/// entry or begins a type, nor one of an encoder, which leaves the counts as they are. Discarding a
+/// type restores the counts from before it was begun, if what was settled then still is.
 pub fn counts_never_fall()
     ensures indexed { (old new : State) (result : Result ℕ Fault) (x : Entry) (space : Space)
         (es : List Entry) → Holds old es → Enters old new result x
@@ -77,21 +88,22 @@ pub fn counts_never_fall()
     ensures without_index { (old new : State) (result : Result (Unit {0}) Fault) (x : Entry)
         (space : Space) (es : List Entry) → Holds old es → EntersWithoutIndex old new result x
         → count_in old space ≤ count_in new space }
-    ensures begun { (old lent : State) (d : Draft) (space : Space) (es : List Entry) → Holds old es
-        → lent ≡ item_begun old d → count_in old space ≤ count_in lent space }
+    ensures begun { (old parent : State) (d : NewItem) (space : Space) (es : List Entry)
+        → Holds old es
+        → parent ≡ item_begun old d → count_in old space ≤ count_in parent space }
     ensures written { (old new : State) (text : List ℕ) (space : Space)
         → new ≡ item_appended old text → count_in new space ≡ count_in old space }
     ensures ended { (old new : State) (space : Space) → new ≡ item_ended old
         → count_in new space ≡ count_in old space }
-    ensures given_up { (old lent new : State) (space : Space) → builder_is_finished old ≡ true
-        → lent.settled ≡ old.settled → new ≡ item_given_up lent
+    ensures given_up { (old parent new : State) (space : Space) → builder_is_finished old ≡ true
+        → parent.settled ≡ old.settled → new ≡ item_given_up parent
         → count_in new space ≡ count_in old space }
 {}
 
 /// The indices in a space's list of names ascend, and each is below the space's count, if no start
-/// function has a name: in some entries that a builder holds, whichever calls were made
+/// function has a name. This holds in some entries that a builder holds, whatever calls were made
 /// (`ComponentBuilder::is_finished`), and in all that commands lead to, if none adds a start
-/// function with a name, and no command of the code does.
+/// function with a name, as no `Command` does.
 pub fn named_indices_ascend<A: Allocator>()
     ensures ascending { (es : List Entry) (k : Space) → AllByRecursion StartIsNameless es
         → IsStrictlyIncreasing (map (λ n. n.index) (names es k)) }
@@ -131,10 +143,11 @@ pub fn nested_runs()
 /// not at all, it leaves every list held that was held.
 pub fn encoded_types_are_entries()
     ensures written { AreEntered }
-    ensures begun_given_up { (old lent new : State) (es : List Entry) (d : Draft)
-        → lent ≡ item_begun old d → new ≡ item_given_up lent → Holds old es → Holds new es }
-    ensures written_given_up { (old lent new : State) (es : List Entry) (d : Draft) (text : List ℕ)
-        → lent ≡ item_appended (item_begun old d) text → new ≡ item_given_up lent
+    ensures begun_given_up { (old parent new : State) (es : List Entry) (d : NewItem)
+        → parent ≡ item_begun old d → new ≡ item_given_up parent → Holds old es → Holds new es }
+    ensures written_given_up { (old parent new : State) (es : List Entry) (d : NewItem)
+        (text : List ℕ)
+        → parent ≡ item_appended (item_begun old d) text → new ≡ item_given_up parent
         → Holds old es → Holds new es }
 {}
 
@@ -145,7 +158,7 @@ pub fn listed_types_are_entries<T, I: Iterator<Item = T>>()
     ensures { ListedAreEntered I.next_gives }
 {}
 
-/// The same of a core function, from the parameters and the results that two iterators yielded.
+/// The same for a core function, from the parameters and the results that two iterators yielded.
 pub fn core_functions_are_entries<P, R>()
 where
     P: Iterator<Item = ValType>,
@@ -153,8 +166,8 @@ where
     ensures { CoreFunctionsAreEntered P.next_gives R.next_gives }
 {}
 
-/// The same of a function, from the calls of its encoder: `params` and `result`, or `async_` before
-/// these.
+/// The same for a function, from the calls of its encoder: `params` and `result`, or `async_`
+/// before these.
 pub fn functions_are_entries<'a, P: Iterator<Item = (&'a str, ComponentValType)>>()
     ensures { FunctionsAreEntered P.next_gives }
 {}

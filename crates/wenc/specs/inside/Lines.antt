@@ -12,7 +12,7 @@ use Rattle.wenc.specs.Script.{line_command}
 use Rattle.wenc.specs.declared.failure.Failure.{Failure}
 use Rattle.wenc.specs.declared.failure.Failure.TheVariants.{Arguments, BadLine, Fault, Transfer}
 
--- the longest front of bytes that is a text, and whether that is all of them
+-- the longest prefix of bytes that is UTF-8, and whether that is all of them
 abbrev pub IsTextInFront : List ℕ → List ℕ → Bool → Type 0
 IsTextInFront bytes text is_whole =
     MatchBool is_whole ((text ≡ bytes) × IsUtf8 bytes)

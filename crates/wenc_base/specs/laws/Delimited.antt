@@ -18,8 +18,12 @@ option_readable form laws = ((λ fuel. read_option (laws.0 fuel)), option_lawful
 
 -- ---- one value, then another
 
-pub pair_readable : {A B : Type 0} (one : Form A) (two : Form B) → IsReadable one → IsReadable two → IsReadable (pair one two)
-pair_readable one two first second = ((λ fuel. first.0 fuel >>= λ v. second.0 fuel >>= λ w. give (v, w)), λ p. then _ (first.1 p.0) (last _ (second.1 p.1)))
+pub pair_readable : {A B : Type 0} (one : Form A) (two : Form B) → IsReadable one → IsReadable two
+    → IsReadable (pair one two)
+pair_readable one two first second = (
+  (λ fuel. first.0 fuel >>= λ v. second.0 fuel >>= λ w. give (v, w)),
+  λ p. then _ (first.1 p.0) (last _ (second.1 p.1)),
+)
 
 -- ---- as many values as there are
 
@@ -30,29 +34,34 @@ list_readable form laws = ((λ fuel. read_list (laws.0 fuel)), list_lawful laws.
 
 -- two values that fit, and their texts, each followed by any bytes
 pub told : {A S : Type 0} (piece : Form A) (seen : A → S) (form : Form S) → IsReadable form → IsWritten piece seen form
-    → (a b : A) (r s : List ℕ) → (piece a).Fits → (piece b).Fits → (piece a).text ++ r ≡ (piece b).text ++ s → (seen a ≡ seen b) × (r ≡ s)
+    → (a b : A) (r s : List ℕ) → (piece a).Fits → (piece b).Fits
+    → (piece a).text ++ r ≡ (piece b).text ++ s → (seen a ≡ seen b) × (r ≡ s)
 told piece seen form laws is a b r s h k e =
-    delimited (laws.1 (seen a)) (laws.1 (seen b)) r s ((is a).fits h) ((is b).fits k) (rw ((is a).text, (is b).text) at e)
+    delimited (laws.1 (seen a)) (laws.1 (seen b)) r s ((is a).fits h) ((is b).fits k)
+    (rw ((is a).text, (is b).text) at e)
 
 -- ---- equal values
 
 pub itself : {A : Type 0} (eq : A → A → Bool) → IsEquivalence eq → (a b : A) → a ≡ b → eq a b ≡ true
 itself eq laws a b e = rw e (laws.refl b)
 
-pub option_equal : {A S : Type 0} (eq : A → A → Bool) (seen : A → S) → AlikeIsEqual eq seen → AlikeIsEqual (option_eq eq) (option_map seen)
+pub option_equal : {A S : Type 0} (eq : A → A → Bool) (seen : A → S) → AlikeIsEqual eq seen
+    → AlikeIsEqual (option_eq eq) (option_map seen)
 option_equal eq seen alike None None e = refl
 option_equal eq seen alike None (Some w) e = absurd cc
 option_equal eq seen alike (Some v) None e = absurd cc
 option_equal eq seen alike (Some v) (Some w) e = alike v w cc
 
-pub pair_equal : {A B S R : Type 0} (eq : A → A → Bool) (eq' : B → B → Bool) (seen : A → S) (seen' : B → R) → AlikeIsEqual eq seen → AlikeIsEqual eq' seen'
+pub pair_equal : {A B S R : Type 0} (eq : A → A → Bool) (eq' : B → B → Bool) (seen : A → S)
+    (seen' : B → R) → AlikeIsEqual eq seen → AlikeIsEqual eq' seen'
     → AlikeIsEqual {A = A × B} {S = S × R} (λ p q. eq p.0 q.0 && eq' p.1 q.1) (λ p. (seen p.0, seen' p.1))
 pair_equal {S = S} {R = R} eq eq' seen seen' alike alike' p q e =
     let one : eq p.0 q.0 ≡ true = alike p.0 q.0 (ap (λ (x : S × R). x.0) e) in
     let two : eq' p.1 q.1 ≡ true = alike' p.1 q.1 (ap (λ (x : S × R). x.1) e) in
     rw (one, two) refl
 
-pub list_equal : {A S : Type 0} (eq : A → A → Bool) (seen : A → S) → AlikeIsEqual eq seen → AlikeIsEqual (pointwise eq) (map seen)
+pub list_equal : {A S : Type 0} (eq : A → A → Bool) (seen : A → S) → AlikeIsEqual eq seen
+    → AlikeIsEqual (pointwise eq) (map seen)
 list_equal eq seen alike [] [] e = refl
 list_equal eq seen alike [] (w ∷ ws) e = absurd cc
 list_equal eq seen alike (v ∷ vs) [] e = absurd cc

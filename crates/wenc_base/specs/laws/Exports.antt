@@ -16,4 +16,5 @@ core_export_kind_lawful Global = row_byte _ _ 0x03 (λ fuel rest. refl)
 core_export_kind_lawful Tag = row_byte _ _ 0x04 (λ fuel rest. refl)
 
 pub core_export_kind_sound : Sound core_export_kind read_core_export_kind
-core_export_kind_sound = choose_tells _ _ (given_rows core_export_kind export_kind_byte (λ kind. kind) (λ kind rest. refl) (Func ∷ Table ∷ Memory ∷ Global ∷ Tag ∷ [])) nowhere_tells
+core_export_kind_sound = choose_tells _ _ (given_rows core_export_kind export_kind_byte
+    (λ kind. kind) (λ kind rest. refl) (Func ∷ Table ∷ Memory ∷ Global ∷ Tag ∷ [])) nowhere_tells

@@ -19,5 +19,6 @@ pub name_association_lawful : (n : NameAssociation) → Lawful (name_association
 name_association_lawful n = then _ (u32_lawful n.index) (last (named_so n.index) (name_lawful n.name))
 
 -- what is held of these names is their map
-pub held_names : (held : HolderState) (ns : List NameAssociation) → Contains name_association held ns → held_text held ≡ (name_map ns).text
+pub held_names : (held : HolderState) (ns : List NameAssociation)
+    → Contains name_association held ns → held_text held ≡ (name_map ns).text
 held_names held ns holds = rw (← holds.count, holds.body) refl

@@ -1,4 +1,4 @@
--- Readers of types of what modules import and export.
+-- Readers of types of the imports and exports of modules.
 use Rattle.std.specs.Prelude.{ℕ, Bool, true, false, List, [], ◌∷◌, ◌++◌, Option, Some, None}
 use Rattle.wenc_base.specs.Readers.{Reader, ◌>>=◌, give, nowhere, choose}
 use Rattle.wenc_base.specs.reading.Numbers.{read_u32, read_u64}

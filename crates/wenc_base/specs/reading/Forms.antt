@@ -22,7 +22,7 @@ read_option read = choose ((0, give None) ∷ (1, read >>= λ v. give (Some v)) 
 
 -- ---- names
 
--- so many bytes, which are text
+-- this many bytes, which are UTF-8
 unfoldable pub text_at : ℕ → Reader (List ℕ)
 text_at n bytes =
     if nat_lt (length bytes) n then Err Bad
@@ -36,7 +36,7 @@ read_name = read_u32 >>= read_text
 
 -- ---- with a size
 
--- so many bytes, which are all that is read
+-- this many bytes, which are all that is read
 abbrev pub read_filling : {A : Type 0} → (List ℕ → Result A Flaw) → ℕ → Reader A
 read_filling read n bytes =
     if nat_lt (length bytes) n then Err Bad

@@ -8,7 +8,10 @@ use Rattle.wenc_base.specs.declared.types.RefType.{RefType}
 use Rattle.wenc_base.specs.declared.types.HeapType.{HeapType}
 use Rattle.wenc_base.specs.declared.types.HeapType.TheVariants.{Abstract, Concrete}
 use Rattle.wenc_base.specs.declared.types.AbstractHeapType.{AbstractHeapType}
-use Rattle.wenc_base.specs.declared.types.AbstractHeapType.TheVariants.{Func, Extern, Any, None, NoExtern, NoFunc, Eq, Struct, Array, I31, Exn, NoExn}
+use Rattle.wenc_base.specs.declared.types.AbstractHeapType.TheVariants.{Func, Extern, Any, None}
+use Rattle.wenc_base.specs.declared.types.AbstractHeapType.TheVariants.{NoExtern, NoFunc, Eq}
+use Rattle.wenc_base.specs.declared.types.AbstractHeapType.TheVariants.{Struct, Array, I31, Exn}
+use Rattle.wenc_base.specs.declared.types.AbstractHeapType.TheVariants.{NoExn}
 use Rattle.wenc_base.specs.Types.{heap_type, nullable}
 
 abbrev pub abstract_rows : {A : Type 0} → (AbstractHeapType → A) → List (ℕ × Reader A)

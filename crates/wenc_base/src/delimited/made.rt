@@ -1,6 +1,8 @@
 //! `Delimited` for options, lists, pairs and triples of delimited values.
 ghost use Rattle.std.specs.Prelude.{Option as Optional, option_map, List, map};
-ghost use Rattle.wenc_base.specs.Prelude.{option_serves, list_serves, order_serves, option, option_readable, option_equal, list, list_readable, list_equal, pair, pair_readable, pair_equal};
+ghost use Rattle.wenc_base.specs.Prelude.{option_serves, list_serves, order_serves, option};
+ghost use Rattle.wenc_base.specs.Prelude.{option_readable, option_equal, list, list_readable};
+ghost use Rattle.wenc_base.specs.Prelude.{list_equal, pair, pair_readable, pair_equal};
 
 use super::{Delimited, DelimitedEq};
 

@@ -1,5 +1,6 @@
 //! Numbers inserted before bytes that are already written.
-ghost use Rattle.std.specs.Prelude.{◌≡◌, ℕ, ◌+◌, ◌<◌, ◌≤◌, ◌++◌, List, length, take, drop, OnOk, OnErr, IfErr};
+ghost use Rattle.std.specs.Prelude.{◌≡◌, ℕ, ◌+◌, ◌<◌, ◌≤◌, ◌++◌, List, length, take, drop, OnOk};
+ghost use Rattle.std.specs.Prelude.{OnErr, IfErr};
 ghost use Rattle.wenc_base.specs.Prelude.{IsMemory, unsigned_text};
 
 use super::Encode;
@@ -89,7 +90,7 @@ fn put_long_number_over<A: Allocator>(
     }
 }
 
-/// Moves the last `size` bytes to `start`, before those that are there.
+/// Moves the last `size` bytes to `start`, before the bytes there.
 fn turn_to_front(bytes: &mut [u8], start: usize, size: usize)
     requires { start + size ≤ length bytes.old }
     ensures { (before behind last : List ℕ) → bytes.old ≡ before ++ behind ++ last

@@ -2,7 +2,8 @@
 ghost use Rattle.std.specs.Prelude.{◌≡◌, ◌<◌, ◌++◌, List, ℕ, length, ◌^◌, OnOk, OnErr, IfOk, IfErr};
 ghost use Rattle.std.specs.Iterator.{IsFinite};
 ghost use Rattle.std.specs.Iterator.Runs.{SomeRun, WholeRun};
-ghost use Rattle.wenc_base.specs.Prelude.{Appended, list_in_order, drawn_in_order, Written, IsWarranted, member_cause};
+ghost use Rattle.wenc_base.specs.Prelude.{Appended, list_in_order, drawn_in_order, Written};
+ghost use Rattle.wenc_base.specs.Prelude.{IsWarranted, member_cause};
 
 use super::front::put_number_over;
 use crate::encode::Encode;

@@ -1,6 +1,9 @@
 //! The kept prefix of a holder: bytes before its members.
-ghost use Rattle.std.specs.Prelude.{◌≡◌, ◌+◌, ◌-◌, ◌<◌, ◌≤◌, ◌^◌, ◌++◌, [], true, false, length, take, drop, vec_len, vec_capacity, OnOk, OnErr, IfOk, IfErr};
-ghost use Rattle.wenc_base.specs.Prelude.{Appends, IsMemory, IsWarranted, either, NoCause, AreBytes, is_finished, holding, gone_back, content_size, all_bytes, with_kept, filled, EncodeCause};
+ghost use Rattle.std.specs.Prelude.{◌≡◌, ◌+◌, ◌-◌, ◌<◌, ◌≤◌, ◌^◌, ◌++◌, [], true, false, length};
+ghost use Rattle.std.specs.Prelude.{take, drop, vec_len, vec_capacity, OnOk, OnErr, IfOk, IfErr};
+ghost use Rattle.wenc_base.specs.Prelude.{Appends, IsMemory, IsWarranted, either, NoCause};
+ghost use Rattle.wenc_base.specs.Prelude.{AreBytes, is_finished, holding, gone_back, content_size};
+ghost use Rattle.wenc_base.specs.Prelude.{all_bytes, with_kept, filled, EncodeCause};
 ghost use Rattle.wenc_base.specs.declared.fault.Fault.TheVariants.{Unfinished};
 
 use super::Holder;
@@ -120,8 +123,7 @@ impl<A: Allocator> Holder<A> {
     }
 }
 
-/// Appends the encoding of a value, of which each element is a byte, as of all that a vector of
-/// bytes contains.
+/// Appends the encoding of a value. Its elements are bytes, as all that a vector of bytes contains.
 #[inline]
 fn append<E: Encode, A: Allocator>(value: &E, sink: &mut Vec<u8, A>) -> Result<(), Fault>
     ensures appended { Appends (E.piece value.now).text (E.piece value.now).Cause

@@ -1,6 +1,10 @@
 //! Members that are written in several calls.
-ghost use Rattle.std.specs.Prelude.{◌≡◌, ◌≤◌, ◌<◌, ◌^◌, [], false, length, take, drop, OnOk, OnErr, IfErr};
-ghost use Rattle.wenc_base.specs.Prelude.{list, verbatim, behind_bytes, is_finished, content_size, AddCause, ExtendsListed, GivesUp, member_appended, member_ended, member_given_up, no_room_in_holder, is_opened, BeginsMember, AppendsToMember};
+ghost use Rattle.std.specs.Prelude.{◌≡◌, ◌≤◌, ◌<◌, ◌^◌, [], false, length, take, drop, OnOk, OnErr};
+ghost use Rattle.std.specs.Prelude.{IfErr};
+ghost use Rattle.wenc_base.specs.Prelude.{list, verbatim, behind_bytes, is_finished, content_size};
+ghost use Rattle.wenc_base.specs.Prelude.{AddCause, ExtendsListed, GivesUp, member_appended};
+ghost use Rattle.wenc_base.specs.Prelude.{member_ended, member_given_up, no_room_in_holder};
+ghost use Rattle.wenc_base.specs.Prelude.{is_opened, BeginsMember, AppendsToMember};
 ghost use Rattle.wenc_base.specs.declared.fault.Fault.TheVariants.{TooLarge, Unfinished};
 ghost use Rattle.std.specs.Iterator.{IsFinite};
 
@@ -14,7 +18,7 @@ use std::alloc::Allocator;
 pub struct Opening {
     /// Where the member begins, as an offset into the members' bytes.
     pub member_start: usize,
-    /// Where the lead ends with which the member was opened, as an offset into the members' bytes.
+    /// Where the member's lead ends, as an offset into the members' bytes.
     pub lead_end: usize,
 }
 

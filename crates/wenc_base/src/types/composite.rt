@@ -2,7 +2,11 @@
 ghost use Rattle.std.specs.Prelude.{◌≡◌, IfOk, IfErr, refl};
 ghost use Rattle.std.specs.Iterator.{IsFinite};
 ghost use Rattle.std.specs.Iterator.Runs.{WholeRun};
-ghost use Rattle.wenc_base.specs.Prelude.{params_of, results_of, IsMemory, serves_itself, composite_type, func_type_view, Composite, composite_type_lawful, read_composite, same_params, same_results, array_view, same_element, structure_view, same_fields, composite_view, by_kind};
+ghost use Rattle.wenc_base.specs.Prelude.{params_of, results_of, IsMemory, serves_itself};
+ghost use Rattle.wenc_base.specs.Prelude.{composite_type, func_type_view, Composite};
+ghost use Rattle.wenc_base.specs.Prelude.{composite_type_lawful, read_composite, same_params};
+ghost use Rattle.wenc_base.specs.Prelude.{same_results, array_view, same_element, structure_view};
+ghost use Rattle.wenc_base.specs.Prelude.{same_fields, composite_view, by_kind};
 
 use super::ValType;
 use super::storage::FieldType;
@@ -199,7 +203,8 @@ impl<A: Allocator> Delimited for CompositeType<A> {
 }
 
 impl<A: Allocator> DelimitedEq for CompositeType<A> {
-    ghost use Rattle.wenc_base.specs.declared.types.composite.CompositeType.TheVariants as composites;
+    ghost use Rattle.wenc_base.specs.declared.types.composite.CompositeType.TheVariants
+        as composites;
 
     ghost alike = { λ laws. by_kind _
         (λ f g e. rw (same_params f g e, same_results f g e) (laws.refl (composites.Func g)))

@@ -1,6 +1,9 @@
 //! Groups of types that a module defines together.
 ghost use Rattle.std.specs.Prelude.{refl};
-ghost use Rattle.wenc_base.specs.Prelude.{serves_itself, rec_type, rec_type_view, RecType, group_lawful, read_group, by_group, by_parts, by_kind, plain, same_params, same_results, same_element, same_fields, last_of_three};
+ghost use Rattle.wenc_base.specs.Prelude.{serves_itself, rec_type, rec_type_view, RecType};
+ghost use Rattle.wenc_base.specs.Prelude.{group_lawful, read_group, by_group, by_parts, by_kind};
+ghost use Rattle.wenc_base.specs.Prelude.{plain, same_params, same_results, same_element};
+ghost use Rattle.wenc_base.specs.Prelude.{same_fields, last_of_three};
 
 use super::sub::SubType;
 use crate::delimited::{Delimited, DelimitedEq};
@@ -43,7 +46,8 @@ impl<A: Allocator> Delimited for GroupTree<A> {
 }
 
 impl<A: Allocator> DelimitedEq for GroupTree<A> {
-    ghost use Rattle.wenc_base.specs.declared.types.composite.CompositeType.TheVariants as composites;
+    ghost use Rattle.wenc_base.specs.declared.types.composite.CompositeType.TheVariants
+        as composites;
     ghost use Rattle.wenc_base.specs.declared.types.groups.GroupTree.TheVariants as groups;
 
     ghost alike = { λ laws. by_group _

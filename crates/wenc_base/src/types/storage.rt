@@ -1,5 +1,7 @@
 //! Storage types of structure fields and array elements.
-ghost use Rattle.wenc_base.specs.Prelude.{itself, serves_itself, storage_type, storage_type_lawful, read_storage_type, field_type, field_type_lawful, read_field_type};
+ghost use Rattle.wenc_base.specs.Prelude.{itself, serves_itself, storage_type, storage_type_lawful};
+ghost use Rattle.wenc_base.specs.Prelude.{read_storage_type, field_type, field_type_lawful};
+ghost use Rattle.wenc_base.specs.Prelude.{read_field_type};
 
 use super::ValType;
 use crate::delimited::{Delimited, DelimitedEq};

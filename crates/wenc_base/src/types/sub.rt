@@ -1,6 +1,9 @@
 //! Subtypes: composite types with the type that they extend.
 ghost use Rattle.std.specs.Prelude.{OnOk, Some};
-ghost use Rattle.wenc_base.specs.Prelude.{Appends, option, u32 as number, ◌▸◌, ◌⨾◌, serves_itself, sub_type, sub_view, Sub, sub_type_lawful, read_sub_type, by_parts, by_kind, plain, same_params, same_results, same_element, same_fields, last_of_three};
+ghost use Rattle.wenc_base.specs.Prelude.{Appends, option, u32 as number, ◌▸◌, ◌⨾◌, serves_itself};
+ghost use Rattle.wenc_base.specs.Prelude.{sub_type, sub_view, Sub, sub_type_lawful, read_sub_type};
+ghost use Rattle.wenc_base.specs.Prelude.{by_parts, by_kind, plain, same_params, same_results};
+ghost use Rattle.wenc_base.specs.Prelude.{same_element, same_fields, last_of_three};
 
 use super::composite::CompositeType;
 use crate::delimited::{Delimited, DelimitedEq};
@@ -48,7 +51,8 @@ impl<A: Allocator> Delimited for SubType<A> {
 }
 
 impl<A: Allocator> DelimitedEq for SubType<A> {
-    ghost use Rattle.wenc_base.specs.declared.types.composite.CompositeType.TheVariants as composites;
+    ghost use Rattle.wenc_base.specs.declared.types.composite.CompositeType.TheVariants
+        as composites;
 
     ghost alike = { λ laws. by_parts _
         (by_kind _

@@ -1,4 +1,4 @@
--- What a builder stays through all calls.
+-- The invariant of a builder.
 use Rattle.std.specs.List.{AllByRecursion}
 use Rattle.std.specs.Prelude.{◌≡◌, ℕ, List, Option, Some, None}
 use Rattle.wenc_base.specs.Fault.{NoCause}
@@ -16,7 +16,7 @@ IsIndexed c (Some b) =
     ∥ ((name : Option (List ℕ)) ×
     (b.after ≡ namespace_with (namespace_at c.spaces b.space) 1 name)) ∥₁
 
--- with the item that is being written, its section isn't too much
+-- with the item that is being written, its section isn't too large
 abbrev pub HasRoomFor : Content → Option BegunItem → Type 0
 HasRoomFor c None = Unit {0}
 HasRoomFor c (Some b) = NoCause (SectionCause (entered c.sections b.id b.text).current)

@@ -13,8 +13,8 @@ use Rattle.wenc_base.specs.declared.fault.Fault.{Fault}
 use Rattle.wenc_parts.specs.declared.component.ComponentSectionId.TheVariants as ids
 use Rattle.wenc_parts.specs.SectionIds.{section_number}
 use Rattle.wenc_parts.specs.Component.{preamble}
-use Rattle.wenc_builder.specs.Builder.{OpenSection, SectionsState, entered, stood_alone}
-use Rattle.wenc_builder.specs.Builder.{open_text, Draft, draft}
+use Rattle.wenc_builder.specs.Builder.{OpenSection, SectionsState, entered, with_section}
+use Rattle.wenc_builder.specs.Builder.{open_text, NewItem, new_item}
 use Rattle.wenc_sections.specs.declared.space.Space.{Space}
 use Rattle.wenc_builder.specs.declared.builder.kind.Kind.{Kind}
 use Rattle.wenc_builder.specs.declared.builder.kind.Kind.TheVariants.{CoreInstance, CoreType}
@@ -36,19 +36,19 @@ kind_id Import = section_number ids.Import
 kind_id Export = section_number ids.Export
 
 -- an item of this kind, which takes one index in this space
-abbrev pub draft_of : Kind → Space → Option (List ℕ) → List ℕ → Draft
-draft_of kind space name text = draft (kind_id kind) space name text
+abbrev pub new_item_of : Kind → Space → Option (List ℕ) → List ℕ → NewItem
+new_item_of kind space name text = new_item (kind_id kind) space name text
 
 -- a section's id, the size of what follows the size, and its count
 abbrev pub section_head : ℕ → ℕ → ℕ → List ℕ
 section_head id count size = id ∷ (unsigned_text size ++ unsigned_text count)
 
--- that of a section that may be open, whose items have so many bytes
+-- that of a section that may be open, whose items have this many bytes
 abbrev pub open_head : Option Kind → ℕ → ℕ → List ℕ
 open_head None count body = []
 open_head (Some k) count body = section_head (kind_id k) count (number_size count + body)
 
--- ---- what a buffer is seen as
+-- ---- the state of a buffer
 
 -- an item that is being written: its section's id, and its text so far
 pub record Writing : Type 0 where
@@ -97,13 +97,13 @@ buffer_ended b = record { settled = buffered_content b; writing = None }
 abbrev pub buffer_given_up : Buffered → Buffered
 buffer_given_up b = record { settled = b.settled; writing = None }
 
--- something that stands alone after all sections
+-- something separate after all sections
 abbrev pub buffer_with : Buffered → List ℕ → Buffered
-buffer_with b text = record { settled = stood_alone b.settled text; writing = None }
+buffer_with b text = record { settled = with_section b.settled text; writing = None }
 
--- A call writes this piece alone after all sections, or is refused for the piece's own cause and
--- changes nothing.
-pub record StandsAlone (old new : Buffered) (outcome : Result (Unit {0}) Fault)
+-- A call writes this piece separately after all sections, or is refused for the piece's own cause
+-- and changes nothing.
+pub record AppendsSection (old new : Buffered) (outcome : Result (Unit {0}) Fault)
     (p : Piece) : Type 0 where
   pub ok : OnOk outcome (new ≡ buffer_with old p.text)
   pub fits : OnOk outcome p.Fits
@@ -122,7 +122,7 @@ OpensAnother (Some o) id = o.id ≡ id → ⊥
 
 -- ---- the layout
 
--- so many members of this kind, with these bytes
+-- this many members of this kind, with these bytes
 abbrev pub open_view : Option Kind → ℕ → List ℕ → Option OpenSection
 open_view None count items = None
 open_view (Some k) count items = Some (record { id = kind_id k; count = count; body = items })
@@ -157,7 +157,7 @@ buffer_view h closed_len kind (Some e) = record {
   writing = Some (record { id = id_of kind; text = h.body });
 }
 
--- a gap and its items stand between these two indices, where there is a section
+-- a gap and its items are between these two indices, if there is a section
 abbrev pub SectionIsIn : Option Kind → ℕ → ℕ → Type 0
 SectionIsIn None closed_len items_end = closed_len ≡ items_end
 SectionIsIn (Some k) closed_len items_end = closed_len + 11 ≤ items_end
@@ -211,6 +211,6 @@ kept_before (Some k) closed_len = closed_len + 11
 abbrev pub closed_with : List ℕ → Earlier → List ℕ
 closed_with kept e = take e.closed_len kept ++ open_text (earlier_view kept e)
 
--- the kept bytes with that section closed, and still after it what stood there
+-- the kept bytes with that section closed, and after it still the bytes that were there
 abbrev pub kept_with : List ℕ → Earlier → List ℕ
 kept_with kept e = closed_with kept e ++ drop e.items_end kept

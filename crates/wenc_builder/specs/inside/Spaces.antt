@@ -7,7 +7,7 @@ use Rattle.wenc_builder.specs.Builder.{namespace_with}
 use Rattle.wenc_sections.specs.declared.space.Space.{Space}
 use Rattle.wenc_builder.specs.declared.builder.spaces.Undo.{Undo}
 
--- what a space is seen as
+-- the state of a space
 abbrev pub space_view : ℕ → ℕ → List ℕ → Namespace
 space_view count named names = record { count = count; named = named; names = names }
 
@@ -24,7 +24,7 @@ pub record Spaced : Type 0 where
 abbrev pub empty_spaces : Spaced
 empty_spaces = record { settled = replicate 13 no_names; taking = None }
 
--- a space with so many more items, the first of them with this name or none
+-- a space with this many more items, the first of them with this name or none
 abbrev pub space_begun : Spaced → Space → ℕ → Option (List ℕ) → Namespace
 space_begun s space number name = namespace_with (namespace_at s.settled space) number name
 

@@ -24,7 +24,7 @@ builder_view b s = record {
   begun = begun_of b.writing s.taking;
 }
 
--- A builder is written to in both or in none, and holds some entries.
+-- An item is being written in both or in none, and the builder holds some entries.
 pub record IsBuilder (b : Buffered) (s : Spaced) : Type 0 where
   pub agree : Agree b.writing s.taking
   pub holds : HoldsSome (builder_view b s)

@@ -1,5 +1,6 @@
 -- Sections that can be encoded, with one more item.
-use Rattle.std.proofs.Common.{◌≡◌, ℕ, ◌<◌, ◌^◌, List, [], ◌∷◌, ◌++◌, length, Option, Some, None, inl, inr, refl, length-append, subst, arith}
+use Rattle.std.proofs.Common.{◌≡◌, ℕ, ◌<◌, ◌^◌, List, [], ◌∷◌, ◌++◌, length, Option, Some, None}
+use Rattle.std.proofs.Common.{inl, inr, refl, length-append, subst, arith}
 use Rattle.std.proofs.lemmas.Bool.{cases_lt}
 use Rattle.std.proofs.lemmas.Bool.Decides.{eqb_tells}
 use Rattle.std.proofs.lemmas.Option.{same_Some}
@@ -9,7 +10,9 @@ use Rattle.wenc_base.specs.Number.{unsigned_text}
 use Rattle.wenc_base.specs.declared.fault.Fault.TheVariants.{TooMany, TooLarge}
 use Rattle.wenc_base.specs.Fault.{NoCause}
 use Rattle.wenc_builder.specs.Cause.{SectionCause}
-use Rattle.wenc_builder.specs.Item.{Item, ModuleItem, CoreInstanceItem, CoreTypeItem, ComponentItem, InstanceItem, AliasItem, TypeItem, CanonItem, StartItem, ImportItem, ExportItem, CustomItem, RawItem, collected, item}
+use Rattle.wenc_builder.specs.Item.{Item, ModuleItem, CoreInstanceItem, CoreTypeItem, ComponentItem}
+use Rattle.wenc_builder.specs.Item.{InstanceItem, AliasItem, TypeItem, CanonItem, StartItem}
+use Rattle.wenc_builder.specs.Item.{ImportItem, ExportItem, CustomItem, RawItem, collected, item}
 use Rattle.wenc_builder.specs.Sections.{Section, Run, Alone, runs, collects, item_of, section_piece}
 use Rattle.wenc_builder.specs.Sections.{sections}
 use Rattle.wenc_builder.specs.Builder.{OpenSection}
@@ -41,7 +44,9 @@ collects_it (CustomItem c) id e = absurd cc
 collects_it (RawItem bytes) id e = absurd cc
 
 -- a section of items that can be encoded, which isn't too much
-run_fits : (id : ℕ) (xs : List Item) → IsTrue (collects id) → AllByRecursion (λ x. (item_of id x).Fits) xs → HasRoom (open_of (Run id xs ∷ [])) → (section_piece (Run id xs)).Fits
+run_fits : (id : ℕ) (xs : List Item) → IsTrue (collects id)
+    → AllByRecursion (λ x. (item_of id x).Fits) xs → HasRoom (open_of (Run id xs ∷ []))
+    → (section_piece (Run id xs)).Fits
 run_fits id xs one each room = (one, (small, (few, each)))
   where
     few : length xs < 2 ^ 32
@@ -50,17 +55,26 @@ run_fits id xs one each room = (one, (small, (few, each)))
     small : length (unsigned_text (length xs) ++ flat_map (λ x. (item x).text) xs) < 2 ^ 32
     small = elim (cases_lt (length (unsigned_text (length xs) ++ flat_map (λ x. (item x).text) xs)) (2 ^ 32)) [
       | inl short ↦ short
-      | inr long ↦ absurd (room TooLarge (omega (arith, long, length-append (unsigned_text (length xs)) (flat_map (λ x. (item x).text) xs))))
+      | inr long ↦ absurd (room TooLarge
+          (omega (
+            arith,
+            long,
+            length-append (unsigned_text (length xs))
+                (flat_map (λ x. (item x).text) xs),
+          )))
     ]
 
-one_fits : (id : ℕ) (x : Item) → collected x ≡ Some id → (item x).Fits → HasRoom (open_of (Run id (x ∷ []) ∷ [])) → (section_piece (Run id (x ∷ []))).Fits
+one_fits : (id : ℕ) (x : Item) → collected x ≡ Some id → (item x).Fits
+    → HasRoom (open_of (Run id (x ∷ []) ∷ [])) → (section_piece (Run id (x ∷ []))).Fits
 one_fits id x e fit room = run_fits id (x ∷ []) (collects_it x id e) ((e, fit), tt) room
 
-all_push : {A : Type 0} (P : A → Type 0) (ys : List A) (x : A) → AllByRecursion P ys → P x → AllByRecursion P (ys ++ x ∷ [])
+all_push : {A : Type 0} (P : A → Type 0) (ys : List A) (x : A) → AllByRecursion P ys → P x
+    → AllByRecursion P (ys ++ x ∷ [])
 all_push P [] x h p = (p, tt)
 all_push P (y ∷ ys) x h p = (h.0, all_push P ys x h.1 p)
 
-fits_extended : (o : Option ℕ) (p : Section) (x : Item) → collected x ≡ o → (section_piece p).Fits → (item x).Fits → HasRoom (open_of (runs_extended o p x)) → SectionsFit (runs_extended o p x)
+fits_extended : (o : Option ℕ) (p : Section) (x : Item) → collected x ≡ o → (section_piece p).Fits
+    → (item x).Fits → HasRoom (open_of (runs_extended o p x)) → SectionsFit (runs_extended o p x)
 fits_extended None p x e fit one room = (fit, ((e, one), tt))
 fits_extended (Some id) (Alone y) x e fit one room = (fit, (one_fits id x e one room, tt))
 fits_extended (Some id) (Run other ys) x e fit one room =
@@ -68,13 +82,18 @@ fits_extended (Some id) (Run other ys) x e fit one room =
       | inl t ↦
           let own : collected x ≡ Some other = rw t.1 e in
           let room' = rw t.0 at room in
-          rw t.0 (run_fits other (ys ++ x ∷ []) fit.0 (all_push (λ y. (item_of other y).Fits) ys x fit.1.1.1 (own, one)) room', tt)
+          rw t.0 (
+            run_fits other (ys ++ x ∷ []) fit.0 (all_push
+                (λ y. (item_of other y).Fits) ys x fit.1.1.1 (own, one)) room',
+            tt,
+          )
       | inr t ↦
           let room' = rw t.0 at room in
           rw t.0 (fit, (one_fits id x e one room', tt))
     ]
 
-fits_pushed : (o : Option ℕ) (ps : List Section) (x : Item) → collected x ≡ o → SectionsFit ps → (item x).Fits → HasRoom (open_of (pushed o ps x)) → SectionsFit (pushed o ps x)
+fits_pushed : (o : Option ℕ) (ps : List Section) (x : Item) → collected x ≡ o → SectionsFit ps
+    → (item x).Fits → HasRoom (open_of (pushed o ps x)) → SectionsFit (pushed o ps x)
 fits_pushed None [] x e fit one room = ((e, one), tt)
 fits_pushed (Some id) [] x e fit one room = (one_fits id x e one room, tt)
 fits_pushed o (p ∷ []) x e fit one room = fits_extended o p x e fit.0 one room
@@ -84,7 +103,8 @@ fits_pushed o (p ∷ q ∷ ps) x e fit one room =
     (fit.0, fits_pushed o (q ∷ ps) x e fit.1 one room')
 
 -- one more item, which can be encoded, in a section that has room for it
-pub sections_fit_more : (xs : List Item) (x : Item) → SectionsFit (runs xs) → (item x).Fits → HasRoom (open_of (runs (xs ++ x ∷ []))) → SectionsFit (runs (xs ++ x ∷ []))
+pub sections_fit_more : (xs : List Item) (x : Item) → SectionsFit (runs xs) → (item x).Fits
+    → HasRoom (open_of (runs (xs ++ x ∷ []))) → SectionsFit (runs (xs ++ x ∷ []))
 sections_fit_more xs x fit one room =
     let room' = rw (runs_push xs x) at room in
     rw (runs_push xs x) (fits_pushed (collected x) (runs xs) x refl fit one room')

@@ -1,5 +1,6 @@
 -- Why the bytes of a component have one reading.
-use Rattle.std.proofs.Common.{◌≡◌, ◌↔◌, ◌⊎◌, ℕ, zero, suc, false, true≢false, List, [], ◌∷◌, Option, Some, None, Result, Err, refl, sym, ap, ◌∙◌, inl, inr}
+use Rattle.std.proofs.Common.{◌≡◌, ◌↔◌, ◌⊎◌, ℕ, zero, suc, false, true≢false, List, [], ◌∷◌, Option}
+use Rattle.std.proofs.Common.{Some, None, Result, Err, refl, sym, ap, ◌∙◌, inl, inr}
 use Rattle.std.proofs.lemmas.Bool.Decides.{eqb_tells}
 use Rattle.std.proofs.lemmas.Option.{same_Some}
 use Rattle.std.specs.List.{flat_map}
@@ -8,7 +9,9 @@ use Rattle.wenc_base.specs.Piece.{Piece, Spelling, Strict, only_where, ReadsEach
 use Rattle.wenc_base.specs.laws.Forms.{byte_list_lawful, read_counted, counted_lawful}
 use Rattle.wenc_base.specs.reading.Forms.{read_byte_list}
 use Rattle.wenc_base.specs.Readers.{Flaw, Bad, Lawful, Reader, go_on, ◌>>=◌, give, nowhere, pick, choose, made}
-use Rattle.wenc_base.specs.laws.Lawful.{LawfulWhole, row_lawful, row_byte, IsPast, Starts, past, last, only_where_lawful, then_whole, last_whole, to_end, at_end, before_end, deeper_whole, whole_once}
+use Rattle.wenc_base.specs.laws.Lawful.{LawfulWhole, row_lawful, row_byte, IsPast, Starts, past}
+use Rattle.wenc_base.specs.laws.Lawful.{last, only_where_lawful, then_whole, last_whole, to_end}
+use Rattle.wenc_base.specs.laws.Lawful.{at_end, before_end, deeper_whole, whole_once}
 use Rattle.wenc_base.specs.laws.Sections.{read_custom, custom_lawful}
 use Rattle.wenc_builder.specs.Item.{Item, ModuleItem, CoreInstanceItem, CoreTypeItem, ComponentItem}
 use Rattle.wenc_builder.specs.Item.{InstanceItem, AliasItem, TypeItem, CanonItem, StartItem}
@@ -24,7 +27,8 @@ use Rattle.wenc_canon.specs.laws.Canonicals.{canonical_lawful}
 use Rattle.wenc_canon.specs.reading.Canonicals.{read_canonical}
 use Rattle.wenc_parts.specs.laws.Aliases.{alias_lawful}
 use Rattle.wenc_parts.specs.reading.Aliases.{read_alias}
-use Rattle.wenc_sections.specs.laws.Items.{import_lawful, inline_export_lawful, core_instance_lawful, instance_lawful, start_lawful}
+use Rattle.wenc_sections.specs.laws.Items.{import_lawful, inline_export_lawful}
+use Rattle.wenc_sections.specs.laws.Items.{core_instance_lawful, instance_lawful, start_lawful}
 use Rattle.wenc_sections.specs.inside.Items.{read_import, read_inline_export}
 use Rattle.wenc_sections.specs.reading.Items.{read_core_instance, read_instance, read_start}
 use Rattle.wenc_types.specs.laws.ComponentTypes.{type_lawful}
@@ -33,7 +37,8 @@ use Rattle.wenc_types.specs.laws.CoreTypes.{core_type_lawful}
 use Rattle.wenc_types.specs.reading.CoreTypes.{read_core_type}
 
 -- what is never allowed is lawful
-vacuous : {A : Type 0} {P : Type 0} {p : Piece} {read : ℕ → Reader A} {v : A} → (p.Cause Unfinished → ⊥) → (P → ⊥) → Lawful (only_where P p) read v
+vacuous : {A : Type 0} {P : Type 0} {p : Piece} {read : ℕ → Reader A} {v : A}
+    → (p.Cause Unfinished → ⊥) → (P → ⊥) → Lawful (only_where P p) read v
 vacuous finished never = record {
   text_is_read = λ mode rest h. absurd (never h.0);
   strict_is_text = λ bytes rest r. absurd (never r.0);
@@ -79,11 +84,18 @@ collected_lawful other id e = absurd cc
 -- whether it is this id
 decided : (o : Option ℕ) (id : ℕ) → (o ≡ Some id) ⊎ (o ≡ Some id → ⊥)
 decided None id = inr (λ e. absurd cc)
-decided (Some other) id = elim (eqb_tells other id) [ inl t ↦ inl (ap Some t.1) | inr t ↦ inr (λ e. t.1 (same_Some other id e)) ]
+decided (Some other) id = elim (eqb_tells other id) [
+  | inl t ↦ inl (ap Some t.1)
+  | inr t ↦ inr (λ e. t.1 (same_Some other id e))
+]
 
 -- an item of another kind is none of the section's
 pub item_of_lawful : (id : ℕ) (x : Item) → Lawful (item_of id x) (read_item id) x
-item_of_lawful id x = elim (decided (collected x) id) [ inl e ↦ only_where_lawful _ (collected_lawful x id e) | inr never ↦ vacuous (never_unfinished x) never ]
+item_of_lawful id x = elim (decided (collected x) id) [
+  | inl e ↦
+      only_where_lawful _ (collected_lawful x id e)
+  | inr never ↦ vacuous (never_unfinished x) never
+]
 
 -- ---- sections
 
@@ -118,11 +130,17 @@ run_starts id xs = record { starts = λ mode bytes rest r. (id, r.1.0, r.1.1, is
 -- a section without a raw item has all laws
 section_piece_lawful : (s : Section) → HasNoRaw (members s) → Lawful (section_piece s) read_section_piece s
 section_piece_lawful (Run id xs) h =
-    past _ _ (λ fuel. run_starts id xs) (only_where_lawful _ (row_lawful (λ fuel. []) read_run id (last (Run id) (counted_lawful (item_of_lawful id) xs))))
-section_piece_lawful (Alone (CustomItem c)) h = only_where_lawful _ (row_lawful _ _ 0 (last (λ x. Alone (CustomItem x)) (custom_lawful c)))
-section_piece_lawful (Alone (ModuleItem bs)) h = only_where_lawful _ (row_lawful _ _ 1 (last (λ x. Alone (ModuleItem x)) (byte_list_lawful bs)))
-section_piece_lawful (Alone (ComponentItem bs)) h = only_where_lawful _ (row_lawful _ _ 4 (last (λ x. Alone (ComponentItem x)) (byte_list_lawful bs)))
-section_piece_lawful (Alone (StartItem s)) h = only_where_lawful _ (row_lawful _ _ 9 (last (λ x. Alone (StartItem x)) (start_lawful s)))
+    past _ _ (λ fuel. run_starts id xs)
+    (only_where_lawful _ (row_lawful (λ fuel. []) read_run id
+    (last (Run id) (counted_lawful (item_of_lawful id) xs))))
+section_piece_lawful (Alone (CustomItem c)) h =
+    only_where_lawful _ (row_lawful _ _ 0 (last (λ x. Alone (CustomItem x)) (custom_lawful c)))
+section_piece_lawful (Alone (ModuleItem bs)) h =
+    only_where_lawful _ (row_lawful _ _ 1 (last (λ x. Alone (ModuleItem x)) (byte_list_lawful bs)))
+section_piece_lawful (Alone (ComponentItem bs)) h = only_where_lawful _
+    (row_lawful _ _ 4 (last (λ x. Alone (ComponentItem x)) (byte_list_lawful bs)))
+section_piece_lawful (Alone (StartItem s)) h =
+    only_where_lawful _ (row_lawful _ _ 9 (last (λ x. Alone (StartItem x)) (start_lawful s)))
 section_piece_lawful (Alone (RawItem bs)) h = absurd h.0
 section_piece_lawful (Alone other) h = vacuous (never_unfinished other) (λ e. cc)
 
@@ -145,7 +163,9 @@ nothing_left fuel = refl
 sections_lawful : (ss : List Section) → SectionsHaveNoRaw ss → LawfulWhole (sections ss) read_sections ss
 sections_lawful [] h = deeper_whole (at_end [] read_section_piece (λ fuel. sections_before (read_sections fuel)))
 sections_lawful (s ∷ ss) h =
-    deeper_whole (before_end [] read_section_piece (λ fuel. sections_before (read_sections fuel)) nothing_left (section_piece_lawful s h.0) (last_whole (λ (ts : List Section). s ∷ ts) (sections_lawful ss h.1)))
+    deeper_whole (before_end [] read_section_piece (λ fuel. sections_before (read_sections fuel))
+    nothing_left (section_piece_lawful s h.0) (last_whole
+    (λ (ts : List Section). s ∷ ts) (sections_lawful ss h.1)))
 
 -- this byte, then what is read after it
 abbrev only : {A : Type 0} → ℕ → Reader A → Reader A
@@ -155,7 +175,10 @@ abbrev read_preamble : Reader (Unit {0})
 read_preamble = only 0x00 (only 0x61 (only 0x73 (only 0x6d (only 0x0d (only 0x00 (only 0x01 (only 0x00 (give tt))))))))
 
 preamble_lawful : Lawful preamble (λ fuel. read_preamble) tt
-preamble_lawful = row_lawful _ _ 0x00 (row_lawful _ _ 0x61 (row_lawful _ _ 0x73 (row_lawful _ _ 0x6d (row_lawful _ _ 0x0d (row_lawful _ _ 0x00 (row_lawful _ _ 0x01 (row_byte _ _ 0x00 (λ fuel rest. refl))))))))
+preamble_lawful = row_lawful _ _ 0x00
+    (row_lawful _ _ 0x61 (row_lawful _ _ 0x73
+    (row_lawful _ _ 0x6d (row_lawful _ _ 0x0d
+    (row_lawful _ _ 0x00 (row_lawful _ _ 0x01 (row_byte _ _ 0x00 (λ fuel rest. refl))))))))
 
 abbrev read_component : ℕ → List ℕ → Result (List Section) Flaw
 read_component fuel bytes = go_on (read_preamble bytes) (λ u rest. read_sections fuel rest)
@@ -169,23 +192,27 @@ item_read : (x : Item) (id : ℕ) → collected x ≡ Some id → IsNoRaw x
 item_read (RawItem bytes) id e = absurd cc
 item_read other id e = tt
 
-items_read : (id : ℕ) (xs : List Item) (mode : Spelling) (bytes rest : List ℕ) → ReadsEach (λ x. (item_of id x).Reads mode) xs bytes rest → HasNoRaw xs
+items_read : (id : ℕ) (xs : List Item) (mode : Spelling) (bytes rest : List ℕ)
+    → ReadsEach (λ x. (item_of id x).Reads mode) xs bytes rest → HasNoRaw xs
 items_read id [] mode bytes rest r = tt
 items_read id (x ∷ xs) mode bytes rest r = (item_read x id r.1.0, items_read id xs mode r.0 rest r.2)
 
-section_read : (s : Section) (mode : Spelling) (bytes rest : List ℕ) → (section_piece s).Reads mode bytes rest → HasNoRaw (members s)
+section_read : (s : Section) (mode : Spelling) (bytes rest : List ℕ)
+    → (section_piece s).Reads mode bytes rest → HasNoRaw (members s)
 section_read (Run id xs) mode bytes rest r = items_read id xs mode r.1.2.2.0 [] r.1.2.2.2
 section_read (Alone (RawItem bs)) mode bytes rest r = absurd r.1
 section_read (Alone other) mode bytes rest r = (tt, tt)
 
-sections_read : (ss : List Section) (mode : Spelling) (bytes : List ℕ) → (sections ss).Reads mode bytes [] → SectionsHaveNoRaw ss
+sections_read : (ss : List Section) (mode : Spelling) (bytes : List ℕ)
+    → (sections ss).Reads mode bytes [] → SectionsHaveNoRaw ss
 sections_read [] mode bytes r = tt
 sections_read (s ∷ ss) mode bytes r = (section_read s mode bytes r.0 r.1, sections_read ss mode r.0 r.2)
 
 -- ---- the runs of a list
 
 -- one that isn't raw may be put in front
-joined_no_raw : (o : Option ℕ) (x : Item) (ss : List Section) → IsNoRaw x → SectionsHaveNoRaw ss → SectionsHaveNoRaw (joined o x ss)
+joined_no_raw : (o : Option ℕ) (x : Item) (ss : List Section) → IsNoRaw x → SectionsHaveNoRaw ss
+    → SectionsHaveNoRaw (joined o x ss)
 joined_no_raw None x ss n h = ((n, tt), h)
 joined_no_raw (Some id) x [] n h = ((n, tt), tt)
 joined_no_raw (Some id) x (Alone y ∷ ss) n h = ((n, tt), h)
@@ -196,7 +223,8 @@ runs_no_raw : (xs : List Item) → HasNoRaw xs → SectionsHaveNoRaw (runs xs)
 runs_no_raw [] h = tt
 runs_no_raw (x ∷ xs) h = joined_no_raw (collected x) x (runs xs) h.0 (runs_no_raw xs h.1)
 
-joined_members : (o : Option ℕ) (x : Item) (ss : List Section) → flat_map members (joined o x ss) ≡ x ∷ flat_map members ss
+joined_members : (o : Option ℕ) (x : Item) (ss : List Section)
+    → flat_map members (joined o x ss) ≡ x ∷ flat_map members ss
 joined_members None x ss = refl
 joined_members (Some id) x [] = refl
 joined_members (Some id) x (Alone y ∷ ss) = refl
@@ -210,18 +238,22 @@ runs_members (x ∷ xs) = joined_members (collected x) x (runs xs) ∙ ap (λ (y
 
 -- ---- the laws
 
-pub once : (mode other : Spelling) (bytes : List ℕ) (ss ts : List Section) → Reading mode bytes ss → Reading other bytes ts → ss ≡ ts
+pub once : (mode other : Spelling) (bytes : List ℕ) (ss ts : List Section) → Reading mode bytes ss
+    → Reading other bytes ts → ss ≡ ts
 once mode other bytes ss ts a b =
-    whole_once (component_lawful ss (sections_read ss mode a.0 a.2)) (component_lawful ts (sections_read ts other b.0 b.2)) mode other bytes a b
+    whole_once (component_lawful ss (sections_read ss mode a.0 a.2))
+    (component_lawful ts (sections_read ts other b.0 b.2)) mode other bytes a b
 
-pub text_is_read : (mode : Spelling) (ss : List Section) → SectionsHaveNoRaw ss → AreEncodable ss → Reading mode (component ss).text ss
+pub text_is_read : (mode : Spelling) (ss : List Section) → SectionsHaveNoRaw ss → AreEncodable ss
+    → Reading mode (component ss).text ss
 text_is_read mode ss h fits = (component_lawful ss h).text_is_read mode fits
 
 whole_is_read : (mode : Spelling) (xs : List Item) → HasNoRaw xs → IsEncodable xs → Reading mode (whole xs) (runs xs)
 whole_is_read mode xs h fits = text_is_read mode (runs xs) (runs_no_raw xs h) fits
 
 -- so the bytes of a list of items are read as its runs, and as nothing else
-pub of_items : (mode : Spelling) (xs : List Item) (ss : List Section) → HasNoRaw xs → IsEncodable xs → Reading mode (whole xs) ss ↔ (ss ≡ runs xs)
+pub of_items : (mode : Spelling) (xs : List Item) (ss : List Section) → HasNoRaw xs → IsEncodable xs
+    → Reading mode (whole xs) ss ↔ (ss ≡ runs xs)
 of_items mode xs ss h fits =
     let read = whole_is_read mode xs h fits in
     (λ r. once mode mode (whole xs) ss (runs xs) r read, λ e. rw e read)
@@ -232,11 +264,14 @@ strict_is_text bytes ss r = (component_lawful ss (sections_read ss Strict r.0 r.
 pub strict_fits : (bytes : List ℕ) (ss : List Section) → Reading Strict bytes ss → AreEncodable ss
 strict_fits bytes ss r = (component_lawful ss (sections_read ss Strict r.0 r.2)).fits bytes r
 
-pub same_list : (xs ys : List Item) → HasNoRaw xs → HasNoRaw ys → IsEncodable xs → IsEncodable ys → whole xs ≡ whole ys → xs ≡ ys
+pub same_list : (xs ys : List Item) → HasNoRaw xs → HasNoRaw ys → IsEncodable xs → IsEncodable ys
+    → whole xs ≡ whole ys → xs ≡ ys
 same_list xs ys h k fits fits' e =
-    let same : runs xs ≡ runs ys = once Strict Strict (whole xs) (runs xs) (runs ys) (whole_is_read Strict xs h fits) (rw e (whole_is_read Strict ys k fits')) in
+    let same : runs xs ≡ runs ys = once Strict Strict (whole xs) (runs xs) (runs ys)
+    (whole_is_read Strict xs h fits) (rw e (whole_is_read Strict ys k fits')) in
     sym (runs_members xs) ∙ ap (flat_map members) same ∙ runs_members ys
 
 -- and no other list of items has these bytes
-pub of_bytes : (xs ys : List Item) → HasNoRaw xs → IsEncodable xs → HasNoRaw ys → IsEncodable ys → (whole ys ≡ whole xs) ↔ (ys ≡ xs)
+pub of_bytes : (xs ys : List Item) → HasNoRaw xs → IsEncodable xs → HasNoRaw ys → IsEncodable ys
+    → (whole ys ≡ whole xs) ↔ (ys ≡ xs)
 of_bytes xs ys h fits k fits' = (λ e. same_list ys xs k h fits' fits e, λ e. ap whole e)

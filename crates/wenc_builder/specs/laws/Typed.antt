@@ -7,10 +7,12 @@ use Rattle.wenc_types.specs.CoreTypes.{CoreType}
 use Rattle.wenc_builder.specs.Item.{collected, item}
 use Rattle.wenc_builder.specs.Space.{Indices, defines}
 use Rattle.wenc_builder.specs.Entry.{Entry, EntryCause, type_entry, core_type_entry}
-use Rattle.wenc_builder.specs.Builder.{Content, with_entry, State, step, content_of, Draft, draft, draft_in, draft_indices, item_begun, item_appended, item_ended}
+use Rattle.wenc_builder.specs.Builder.{Content, with_entry, State, step, content_of, NewItem}
+use Rattle.wenc_builder.specs.Builder.{new_item, new_item_in, new_item_indices, item_begun}
+use Rattle.wenc_builder.specs.Builder.{item_appended, item_ended}
 use Rattle.wenc_builder.specs.Cause.{CallCause, BeginCause}
 use Rattle.wenc_builder.specs.Holds.{Holds}
-use Rattle.wenc_builder.specs.LenderState.{no_room_in_section}
+use Rattle.wenc_builder.specs.ParentState.{no_room_in_section}
 use Rattle.wenc_parts.specs.declared.component.ComponentSectionId.TheVariants as ids
 use Rattle.wenc_sections.specs.declared.space.Space.TheVariants as spaces
 use Rattle.wenc_builder.specs.laws.Answered.{to_entry, from_entry}
@@ -18,65 +20,78 @@ use Rattle.wenc_builder.specs.laws.Fits.{HasRoom}
 use Rattle.wenc_builder.specs.laws.Step.{holds_step}
 use Rattle.wenc_builder.specs.laws.Caused.{beginning_refuses, text_refuses, whole_free}
 
--- the content with a draft is the one with the entry that it is
-pub drafted : (old : State) (x : Entry) (d : Draft) → collected x.item ≡ Some d.id → defines x.item ≡ Some (draft_indices d) → x.name ≡ d.name → (item x.item).text ≡ d.text → content_of (item_begun old d) ≡ with_entry old.settled x
-drafted old x d section defined named bytes = rw (section, defined, named, bytes) refl
+-- the content with a new item is the one with the entry that it is
+pub new_item_of_list : (old : State) (x : Entry) (d : NewItem) → collected x.item ≡ Some d.id
+    → defines x.item ≡ Some (new_item_indices d) → x.name ≡ d.name → (item x.item).text ≡ d.text
+    → content_of (item_begun old d) ≡ with_entry old.settled x
+new_item_of_list old x d section defined named bytes = rw (section, defined, named, bytes) refl
 
--- an item that is begun as this draft, with nothing of it written yet, and then written whole, is
+-- an item that is begun as this, with nothing of it written yet, and then written whole, is
 -- this entry
-pub record IsWrittenType (x : Entry) (d : Draft) : Type 0 where
+pub record IsWrittenType (x : Entry) (d : NewItem) : Type 0 where
   pub bare : d.text ≡ []
   pub section : collected x.item ≡ Some d.id
-  pub defined : defines x.item ≡ Some (draft_indices d)
+  pub defined : defines x.item ≡ Some (new_item_indices d)
   pub named : x.name ≡ d.name
 
 -- why it can't be written then
-abbrev pub WritingCause : State → Entry → Draft → Fault → Type 0
+abbrev pub WritingCause : State → Entry → NewItem → Fault → Type 0
 WritingCause old x d = either (item x.item).Cause (no_room_in_section (item_begun old d) (item x.item).text)
 
-module _ (old : State) (es : List Entry) (x : Entry) (d : Draft) (w : IsWrittenType x d) (h : Holds old es) where
-  -- the draft with its text, and the one that it is without
-  abbrev whole : Draft
-  whole = draft d.id d.space d.name (item x.item).text
+module _ (old : State) (es : List Entry) (x : Entry) (d : NewItem) (w : IsWrittenType x d) (h : Holds old es) where
+  -- the new item with its text, and the one that it is without
+  abbrev whole : NewItem
+  whole = new_item d.id d.space d.name (item x.item).text
 
-  bare_is : d ≡ draft d.id d.space d.name []
-  bare_is = ap (λ (t : List ℕ). draft d.id d.space d.name t) w.bare
+  bare_is : d ≡ new_item d.id d.space d.name []
+  bare_is = ap (λ (t : List ℕ). new_item d.id d.space d.name t) w.bare
 
   content_is : content_of (item_begun old whole) ≡ with_entry old.settled x
-  content_is = drafted old x whole w.section w.defined w.named refl
+  content_is = new_item_of_list old x whole w.section w.defined w.named refl
 
   abbrev WholeCause : Fault → Type 0
-  WholeCause = CallCause old (item x.item).Cause (content_of (item_begun old whole)) (Some (draft_indices whole))
+  WholeCause = CallCause old (item x.item).Cause (content_of (item_begun old whole)) (Some (new_item_indices whole))
 
   to_whole : (fault : Fault) → EntryCause es x fault → WholeCause fault
   to_whole fault c =
       let P : Content → Type 0 = λ k. CallCause old (item x.item).Cause k (defines x.item) fault in
-      let Q : Option Indices → Type 0 = λ k. CallCause old (item x.item).Cause (content_of (item_begun old whole)) k fault in
+      let Q : Option Indices → Type 0 =
+      λ k. CallCause old (item x.item).Cause (content_of (item_begun old whole)) k fault in
       subst Q w.defined (subst P (sym content_is) (from_entry old es x h fault c))
 
   from_whole : (fault : Fault) → WholeCause fault → EntryCause es x fault
   from_whole fault c =
       let P : Content → Type 0 = λ k. CallCause old (item x.item).Cause k (defines x.item) fault in
-      let Q : Option Indices → Type 0 = λ k. CallCause old (item x.item).Cause (content_of (item_begun old whole)) k fault in
+      let Q : Option Indices → Type 0 =
+      λ k. CallCause old (item x.item).Cause (content_of (item_begun old whole)) k fault in
       to_entry old es x h fault (subst P content_is (subst Q (sym w.defined) c))
 
   -- what refuses its beginning is the entry's cause
   pub opening_due : (fault : Fault) → BeginCause old d fault → EntryCause es x fault
   opening_due fault c =
-      from_whole fault (beginning_refuses old d.id d.space d.name (item x.item).text (item x.item).Cause fault (subst (λ (e : Draft). BeginCause old e fault) bare_is c))
+      from_whole fault (beginning_refuses old d.id d.space d.name (item x.item).text
+      (item x.item).Cause fault (subst (λ (e : NewItem). BeginCause old e fault) bare_is c))
 
   -- what refuses its text too
   pub writing_due : (fault : Fault) → WritingCause old x d fault → EntryCause es x fault
-  writing_due fault c = from_whole fault (text_refuses old whole (item x.item).Cause fault (subst (λ (e : Draft). WritingCause old x e fault) bare_is c))
+  writing_due fault c = from_whole fault
+      (text_refuses old whole (item x.item).Cause fault (subst
+      (λ (e : NewItem). WritingCause old x e fault) bare_is c))
 
   -- and where neither is refused, the entry has no cause
-  pub written_free : ((fault : Fault) → BeginCause old d fault → ⊥) → ((fault : Fault) → WritingCause old x d fault → ⊥) → (fault : Fault) → EntryCause es x fault → ⊥
+  pub written_free : ((fault : Fault) → BeginCause old d fault → ⊥)
+      → ((fault : Fault) → WritingCause old x d fault → ⊥) → (fault : Fault)
+      → EntryCause es x fault → ⊥
   written_free opening writing fault c =
-      whole_free old d.id d.space d.name (item x.item).text (item x.item).Cause (λ f k. opening f (subst (λ (e : Draft). BeginCause old e f) (sym bare_is) k)) (λ f k. writing f (subst (λ (e : Draft). WritingCause old x e f) (sym bare_is) k))
+      whole_free old d.id d.space d.name (item x.item).text (item x.item).Cause
+      (λ f k. opening f (subst (λ (e : NewItem). BeginCause old e f) (sym bare_is) k))
+      (λ f k. writing f (subst (λ (e : NewItem). WritingCause old x e f) (sym bare_is) k))
       fault (to_whole fault c)
 
 -- an item that was begun, written and ended, and was refused nowhere, is one entry more
-pub written_holds : (old new : State) (es : List Entry) (x : Entry) (d : Draft) → IsWrittenType x d → NoCause (BeginCause old d) → (item x.item).Fits → NoCause (WritingCause old x d)
+pub written_holds : (old new : State) (es : List Entry) (x : Entry) (d : NewItem)
+    → IsWrittenType x d → NoCause (BeginCause old d) → (item x.item).Fits
+    → NoCause (WritingCause old x d)
     → new ≡ item_ended (item_appended (item_begun old d) (item x.item).text) → Holds old es → Holds new (es ++ x ∷ [])
 written_holds old new es x d w opening fits writing e h = rw (e ∙ is_step) (holds_step old es x fits room h)
   where
@@ -87,8 +102,10 @@ written_holds old new es x d w opening fits writing e h = rw (e ∙ is_step) (ho
     room fault c = written_free old es x d w h opening writing fault (to_entry old es x h fault (inl (inr (inr c))))
 
 -- types are written so
-pub type_is_written : (name : Option (List ℕ)) (t : DefType) → IsWrittenType (type_entry name t) (draft_in ids.«Type» spaces.Types name [])
+pub type_is_written : (name : Option (List ℕ)) (t : DefType)
+    → IsWrittenType (type_entry name t) (new_item_in ids.«Type» spaces.Types name [])
 type_is_written name t = record { bare = refl; section = refl; defined = refl; named = refl }
 
-pub core_type_is_written : (name : Option (List ℕ)) (t : CoreType) → IsWrittenType (core_type_entry name t) (draft_in ids.CoreType spaces.CoreTypes name [])
+pub core_type_is_written : (name : Option (List ℕ)) (t : CoreType)
+    → IsWrittenType (core_type_entry name t) (new_item_in ids.CoreType spaces.CoreTypes name [])
 core_type_is_written name t = record { bare = refl; section = refl; defined = refl; named = refl }

@@ -1,14 +1,20 @@
 //! The bytes of a component, whose last section may be open.
-ghost use Rattle.std.specs.Prelude.{◌≡◌, ◌-◌, ◌≤◌, ◌++◌, length, take, OnOk, OnErr, IfOk, IfErr, is_none, None, Err, false};
+ghost use Rattle.std.specs.Prelude.{◌≡◌, ◌-◌, ◌≤◌, ◌++◌, length, take, OnOk, OnErr, IfOk, IfErr};
+ghost use Rattle.std.specs.Prelude.{is_none, None, Err, false};
 ghost use Rattle.std.specs.Iterator.{IsFinite};
-ghost use Rattle.wenc_base.specs.Prelude.{AreBytes, list, IsMemory, IsWarranted, NoCause, behind_bytes, Extends, ExtendsListed};
+ghost use Rattle.wenc_base.specs.Prelude.{AreBytes, list, IsMemory, IsWarranted, NoCause};
+ghost use Rattle.wenc_base.specs.Prelude.{behind_bytes, Extends, ExtendsListed};
 ghost use Rattle.wenc_base.specs.declared.fault.Fault.TheVariants.{Unfinished};
-ghost use Rattle.wenc_builder.specs.Prelude.{sections_text, SectionCause, NoRoom, kind_id, OpensAnother, nothing_buffered, buffer_begun, section_begun, buffer_appended, section_appended, buffer_ended, buffer_given_up, StandsAlone, with_bytes};
+ghost use Rattle.wenc_builder.specs.Prelude.{sections_text, SectionCause, NoRoom, kind_id};
+ghost use Rattle.wenc_builder.specs.Prelude.{OpensAnother, nothing_buffered, buffer_begun};
+ghost use Rattle.wenc_builder.specs.Prelude.{section_begun, buffer_appended, section_appended};
+ghost use Rattle.wenc_builder.specs.Prelude.{buffer_ended, buffer_given_up, AppendsSection};
+ghost use Rattle.wenc_builder.specs.Prelude.{with_bytes};
 
-use super::alone::Ready;
 use super::earlier::Earlier;
 use super::flush::{GAP, close_earlier, open_head, section_head};
 use super::kind::Kind;
+use super::section_body::SectionBody;
 use std::alloc::{Allocator, Global};
 use std::marker::Model;
 use wenc_base::{Encode, Fault, Holder, Verbatim};
@@ -23,7 +29,7 @@ pub struct Buffer<A: Allocator = Global> {
     closed_len: usize,
     /// The kind of the members, if a section is open.
     kind: Option<Kind>,
-    /// The section before, while an item that opens another section is being written.
+    /// The previous section, while an item that opens another section is being written.
     earlier: Option<Earlier>,
 }
 
@@ -84,7 +90,7 @@ impl<A: Allocator> Buffer<A> {
     }
 
     /// Begins an item that doesn't belong to the open section. Fails only if an allocation fails
-    /// (`Memory`), and changes nothing then.
+    /// (`Memory`); nothing has changed then.
     fn open_apart(&mut self, kind: Kind) -> Result<(), Fault>
         requires settled { self.old.writing ≡ None }
         requires apart { OpensAnother self.old.settled.current (kind_id kind) }
@@ -159,27 +165,27 @@ impl<A: Allocator> Buffer<A> {
         }
     }
 
-    /// Writes a section of its own after all others, of which none is open afterwards: the encoding
+    /// Writes a separate section after all others, none of which is open afterwards: the encoding
     /// of `lead`, and these bytes, which are written to their final position.
     ///
     /// # Errors
     ///
     /// Fails as the `encode` of `lead` does, or if an allocation fails. Nothing has changed then.
-    pub fn stand_alone<E: Encode>(&mut self, lead: &E, bytes: &Ready<'_>) -> Result<(), Fault>
+    pub fn add_section<E: Encode>(&mut self, lead: &E, bytes: &SectionBody<'_>) -> Result<(), Fault>
         requires { self.old.writing ≡ None }
-        ensures stood { StandsAlone self.old self.new result
+        ensures stood { AppendsSection self.old self.new result
             (with_bytes (E.piece lead.now) bytes.now) }
         ensures bytes { OnOk result (AreBytes (E.piece lead.now).text) }
         ensures unfinished_value { E.unfinished lead.now → result ≡ Err Unfinished }
     {
         let head = bytes.head.as_slice();
-        self.write_alone(lead, bytes.first, bytes.gap, head, bytes.more)
+        self.write_section(lead, bytes.first, bytes.gap, head, bytes.more)
     }
 
-    /// Writes the encoding of `lead` and these bytes as `stand_alone` does, with `head` in place of
+    /// Writes the encoding of `lead` and these bytes as `add_section` does, with `head` in place of
     /// the last `gap` bytes of `first`.
     #[tactic(auto, using(wenc_base::proofs::Groups::size_at_most_5))]
-    fn write_alone<E: Encode>(
+    fn write_section<E: Encode>(
         &mut self,
         lead: &E,
         first: &[u8],
@@ -190,7 +196,7 @@ impl<A: Allocator> Buffer<A> {
         requires settled { self.old.writing ≡ None }
         requires gap_is_in { gap ≤ length first.now }
         requires short { length head.now ≤ gap }
-        ensures stood { StandsAlone self.old self.new result (with_bytes (E.piece lead.now)
+        ensures stood { AppendsSection self.old self.new result (with_bytes (E.piece lead.now)
             (take (length first.now - gap) first.now ++ (head.now ++ more.now))) }
         ensures bytes { OnOk result (AreBytes (E.piece lead.now).text) }
         ensures unfinished_value { E.unfinished lead.now → result ≡ Err Unfinished }
@@ -214,14 +220,14 @@ impl<A: Allocator> Buffer<A> {
         Ok(())
     }
 
-    /// Returns all bytes, with the open section in place, which stays open in this buffer.
+    /// Returns all bytes, including the open section, which stays open in this buffer.
     #[tactic(auto, using(wenc_base::proofs::Groups::size_at_most_5))]
-    pub fn ready(&self) -> Ready<'_>
+    pub fn ready(&self) -> SectionBody<'_>
         requires { self.now.writing ≡ None }
         ensures { result ≡ sections_text self.now.settled }
     {
         let more = self.holder.as_slice();
-        Ready {
+        SectionBody {
             first: self.holder.kept(),
             gap: self.holder.kept_len() - self.closed_len,
             head: open_head(self.kind, self.holder.len(), more.len()),

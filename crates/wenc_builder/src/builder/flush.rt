@@ -1,7 +1,9 @@
 //! The head of a section, before its items, and how a section is closed.
 ghost use Rattle.std.specs.Prelude.{◌≡◌, ◌+◌, ◌<◌, ◌≤◌, ◌^◌, length, Some};
 ghost use Rattle.wenc_base.specs.Prelude.{number_size, with_kept};
-ghost use Rattle.wenc_builder.specs.Prelude.{kind_id, section_head as head_text, open_head as open_head_text, SectionIsIn, SectionFits, earlier_view, closed_with, kept_with};
+ghost use Rattle.wenc_builder.specs.Prelude.{kind_id, section_head as head_text};
+ghost use Rattle.wenc_builder.specs.Prelude.{open_head as open_head_text, SectionIsIn, SectionFits};
+ghost use Rattle.wenc_builder.specs.Prelude.{earlier_view, closed_with, kept_with};
 
 use super::earlier::Earlier;
 use super::kind::Kind;

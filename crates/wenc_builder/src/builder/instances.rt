@@ -4,7 +4,8 @@ ghost use Rattle.std.specs.Option.{option_copied};
 ghost use Rattle.std.specs.Prelude.{map};
 ghost use Rattle.wenc_builder.specs.Prelude.{EntersListed, core_instance_entry, instance_entry};
 ghost use Rattle.wenc_parts.specs.Prelude.{extern_name_view};
-ghost use Rattle.wenc_sections.specs.Prelude.{CoreInstantiate, CoreExports, named_pair, Instantiate, Exports, named_triple};
+ghost use Rattle.wenc_sections.specs.Prelude.{CoreInstantiate, CoreExports, named_pair};
+ghost use Rattle.wenc_sections.specs.Prelude.{Instantiate, Exports, named_triple};
 
 use super::ComponentBuilder;
 use super::kind::Kind;
@@ -42,7 +43,7 @@ impl<A: Allocator> ComponentBuilder<A> {
         )
     }
 
-    /// Adds a core instance that exports core items, each by its name, its core sort and its index.
+    /// Adds a core instance that exports core items, each by its name, its kind and its index.
     pub fn core_instantiate_exports<'a, I: Iterator<Item = (&'a str, ExportKind, u32)> + Drop>(
         &mut self,
         debug_name: Option<&str>,
@@ -65,7 +66,7 @@ impl<A: Allocator> ComponentBuilder<A> {
         )
     }
 
-    /// Instantiates the component with this index, with these arguments, each by its name, its sort
+    /// Instantiates the component with this index, with these arguments, each by its name, its kind
     /// and its index.
     pub fn instantiate<S: Named + Drop, I: Iterator<Item = (S, ComponentExportKind, u32)> + Drop>(
         &mut self,
@@ -90,7 +91,7 @@ impl<A: Allocator> ComponentBuilder<A> {
         )
     }
 
-    /// Adds an instance that exports items, each by its name, its sort and its index.
+    /// Adds an instance that exports items, each by its name, its kind and its index.
     pub fn instantiate_exports<
         'a,
         N: Allocator + Drop,

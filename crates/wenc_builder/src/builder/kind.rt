@@ -3,7 +3,7 @@ ghost use Rattle.wenc_builder.specs.Prelude.{kind_id};
 
 use wenc_parts::ComponentSectionId;
 
-/// The kinds of items whose neighbours share a section.
+/// The kinds of items of which adjacent ones share a section.
 #[derive(Clone, Copy, Debug, PartialEq, Eq)]
 pub enum Kind {
     CoreInstance,

@@ -2,7 +2,8 @@
 ghost use Rattle.std.specs.Option.{option_copied};
 ghost use Rattle.std.specs.Prelude.{◌≡◌, ◌≤◌, [], length, take, OnOk, OnErr, IfErr};
 ghost use Rattle.wenc_base.specs.Prelude.{IsWarranted, holding};
-ghost use Rattle.wenc_builder.specs.Prelude.{Fault as FaultSpec, no_names, namespace_with, SpaceCause, space_view};
+ghost use Rattle.wenc_builder.specs.Prelude.{Fault as FaultSpec, no_names, namespace_with};
+ghost use Rattle.wenc_builder.specs.Prelude.{SpaceCause, space_view};
 
 use std::alloc::{Allocator, Global};
 use std::marker::Model;

@@ -1,16 +1,17 @@
 //! The method that adds a producers section.
 ghost use Rattle.std.specs.Prelude.{◌≡◌, List, OnErr, Err, true, false};
-ghost use Rattle.wenc_base.specs.Prelude.{Contains, held_text, is_finished, Producers, producers_field, producers_label};
+ghost use Rattle.wenc_base.specs.Prelude.{Contains, held_text, is_finished, Producers};
+ghost use Rattle.wenc_base.specs.Prelude.{producers_field, producers_label};
 ghost use Rattle.wenc_base.specs.declared.fault.Fault.TheVariants.{Unfinished};
 ghost use Rattle.wenc_builder.specs.Prelude.{EntersWithoutIndex, custom_entry, producers_entry};
 
 use super::ComponentBuilder;
-use super::alone::Ready;
+use super::section_body::SectionBody;
 use std::alloc::Allocator;
 use wenc_base::{Fault, ProducersSection, Tagged};
 use wenc_parts::ComponentSectionId;
 
-/// The tools that made the component.
+/// The tools that produced the component.
 impl<A: Allocator> ComponentBuilder<A> {
     /// Adds a producers section, the custom section named `producers` (tool conventions, "Producers
     /// Section"). Fails as documented on `ComponentBuilder`, and with `Unfinished` if `producers`
@@ -31,6 +32,6 @@ impl<A: Allocator> ComponentBuilder<A> {
             return Err(Fault::Unfinished);
         }
         let section = Tagged(ComponentSectionId::CoreCustom.into(), producers);
-        self.buffer.stand_alone(&section, &Ready::whole(&[]))
+        self.buffer.add_section(&section, &SectionBody::whole(&[]))
     }
 }

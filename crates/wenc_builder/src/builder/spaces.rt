@@ -1,8 +1,11 @@
 //! The index spaces of a component.
-ghost use Rattle.std.specs.Prelude.{◌≡◌, ◌<◌, length, map, OnOk, OnErr, IfOk, IfErr, is_none, None, false};
+ghost use Rattle.std.specs.Prelude.{◌≡◌, ◌<◌, length, map, OnOk, OnErr, IfOk, IfErr, is_none, None};
+ghost use Rattle.std.specs.Prelude.{false};
 ghost use Rattle.std.specs.Option.{option_copied};
 ghost use Rattle.wenc_base.specs.Prelude.{IsMemory, IsWarranted};
-ghost use Rattle.wenc_builder.specs.Prelude.{Fault as FaultSpec, namespace_at, SpaceCause, by_space, names_held, empty_spaces, space_begun, spaces_begun, spaces_ended, spaces_given_up, count_at};
+ghost use Rattle.wenc_builder.specs.Prelude.{Fault as FaultSpec, namespace_at, SpaceCause};
+ghost use Rattle.wenc_builder.specs.Prelude.{by_space, names_held, empty_spaces, space_begun};
+ghost use Rattle.wenc_builder.specs.Prelude.{spaces_begun, spaces_ended, spaces_given_up, count_at};
 
 use super::names::{SpaceNames, Subsections};
 use super::namespace::Namespace;
@@ -103,7 +106,7 @@ impl<A: Allocator> Spaces<A> {
     }
 
     /// Reserves `number` indices in a space, the first of them with an optional name, which can be
-    /// discarded until `end`. Returns the first. A failed call changes nothing.
+    /// discarded until `finish_member`. Returns the first. A failed call changes nothing.
     pub fn open(&mut self, space: Space, number: u32, name: Option<&str>) -> Result<u32, Fault>
         requires { self.old.taking ≡ None }
         ensures index { IfOk result (λ i.

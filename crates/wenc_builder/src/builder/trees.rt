@@ -1,7 +1,9 @@
 //! Methods that add items given as trees.
 ghost use Rattle.std.specs.Option.{option_copied};
-ghost use Rattle.wenc_builder.specs.Prelude.{Enters, core_instance_entry, instance_entry, canonical_tree_entry};
-ghost use Rattle.wenc_sections.specs.Prelude.{canon_view, core_instance_tree_view, instance_tree_view};
+ghost use Rattle.wenc_builder.specs.Prelude.{Enters, core_instance_entry, instance_entry};
+ghost use Rattle.wenc_builder.specs.Prelude.{canonical_tree_entry};
+ghost use Rattle.wenc_sections.specs.Prelude.{canon_view, core_instance_tree_view};
+ghost use Rattle.wenc_sections.specs.Prelude.{instance_tree_view};
 
 use super::ComponentBuilder;
 use super::kind::Kind;

@@ -4,10 +4,14 @@ ghost use Rattle.std.specs.Option.{option_copied};
 ghost use Rattle.std.specs.Prelude.{◌≡◌, [], List, false, Err, IfOk, OnErr};
 ghost use Rattle.wenc_base.specs.Prelude.{is_finished, held_members, ◌▸◌};
 ghost use Rattle.wenc_base.specs.declared.fault.Fault.TheVariants.{Unfinished};
-ghost use Rattle.wenc_builder.specs.Prelude.{draft_in, BeginsItem, Enters, TakesDraft, type_entry};
+ghost use Rattle.wenc_builder.specs.Prelude.{new_item_in, BeginsItem, Enters, AddsWholeItem};
+ghost use Rattle.wenc_builder.specs.Prelude.{type_entry};
 ghost use Rattle.wenc_parts.specs.declared.component.ComponentSectionId.TheVariants as ids;
-ghost use Rattle.wenc_types.specs.Prelude.{InstanceDeclaration, ComponentDeclaration, InstanceType, ComponentType as ComponentTypeSpec, ResourceType, instances_of, components_of, InstanceDeclares, ComponentDeclares, unchanged_on_err};
-ghost use Rattle.wenc_types.specs.declared.func_type.FuncStage.TheVariants as stages;
+ghost use Rattle.wenc_types.specs.Prelude.{InstanceDeclaration, ComponentDeclaration, InstanceType};
+ghost use Rattle.wenc_types.specs.Prelude.{ComponentType as ComponentTypeSpec, ResourceType};
+ghost use Rattle.wenc_types.specs.Prelude.{instances_of, components_of, InstanceDeclares};
+ghost use Rattle.wenc_types.specs.Prelude.{ComponentDeclares, unchanged_on_err};
+ghost use Rattle.wenc_types.specs.declared.encoders.func_type.FuncStage.TheVariants as stages;
 
 use super::ComponentBuilder;
 use super::kind::Kind;
@@ -21,7 +25,7 @@ use wenc_types::{
 
 /// Types: each method adds one with an optional debug name, and returns its index (component model,
 /// binary format, "Core Definitions" and "Type Definitions"). A method that also returns an encoder
-/// has begun the type: it has its index and its name, and the builder is unfinished until the
+/// begins the type: it has its index and its name, and the builder is unfinished until the
 /// encoder's last call. Each fails as documented on `ComponentBuilder`.
 ///
 /// ```
@@ -41,10 +45,10 @@ impl<A: Allocator> ComponentBuilder<A> {
         debug_name: Option<&str>,
     ) -> Result<(u32, ComponentCoreTypeEncoder<'_, ComponentBuilder<A>>), Fault>
         ensures* refused { sem 𝓛 (unchanged_on_err (the_row A.row A.Allocator)
-            self.entry (λ e. e.1.lender) result) }
-        ensures same_reference { IfOk result (λ e. e.1.lender.ghost_name ≡ self.entry.ghost_name) }
-        ensures begun { BeginsItem (λ e. e.0) (λ e. e.1.lender.now) self.old result
-            (draft_in ids.CoreType Space.CoreTypes (option_copied debug_name.entry) []) }
+            self.entry (λ e. e.1.parent) result) }
+        ensures same_reference { IfOk result (λ e. e.1.parent.ghost_name ≡ self.entry.ghost_name) }
+        ensures begun { BeginsItem (λ e. e.0) (λ e. e.1.parent.now) self.old result
+            (new_item_in ids.CoreType Space.CoreTypes (option_copied debug_name.entry) []) }
     {
         let index = self.open(Kind::CoreType, Space::CoreTypes, debug_name)?;
         Ok((index, ComponentCoreTypeEncoder::new(self)))
@@ -56,10 +60,10 @@ impl<A: Allocator> ComponentBuilder<A> {
         debug_name: Option<&str>,
     ) -> Result<(u32, ComponentTypeEncoder<'_, ComponentBuilder<A>>), Fault>
         ensures* refused { sem 𝓛 (unchanged_on_err (the_row A.row A.Allocator)
-            self.entry (λ e. e.1.lender) result) }
-        ensures same_reference { IfOk result (λ e. e.1.lender.ghost_name ≡ self.entry.ghost_name) }
-        ensures begun { BeginsItem (λ e. e.0) (λ e. e.1.lender.now) self.old result
-            (draft_in ids.«Type» Space.Types (option_copied debug_name.entry) []) }
+            self.entry (λ e. e.1.parent) result) }
+        ensures same_reference { IfOk result (λ e. e.1.parent.ghost_name ≡ self.entry.ghost_name) }
+        ensures begun { BeginsItem (λ e. e.0) (λ e. e.1.parent.now) self.old result
+            (new_item_in ids.«Type» Space.Types (option_copied debug_name.entry) []) }
     {
         let index = self.open(Kind::Type, Space::Types, debug_name)?;
         Ok((index, ComponentTypeEncoder::new(self)))
@@ -74,8 +78,8 @@ impl<A: Allocator> ComponentBuilder<A> {
         ensures entered { (ds : List InstanceDeclaration) → InstanceDeclares ty.now ds
             → Enters self.old self.new result
             (type_entry (option_copied debug_name.entry) (InstanceType (instances_of ds))) }
-        ensures taken { TakesDraft self.old self.new result
-            (draft_in ids.«Type» Space.Types (option_copied debug_name.entry))
+        ensures taken { AddsWholeItem self.old self.new result
+            (new_item_in ids.«Type» Space.Types (option_copied debug_name.entry))
             (0x42 ▸ held_members ty.now.held) }
         ensures unfinished { is_finished ty.now.held ≡ false → result ≡ Err Unfinished }
         ensures err { OnErr result (self.new ≡ self.old) }
@@ -95,8 +99,8 @@ impl<A: Allocator> ComponentBuilder<A> {
         ensures entered { (ds : List ComponentDeclaration) → ComponentDeclares ty.now ds
             → Enters self.old self.new result
             (type_entry (option_copied debug_name.entry) (ComponentTypeSpec (components_of ds))) }
-        ensures taken { TakesDraft self.old self.new result
-            (draft_in ids.«Type» Space.Types (option_copied debug_name.entry))
+        ensures taken { AddsWholeItem self.old self.new result
+            (new_item_in ids.«Type» Space.Types (option_copied debug_name.entry))
             (0x41 ▸ held_members ty.now.held) }
         ensures unfinished { is_finished ty.now.held ≡ false → result ≡ Err Unfinished }
         ensures err { OnErr result (self.new ≡ self.old) }
@@ -113,10 +117,10 @@ impl<A: Allocator> ComponentBuilder<A> {
         debug_name: Option<&str>,
     ) -> Result<(u32, ComponentDefinedTypeEncoder<'_, ComponentBuilder<A>>), Fault>
         ensures* refused { sem 𝓛 (unchanged_on_err (the_row A.row A.Allocator)
-            self.entry (λ e. e.1.lender) result) }
-        ensures same_reference { IfOk result (λ e. e.1.lender.ghost_name ≡ self.entry.ghost_name) }
-        ensures begun { BeginsItem (λ e. e.0) (λ e. e.1.lender.now) self.old result
-            (draft_in ids.«Type» Space.Types (option_copied debug_name.entry) []) }
+            self.entry (λ e. e.1.parent) result) }
+        ensures same_reference { IfOk result (λ e. e.1.parent.ghost_name ≡ self.entry.ghost_name) }
+        ensures begun { BeginsItem (λ e. e.0) (λ e. e.1.parent.now) self.old result
+            (new_item_in ids.«Type» Space.Types (option_copied debug_name.entry) []) }
     {
         let index = self.open(Kind::Type, Space::Types, debug_name)?;
         Ok((index, ComponentDefinedTypeEncoder::new(self)))
@@ -128,10 +132,10 @@ impl<A: Allocator> ComponentBuilder<A> {
         debug_name: Option<&str>,
     ) -> Result<(u32, ComponentFuncTypeEncoder<'_, ComponentBuilder<A>>), Fault>
         ensures* refused { sem 𝓛 (unchanged_on_err (the_row A.row A.Allocator)
-            self.entry (λ e. e.1.lender) result) }
-        ensures same_reference { IfOk result (λ e. e.1.lender.ghost_name ≡ self.entry.ghost_name) }
-        ensures begun { BeginsItem (λ e. e.0) (λ e. e.1.lender.now) self.old result
-            (draft_in ids.«Type» Space.Types (option_copied debug_name.entry) []) }
+            self.entry (λ e. e.1.parent) result) }
+        ensures same_reference { IfOk result (λ e. e.1.parent.ghost_name ≡ self.entry.ghost_name) }
+        ensures begun { BeginsItem (λ e. e.0) (λ e. e.1.parent.now) self.old result
+            (new_item_in ids.«Type» Space.Types (option_copied debug_name.entry) []) }
         ensures stage { IfOk result (λ e. e.1.stage ≡ stages.Start) }
     {
         let index = self.open(Kind::Type, Space::Types, debug_name)?;

@@ -1,4 +1,4 @@
--- The builtin that an opcode and the values of its fields say, for the code that writes them.
+-- The builtin that an opcode and the values of its fields determine, for the code that writes them.
 use Rattle.std.specs.Prelude.{◌≡◌, ℕ, ◌==◌, false, if◌then◌else◌, List, [], ◌∷◌, ◌++◌, None}
 use Rattle.wenc_base.specs.Piece.{Piece, ◌▸◌}
 use Rattle.wenc_base.specs.declared.types.ValType.TheVariants.{I32}

@@ -3,15 +3,25 @@ use Rattle.std.proofs.Common.{◌≡◌, ◌+◌, List, [], ◌∷◌, map, Ok, 
 use Rattle.wenc_base.specs.Holder.{HolderState}
 use Rattle.wenc_base.specs.Readers.{Lawful, nowhere, pick}
 use Rattle.wenc_base.specs.laws.Lawful.{row_lawful as in_row, row_byte, nothing_lawful, then, last}
-use Rattle.wenc_base.specs.laws.Sound.{Sound, RowsAreSound, give_tells, last_tells, then_tells, nowhere_tells, choose_tells}
+use Rattle.wenc_base.specs.laws.Sound.{Sound, RowsAreSound, give_tells, last_tells, then_tells}
+use Rattle.wenc_base.specs.laws.Sound.{nowhere_tells, choose_tells}
 use Rattle.wenc_base.specs.laws.Numbers.{u32_lawful, u32_sound}
 use Rattle.wenc_base.specs.laws.Forms.{flag_lawful, flag_sound, list_lawful, list_sound}
 use Rattle.wenc_base.specs.laws.Types.{val_type_lawful, val_type_sound}
 use Rattle.wenc_parts.specs.laws.Types.{result_list_lawful, result_list_sound}
 use Rattle.wenc_canon.specs.declared.canonicals.CanonicalOption.{CanonicalOption}
-use Rattle.wenc_canon.specs.declared.canonicals.CanonicalOption.TheVariants.{UTF8, UTF16, CompactUTF16, Memory, Realloc, PostReturn, Async, Callback, CoreType as CoreTypeOption, Gc}
-use Rattle.wenc_canon.specs.Canonicals.{canonical_option, Field, Index, Options, Flag, Zero, CoreType, Results, Value, field, Values, fields, Builtin, ResourceNew, row, builtins, Canonical, Lift, Lower, OfBuiltin, canonical, Adds}
-use Rattle.wenc_canon.specs.reading.Canonicals.{read_builtin, read_canonical, read_canonical_option, read_field, read_fields, rows}
+use Rattle.wenc_canon.specs.declared.canonicals.CanonicalOption.TheVariants.{UTF8, UTF16}
+use Rattle.wenc_canon.specs.declared.canonicals.CanonicalOption.TheVariants.{CompactUTF16, Memory}
+use Rattle.wenc_canon.specs.declared.canonicals.CanonicalOption.TheVariants.{Realloc, PostReturn}
+use Rattle.wenc_canon.specs.declared.canonicals.CanonicalOption.TheVariants.{Async, Callback}
+use Rattle.wenc_canon.specs.declared.canonicals.CanonicalOption.TheVariants.{CoreType as CoreTypeOption}
+use Rattle.wenc_canon.specs.declared.canonicals.CanonicalOption.TheVariants.{Gc}
+use Rattle.wenc_canon.specs.Canonicals.{canonical_option, Field, Index, Options, Flag, Zero}
+use Rattle.wenc_canon.specs.Canonicals.{CoreType, Results, Value, field, Values, fields, Builtin}
+use Rattle.wenc_canon.specs.Canonicals.{ResourceNew, row, builtins, Canonical, Lift, Lower}
+use Rattle.wenc_canon.specs.Canonicals.{OfBuiltin, canonical, Adds}
+use Rattle.wenc_canon.specs.reading.Canonicals.{read_builtin, read_canonical, read_canonical_option}
+use Rattle.wenc_canon.specs.reading.Canonicals.{read_field, read_fields, rows}
 
 -- ---- options
 
@@ -42,7 +52,13 @@ canonical_option_sound = choose_tells _ _ (
             last_tells PostReturn u32_sound (λ n bytes rest r. (bytes, refl, r)),
             (
               give_tells Async (λ bytes. refl),
-              (last_tells Callback u32_sound (λ n bytes rest r. (bytes, refl, r)), (last_tells CoreTypeOption u32_sound (λ n bytes rest r. (bytes, refl, r)), (give_tells Gc (λ bytes. refl), tt))),
+              (
+                last_tells Callback u32_sound (λ n bytes rest r. (bytes, refl, r)),
+                (
+                  last_tells CoreTypeOption u32_sound (λ n bytes rest r. (bytes, refl, r)),
+                  (give_tells Gc (λ bytes. refl), tt),
+                ),
+              ),
             ),
           ),
         ),
@@ -77,7 +93,9 @@ fields_lawful (f ∷ g ∷ fs) vs = then _ (field_lawful f vs.0) (last _ (fields
 pub fields_sound : (fs : List Field) → Sound (fields fs) (read_fields fs)
 fields_sound [] = give_tells tt (λ bytes. refl)
 fields_sound (f ∷ []) = field_sound f
-fields_sound (f ∷ g ∷ fs) = then_tells _ (field_sound f) (λ v. last_tells (λ vs. (v, vs)) (fields_sound (g ∷ fs)) (λ vs middle rest r bytes p. (middle, p, r)))
+fields_sound (f ∷ g ∷ fs) = then_tells _ (field_sound f)
+    (λ v. last_tells (λ vs. (v, vs)) (fields_sound (g ∷ fs))
+    (λ vs middle rest r bytes p. (middle, p, r)))
 
 -- ---- canonical functions
 
@@ -88,22 +106,38 @@ own_row ResourceNew = refl
 own_row other = refl
 
 pub canonical_lawful : (c : Canonical) → Lawful (canonical c) (λ fuel. read_canonical) c
-canonical_lawful (Lift f os t) = in_row _ _ 0x00 (in_row _ _ 0x00 (then _ (u32_lawful f) (then _ (list_lawful canonical_option_lawful os) (last (Lift f os) (u32_lawful t)))))
-canonical_lawful (Lower f os) = in_row _ _ 0x01 (in_row _ _ 0x00 (then _ (u32_lawful f) (last (Lower f) (list_lawful canonical_option_lawful os))))
-canonical_lawful (OfBuiltin i vs) = in_row _ _ (row i).opcode (rw (own_row i) (last (OfBuiltin i) (fields_lawful (row i).fields vs)))
+canonical_lawful (Lift f os t) = in_row _ _ 0x00
+    (in_row _ _ 0x00 (then _ (u32_lawful f)
+    (then _ (list_lawful canonical_option_lawful os) (last (Lift f os) (u32_lawful t)))))
+canonical_lawful (Lower f os) = in_row _ _ 0x01
+    (in_row _ _ 0x00 (then _ (u32_lawful f)
+    (last (Lower f) (list_lawful canonical_option_lawful os))))
+canonical_lawful (OfBuiltin i vs) = in_row _ _ (row i).opcode
+    (rw (own_row i) (last (OfBuiltin i) (fields_lawful (row i).fields vs)))
 
 builtins_sound : (is : List Builtin) → RowsAreSound canonical (map read_builtin is)
 builtins_sound [] = tt
-builtins_sound (i ∷ is) = (last_tells (OfBuiltin i) (fields_sound (row i).fields) (λ vs bytes rest r. (bytes, refl, r)), builtins_sound is)
+builtins_sound (i ∷ is) = (
+  last_tells (OfBuiltin i) (fields_sound (row i).fields)
+      (λ vs bytes rest r. (bytes, refl, r)),
+  builtins_sound is,
+)
 
 pub canonical_sound : Sound canonical read_canonical
 canonical_sound = choose_tells _ _ (
   choose_tells _ _ (
-    then_tells _ u32_sound (λ f. then_tells _ (list_sound canonical_option_sound) (λ os. last_tells (Lift f os) u32_sound (λ t behind rest r middle q bytes p. (_, refl, (_, refl, (middle, p, (behind, q, r))))))),
+    then_tells _ u32_sound (λ f. then_tells _ (list_sound canonical_option_sound)
+        (λ os. last_tells (Lift f os) u32_sound
+        (λ t behind rest r middle q bytes p. (_, refl, (_, refl, (middle, p, (behind, q, r))))))),
     tt,
   ) nowhere_tells,
   (
-    choose_tells _ _ (then_tells _ u32_sound (λ f. last_tells (Lower f) (list_sound canonical_option_sound) (λ os middle rest r bytes p. (_, refl, (_, refl, (middle, p, r))))), tt) nowhere_tells,
+    choose_tells _ _ (
+      then_tells _ u32_sound
+          (λ f. last_tells (Lower f) (list_sound canonical_option_sound)
+          (λ os middle rest r bytes p. (_, refl, (_, refl, (middle, p, r))))),
+      tt,
+    ) nowhere_tells,
     builtins_sound builtins,
   ),
 ) nowhere_tells
@@ -111,10 +145,13 @@ canonical_sound = choose_tells _ _ (
 -- ---- what follows from an `Ok`
 
 -- there is one function more
-pub an_added_function_is_one_more : (old new : HolderState) (i : Builtin) (values : Values (row i).fields) → Adds old new (Ok tt) i values → new.count ≡ old.count + 1
+pub an_added_function_is_one_more : (old new : HolderState) (i : Builtin)
+    (values : Values (row i).fields) → Adds old new (Ok tt) i values → new.count ≡ old.count + 1
 an_added_function_is_one_more old new i values adds = ap (λ (h : HolderState). h.count) adds.ok.state
 
 -- so that the section can't be as it was
-pub an_added_function_is_seen : (section : HolderState) (i : Builtin) (values : Values (row i).fields) → Adds section section (Ok tt) i values → ⊥
+pub an_added_function_is_seen : (section : HolderState) (i : Builtin)
+    (values : Values (row i).fields) → Adds section section (Ok tt) i values → ⊥
 an_added_function_is_seen section i values adds =
-    let grown : section.count ≡ section.count + 1 = an_added_function_is_one_more section section i values adds in omega (arith, grown)
+    let grown : section.count ≡ section.count + 1 =
+    an_added_function_is_one_more section section i values adds in omega (arith, grown)

@@ -6,8 +6,15 @@ use Rattle.wenc_base.specs.reading.Forms.{read_flag, read_list}
 use Rattle.wenc_base.specs.reading.Types.{read_val_type}
 use Rattle.wenc_parts.specs.reading.Types.{read_result_list}
 use Rattle.wenc_canon.specs.declared.canonicals.CanonicalOption.{CanonicalOption}
-use Rattle.wenc_canon.specs.declared.canonicals.CanonicalOption.TheVariants.{UTF8, UTF16, CompactUTF16, Memory, Realloc, PostReturn, Async, Callback, CoreType as CoreTypeOption, Gc}
-use Rattle.wenc_canon.specs.Canonicals.{Field, Index, Options, Flag, Zero, CoreType, Results, Value, Values, Builtin, row, builtins, Canonical, Lift, Lower, OfBuiltin}
+use Rattle.wenc_canon.specs.declared.canonicals.CanonicalOption.TheVariants.{UTF8, UTF16}
+use Rattle.wenc_canon.specs.declared.canonicals.CanonicalOption.TheVariants.{CompactUTF16, Memory}
+use Rattle.wenc_canon.specs.declared.canonicals.CanonicalOption.TheVariants.{Realloc, PostReturn}
+use Rattle.wenc_canon.specs.declared.canonicals.CanonicalOption.TheVariants.{Async, Callback}
+use Rattle.wenc_canon.specs.declared.canonicals.CanonicalOption.TheVariants.{CoreType as CoreTypeOption}
+use Rattle.wenc_canon.specs.declared.canonicals.CanonicalOption.TheVariants.{Gc}
+use Rattle.wenc_canon.specs.Canonicals.{Field, Index, Options, Flag, Zero, CoreType, Results, Value}
+use Rattle.wenc_canon.specs.Canonicals.{Values, Builtin, row, builtins, Canonical, Lift, Lower}
+use Rattle.wenc_canon.specs.Canonicals.{OfBuiltin}
 
 -- ---- options
 

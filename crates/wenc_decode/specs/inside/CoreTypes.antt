@@ -1,4 +1,4 @@
--- What stands after the first byte of a core type.
+-- Core types after their first byte.
 use Rattle.std.specs.Prelude.{Bool}
 use Rattle.wenc_base.specs.declared.types.RefType.{RefType}
 use Rattle.wenc_base.specs.Composites.{Single}

@@ -1,4 +1,4 @@
--- What stands after the first byte of limits.
+-- Limits after their first byte.
 use Rattle.std.specs.Prelude.{ℕ, Bool, true, false, Option, Some, None}
 use Rattle.wenc_base.specs.declared.types.RefType.{RefType}
 use Rattle.wenc_base.specs.declared.memories.MemoryType.{MemoryType}

@@ -1,4 +1,4 @@
--- Tables of values that are a byte each: which value it is.
+-- Tables of values that are a byte each, and the value of a byte.
 use Rattle.std.specs.Prelude.{ℕ, List, [], ◌∷◌, Option, Some, None, nat_eq, if◌then◌else◌}
 
 -- the value with this byte

@@ -1,5 +1,4 @@
--- The primitive types, in the order of their table, and what stands after the first byte of a
--- type of values.
+-- The primitive types, in the order of their table, and value types after their first byte.
 use Rattle.std.specs.Prelude.{ℕ, List, [], ◌∷◌, drop}
 use Rattle.wenc_base.specs.Readers.{Reader, nowhere, pick}
 use Rattle.wenc_parts.specs.declared.types.PrimitiveValType.{PrimitiveValType}

@@ -3,25 +3,44 @@ use Rattle.std.proofs.Common.{◌≡◌, ℕ, zero, suc, ◌-◌, ◌<◌, List,
 use Rattle.wenc_base.specs.Readers.{times}
 use Rattle.wenc_base.specs.reading.Numbers.{read_u32}
 use Rattle.wenc_read.specs.declared.refusal.NestedRefusal.{NestedRefusal}
-use Rattle.wenc_types.specs.ComponentTypes.{ComponentType, InstanceType, ComponentDeclaration, InstanceDeclaration, components_of, instances_of}
+use Rattle.wenc_types.specs.ComponentTypes.{ComponentType, InstanceType, ComponentDeclaration}
+use Rattle.wenc_types.specs.ComponentTypes.{InstanceDeclaration, components_of, instances_of}
 use Rattle.wenc_read.specs.Gives.{FailsNested}
 use Rattle.wenc_read.specs.laws.Tables.{fails_nested_on}
-use Rattle.wenc_types.specs.reading.ComponentTypes.{read_type, read_component_declaration, read_instance_declaration, read_component_type, read_instance_type}
+use Rattle.wenc_types.specs.reading.ComponentTypes.{read_type, read_component_declaration}
+use Rattle.wenc_types.specs.reading.ComponentTypes.{read_instance_declaration, read_component_type}
+use Rattle.wenc_types.specs.reading.ComponentTypes.{read_instance_type}
 
-pub component_found : (d n : ℕ) (bytes middle rest : List ℕ) (ds : List ComponentDeclaration) → 0 < d → read_u32 bytes ≡ Ok (n, middle) → times (read_component_declaration (read_type (d - 1))) n middle ≡ Ok (ds, rest)
+pub component_found : (d n : ℕ) (bytes middle rest : List ℕ) (ds : List ComponentDeclaration)
+    → 0 < d → read_u32 bytes ≡ Ok (n, middle)
+    → times (read_component_declaration (read_type (d - 1))) n middle ≡ Ok (ds, rest)
     → read_component_type d bytes ≡ Ok (ComponentType (components_of ds), rest)
 component_found zero n bytes middle rest ds some e r = absurd (omega arith)
-component_found (suc d) n bytes middle rest ds some e r = let less : suc d - 1 ≡ d = omega arith in rw (e, rw less at r) refl
+component_found (suc d) n bytes middle rest ds some e r = let less : suc d - 1 ≡ d =
+    omega arith in rw (e, rw less at r) refl
 
-pub component_fails : (d n : ℕ) (bytes middle : List ℕ) (flaw : NestedRefusal) → 0 < d → read_u32 bytes ≡ Ok (n, middle) → FailsNested flaw (times (read_component_declaration (read_type (d - 1))) n middle) → FailsNested flaw (read_component_type d bytes)
+pub component_fails : (d n : ℕ) (bytes middle : List ℕ) (flaw : NestedRefusal) → 0 < d
+    → read_u32 bytes ≡ Ok (n, middle) → FailsNested flaw
+    (times (read_component_declaration (read_type (d - 1))) n middle)
+    → FailsNested flaw (read_component_type d bytes)
 component_fails zero n bytes middle flaw some e r = absurd (omega arith)
-component_fails (suc d) n bytes middle flaw some e r = let less : suc d - 1 ≡ d = omega arith in rw e (fails_nested_on flaw (times (read_component_declaration (read_type d)) n middle) _ (rw less at r))
+component_fails (suc d) n bytes middle flaw some e r = let less : suc d - 1 ≡ d = omega arith in
+    rw e (fails_nested_on flaw (times (read_component_declaration (read_type d)) n middle) _
+    (rw less at r))
 
-pub instance_found : (d n : ℕ) (bytes middle rest : List ℕ) (ds : List InstanceDeclaration) → 0 < d → read_u32 bytes ≡ Ok (n, middle) → times (read_instance_declaration (read_type (d - 1))) n middle ≡ Ok (ds, rest)
+pub instance_found : (d n : ℕ) (bytes middle rest : List ℕ) (ds : List InstanceDeclaration) → 0 < d
+    → read_u32 bytes ≡ Ok (n, middle) → times (read_instance_declaration (read_type (d - 1))) n
+    middle ≡ Ok (ds, rest)
     → read_instance_type d bytes ≡ Ok (InstanceType (instances_of ds), rest)
 instance_found zero n bytes middle rest ds some e r = absurd (omega arith)
-instance_found (suc d) n bytes middle rest ds some e r = let less : suc d - 1 ≡ d = omega arith in rw (e, rw less at r) refl
+instance_found (suc d) n bytes middle rest ds some e r = let less : suc d - 1 ≡ d =
+    omega arith in rw (e, rw less at r) refl
 
-pub instance_fails : (d n : ℕ) (bytes middle : List ℕ) (flaw : NestedRefusal) → 0 < d → read_u32 bytes ≡ Ok (n, middle) → FailsNested flaw (times (read_instance_declaration (read_type (d - 1))) n middle) → FailsNested flaw (read_instance_type d bytes)
+pub instance_fails : (d n : ℕ) (bytes middle : List ℕ) (flaw : NestedRefusal) → 0 < d
+    → read_u32 bytes ≡ Ok (n, middle) → FailsNested flaw
+    (times (read_instance_declaration (read_type (d - 1))) n middle)
+    → FailsNested flaw (read_instance_type d bytes)
 instance_fails zero n bytes middle flaw some e r = absurd (omega arith)
-instance_fails (suc d) n bytes middle flaw some e r = let less : suc d - 1 ≡ d = omega arith in rw e (fails_nested_on flaw (times (read_instance_declaration (read_type d)) n middle) _ (rw less at r))
+instance_fails (suc d) n bytes middle flaw some e r = let less : suc d - 1 ≡ d = omega arith in
+    rw e (fails_nested_on flaw (times (read_instance_declaration (read_type d)) n middle) _
+    (rw less at r))

@@ -70,11 +70,11 @@ read_content_item depth id = content_row_of (content_rows depth) id
 
 -- ---- what fills a section
 
--- one item, made of all that is there
+-- one item, made from all bytes
 abbrev pub whole_item : {A : Type 0} → (A → Item) → Result A Flaw → Result (Item × List ℕ) Flaw
 whole_item make found = made (λ v. (make v, [])) found
 
--- the item that stands here in the content of the section with this id
+-- the item that begins here in the content of the section with this id
 abbrev pub read_item_in : ℕ → ℕ → Reader Item
 read_item_in depth id bytes =
     if nat_eq id 0 then whole_item CustomItem (read_custom_content bytes)
@@ -83,7 +83,7 @@ read_item_in depth id bytes =
     else if nat_eq id 9 then (read_start_content >>= λ s. give (StartItem s)) bytes
     else read_content_item depth id bytes
 
--- how many items the content of a section with this id has, and their bytes
+-- the number of items in the content of a section with this id, and their bytes
 abbrev pub read_count : ℕ → Reader ℕ
 read_count id content = if collects id then read_u32 content else Ok (1, content)
 

@@ -8,7 +8,7 @@ use Rattle.wenc_list.specs.declared.fault.ListFault.TheVariants as faults
 use Rattle.wenc_list.specs.declared.unread.Unread.{Unread}
 use Rattle.wenc_list.specs.declared.unread.Unread.TheVariants as parts
 
--- so many items were taken; what is left begins at `here`, and P holds of it
+-- this many items were taken; what is left begins at `here`, and P holds of it
 pub record Stops (first : SectionItems) (number here : ℕ) (P : SectionItems → Type 0) : Type 0 where
   pub xs : List Item
   pub left : SectionItems

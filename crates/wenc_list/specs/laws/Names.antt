@@ -1,5 +1,7 @@
 -- The readers of names and of parts are exact.
-use Rattle.std.proofs.Common.{◌≡◌, ℕ, zero, suc, ◌≤◌, false, cond, eqb, ltb, List, [], ◌∷◌, ◌++◌, length, take, drop, Result, Ok, Err, refl, sym, ap, ◌∙◌, arith, inl, inr, length-append}
+use Rattle.std.proofs.Common.{◌≡◌, ℕ, zero, suc, ◌≤◌, false, cond, eqb, ltb, List, [], ◌∷◌, ◌++◌}
+use Rattle.std.proofs.Common.{length, take, drop, Result, Ok, Err, refl, sym, ap, ◌∙◌, arith, inl}
+use Rattle.std.proofs.Common.{inr, length-append}
 use Rattle.std.proofs.lemmas.Bool.{cases_lt, lt-ltb, le-ltb}
 use Rattle.std.proofs.lemmas.List.{take_at, drop_at, take-append-drop, length-take-le, append-nil}
 use Rattle.wenc_base.specs.Forms.{name, AreBytes}
@@ -11,16 +13,23 @@ use Rattle.wenc_base.specs.laws.Forms.{name_lawful, name_sound, list_lawful, lis
 use Rattle.wenc_base.specs.laws.Lawful.{then, last, whole_lawful}
 use Rattle.wenc_base.specs.laws.Names.{name_association_lawful}
 use Rattle.wenc_base.specs.laws.Numbers.{u32_lawful, u32_sound}
-use Rattle.wenc_base.specs.laws.Sound.{Told, Sound, SoundWhole, weaken, told_on, then_tells, last_tells, give_tells, nowhere_tells, sound_behind, tested, choose_tells, whole_sound}
+use Rattle.wenc_base.specs.laws.Sound.{Told, Sound, SoundWhole, weaken, told_on, then_tells}
+use Rattle.wenc_base.specs.laws.Sound.{last_tells, give_tells, nowhere_tells, sound_behind, tested}
+use Rattle.wenc_base.specs.laws.Sound.{choose_tells, whole_sound}
 use Rattle.wenc_base.specs.reading.Forms.{read_name}
 use Rattle.wenc_base.specs.reading.Numbers.{read_u32}
 use Rattle.wenc_read.specs.Exact.{IsExactAt}
 use Rattle.wenc_read.specs.laws.Exact.{found_and_read}
 use Rattle.wenc_sections.specs.Names.{Subsection, ComponentName, ItemNames, RawNames, item_sort, subsection}
 use Rattle.wenc_sections.specs.declared.space.Space.{Space}
-use Rattle.wenc_sections.specs.declared.space.Space.TheVariants.{CoreModules, CoreFuncs, CoreTypes, CoreMemories, CoreTables, CoreInstances, CoreTags, CoreGlobals, Funcs, Instances, Values, Components, Types}
+use Rattle.wenc_sections.specs.declared.space.Space.TheVariants.{CoreModules, CoreFuncs, CoreTypes}
+use Rattle.wenc_sections.specs.declared.space.Space.TheVariants.{CoreMemories, CoreTables}
+use Rattle.wenc_sections.specs.declared.space.Space.TheVariants.{CoreInstances, CoreTags}
+use Rattle.wenc_sections.specs.declared.space.Space.TheVariants.{CoreGlobals, Funcs, Instances}
+use Rattle.wenc_sections.specs.declared.space.Space.TheVariants.{Values, Components, Types}
 use Rattle.wenc_sections.specs.laws.Names.{sort_lawful}
-use Rattle.wenc_list.specs.Names.{part, subsection_by_id, read_part, read_item_name, read_core_sort, read_sort, read_item_names, read_names_in, read_names}
+use Rattle.wenc_list.specs.Names.{part, subsection_by_id, read_part, read_item_name, read_core_sort}
+use Rattle.wenc_list.specs.Names.{read_sort, read_item_names, read_names_in, read_names}
 
 -- ---- names of items
 
@@ -28,7 +37,8 @@ abbrev named_so : ℕ → List ℕ → NameAssociation
 named_so index text = record { index = index; name = text }
 
 pub item_name_sound : Sound name_association read_item_name
-item_name_sound = then_tells _ u32_sound (λ index. last_tells (named_so index) name_sound (λ text middle rest r bytes p. (middle, p, r)))
+item_name_sound = then_tells _ u32_sound
+    (λ index. last_tells (named_so index) name_sound (λ text middle rest r bytes p. (middle, p, r)))
 
 core_sort_sound : Sound (sound_behind 0x00 item_sort) read_core_sort
 core_sort_sound = choose_tells _ _ (
@@ -41,7 +51,13 @@ core_sort_sound = choose_tells _ _ (
         give_tells CoreGlobals (λ bytes. (_, refl, refl)),
         (
           give_tells CoreTags (λ bytes. (_, refl, refl)),
-          (give_tells CoreTypes (λ bytes. (_, refl, refl)), (give_tells CoreModules (λ bytes. (_, refl, refl)), (give_tells CoreInstances (λ bytes. (_, refl, refl)), tt))),
+          (
+            give_tells CoreTypes (λ bytes. (_, refl, refl)),
+            (
+              give_tells CoreModules (λ bytes. (_, refl, refl)),
+              (give_tells CoreInstances (λ bytes. (_, refl, refl)), tt),
+            ),
+          ),
         ),
       ),
     ),
@@ -53,7 +69,13 @@ sort_sound = choose_tells _ _ (
   core_sort_sound,
   (
     give_tells Funcs (λ bytes. refl),
-    (give_tells Values (λ bytes. refl), (give_tells Types (λ bytes. refl), (give_tells Components (λ bytes. refl), (give_tells Instances (λ bytes. refl), tt)))),
+    (
+      give_tells Values (λ bytes. refl),
+      (
+        give_tells Types (λ bytes. refl),
+        (give_tells Components (λ bytes. refl), (give_tells Instances (λ bytes. refl), tt)),
+      ),
+    ),
   ),
 ) nowhere_tells
 
@@ -63,10 +85,14 @@ listed (ItemNames sort names) = item_sort sort ⨾ name_map names
 listed other = raw (λ bs. ⊥) []
 
 item_names_sound : SoundWhole listed (done read_item_names)
-item_names_sound = whole_sound (then_tells _ sort_sound (λ sort. last_tells (ItemNames sort) (list_sound item_name_sound) (λ names middle rest r bytes p. (middle, p, r))))
+item_names_sound = whole_sound (then_tells _ sort_sound
+    (λ sort. last_tells (ItemNames sort) (list_sound item_name_sound)
+    (λ names middle rest r bytes p. (middle, p, r))))
 
-item_names_lawful : (sort : Space) (names : List NameAssociation) → Lawful (item_sort sort ⨾ name_map names) (λ fuel. read_item_names) (ItemNames sort names)
-item_names_lawful sort names = then _ (sort_lawful sort) (last (ItemNames sort) (list_lawful name_association_lawful names))
+item_names_lawful : (sort : Space) (names : List NameAssociation)
+    → Lawful (item_sort sort ⨾ name_map names) (λ fuel. read_item_names) (ItemNames sort names)
+item_names_lawful sort names =
+    then _ (sort_lawful sort) (last (ItemNames sort) (list_lawful name_association_lawful names))
 
 -- ---- parts
 
@@ -82,26 +108,52 @@ first_bytes (suc n) (b ∷ bytes) h = (h.0, first_bytes n bytes h.1)
 part_told : (bytes : List ℕ) → AreBytes bytes → Told (λ x. (part x.0).Reads Wide bytes x.1) ⊥ (read_part bytes)
 part_told [] h = tt
 part_told (id ∷ bytes) h =
-    told_on (λ x. (u32 x.0).Reads Wide bytes x.1) ⊥ (λ x. (part x.0).Reads Wide (id ∷ bytes) x.1) ⊥ cut (read_u32 bytes) (u32_sound.tells bytes) (λ e. e) (λ x r. inside x.0 x.1 r)
+    told_on (λ x. (u32 x.0).Reads Wide bytes x.1) ⊥ (λ x. (part x.0).Reads Wide (id ∷ bytes) x.1) ⊥
+    cut (read_u32 bytes) (u32_sound.tells bytes) (λ e. e) (λ x r. inside x.0 x.1 r)
   where
     cut : ℕ → List ℕ → Result ((ℕ × List ℕ) × List ℕ) Flaw
     cut size rest = cond (ltb (length rest) size) (Err Bad) (Ok ((id, take size rest), drop size rest))
 
-    inside : (size : ℕ) (rest : List ℕ) → (u32 size).Reads Wide bytes rest → Told (λ x. (part x.0).Reads Wide (id ∷ bytes) x.1) ⊥ (cut size rest)
+    inside : (size : ℕ) (rest : List ℕ) → (u32 size).Reads Wide bytes rest
+        → Told (λ x. (part x.0).Reads Wide (id ∷ bytes) x.1) ⊥ (cut size rest)
     inside size rest r =
         let ends = (u32_lawful size).leaves Wide bytes rest r in
         let below : AreBytes rest = behind_bytes ends.0 rest (rw ends.1 at h.1) in
         elim (cases_lt (length rest) size) [
           | inl lt ↦ rw (lt-ltb (length rest) size lt, cond) tt
-          | inr ge ↦ rw (le-ltb (length rest) size ge, cond) (bytes, refl, (take size rest, rw (length-take-le size rest ge, take-append-drop size rest) r, (first_bytes size rest below, sym (append-nil (take size rest)))))
+          | inr ge ↦ rw (le-ltb (length rest) size ge, cond) (
+            bytes,
+            refl,
+            (
+              take size rest,
+              rw (
+                length-take-le size rest ge,
+                take-append-drop size rest,
+              ) r,
+              (
+                first_bytes size rest below,
+                sym (append-nil (take size rest)),
+              ),
+            ),
+          )
         ]
 
-part_found : (id : ℕ) (middle content rest : List ℕ) → (u32 (length content)).Reads Wide middle (content ++ rest) → read_part (id ∷ middle) ≡ Ok ((id, content), rest)
+part_found : (id : ℕ) (middle content rest : List ℕ) → (u32 (length content)).Reads Wide middle
+    (content ++ rest) → read_part (id ∷ middle) ≡ Ok ((id, content), rest)
 part_found id middle content rest r =
-    rw ((u32_lawful (length content)).finds (u32_lawful (length content)).depth (omega arith) Wide middle (content ++ rest) r, le-ltb (length (content ++ rest)) (length content) (omega (arith, length-append content rest)), take_at content rest (length content) refl, drop_at content rest (length content) refl) refl
+    rw (
+      (u32_lawful (length content)).finds (u32_lawful (length content)).depth
+          (omega arith) Wide middle (content ++ rest) r,
+      le-ltb (length (content ++ rest))
+          (length content) (omega (arith, length-append content rest)),
+      take_at content rest (length content) refl,
+      drop_at content rest (length content) refl,
+    ) refl
 
 -- what a part is read as, without the size of its size
-part_opened : (p : ℕ × List ℕ) (bytes rest : List ℕ) → (part p).Reads Wide bytes rest → (middle : List ℕ) × (bytes ≡ p.0 ∷ middle) × (u32 (length p.1)).Reads Wide middle (p.1 ++ rest)
+part_opened : (p : ℕ × List ℕ) (bytes rest : List ℕ) → (part p).Reads Wide bytes rest
+    → (middle : List ℕ) × (bytes ≡ p.0 ∷ middle) × (u32 (length p.1)).Reads Wide middle
+    (p.1 ++ rest)
 part_opened p bytes rest r = (r.0, r.1, rw (r.2.2.1 ∙ append-nil p.1) at r.2.1)
 
 pub part_exact : (bytes : List ℕ) → AreBytes bytes → IsExactAt part read_part bytes
@@ -110,22 +162,32 @@ part_exact bytes h = found_and_read (part_told bytes h) (λ p rest r.
 
 -- ---- subsections
 
-made_told : {A B : Type 0} (P : A → Type 0) (Q : B → Type 0) (make : A → B) (found : Result A Flaw) → ((v : A) → P v → Q (make v)) → Told P ⊥ found → Told Q ⊥ (made make found)
+made_told : {A B : Type 0} (P : A → Type 0) (Q : B → Type 0) (make : A → B) (found : Result A Flaw)
+    → ((v : A) → P v → Q (make v)) → Told P ⊥ found → Told Q ⊥ (made make found)
 made_told P Q make (Ok v) k h = k v h
 made_told P Q make (Err Bad) k h = tt
 made_told P Q make (Err Deep) k h = h
 
-listed_reads : (s : Subsection) (bytes middle content rest : List ℕ) → bytes ≡ 1 ∷ middle → (u32 (length content)).Reads Wide middle (content ++ rest) → (listed s).Reads Wide content [] → (subsection_by_id s).Reads Wide bytes rest
+listed_reads : (s : Subsection) (bytes middle content rest : List ℕ) → bytes ≡ 1 ∷ middle
+    → (u32 (length content)).Reads Wide middle (content ++ rest) → (listed s).Reads Wide content []
+    → (subsection_by_id s).Reads Wide bytes rest
 listed_reads (ItemNames sort names) bytes middle content rest e sized r = (tt, (middle, e, (content, sized, r)))
 listed_reads other bytes middle content rest e sized r = absurd r.0
 
-content_told : (id : ℕ) (bytes middle content rest : List ℕ) → bytes ≡ id ∷ middle → (u32 (length content)).Reads Wide middle (content ++ rest) → (subsection (RawNames id content)).Reads Wide bytes rest
+content_told : (id : ℕ) (bytes middle content rest : List ℕ) → bytes ≡ id ∷ middle
+    → (u32 (length content)).Reads Wide middle (content ++ rest)
+    → (subsection (RawNames id content)).Reads Wide bytes rest
     → Told (λ s. (subsection_by_id s).Reads Wide bytes rest) ⊥ (read_names_in id content)
 content_told id bytes middle content rest b sized raw =
     elim (tested id 0) [
-      | inl e ↦ rw (e.0, cond) (made_told (λ v. (name v).Reads Wide content []) _ ComponentName (done read_name content) (λ v k. (tt, (middle, rw e.1 at b, (content, sized, k)))) ((whole_sound name_sound).tells content))
+      | inl e ↦ rw (e.0, cond) (made_told (λ v. (name v).Reads Wide content []) _ ComponentName
+          (done read_name content) (λ v k. (tt, (middle, rw e.1 at b, (content, sized, k))))
+          ((whole_sound name_sound).tells content))
       | inr e ↦ rw (e, cond) (elim (tested id 1) [
-        | inl f ↦ rw (f.0, cond) (weaken (λ s. (listed s).Reads Wide content []) (λ s. (subsection_by_id s).Reads Wide bytes rest) ⊥ ⊥ (done read_item_names content) (λ s k. listed_reads s bytes middle content rest (rw f.1 at b) sized k) (λ d. d) (item_names_sound.tells content))
+        | inl f ↦ rw (f.0, cond) (weaken (λ s. (listed s).Reads Wide content [])
+            (λ s. (subsection_by_id s).Reads Wide bytes rest) ⊥ ⊥ (done read_item_names content)
+            (λ s k. listed_reads s bytes middle content rest (rw f.1 at b) sized k)
+            (λ d. d) (item_names_sound.tells content))
         | inr f ↦ rw (f, cond) (above id e f, raw)
       ])
     ]
@@ -135,31 +197,48 @@ content_told id bytes middle content rest b sized raw =
     above (suc zero) e f = absurd cc
     above (suc (suc n)) e f = omega arith
 
-names_told : (bytes : List ℕ) → AreBytes bytes → Told (λ x. (subsection_by_id x.0).Reads Wide bytes x.1) ⊥ (read_names bytes)
+names_told : (bytes : List ℕ) → AreBytes bytes
+    → Told (λ x. (subsection_by_id x.0).Reads Wide bytes x.1) ⊥ (read_names bytes)
 names_told bytes h =
-    told_on (λ x. (part x.0).Reads Wide bytes x.1) ⊥ (λ x. (subsection_by_id x.0).Reads Wide bytes x.1) ⊥ (λ p rest. made (λ s. (s, rest)) (read_names_in p.0 p.1)) (read_part bytes) (part_told bytes h) (λ e. e) (λ x r.
-    made_told (λ s. (subsection_by_id s).Reads Wide bytes x.1) _ (λ s. (s, x.1)) (read_names_in x.0.0 x.0.1) (λ s k. k) (let o = part_opened x.0 bytes x.1 r in content_told x.0.0 bytes o.0 x.0.1 x.1 o.1 o.2 r))
+    told_on (λ x. (part x.0).Reads Wide bytes x.1) ⊥
+    (λ x. (subsection_by_id x.0).Reads Wide bytes x.1) ⊥
+    (λ p rest. made (λ s. (s, rest)) (read_names_in p.0 p.1)) (read_part bytes)
+    (part_told bytes h) (λ e. e) (λ x r.
+    made_told (λ s. (subsection_by_id s).Reads Wide bytes x.1) _
+    (λ s. (s, x.1)) (read_names_in x.0.0 x.0.1) (λ s k. k)
+    (let o = part_opened x.0 bytes x.1 r in content_told x.0.0 bytes o.0 x.0.1 x.1 o.1 o.2 r))
 
-on_ok : {A B : Type 0} (x : A × List ℕ) (found : Result (A × List ℕ) Flaw) (next : A → List ℕ → Result B Flaw) → found ≡ Ok x → go_on found next ≡ next x.0 x.1
+on_ok : {A B : Type 0} (x : A × List ℕ) (found : Result (A × List ℕ) Flaw)
+    (next : A → List ℕ → Result B Flaw) → found ≡ Ok x → go_on found next ≡ next x.0 x.1
 on_ok x found next e = rw e refl
 
-content_found : (id : ℕ) (bytes middle content rest : List ℕ) (s : Subsection) → bytes ≡ id ∷ middle → (u32 (length content)).Reads Wide middle (content ++ rest) → read_names_in id content ≡ Ok s → read_names bytes ≡ Ok (s, rest)
+content_found : (id : ℕ) (bytes middle content rest : List ℕ) (s : Subsection) → bytes ≡ id ∷ middle
+    → (u32 (length content)).Reads Wide middle (content ++ rest) → read_names_in id content ≡ Ok s
+    → read_names bytes ≡ Ok (s, rest)
 content_found id bytes middle content rest s b r e =
-    rw b (on_ok ((id, content), rest) (read_part (id ∷ middle)) (λ p rest. made (λ s. (s, rest)) (read_names_in p.0 p.1)) (part_found id middle content rest r) ∙ ap (λ (f : Result Subsection Flaw). made (λ s. (s, rest)) f) e)
+    rw b (on_ok ((id, content), rest) (read_part (id ∷ middle))
+    (λ p rest. made (λ s. (s, rest)) (read_names_in p.0 p.1))
+    (part_found id middle content rest r) ∙ ap
+    (λ (f : Result Subsection Flaw). made (λ s. (s, rest)) f) e)
 
 not_equal : (b c : ℕ) → (b ≡ c → ⊥) → eqb b c ≡ false
 not_equal b c h = elim (tested b c) [ inl e ↦ absurd (h e.1) | inr e ↦ e ]
 
-names_found : (s : Subsection) (bytes rest : List ℕ) → (subsection_by_id s).Reads Wide bytes rest → read_names bytes ≡ Ok (s, rest)
+names_found : (s : Subsection) (bytes rest : List ℕ) → (subsection_by_id s).Reads Wide bytes rest
+    → read_names bytes ≡ Ok (s, rest)
 names_found (ComponentName text) bytes rest r =
     let l = whole_lawful (name_lawful text) in
-    content_found 0 bytes r.1.0 r.1.2.0 rest (ComponentName text) r.1.1 r.1.2.1 (ap (λ (f : Result (List ℕ) Flaw). made ComponentName f) (l.finds l.depth (omega arith) Wide r.1.2.0 r.1.2.2))
+    content_found 0 bytes r.1.0 r.1.2.0 rest (ComponentName text) r.1.1 r.1.2.1
+    (ap (λ (f : Result (List ℕ) Flaw). made ComponentName f)
+    (l.finds l.depth (omega arith) Wide r.1.2.0 r.1.2.2))
 names_found (ItemNames sort names) bytes rest r =
     let l = whole_lawful (item_names_lawful sort names) in
-    content_found 1 bytes r.1.0 r.1.2.0 rest (ItemNames sort names) r.1.1 r.1.2.1 (l.finds l.depth (omega arith) Wide r.1.2.0 r.1.2.2)
+    content_found 1 bytes r.1.0 r.1.2.0 rest (ItemNames sort names) r.1.1 r.1.2.1
+    (l.finds l.depth (omega arith) Wide r.1.2.0 r.1.2.2)
 names_found (RawNames id bs) bytes rest r =
     let o = part_opened (id, bs) bytes rest r.1 in
-    content_found id bytes o.0 bs rest (RawNames id bs) o.1 o.2 (rw (not_equal id 0 (λ e. omega arith), not_equal id 1 (λ e. omega arith), cond) refl)
+    content_found id bytes o.0 bs rest (RawNames id bs) o.1 o.2
+    (rw (not_equal id 0 (λ e. omega arith), not_equal id 1 (λ e. omega arith), cond) refl)
 
 pub names_exact : (bytes : List ℕ) → AreBytes bytes → IsExactAt subsection_by_id read_names bytes
 names_exact bytes h = found_and_read (names_told bytes h) (λ s. names_found s bytes)

@@ -3,7 +3,15 @@ use Rattle.std.proofs.Common.{refl}
 use Rattle.wenc_base.specs.Readers.{Lawful}
 use Rattle.wenc_base.specs.laws.Lawful.{row_byte}
 use Rattle.wenc_parts.specs.declared.component.ComponentSectionId.{ComponentSectionId}
-use Rattle.wenc_parts.specs.declared.component.ComponentSectionId.TheVariants.{CoreCustom, CoreModule, CoreInstance, CoreType, Component, Instance, Alias, «Type» as TypeSection, CanonicalFunction, Start, Import, Export}
+use Rattle.wenc_parts.specs.declared.component.ComponentSectionId.TheVariants.{CoreCustom}
+use Rattle.wenc_parts.specs.declared.component.ComponentSectionId.TheVariants.{CoreModule}
+use Rattle.wenc_parts.specs.declared.component.ComponentSectionId.TheVariants.{CoreInstance}
+use Rattle.wenc_parts.specs.declared.component.ComponentSectionId.TheVariants.{CoreType, Component}
+use Rattle.wenc_parts.specs.declared.component.ComponentSectionId.TheVariants.{Instance, Alias}
+use Rattle.wenc_parts.specs.declared.component.ComponentSectionId.TheVariants.{«Type» as TypeSection}
+use Rattle.wenc_parts.specs.declared.component.ComponentSectionId.TheVariants.{CanonicalFunction}
+use Rattle.wenc_parts.specs.declared.component.ComponentSectionId.TheVariants.{Start, Import}
+use Rattle.wenc_parts.specs.declared.component.ComponentSectionId.TheVariants.{Export}
 use Rattle.wenc_parts.specs.SectionIds.{section_id}
 use Rattle.wenc_parts.specs.reading.SectionIds.{read_section}
 

@@ -36,15 +36,15 @@ read_core_export kind = choose ((0x01, read_core_exported kind) ∷ []) nowhere
 abbrev pub read_outer : ComponentOuterAliasKind → Reader AliasOf
 read_outer kind = read_u32 >>= λ count. read_u32 >>= λ number. give (Outer kind count number)
 
--- where a sort is both
+-- if exports and outer items have this sort
 abbrev pub read_export_or_outer : ComponentExportKind → ComponentOuterAliasKind → Reader AliasOf
 read_export_or_outer kind outer = choose ((0x00, read_export kind) ∷ (0x02, read_outer outer) ∷ []) nowhere
 
--- where a sort is no outer item's
+-- if only exports have this sort
 abbrev pub read_exported_alias : ComponentExportKind → Reader AliasOf
 read_exported_alias kind = choose ((0x00, read_export kind) ∷ []) nowhere
 
--- what is of a core sort
+-- an alias of a core sort
 abbrev pub read_core_alias : Reader AliasOf
 read_core_alias = choose (
     (0x00, read_core_export cores.Func) ∷

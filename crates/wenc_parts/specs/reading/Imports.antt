@@ -7,7 +7,9 @@ use Rattle.wenc_base.specs.reading.Forms.{read_name, read_list}
 use Rattle.wenc_parts.specs.declared.imports.TypeBounds.{TypeBounds}
 use Rattle.wenc_parts.specs.declared.imports.TypeBounds.TheVariants.{Eq, SubResource}
 use Rattle.wenc_parts.specs.declared.imports.ComponentTypeRef.{ComponentTypeRef}
-use Rattle.wenc_parts.specs.declared.imports.ComponentTypeRef.TheVariants.{Module, Func, Value, «Type» as TypeRef, Instance, Component}
+use Rattle.wenc_parts.specs.declared.imports.ComponentTypeRef.TheVariants.{Module, Func, Value}
+use Rattle.wenc_parts.specs.declared.imports.ComponentTypeRef.TheVariants.{«Type» as TypeRef}
+use Rattle.wenc_parts.specs.declared.imports.ComponentTypeRef.TheVariants.{Instance, Component}
 use Rattle.wenc_parts.specs.Imports.{ExternName, plain_name, NameOption, Implements, VersionSuffix, ExternalId}
 use Rattle.wenc_parts.specs.reading.Types.{read_value_type}
 
@@ -60,7 +62,7 @@ abbrev pub with_options : List ℕ → List NameOption → ExternName
 with_options text [] = plain_name text
 with_options text (o ∷ os) = with_option o (with_options text os)
 
--- what an option begins with
+-- the first byte of an option
 abbrev pub option_number : NameOption → ℕ
 option_number (Implements text) = 0
 option_number (VersionSuffix text) = 1

@@ -1,4 +1,4 @@
--- The reader of what a core module is given.
+-- The reader of a core module's arguments.
 use Rattle.std.specs.Prelude.{[], ◌∷◌}
 use Rattle.wenc_base.specs.Readers.{Reader, ◌>>=◌, give, nowhere, choose}
 use Rattle.wenc_base.specs.reading.Numbers.{read_u32}

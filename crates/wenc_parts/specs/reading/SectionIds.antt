@@ -2,7 +2,15 @@
 use Rattle.std.specs.Prelude.{[], ◌∷◌}
 use Rattle.wenc_base.specs.Readers.{Reader, give, nowhere, choose}
 use Rattle.wenc_parts.specs.declared.component.ComponentSectionId.{ComponentSectionId}
-use Rattle.wenc_parts.specs.declared.component.ComponentSectionId.TheVariants.{CoreCustom, CoreModule, CoreInstance, CoreType, Component, Instance, Alias, «Type» as TypeSection, CanonicalFunction, Start, Import, Export}
+use Rattle.wenc_parts.specs.declared.component.ComponentSectionId.TheVariants.{CoreCustom}
+use Rattle.wenc_parts.specs.declared.component.ComponentSectionId.TheVariants.{CoreModule}
+use Rattle.wenc_parts.specs.declared.component.ComponentSectionId.TheVariants.{CoreInstance}
+use Rattle.wenc_parts.specs.declared.component.ComponentSectionId.TheVariants.{CoreType, Component}
+use Rattle.wenc_parts.specs.declared.component.ComponentSectionId.TheVariants.{Instance, Alias}
+use Rattle.wenc_parts.specs.declared.component.ComponentSectionId.TheVariants.{«Type» as TypeSection}
+use Rattle.wenc_parts.specs.declared.component.ComponentSectionId.TheVariants.{CanonicalFunction}
+use Rattle.wenc_parts.specs.declared.component.ComponentSectionId.TheVariants.{Start, Import}
+use Rattle.wenc_parts.specs.declared.component.ComponentSectionId.TheVariants.{Export}
 
 abbrev pub read_section : Reader ComponentSectionId
 read_section = choose (

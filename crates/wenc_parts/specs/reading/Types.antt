@@ -3,7 +3,10 @@ use Rattle.std.specs.Prelude.{ℕ, List, [], ◌∷◌, Option, Some, None}
 use Rattle.wenc_base.specs.Readers.{Reader, ◌>>=◌, give, nowhere, choose}
 use Rattle.wenc_base.specs.reading.Numbers.{read_index}
 use Rattle.wenc_parts.specs.declared.types.PrimitiveValType.{PrimitiveValType}
-use Rattle.wenc_parts.specs.declared.types.PrimitiveValType.TheVariants.{Bool, S8, U8, S16, U16, S32, U32, S64, U64, F32, F64, Char, String, ErrorContext}
+use Rattle.wenc_parts.specs.declared.types.PrimitiveValType.TheVariants.{Bool, S8, U8, S16, U16}
+use Rattle.wenc_parts.specs.declared.types.PrimitiveValType.TheVariants.{S32, U32, S64, U64, F32}
+use Rattle.wenc_parts.specs.declared.types.PrimitiveValType.TheVariants.{F64, Char, String}
+use Rattle.wenc_parts.specs.declared.types.PrimitiveValType.TheVariants.{ErrorContext}
 use Rattle.wenc_parts.specs.declared.types.ComponentValType.{ComponentValType}
 use Rattle.wenc_parts.specs.declared.types.ComponentValType.TheVariants.{Primitive, «Type» as TypeIndex}
 

@@ -22,6 +22,6 @@ abbrev pub ascending : List ℕ → ℕ → List NameOption → Reader ExternNam
 ascending text least options bytes =
     cond (ascend_from least options) (Ok (with_options text options, bytes)) (Err Bad)
 
--- so many options of a name
+-- this many options of a name
 abbrev pub read_options : List ℕ → ℕ → ℕ → Reader ExternName
 read_options text least count = times read_name_option count >>= ascending text least

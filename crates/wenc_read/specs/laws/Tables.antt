@@ -9,7 +9,9 @@ use Rattle.wenc_read.specs.declared.refusal.Refusal.TheVariants.{Memory, Malform
 use Rattle.wenc_read.specs.Gives.{Fails, FailsNested}
 
 -- what stands after a first byte, by the row of that byte
-pub at_first : {A : Type 0} (table : List (ℕ × Reader A)) (other : Reader A) (b first : ℕ) (bytes rest : List ℕ) → read_byte bytes ≡ Ok (first, rest) → first ≡ b → choose table other bytes ≡ pick table other b rest
+pub at_first : {A : Type 0} (table : List (ℕ × Reader A)) (other : Reader A) (b first : ℕ)
+    (bytes rest : List ℕ) → read_byte bytes ≡ Ok (first, rest) → first ≡ b
+    → choose table other bytes ≡ pick table other b rest
 unfolding choose
 at_first table other b first bytes rest e d = rw (e, d) refl
 
@@ -19,15 +21,19 @@ first_there [] rest b e = absurd cc
 first_there (c ∷ bytes) rest b e = let same = same_Ok_pair c b bytes rest e in rw (same.0, same.1) refl
 
 -- where the first byte is in no row, the other reader has all of the bytes
-pub past_rows : {A : Type 0} (table : List (ℕ × Reader A)) (other : Reader A) (b : ℕ) (bytes rest : List ℕ) → read_byte bytes ≡ Ok (b, rest) → IsPast table b → choose table other bytes ≡ other bytes
+pub past_rows : {A : Type 0} (table : List (ℕ × Reader A)) (other : Reader A) (b : ℕ)
+    (bytes rest : List ℕ) → read_byte bytes ≡ Ok (b, rest) → IsPast table b
+    → choose table other bytes ≡ other bytes
 unfolding choose
 past_rows table other b bytes rest e h = rw (first_there bytes rest b e) (pick_past table other b rest h)
 
 -- what fails fails whatever is made of it
-pub fails_on : {A B : Type 0} (e : Refusal) (found : Result (A × List ℕ) Flaw) (next : A → List ℕ → Result B Flaw) → Fails e found → Fails e (go_on found next)
+pub fails_on : {A B : Type 0} (e : Refusal) (found : Result (A × List ℕ) Flaw)
+    (next : A → List ℕ → Result B Flaw) → Fails e found → Fails e (go_on found next)
 fails_on Memory found next h = tt
 fails_on Malformed found next h = rw h refl
 
-pub fails_nested_on : {A B : Type 0} (e : NestedRefusal) (found : Result (A × List ℕ) Flaw) (next : A → List ℕ → Result B Flaw) → FailsNested e found → FailsNested e (go_on found next)
+pub fails_nested_on : {A B : Type 0} (e : NestedRefusal) (found : Result (A × List ℕ) Flaw)
+    (next : A → List ℕ → Result B Flaw) → FailsNested e found → FailsNested e (go_on found next)
 fails_nested_on (Flat e) found next h = fails_on e found next h
 fails_nested_on TooDeep found next h = rw h refl

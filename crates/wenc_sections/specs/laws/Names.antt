@@ -7,7 +7,11 @@ use Rattle.wenc_base.specs.Readers.{Lawful, Reader, give, nowhere, choose}
 use Rattle.wenc_base.specs.laws.Lawful.{row_lawful, row_byte, then_whole, refused_lawful}
 use Rattle.wenc_base.specs.laws.Names.{held_names}
 use Rattle.wenc_sections.specs.declared.space.Space.{Space}
-use Rattle.wenc_sections.specs.declared.space.Space.TheVariants.{CoreModules, CoreFuncs, CoreTypes, CoreMemories, CoreTables, CoreInstances, CoreTags, CoreGlobals, Funcs, Instances, Values, Components, Types}
+use Rattle.wenc_sections.specs.declared.space.Space.TheVariants.{CoreModules, CoreFuncs, CoreTypes}
+use Rattle.wenc_sections.specs.declared.space.Space.TheVariants.{CoreMemories, CoreTables}
+use Rattle.wenc_sections.specs.declared.space.Space.TheVariants.{CoreInstances, CoreTags}
+use Rattle.wenc_sections.specs.declared.space.Space.TheVariants.{CoreGlobals, Funcs, Instances}
+use Rattle.wenc_sections.specs.declared.space.Space.TheVariants.{Values, Components, Types}
 use Rattle.wenc_sections.specs.Names.{item_sort, ItemNames, subsection, held_subsection, names_label, names_section}
 use Rattle.wenc_sections.specs.reading.Names.{read_names_section}
 
@@ -51,10 +55,14 @@ sort_lawful Instances = row_byte _ _ 0x05 (λ fuel rest. refl)
 -- ---- subsections
 
 -- the names that are held are a subsection
-pub held_subsection_is : (space : Space) (held : HolderState) (names : List NameAssociation) → Contains name_association held names → (held_subsection space held).text ≡ (subsection (ItemNames space names)).text
+pub held_subsection_is : (space : Space) (held : HolderState) (names : List NameAssociation)
+    → Contains name_association held names → (held_subsection space held).text
+    ≡ (subsection (ItemNames space names)).text
 held_subsection_is space held names holds = rw (held_names held names holds) refl
 
 -- ---- the section
 
 pub names_section_lawful : (bytes : List ℕ) → Lawful (names_section bytes) (λ fuel. read_names_section) bytes
-names_section_lawful bytes = refused_lawful (λ fault. ⊥) (sized_lawful (then_whole _ (name_lawful names_label) (bytes_lawful (λ bytes. bytes) bytes))) (λ h fault c. c) (λ c. c)
+names_section_lawful bytes = refused_lawful (λ fault. ⊥)
+    (sized_lawful (then_whole _ (name_lawful names_label) (bytes_lawful (λ bytes. bytes) bytes)))
+    (λ h fault c. c) (λ c. c)

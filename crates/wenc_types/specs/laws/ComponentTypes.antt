@@ -14,12 +14,24 @@ use Rattle.wenc_parts.specs.laws.Aliases.{alias_lawful}
 use Rattle.wenc_parts.specs.laws.Imports.{extern_name_lawful, type_reference_lawful}
 use Rattle.wenc_types.specs.laws.CoreTypes.{core_type_lawful}
 use Rattle.wenc_types.specs.laws.DefinedTypes.{defined_type_lawful, function_row}
-use Rattle.wenc_types.specs.ComponentTypes.{DefType, DefinedType, FunctionType, ComponentType, InstanceType, ResourceType, InstanceDeclaration, CoreTyped, Typed, Aliased, Exported, ComponentDeclaration, Imported, Declared, InstanceDeclarations, no_instance, and_instance, ComponentDeclarations, no_component, and_component, instance_count, component_count, instances_of, components_of, def_type, instance_declaration, component_declaration, each_instance, each_component}
-use Rattle.wenc_types.specs.reading.ComponentTypes.{read_component_declaration, read_component_type, read_declared, read_imported, read_instance_declaration, read_instance_type, read_shallow, read_type, type_rows}
+use Rattle.wenc_types.specs.ComponentTypes.{DefType, DefinedType, FunctionType, ComponentType}
+use Rattle.wenc_types.specs.ComponentTypes.{InstanceType, ResourceType, InstanceDeclaration}
+use Rattle.wenc_types.specs.ComponentTypes.{CoreTyped, Typed, Aliased, Exported}
+use Rattle.wenc_types.specs.ComponentTypes.{ComponentDeclaration, Imported, Declared}
+use Rattle.wenc_types.specs.ComponentTypes.{InstanceDeclarations, no_instance, and_instance}
+use Rattle.wenc_types.specs.ComponentTypes.{ComponentDeclarations, no_component, and_component}
+use Rattle.wenc_types.specs.ComponentTypes.{instance_count, component_count, instances_of}
+use Rattle.wenc_types.specs.ComponentTypes.{components_of, def_type, instance_declaration}
+use Rattle.wenc_types.specs.ComponentTypes.{component_declaration, each_instance, each_component}
+use Rattle.wenc_types.specs.reading.ComponentTypes.{read_component_declaration, read_component_type}
+use Rattle.wenc_types.specs.reading.ComponentTypes.{read_declared, read_imported}
+use Rattle.wenc_types.specs.reading.ComponentTypes.{read_instance_declaration, read_instance_type}
+use Rattle.wenc_types.specs.reading.ComponentTypes.{read_shallow, read_type, type_rows}
 
 -- ---- one level of types
 
-pub one_level : (depth : ℕ) → read_type depth ≡ choose (type_rows (read_component_type depth) (read_instance_type depth)) read_shallow
+pub one_level : (depth : ℕ) → read_type depth
+    ≡ choose (type_rows (read_component_type depth) (read_instance_type depth)) read_shallow
 unfolding read_type
 one_level zero = refl
 one_level (suc depth) = refl
@@ -62,7 +74,9 @@ components_relisted (and_component d ds) = ap (and_component d) (components_reli
 
 -- ---- laws
 
-by_level : {p : Piece} {t : DefType} → Lawful p (λ depth. choose (type_rows (read_component_type depth) (read_instance_type depth)) read_shallow) t → Lawful p read_type t
+by_level : {p : Piece} {t : DefType}
+    → Lawful p (λ depth. choose (type_rows (read_component_type depth) (read_instance_type depth))
+    read_shallow) t → Lawful p read_type t
 by_level l = record {
   text_is_read = l.text_is_read;
   strict_is_text = l.strict_is_text;
@@ -76,29 +90,48 @@ by_level l = record {
 
 mutual
   pub type_lawful : (t : DefType) → Lawful (def_type t) read_type t
-  type_lawful (DefinedType ty) = by_level (other_lawful _ no_row_is_shallow (λ d. nothing_is_shallow) (last DefinedType (defined_type_lawful ty)))
+  type_lawful (DefinedType ty) = by_level (other_lawful _ no_row_is_shallow
+      (λ d. nothing_is_shallow) (last DefinedType (defined_type_lawful ty)))
   type_lawful (FunctionType f) = by_level (function_row FunctionType _ _ f.is_async f.params f.answer)
   type_lawful (ComponentType ds) =
-      by_level (row_lawful _ _ 0x41 (deeper {read = read_component_type} (then _ (count_lawful (component_count ds)) (rw (components_relisted ds) at (last (λ l. ComponentType (components_of l)) (components_lawful ds))))))
+      by_level (row_lawful _ _ 0x41 (deeper {read = read_component_type}
+      (then _ (count_lawful (component_count ds))
+      (rw (components_relisted ds) at (last (λ l. ComponentType (components_of l))
+      (components_lawful ds))))))
   type_lawful (InstanceType ds) =
-      by_level (row_lawful _ _ 0x42 (deeper {read = read_instance_type} (then _ (count_lawful (instance_count ds)) (rw (instances_relisted ds) at (last (λ l. InstanceType (instances_of l)) (instances_lawful ds))))))
-  type_lawful (ResourceType rep dtor) = by_level (row_lawful _ _ 0x3f (then _ (val_type_lawful rep) (last (ResourceType rep) (option_lawful u32_lawful dtor))))
+      by_level (row_lawful _ _ 0x42 (deeper {read = read_instance_type}
+      (then _ (count_lawful (instance_count ds))
+      (rw (instances_relisted ds) at (last (λ l. InstanceType (instances_of l))
+      (instances_lawful ds))))))
+  type_lawful (ResourceType rep dtor) =
+      by_level (row_lawful _ _ 0x3f (then _ (val_type_lawful rep)
+      (last (ResourceType rep) (option_lawful u32_lawful dtor))))
 
-  pub instance_declaration_lawful : (d : InstanceDeclaration) → Lawful (instance_declaration d) (λ fuel. read_instance_declaration (read_type fuel)) d
+  pub instance_declaration_lawful : (d : InstanceDeclaration)
+      → Lawful (instance_declaration d) (λ fuel. read_instance_declaration (read_type fuel)) d
   instance_declaration_lawful (CoreTyped ty) = row_lawful _ _ 0x00 (last CoreTyped (core_type_lawful ty))
   instance_declaration_lawful (Typed ty) = row_lawful _ _ 0x01 (last Typed (type_lawful ty))
   instance_declaration_lawful (Aliased to) = row_lawful _ _ 0x02 (last Aliased (alias_lawful to))
-  instance_declaration_lawful (Exported name ty) = row_lawful _ _ 0x04 (then _ (extern_name_lawful name) (last (Exported name) (type_reference_lawful ty)))
+  instance_declaration_lawful (Exported name ty) = row_lawful _ _ 0x04
+      (then _ (extern_name_lawful name) (last (Exported name) (type_reference_lawful ty)))
 
-  pub component_declaration_lawful : (d : ComponentDeclaration) → Lawful (component_declaration d) (λ fuel. read_component_declaration (read_type fuel)) d
-  component_declaration_lawful (Imported name ty) = row_lawful _ _ 0x03 (then _ (extern_name_lawful name) (last (Imported name) (type_reference_lawful ty)))
-  component_declaration_lawful (Declared d) = other_lawful _ (λ fuel. no_import_is_declared (read_type fuel)) (λ fuel. nothing_is_declared (read_type fuel)) (last Declared (instance_declaration_lawful d))
+  pub component_declaration_lawful : (d : ComponentDeclaration)
+      → Lawful (component_declaration d) (λ fuel. read_component_declaration (read_type fuel)) d
+  component_declaration_lawful (Imported name ty) = row_lawful _ _ 0x03
+      (then _ (extern_name_lawful name) (last (Imported name) (type_reference_lawful ty)))
+  component_declaration_lawful (Declared d) = other_lawful _
+      (λ fuel. no_import_is_declared (read_type fuel)) (λ fuel. nothing_is_declared (read_type fuel))
+      (last Declared (instance_declaration_lawful d))
 
-  pub instances_lawful : (ds : InstanceDeclarations) → Lawful (each_instance ds) (λ fuel. times (read_instance_declaration (read_type fuel)) (instance_count ds)) (instance_list ds)
+  pub instances_lawful : (ds : InstanceDeclarations) → Lawful (each_instance ds)
+      (λ fuel. times (read_instance_declaration (read_type fuel)) (instance_count ds))
+      (instance_list ds)
   instances_lawful no_instance = nothing_lawful []
   instances_lawful (and_instance d ds) = then _ (instance_declaration_lawful d) (last _ (instances_lawful ds))
 
-  pub components_lawful : (ds : ComponentDeclarations) → Lawful (each_component ds) (λ fuel. times (read_component_declaration (read_type fuel)) (component_count ds)) (component_list ds)
+  pub components_lawful : (ds : ComponentDeclarations) → Lawful (each_component ds)
+      (λ fuel. times (read_component_declaration (read_type fuel)) (component_count ds))
+      (component_list ds)
   components_lawful no_component = nothing_lawful []
   components_lawful (and_component d ds) = then _ (component_declaration_lawful d) (last _ (components_lawful ds))
 
@@ -112,17 +145,22 @@ pub components_counted : (ds : List ComponentDeclaration) → component_count (c
 components_counted [] = refl
 components_counted (d ∷ ds) = ap suc (components_counted ds)
 
-each_instance_serves : (ds : List InstanceDeclaration) → Serves (each instance_declaration ds) (each_instance (instances_of ds))
+each_instance_serves : (ds : List InstanceDeclaration) → Serves (each instance_declaration ds)
+    (each_instance (instances_of ds))
 each_instance_serves [] = serves_itself
 each_instance_serves (d ∷ ds) = both_serve serves_itself (each_instance_serves ds)
 
-each_component_serves : (ds : List ComponentDeclaration) → Serves (each component_declaration ds) (each_component (components_of ds))
+each_component_serves : (ds : List ComponentDeclaration)
+    → Serves (each component_declaration ds) (each_component (components_of ds))
 each_component_serves [] = serves_itself
 each_component_serves (d ∷ ds) = both_serve serves_itself (each_component_serves ds)
 
 -- a list of them
-pub instances_serve : (ds : List InstanceDeclaration) → Serves (0x42 ▸ list instance_declaration ds) (def_type (InstanceType (instances_of ds)))
+pub instances_serve : (ds : List InstanceDeclaration) → Serves (0x42 ▸ list instance_declaration ds)
+    (def_type (InstanceType (instances_of ds)))
 instances_serve ds = rw (instances_counted ds) (tagged_serves 0x42 (both_serve serves_itself (each_instance_serves ds)))
 
-pub components_serve : (ds : List ComponentDeclaration) → Serves (0x41 ▸ list component_declaration ds) (def_type (ComponentType (components_of ds)))
-components_serve ds = rw (components_counted ds) (tagged_serves 0x41 (both_serve serves_itself (each_component_serves ds)))
+pub components_serve : (ds : List ComponentDeclaration) → Serves
+    (0x41 ▸ list component_declaration ds) (def_type (ComponentType (components_of ds)))
+components_serve ds = rw (components_counted ds)
+    (tagged_serves 0x41 (both_serve serves_itself (each_component_serves ds)))

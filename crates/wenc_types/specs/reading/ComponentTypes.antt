@@ -1,5 +1,5 @@
--- Readers of types that components define, by how deep those of components and of instances may
--- stand in one another.
+-- Readers of types that components define, by the depth to which component types and instance types
+-- may nest.
 use Rattle.std.specs.Prelude.{ℕ, zero, suc, List, [], ◌∷◌, ◌++◌}
 use Rattle.wenc_base.specs.Readers.{Reader, ◌>>=◌, give, nowhere, too_deep, times, choose}
 use Rattle.wenc_base.specs.reading.Forms.{read_option}
@@ -53,7 +53,7 @@ read_instances read =
     read_u32 >>= λ n. times (read_instance_declaration read) n >>= λ ds.
     give (InstanceType (instances_of ds))
 
--- how a resource is represented, and what ends it
+-- the representation of a resource, and its destructor
 abbrev pub read_resource_type : Reader DefType
 read_resource_type =
     read_val_type >>= λ rep. read_option read_u32 >>= λ dtor. give (ResourceType rep dtor)
@@ -67,14 +67,14 @@ type_rows components instances =
     function_rows FunctionType ++
     ((0x3f, read_resource_type) ∷ (0x41, components) ∷ (0x42, instances) ∷ [])
 
--- a type in which so many types of components and of instances may stand in one another
+-- a type in which component types and instance types nest at most this deep
 unfoldable pub read_type : ℕ → Reader DefType
 read_type zero = choose (type_rows too_deep too_deep) read_shallow
 read_type (suc depth) =
     choose (type_rows (read_components (read_type depth)) (read_instances (read_type depth)))
     read_shallow
 
--- the declarations of a component type, or of an instance type, where so many may still open
+-- the declarations of a component type, or of an instance type, where this many may still open
 abbrev pub read_component_type : ℕ → Reader DefType
 read_component_type zero = too_deep
 read_component_type (suc depth) = read_components (read_type depth)

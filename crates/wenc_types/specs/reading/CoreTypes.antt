@@ -6,7 +6,8 @@ use Rattle.wenc_base.specs.reading.Entities.{read_entity_type}
 use Rattle.wenc_base.specs.reading.Forms.{read_list, read_name}
 use Rattle.wenc_base.specs.Readers.{Reader, ◌>>=◌, give, nowhere, choose}
 use Rattle.wenc_base.specs.reading.Numbers.{read_u32}
-use Rattle.wenc_types.specs.CoreTypes.{ModuleDeclaration, ModuleImport, ModuleRecType, ModuleOuter, ModuleExport, CoreType, Grouped, Module}
+use Rattle.wenc_types.specs.CoreTypes.{ModuleDeclaration, ModuleImport, ModuleRecType, ModuleOuter}
+use Rattle.wenc_types.specs.CoreTypes.{ModuleExport, CoreType, Grouped, Module}
 
 -- ---- module types
 
@@ -19,7 +20,7 @@ abbrev pub read_outer_number : {A : Type 0} → (ModuleDeclaration → A) → Re
 read_outer_number make =
     read_u32 >>= λ count. read_u32 >>= λ number. give (make (ModuleOuter count number))
 
--- a type of a component around
+-- a type of an enclosing component
 abbrev pub read_outer_type : {A : Type 0} → (ModuleDeclaration → A) → Reader A
 read_outer_type make =
     choose ((0x10, choose ((0x01, read_outer_number make) ∷ []) nowhere) ∷ []) nowhere

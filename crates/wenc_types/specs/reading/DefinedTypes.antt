@@ -5,7 +5,10 @@ use Rattle.wenc_base.specs.Readers.{Reader, ◌>>=◌, give, nowhere, choose}
 use Rattle.wenc_base.specs.reading.Numbers.{read_u32}
 use Rattle.wenc_parts.specs.declared.types.ComponentValType.{ComponentValType}
 use Rattle.wenc_parts.specs.reading.Types.{primitive_rows, read_value_type, read_result_list}
-use Rattle.wenc_types.specs.DefinedTypes.{LabelledType, Case, DefValType, Primitive, Record, Variant, ListOf, MapOf, FixedLengthList, Tuple, Flags, Enumeration, OptionOf, ResultOf, Own, Borrow, Future, Stream, Function}
+use Rattle.wenc_types.specs.DefinedTypes.{LabelledType, Case, DefValType, Primitive, Record}
+use Rattle.wenc_types.specs.DefinedTypes.{Variant, ListOf, MapOf, FixedLengthList, Tuple, Flags}
+use Rattle.wenc_types.specs.DefinedTypes.{Enumeration, OptionOf, ResultOf, Own, Borrow, Future}
+use Rattle.wenc_types.specs.DefinedTypes.{Stream, Function}
 
 -- ---- parts
 

@@ -11,13 +11,21 @@ loop-command-init g c = rw c.new-answers.ensures.items (ran_none (map command_vi
 
 pub loop-command-preserved : goal.loop-command-preserved
 loop-command-preserved g c =
-    let split : drop c.loop-command.command-index c.args.commands.now ≡ c.command-item.result ∷ drop (c.loop-command.command-index + 1) c.args.commands.now = next_is c.args.commands.now c.loop-command.command-index c.command-item.result c.command-item.result (omega arith) c.command-item.is in
-    rw c.in_ok-push.ensures.items (ran_more (map command_view c.args.commands.now) _ (command_view c.command-item.result) _ c.in-Ok.answer _ _ (rw split at c.loop-command.invariant) c.in-Ok.ensures)
+    let split : drop c.loop-command.command-index c.args.commands.now ≡ c.command-item.result
+    ∷ drop (c.loop-command.command-index + 1) c.args.commands.now =
+    next_is c.args.commands.now c.loop-command.command-index c.command-item.result c.command-item.result
+    (omega arith) c.command-item.is in
+    rw c.in_ok-push.ensures.items (ran_more (map command_view c.args.commands.now) _
+    (command_view c.command-item.result) _ c.in-Ok.answer _ _ (rw split at c.loop-command.invariant) c.in-Ok.ensures)
 
 pub returns-in-Err-clause-refused : goal.returns-in-Err-clause-refused
 returns-in-Err-clause-refused g c =
-    let split : drop c.loop-command.command-index c.args.commands.now ≡ c.command-item.result ∷ drop (c.loop-command.command-index + 1) c.args.commands.now = next_is c.args.commands.now c.loop-command.command-index c.command-item.result c.command-item.result (omega arith) c.command-item.is in
-    inr (ran_stopped (map command_view c.args.commands.now) _ (command_view c.command-item.result) _ c.in-Err.fault _ (rw split at c.loop-command.invariant) c.in-Err.ensures)
+    let split : drop c.loop-command.command-index c.args.commands.now ≡ c.command-item.result
+    ∷ drop (c.loop-command.command-index + 1) c.args.commands.now =
+    next_is c.args.commands.now c.loop-command.command-index c.command-item.result c.command-item.result
+    (omega arith) c.command-item.is in
+    inr (ran_stopped (map command_view c.args.commands.now) _ (command_view c.command-item.result) _ c.in-Err.fault _
+    (rw split at c.loop-command.invariant) c.in-Err.ensures)
 
 pub returns-in_err-bytes-clause-refused : goal.returns-in_err-bytes-clause-refused
 returns-in_err-bytes-clause-refused g c = let no : false ≡ true = c.in_err-bytes.ensures.ok in cc
@@ -31,9 +39,11 @@ pub returns-clause-encodable : goal.returns-clause-encodable
 returns-clause-encodable g c es ran = (ran_held (ran_all c.args.commands.now _ _ _ (omega arith) c.loop-command.invariant) es ran).fits
 
 pub returns-clause-one_reading : goal.returns-clause-one_reading
-returns-clause-one_reading g c es ran = c.in_ok-bytes.ensures.one_reading es (ran_held (ran_all c.args.commands.now _ _ _ (omega arith) c.loop-command.invariant) es ran)
+returns-clause-one_reading g c es ran =
+    c.in_ok-bytes.ensures.one_reading es (ran_held (ran_all c.args.commands.now _ _ _ (omega arith) c.loop-command.invariant) es ran)
 
 pub returns-clause-one_list : goal.returns-clause-one_list
 returns-clause-one_list g c es ran no_raw xs no_raw' fits =
     let held = ran_held (ran_all c.args.commands.now _ _ _ (omega arith) c.loop-command.invariant) es ran in
-    subst (λ (bytes : List ℕ). (whole xs ≡ bytes) ↔ (xs ≡ items es)) (sym (c.in_ok-bytes.ensures.held es held)) (of_bytes (items es) xs no_raw held.fits no_raw' fits)
+    subst (λ (bytes : List ℕ). (whole xs ≡ bytes) ↔ (xs ≡ items es)) (sym (c.in_ok-bytes.ensures.held es held))
+    (of_bytes (items es) xs no_raw held.fits no_raw' fits)

@@ -11,9 +11,11 @@ returns-in-text-3 c = c.append_names.ensures ∙ sym (names_said _ _ _ c.in-Some
 pub returns-in-Some-builtin : goal.returns-in-Some-builtin
 returns-in-Some-builtin c =
     let verb = c.in_default-verb in
-    sym (other_said _ _ _ c.in-Some.ensures verb.not-import verb.not-export verb.not-text verb.not-text-2 verb.not-start verb.not-text-3 ∙ ap (option_map _) (sym c.in-Some-builtin.ensures))
+    sym (other_said _ _ _ c.in-Some.ensures verb.not-import verb.not-export verb.not-text verb.not-text-2 verb.not-start verb.not-text-3
+    ∙ ap (option_map _) (sym c.in-Some-builtin.ensures))
 
 pub returns-in-None : goal.returns-in-None
 returns-in-None c =
     let verb = c.in_default-verb in
-    sym (other_said _ _ _ c.in-Some.ensures verb.not-import verb.not-export verb.not-text verb.not-text-2 verb.not-start verb.not-text-3 ∙ ap (option_map _) (sym c.in-None.ensures))
+    sym (other_said _ _ _ c.in-Some.ensures verb.not-import verb.not-export verb.not-text verb.not-text-2 verb.not-start verb.not-text-3
+    ∙ ap (option_map _) (sym c.in-None.ensures))

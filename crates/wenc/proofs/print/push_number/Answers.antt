@@ -17,4 +17,5 @@ loop-rest-preserved g c =
 pub returns : goal.returns
 returns g c =
     let now = c.loop-rest.invariant in
-    appended _ _ _ _ _ c.extend_from_slice.ensures.items (first_written c.loop-rest.rest c.loop-rest.start 11 c.loop-rest.line _ c.loop-rest-test.false (omega arith) now.all now.digits)
+    appended _ _ _ _ _ c.extend_from_slice.ensures.items
+    (first_written c.loop-rest.rest c.loop-rest.start 11 c.loop-rest.line _ c.loop-rest-test.false (omega arith) now.all now.digits)

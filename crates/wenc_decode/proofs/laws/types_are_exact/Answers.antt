@@ -14,9 +14,11 @@ returns-clause-read_is_given c d t bytes rest le r =
     agreed (d < depth t) (t, rest) (read_type d bytes) ((type_finds d t).finds bytes rest r) (λ lt. omega arith)
 
 pub returns-clause-deeper : goal.returns-clause-deeper
-returns-clause-deeper c d t bytes rest lt r = found (read_type d bytes) ((type_finds d t).finds bytes rest r) (λ y e. (rw e at ((type_tells d).tells bytes)).0) refl
+returns-clause-deeper c d t bytes rest lt r =
+    found (read_type d bytes) ((type_finds d t).finds bytes rest r) (λ y e. (rw e at ((type_tells d).tells bytes)).0) refl
   where
-    found : (some : Result (DefType × List ℕ) Flaw) → Agrees (d < depth t) (t, rest) some → ((y : DefType × List ℕ) → read_type d bytes ≡ Ok y → depth y.0 ≤ d) → read_type d bytes ≡ some → some ≡ Err Deep
+    found : (some : Result (DefType × List ℕ) Flaw) → Agrees (d < depth t) (t, rest) some
+        → ((y : DefType × List ℕ) → read_type d bytes ≡ Ok y → depth y.0 ≤ d) → read_type d bytes ≡ some → some ≡ Err Deep
     found (Ok y) a within e =
         let le : depth y.0 ≤ d = within y e in
         absurd (omega (arith, rw a at le))

@@ -8,10 +8,18 @@ use Rattle.wenc_list.proofs.counts.add_item.Goals as goal
 pub add-requires : goal.add-requires
 add-requires g c =
     let k = c.in-Some.space in
-    omega (arith, c.requires k, defined_so c.indices.result (defines (item_view c.args.item.now)) c.in-Some.space c.in-Some.number k c.indices.ensures c.in-Some.is, own_space c.in-Some.space c.in-Some.number)
+    omega (
+      arith,
+      c.requires k,
+      defined_so c.indices.result (defines (item_view c.args.item.now)) c.in-Some.space c.in-Some.number k
+          c.indices.ensures c.in-Some.is,
+      own_space c.in-Some.space c.in-Some.number,
+    )
 
 pub returns-in-Some : goal.returns-in-Some
-returns-in-Some g c k = c.add.ensures k ∙ ap (λ (m : ℕ). slice_index c.args.counts.now (space_number k) + m) (sym (defined_so c.indices.result (defines (item_view c.args.item.now)) c.in-Some.space c.in-Some.number k c.indices.ensures c.in-Some.is))
+returns-in-Some g c k = c.add.ensures k ∙ ap (λ (m : ℕ). slice_index c.args.counts.now (space_number k) + m)
+    (sym (defined_so c.indices.result (defines (item_view c.args.item.now)) c.in-Some.space c.in-Some.number k c.indices.ensures
+    c.in-Some.is))
 
 pub returns-in-None : goal.returns-in-None
 returns-in-None g c k = omega (arith, defined_nowhere c.indices.result (defines (item_view c.args.item.now)) k c.indices.ensures c.in-None.is)

@@ -20,12 +20,18 @@ pub returns-in_err-sections-clause-no_header : goal.returns-in_err-sections-clau
 returns-in_err-sections-clause-no_header g c h = absurd (h c.in_ok-all.all.rest.now c.in_ok-all.ensures.begins)
 
 pub returns-clause-reading : goal.returns-clause-reading
-returns-clause-reading g c = (c.in_ok-all.all.rest.now, c.in_ok-all.ensures.begins, from_all c.in_ok-all.all.ends c.in_ok-sections.sections.items c.in_ok-all.all.rest.now c.in_ok-sections.ensures.listed)
+returns-clause-reading g c = (
+  c.in_ok-all.all.rest.now,
+  c.in_ok-all.ensures.begins,
+  from_all c.in_ok-all.all.ends c.in_ok-sections.sections.items c.in_ok-all.all.rest.now c.in_ok-sections.ensures.listed,
+)
 
 pub returns-clause-listed : goal.returns-clause-listed
 returns-clause-listed g c ss r w =
     let same = same_behind c.args.bytes.now r.0 c.in_ok-all.all.rest.now r.1 c.in_ok-all.ensures.begins in
-    same_sections (map section_view c.in_ok-sections.sections.items) ss c.in_ok-all.all.rest.now (from_all c.in_ok-all.all.ends c.in_ok-sections.sections.items c.in_ok-all.all.rest.now c.in_ok-sections.ensures.listed) (rw same at r.2) c.in_ok-sections.ensures.within w
+    same_sections (map section_view c.in_ok-sections.sections.items) ss c.in_ok-all.all.rest.now
+    (from_all c.in_ok-all.all.ends c.in_ok-sections.sections.items c.in_ok-all.all.rest.now c.in_ok-sections.ensures.listed)
+    (rw same at r.2) c.in_ok-sections.ensures.within w
 
 pub returns-clause-no_header : goal.returns-clause-no_header
 returns-clause-no_header g c h = absurd (h c.in_ok-all.all.rest.now c.in_ok-all.ensures.begins)
@@ -41,5 +47,9 @@ returns-in_err-sections-clause-or_deep g c ss r =
 
 pub returns-clause-or_deep : goal.returns-clause-or_deep
 returns-clause-or_deep g c ss r =
-    once Wide Wide c.args.bytes.now (map section_view c.in_ok-sections.sections.items) ss
-    (c.in_ok-all.all.rest.now, c.in_ok-all.ensures.begins, from_all c.in_ok-all.all.ends c.in_ok-sections.sections.items c.in_ok-all.all.rest.now c.in_ok-sections.ensures.listed) r
+    once Wide Wide c.args.bytes.now (map section_view c.in_ok-sections.sections.items) ss (
+      c.in_ok-all.all.rest.now,
+      c.in_ok-all.ensures.begins,
+      from_all c.in_ok-all.all.ends c.in_ok-sections.sections.items
+          c.in_ok-all.all.rest.now c.in_ok-sections.ensures.listed,
+    ) r

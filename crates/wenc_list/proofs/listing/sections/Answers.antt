@@ -2,7 +2,8 @@ use Rattle.std.proofs.Common.{◌≡◌, ◌-◌, ◌+◌, ◌++◌, ◌∷◌, 
 use Rattle.std.proofs.lemmas.List.{map_push}
 use Rattle.std.proofs.lemmas.Result.{err_from_is_err_and}
 use Rattle.wenc_list.specs.Items.{section_view}
-use Rattle.wenc_list.proofs.Listed.{section_shorter, from_few, from_more, from_each, within_more, stops_here, listed_read, listed_within, listed_begins, some_opens}
+use Rattle.wenc_list.proofs.Listed.{section_shorter, from_few, from_more, from_each, within_more, stops_here, listed_read, listed_within}
+use Rattle.wenc_list.proofs.Listed.{listed_begins, some_opens}
 use Rattle.wenc_list.proofs.Indices.{count_more, are_few}
 use Rattle.wenc_list.proofs.Taken.{taken_fault}
 use Rattle.wenc_list.proofs.listing.sections.Goals as goal
@@ -13,7 +14,9 @@ returns-in_err-items-clause-fault g c =
     let all = c.args.from.ends in
     let left = c.loop-sections.left.rest.now in
     let i = c.loop-sections.invariant in
-    rw (p.1, p.2) (stops_here all (c.loop-sections.left.ends - length left) (map section_view c.loop-sections.sections.items) c.args.from.rest.now left c.in_err-items.field-0.0 (from_each all c.loop-sections.sections.items c.args.from.rest.now left i.read) i.within (omega (arith, i.shorter, i.same_end)) c.in_err-items.ensures.some c.in_err-items.ensures.fault)
+    rw (p.1, p.2) (stops_here all (c.loop-sections.left.ends - length left) (map section_view c.loop-sections.sections.items)
+    c.args.from.rest.now left c.in_err-items.field-0.0 (from_each all c.loop-sections.sections.items c.args.from.rest.now left i.read)
+    i.within (omega (arith, i.shorter, i.same_end)) c.in_err-items.ensures.some c.in_err-items.ensures.fault)
 
 pub returns-in_err-section-clause-fault : goal.returns-in_err-section-clause-fault
 returns-in_err-section-clause-fault g c =
@@ -25,7 +28,9 @@ returns-in_err-section-clause-fault g c =
     let f = c.in_err-section.ensures.fault in
     let some = some_opens c.loop-sections.left.ends left c.next.new.self.rest.now c.in-Some.items o in
     let here = taken_fault c.loop-sections.left.ends left c.next.new.self.rest.now c.in-Some.items f.xs f.left c.in_err-section.field-0.0 o f.taken f.cause in
-    rw (p.1, p.2) (stops_here all c.in-Some.items.place (map section_view c.loop-sections.sections.items) c.args.from.rest.now left c.in_err-section.field-0.0 (from_each all c.loop-sections.sections.items c.args.from.rest.now left i.read) i.within (omega (arith, i.shorter, i.same_end, o.is_place)) some here)
+    rw (p.1, p.2) (stops_here all c.in-Some.items.place (map section_view c.loop-sections.sections.items) c.args.from.rest.now left
+    c.in_err-section.field-0.0 (from_each all c.loop-sections.sections.items c.args.from.rest.now left i.read) i.within
+    (omega (arith, i.shorter, i.same_end, o.is_place)) some here)
 
 pub count-requires : goal.count-requires
 count-requires g c k =
@@ -44,7 +49,9 @@ loop-sections-smaller g c =
     let left = c.loop-sections.left in
     let s = c.in_ok-section.section in
     let o = rw c.in-Some.is at c.in_ok-items.ensures.taken in
-    section_shorter (section_view s) left.rest.now c.next.new.self.rest.now (listed_read left.ends left.rest.now c.next.new.self.rest.now c.in-Some.items s o c.in_ok-section.ensures.taken c.in_ok-section.ensures.id)
+    section_shorter (section_view s) left.rest.now c.next.new.self.rest.now
+    (listed_read left.ends left.rest.now c.next.new.self.rest.now c.in-Some.items s o c.in_ok-section.ensures.taken
+    c.in_ok-section.ensures.id)
 
 pub loop-sections-preserved : goal.loop-sections-preserved
 loop-sections-preserved g c =
@@ -58,10 +65,14 @@ loop-sections-preserved g c =
     let id = c.in_ok-section.ensures.id in
     let read = listed_read left.ends left.rest.now after c.in-Some.items s o taken id in
     let less = section_shorter (section_view s) left.rest.now after read in
-    let views : map section_view c.push.new.self.items ≡ map section_view before ++ section_view s ∷ [] = rw c.in_ok-push.ensures.items (map_push section_view before s) in
+    let views : map section_view c.push.new.self.items ≡ map section_view before ++ section_view s ∷ [] =
+    rw c.in_ok-push.ensures.items (map_push section_view before s) in
     let longer : length c.push.new.self.items ≡ length before + 1 = rw c.in_ok-push.ensures.items (length-append before (s ∷ [])) in
     record {
-      read = rw c.in_ok-push.ensures.items (from_more c.args.from.ends before s c.args.from.rest.now left.rest.now after i.read read (omega (arith, c.in_ok-section.ensures.placed, o.is_place, i.shorter, i.same_end)) (omega (arith, c.in_ok-section.ensures.ended, o.is_end, less, i.shorter, i.same_end)) (listed_begins left.ends left.rest.now after c.in-Some.items s o id));
+      read = rw c.in_ok-push.ensures.items (from_more c.args.from.ends before s c.args.from.rest.now left.rest.now after i.read read
+          (omega (arith, c.in_ok-section.ensures.placed, o.is_place, i.shorter, i.same_end))
+          (omega (arith, c.in_ok-section.ensures.ended, o.is_end, less, i.shorter, i.same_end))
+          (listed_begins left.ends left.rest.now after c.in-Some.items s o id));
       within = rw views (within_more (map section_view before) (section_view s) i.within (listed_within c.in-Some.items s taken));
       shorter = omega (arith, less, i.shorter);
       same_end = c.in_ok-items.ensures.same_end ∙ i.same_end;

@@ -12,7 +12,15 @@ returns-in-Ok-counted-clause-unread g c =
     let content = c.in-Ok.content.now in
     let framed = is_framed here id content c.in-Ok.rest.now c.in-Ok.ensures in
     let holds = count_holds id content c.in-Ok-counted.left c.in-Ok-counted.rest.now c.in-Ok-counted.ensures in
-    rw c.split_at.ensures.back at (all_of_section (length c.args.bytes.now) here (record { id = id; place = c.args.place; ends = c.saturating_sub-ends.result; left = c.in-Ok-counted.left; rest = c.in-Ok-counted.rest }) c.in-Ok.rest.now c.unread_item.result
+    rw c.split_at.ensures.back at (all_of_section (length c.args.bytes.now) here
+    (record {
+      id = id;
+      place = c.args.place;
+      ends = c.saturating_sub-ends.result;
+      left = c.in-Ok-counted.left;
+      rest =
+          c.in-Ok-counted.rest;
+    }) c.in-Ok.rest.now c.unread_item.result
     (record {
       content = content;
       framed = framed;
@@ -23,7 +31,8 @@ returns-in-Ok-counted-clause-unread g c =
     }) c.unread_item.ensures)
 
 pub returns-in-Ok-counted-clause-named : goal.returns-in-Ok-counted-clause-named
-returns-in-Ok-counted-clause-named g c = named_tells c.args.bytes.now c.args.place (IsUnread (length c.args.bytes.now) (drop c.args.place c.args.bytes.now)) c.unread_item.result (returns-in-Ok-counted-clause-unread g c)
+returns-in-Ok-counted-clause-named g c = named_tells c.args.bytes.now c.args.place
+    (IsUnread (length c.args.bytes.now) (drop c.args.place c.args.bytes.now)) c.unread_item.result (returns-in-Ok-counted-clause-unread g c)
 
 pub returns-in-Err-counted-clause-unread : goal.returns-in-Err-counted-clause-unread
 returns-in-Err-counted-clause-unread g c =

@@ -6,5 +6,8 @@ use Rattle.wenc_list.proofs.unread.take_read.Goals as goal
 pub loop-item-preserved : goal.loop-item-preserved
 loop-item-preserved g c =
     let before = c.loop-item.invariant in
-    let x = c.in-Some.item in
-    (before.0 ++ item_view x ∷ [], one_more_taken c.args.items.now c.loop-item.items c.next.new.self before.0 (item_view x) before.1 (rw c.in-Some.is at c.in_ok-item.ensures.taken))
+    let x = c.in-Some.item in (
+      before.0 ++ item_view x ∷ [],
+      one_more_taken c.args.items.now c.loop-item.items c.next.new.self before.0 (item_view x) before.1
+          (rw c.in-Some.is at c.in_ok-item.ensures.taken),
+    )

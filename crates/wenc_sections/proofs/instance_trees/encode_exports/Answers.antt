@@ -17,13 +17,16 @@ returns-in_err-encode_export-clause-err g c = on_err c.from_residual.result _ (_
 
 pub returns-in_err-encode_export-clause-warranted : goal.returns-in_err-encode_export-clause-warranted
 returns-in_err-encode_export-clause-warranted g c =
-    let warranted = warranted_member (λ e. (inline_export_tree e).Cause) c.args.exports.now c.loop-export.export-index c.export-item.result c.in_err-encode_export.field-0.0 c.loop-export.invariant.no_cause
+    let warranted = warranted_member (λ e. (inline_export_tree e).Cause) c.args.exports.now c.loop-export.export-index c.export-item.result
+    c.in_err-encode_export.field-0.0 c.loop-export.invariant.no_cause
     c.loop-export-test.true c.export-item.is c.in_err-encode_export.ensures.appended.warranted in
-    handed_on (IsWarranted (member_cause (λ e. (inline_export_tree e).Cause) c.args.exports.now)) c.from_residual.result c.in_err-encode_export.field-0.0 c.from_residual.ensures.1 warranted
+    handed_on (IsWarranted (member_cause (λ e. (inline_export_tree e).Cause) c.args.exports.now)) c.from_residual.result
+    c.in_err-encode_export.field-0.0 c.from_residual.ensures.1 warranted
 
 pub loop-export-preserved : goal.loop-export-preserved
 loop-export-preserved g c =
-    written_at inline_export_tree _ _ _ c.export-item.result _ _ c.loop-export.invariant c.loop-export-test.true c.export-item.is (search rules) c.in_ok-encode_export.ensures.fits
+    written_at inline_export_tree _ _ _ c.export-item.result _ _ c.loop-export.invariant c.loop-export-test.true c.export-item.is
+    (search rules) c.in_ok-encode_export.ensures.fits
     (λ fault h. c.in_ok-encode_export.ensures.appended.encodable fault h)
 
 pub returns-clause-ok : goal.returns-clause-ok

@@ -9,4 +9,5 @@ use Rattle.wasm_encoder.proofs.command.Running.finish.Goals as goal
 
 pub returns-clause-some : goal.returns-clause-some
 returns-clause-some g c =
-    subst (λ (s : State). IfOk c.finish.result (λ v. ∥ ((es : List Entry) × Holds s es × (v.items ≡ whole (items es)) × AllByRecursion StartIsNameless es) ∥₁)) c.self.view_is c.finish.ensures.some
+    subst (λ (s : State). IfOk c.finish.result (λ v. ∥ ((es : List Entry) × Holds s es × (v.items ≡ whole (items es))
+    × AllByRecursion StartIsNameless es) ∥₁)) c.self.view_is c.finish.ensures.some

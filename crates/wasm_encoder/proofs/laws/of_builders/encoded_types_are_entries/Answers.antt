@@ -1,4 +1,4 @@
-use Rattle.wenc_builder.specs.laws.LenderState.{begun_given_up, written_given_up}
+use Rattle.wenc_builder.specs.laws.ParentState.{begun_given_up, written_given_up}
 use Rattle.wasm_encoder.proofs.Entered.{all_entered}
 use Rattle.wasm_encoder.proofs.laws.of_builders.encoded_types_are_entries.Goals as goal
 

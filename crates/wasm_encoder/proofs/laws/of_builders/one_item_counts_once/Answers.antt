@@ -14,7 +14,7 @@ pub returns-clause-next : goal.returns-clause-next
 returns-clause-next c = λ s es space h. next_counted s es space h
 
 pub returns-clause-begun_raised : goal.returns-clause-begun_raised
-returns-clause-begun_raised c = λ old lent id space name text es h e. begun_raised old lent id space name text es h e
+returns-clause-begun_raised c = λ old parent id space name text es h e. begun_raised old parent id space name text es h e
 
 pub returns-clause-begun_alone : goal.returns-clause-begun_alone
-returns-clause-begun_alone c = λ old lent id space other name text es h e apart. begun_alone old lent id space other name text es h e apart
+returns-clause-begun_alone c = λ old parent id space other name text es h e apart. begun_alone old parent id space other name text es h e apart

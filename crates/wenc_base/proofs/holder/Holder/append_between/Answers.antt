@@ -23,4 +23,5 @@ returns-clause-appended g c =
     let same : take c.len-start.result after ≡ before = cut ∙ rw start (take-length before) in
     kept_or_cut g.I.Iterator.next_gives c.args.values piece c.args.self.now _ (drop c.self.inside.kept after) c.keep_in_room.result (rw (← c.self.view_is) came)
     (search (front, rules)) (search rules)
-    (on_err c.keep_in_room.result (λ e. let items : c.keep_in_room.new.bytes.items ≡ before = e ∙ same in search (items, rules)) c.keep_in_room.ensures.err) (search rules)
+    (on_err c.keep_in_room.result (λ e. let items : c.keep_in_room.new.bytes.items ≡ before = e ∙ same in search (items, rules))
+    c.keep_in_room.ensures.err) (search rules)

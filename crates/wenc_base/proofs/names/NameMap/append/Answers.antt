@@ -13,4 +13,5 @@ returns-then-has_room g c =
     let items : c.extend_in_room.new.sink.items ≡ old ++ (index ++ (size ++ c.args.name.now)) =
     c.extend_in_room.ensures.items ∙ rw (c.as_bytes.ensures.value, c.short_numbers_in_room.ensures.items)
     (append_assoc old (index ++ size) c.args.name.now ∙ ap (λ (text : List ℕ). old ++ text) (append_assoc index size c.args.name.now)) in
-    rw (← c.self.view_is) (short_name_added _ _ entry (rw items refl) refl c.if-self-lt4294967295.true (omega (arith, c.if-len-lt-NEARLY_FULL.true, c.len.ensures)) (omega (arith, c.if-name.true)) c.ranges.idx.fits (search rules))
+    rw (← c.self.view_is) (short_name_added _ _ entry (rw items refl) refl c.if-self-lt4294967295.true
+    (omega (arith, c.if-len-lt-NEARLY_FULL.true, c.len.ensures)) (omega (arith, c.if-name.true)) c.ranges.idx.fits (search rules))

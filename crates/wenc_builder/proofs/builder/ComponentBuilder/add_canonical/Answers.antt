@@ -6,13 +6,15 @@ use Rattle.wenc_builder.specs.Entry.{canonical_entry}
 use Rattle.wenc_builder.specs.Item.{CanonItem}
 use Rattle.wenc_sections.specs.CanonTrees.{canon_view}
 use Rattle.wenc_builder.specs.declared.builder.kind.Kind.TheVariants as kinds
-use Rattle.wenc_builder.proofs.Entered.{draft_enters}
+use Rattle.wenc_builder.proofs.Entered.{new_item_enters}
 use Rattle.wenc_builder.proofs.Texts.{item_piece}
 use Rattle.wenc_builder.proofs.builder.ComponentBuilder.add_canonical.Goals as goal
 
 pub returns : goal.returns
 returns g c =
-    draft_enters c.args.self.now c.add.new.self c.add.result (canonical_entry (option_copied c.args.name) (canon_view c.args.function.now)) (kind_id kinds.CanonicalFunction) c.args.space (option_copied c.args.name)
+    new_item_enters c.args.self.now c.add.new.self c.add.result
+    (canonical_entry (option_copied c.args.name) (canon_view c.args.function.now)) (kind_id kinds.CanonicalFunction) c.args.space
+    (option_copied c.args.name)
     (record { section = refl; defined = rw c.requires refl; named = refl }) serves_itself c.add.ensures
 
 pub add-requires : goal.add-requires

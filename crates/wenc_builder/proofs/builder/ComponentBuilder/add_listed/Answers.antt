@@ -20,7 +20,8 @@ pub returns-in-Err-append_between : goal.returns-in-Err-append_between
 returns-in-Err-append_between g c =
     list_not_written g.I.Iterator.next_gives c.args.values c.args.self.now (kind_id c.args.kind) c.args.space (option_copied c.args.name)
     (listed (g.E.Encode.piece c.args.lead.now) g.T.Encode.piece (g.F.Encode.piece c.args.tail.now))
-    c.open.new.self c.in-Ok.index c.in-Ok.ensures c.append_between.new.self c.discard.new.self c.in-Err-append_between.fault c.in-Err-append_between.ensures c.discard.ensures
+    c.open.new.self c.in-Ok.index c.in-Ok.ensures c.append_between.new.self c.discard.new.self c.in-Err-append_between.fault
+    c.in-Err-append_between.ensures c.discard.ensures
 
 pub finish_member-requires-clause-whole : goal.finish_member-requires-clause-whole
 finish_member-requires-clause-whole g c =

@@ -5,17 +5,24 @@ use Rattle.wenc_builder.proofs.builder.ComponentBuilder.append_names.Goals as go
 
 pub returns-then-is_empty : goal.returns-then-is_empty
 returns-then-is_empty g c =
-    none_named_there c.self.inside.buffer c.self.inside.spaces c.args.self.now (λ n. (n.0, n.1.now)) c.sorted_names-names.result.0 c.self.invariant.agree c.self.view_is (sym c.if-not-is_finished.ensures) c.sorted_names-names.ensures (sym c.if-is_empty.ensures)
+    none_named_there c.self.inside.buffer c.self.inside.spaces c.args.self.now (λ n. (n.0, n.1.now)) c.sorted_names-names.result.0
+    c.self.invariant.agree c.self.view_is (sym c.if-not-is_finished.ensures) c.sorted_names-names.ensures (sym c.if-is_empty.ensures)
 
 pub returns : goal.returns
 returns g c =
-    let call = rw (c.into.ensures, c.whole.ensures) at c.stand_alone.ensures in
-    names_there c.self.inside.buffer c.self.inside.spaces c.args.self.now (λ n. (n.0, n.1.now)) c.sorted_names-names.result.0 c.self.invariant.agree c.self.view_is (sym c.if-not-is_finished.ensures) c.sorted_names-names.ensures
-    c.stand_alone.new.self c.stand_alone.result call.stood call.bytes (sym c.if-is_empty.ensures)
+    let call = rw (c.into.ensures, c.whole.ensures) at c.add_section.ensures in
+    names_there c.self.inside.buffer c.self.inside.spaces c.args.self.now (λ n. (n.0, n.1.now)) c.sorted_names-names.result.0
+    c.self.invariant.agree c.self.view_is (sym c.if-not-is_finished.ensures) c.sorted_names-names.ensures
+    c.add_section.new.self c.add_section.result call.stood call.bytes (sym c.if-is_empty.ensures)
 
 pub invariant_of-self : goal.invariant_of-self
 invariant_of-self g c =
-    let call = rw (c.into.ensures, c.whole.ensures) at c.stand_alone.ensures in
-    let stood = names_stood c.self.inside.buffer c.self.inside.spaces c.args.self.now (λ n. (n.0, n.1.now)) c.sorted_names-names.result.0 c.self.invariant.agree c.self.view_is (sym c.if-not-is_finished.ensures) c.sorted_names-names.ensures c.stand_alone.new.self c.stand_alone.result call.stood call.bytes in
-    without_index_outcome c.self.inside.buffer c.self.inside.spaces c.self.invariant (sym c.if-not-is_finished.ensures) c.stand_alone.new.self c.stand_alone.result (written (λ n. (n.0, n.1.now)) c.sorted_names-names.result.0)
-    (written_text c.self.inside.buffer c.self.inside.spaces c.args.self.now (λ n. (n.0, n.1.now)) c.sorted_names-names.result.0 c.self.invariant.agree c.self.view_is (sym c.if-not-is_finished.ensures) c.sorted_names-names.ensures) stood.fits stood.ok stood.err
+    let call = rw (c.into.ensures, c.whole.ensures) at c.add_section.ensures in
+    let stood = names_stood c.self.inside.buffer c.self.inside.spaces c.args.self.now
+    (λ n. (n.0, n.1.now)) c.sorted_names-names.result.0 c.self.invariant.agree c.self.view_is
+    (sym c.if-not-is_finished.ensures) c.sorted_names-names.ensures c.add_section.new.self c.add_section.result call.stood call.bytes in
+    without_index_outcome c.self.inside.buffer c.self.inside.spaces c.self.invariant
+    (sym c.if-not-is_finished.ensures) c.add_section.new.self c.add_section.result
+    (written (λ n. (n.0, n.1.now)) c.sorted_names-names.result.0)
+    (written_text c.self.inside.buffer c.self.inside.spaces c.args.self.now (λ n. (n.0, n.1.now)) c.sorted_names-names.result.0
+    c.self.invariant.agree c.self.view_is (sym c.if-not-is_finished.ensures) c.sorted_names-names.ensures) stood.fits stood.ok stood.err

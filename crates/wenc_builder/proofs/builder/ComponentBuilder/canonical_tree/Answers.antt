@@ -18,8 +18,11 @@ pub returns-in-ContextSet : goal.returns-in-ContextSet
 returns-in-ContextSet g c = rw c.in-ContextSet.is c.context_set.ensures
 
 -- what is provided and has no slot has its own name
-own : {A : Type 0} (t : CanonTree A) (debug_name : Option (List ℕ)) → ((f ty : ℕ) (options : Vec CanonicalOption A) → t ≡ trees.Lift f ty options → ⊥) → ((f : ℕ) (options : Vec CanonicalOption A) → t ≡ trees.Lower f options → ⊥) → ((ty : ValType) (n : ℕ) → t ≡ trees.ContextGet ty n → ⊥)
-    → ((ty : ValType) (n : ℕ) → t ≡ trees.ContextSet ty n → ⊥) → canonical_tree_entry debug_name (canon_view t) ≡ canonical_entry (Some (builtin_name (canon_view t))) (canon_view t)
+own : {A : Type 0} (t : CanonTree A) (debug_name : Option (List ℕ))
+    → ((f ty : ℕ) (options : Vec CanonicalOption A) → t ≡ trees.Lift f ty options → ⊥)
+    → ((f : ℕ) (options : Vec CanonicalOption A) → t ≡ trees.Lower f options → ⊥) → ((ty : ValType) (n : ℕ) → t ≡ trees.ContextGet ty n → ⊥)
+    → ((ty : ValType) (n : ℕ) → t ≡ trees.ContextSet ty n → ⊥) → canonical_tree_entry debug_name (canon_view t)
+    ≡ canonical_entry (Some (builtin_name (canon_view t))) (canon_view t)
 own (trees.Lift f ty options) debug_name lifts lowers gets sets = absurd (lifts f ty options refl)
 own (trees.Lower f options) debug_name lifts lowers gets sets = absurd (lowers f options refl)
 own (trees.ContextGet ty n) debug_name lifts lowers gets sets = absurd (gets ty n refl)
@@ -28,5 +31,9 @@ own other debug_name lifts lowers gets sets = refl
 
 pub returns-in_default : goal.returns-in_default
 returns-in_default g c =
-    let entered : Enters c.args.self.now c.add_canonical-in_default.new.self c.add_canonical-in_default.result (canonical_entry (Some (builtin_name (canon_view c.args.function.now))) (canon_view c.args.function.now)) = rw (← c.name.ensures) c.add_canonical-in_default.ensures in
-    subst (λ (e : Entry). Enters c.args.self.now c.add_canonical-in_default.new.self c.add_canonical-in_default.result e) (sym (own c.args.function.now (option_copied c.args.debug_name) c.in_default.not-Lift c.in_default.not-Lower c.in_default.not-ContextGet c.in_default.not-ContextSet)) entered
+    let entered : Enters c.args.self.now c.add_canonical-in_default.new.self c.add_canonical-in_default.result
+    (canonical_entry (Some (builtin_name (canon_view c.args.function.now))) (canon_view c.args.function.now)) =
+    rw (← c.name.ensures) c.add_canonical-in_default.ensures in
+    subst (λ (e : Entry). Enters c.args.self.now c.add_canonical-in_default.new.self c.add_canonical-in_default.result e)
+    (sym (own c.args.function.now (option_copied c.args.debug_name) c.in_default.not-Lift c.in_default.not-Lower
+    c.in_default.not-ContextGet c.in_default.not-ContextSet)) entered

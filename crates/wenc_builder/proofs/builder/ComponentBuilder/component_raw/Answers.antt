@@ -12,8 +12,12 @@ use Rattle.wenc_builder.proofs.builder.ComponentBuilder.component_raw.Goals as g
 
 pub returns : goal.returns
 returns g c =
-    alone_enters c.args.self.now c.stand_alone.new.self c.stand_alone.result (component_entry (option_copied c.args.debug_name) c.args.component.now) (indices_in spaces.Components 1) (option_copied c.args.debug_name)
-    (record { alone = refl; defined = refl; named = refl }) (rw (c.into.ensures, c.whole-bytes.ensures) (bytes_serve (section_number ids.Component) c.args.component.now)) c.stand_alone.ensures
+    alone_enters c.args.self.now c.add_section.new.self c.add_section.result
+    (component_entry (option_copied c.args.debug_name) c.args.component.now) (indices_in spaces.Components 1)
+    (option_copied c.args.debug_name)
+    (record { alone = refl; defined = refl; named = refl })
+    (rw (c.into.ensures, c.whole-bytes.ensures) (bytes_serve (section_number ids.Component) c.args.component.now)) c.add_section.ensures
 
-pub stand_alone-requires-clause-whole : goal.stand_alone-requires-clause-whole
-stand_alone-requires-clause-whole g c = rw (c.into.ensures, c.whole-bytes.ensures) (item_piece (ComponentItem c.args.component.now) (bytes_serve (section_number ids.Component) c.args.component.now))
+pub add_section-requires-clause-whole : goal.add_section-requires-clause-whole
+add_section-requires-clause-whole g c = rw (c.into.ensures, c.whole-bytes.ensures)
+    (item_piece (ComponentItem c.args.component.now) (bytes_serve (section_number ids.Component) c.args.component.now))

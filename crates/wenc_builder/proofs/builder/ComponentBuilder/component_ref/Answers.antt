@@ -18,16 +18,21 @@ pub returns-clause-entered : goal.returns-clause-entered
 returns-clause-entered g c es h =
     let n = c.component in
     let bytes : sections_text n.inside.buffer.settled ≡ whole (items es) = (rw (← n.view_is) at h).sections.bytes in
-    alone_enters c.args.self.now c.stand_alone.new.self c.stand_alone.result (component_entry (option_copied c.args.debug_name) (whole (items es))) (indices_in spaces.Components 1) (option_copied c.args.debug_name)
-    (record { alone = refl; defined = refl; named = refl }) (rw (c.into.ensures, c.len.ensures, c.ready-bytes.ensures, bytes) (bytes_serve (section_number ids.Component) (whole (items es)))) c.stand_alone.ensures
+    alone_enters c.args.self.now c.add_section.new.self c.add_section.result
+    (component_entry (option_copied c.args.debug_name) (whole (items es))) (indices_in spaces.Components 1)
+    (option_copied c.args.debug_name)
+    (record { alone = refl; defined = refl; named = refl })
+    (rw (c.into.ensures, c.len.ensures, c.ready-bytes.ensures, bytes) (bytes_serve (section_number ids.Component) (whole (items es))))
+    c.add_section.ensures
 
 pub ready-bytes-requires : goal.ready-bytes-requires
 ready-bytes-requires g c =
     let n = c.component in
-    writing_none n.inside.buffer (finished_is n.inside.buffer n.inside.spaces c.args.component.now n.invariant.agree n.view_is ∙ sym c.if-not-is_finished.ensures.finished)
+    writing_none n.inside.buffer (finished_is n.inside.buffer n.inside.spaces c.args.component.now n.invariant.agree n.view_is
+    ∙ sym c.if-not-is_finished.ensures.finished)
 
-pub stand_alone-requires-clause-whole : goal.stand_alone-requires-clause-whole
-stand_alone-requires-clause-whole g c =
+pub add_section-requires-clause-whole : goal.add_section-requires-clause-whole
+add_section-requires-clause-whole g c =
     let bytes = sections_text c.component.inside.buffer.settled in
     rw (c.into.ensures, c.len.ensures, c.ready-bytes.ensures) (item_piece (ComponentItem bytes) (bytes_serve (section_number ids.Component) bytes))
 
@@ -36,5 +41,7 @@ returns-clause-bytes g c done =
     let n = c.component in
     let bytes = sections_text n.inside.buffer.settled in
     rw (← n.view_is)
-    (alone_enters c.args.self.now c.stand_alone.new.self c.stand_alone.result (component_entry (option_copied c.args.debug_name) bytes) (indices_in spaces.Components 1) (option_copied c.args.debug_name)
-    (record { alone = refl; defined = refl; named = refl }) (rw (c.into.ensures, c.len.ensures, c.ready-bytes.ensures) (bytes_serve (section_number ids.Component) bytes)) c.stand_alone.ensures)
+    (alone_enters c.args.self.now c.add_section.new.self c.add_section.result (component_entry (option_copied c.args.debug_name) bytes)
+    (indices_in spaces.Components 1) (option_copied c.args.debug_name)
+    (record { alone = refl; defined = refl; named = refl })
+    (rw (c.into.ensures, c.len.ensures, c.ready-bytes.ensures) (bytes_serve (section_number ids.Component) bytes)) c.add_section.ensures)

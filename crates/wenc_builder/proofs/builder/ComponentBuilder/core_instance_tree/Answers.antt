@@ -7,13 +7,15 @@ use Rattle.wenc_builder.specs.Item.{CoreInstanceItem}
 use Rattle.wenc_sections.specs.InstanceTrees.{core_instance_tree_view}
 use Rattle.wenc_builder.specs.declared.builder.kind.Kind.TheVariants as kinds
 use Rattle.wenc_sections.specs.declared.space.Space.TheVariants as spaces
-use Rattle.wenc_builder.proofs.Entered.{draft_enters}
+use Rattle.wenc_builder.proofs.Entered.{new_item_enters}
 use Rattle.wenc_builder.proofs.Texts.{item_piece}
 use Rattle.wenc_builder.proofs.builder.ComponentBuilder.core_instance_tree.Goals as goal
 
 pub returns : goal.returns
 returns g c =
-    draft_enters c.args.self.now c.add.new.self c.add.result (core_instance_entry (option_copied c.args.debug_name) (core_instance_tree_view c.args.instance.now)) (kind_id kinds.CoreInstance) spaces.CoreInstances (option_copied c.args.debug_name)
+    new_item_enters c.args.self.now c.add.new.self c.add.result
+    (core_instance_entry (option_copied c.args.debug_name) (core_instance_tree_view c.args.instance.now))
+    (kind_id kinds.CoreInstance) spaces.CoreInstances (option_copied c.args.debug_name)
     (record { section = refl; defined = refl; named = refl }) serves_itself c.add.ensures
 
 pub add-requires : goal.add-requires

@@ -23,8 +23,12 @@ now s = s.now
 
 pub returns : goal.returns
 returns g c =
-    listed_enters g.I.Iterator.next_gives c.args.exports c.args.self.now c.add_listed.new.self c.add_listed.result (λ vs. core_instance_entry (option_copied c.args.debug_name) (CoreExports (map (named_triple now) vs)))
-    (kind_id kinds.CoreInstance) spaces.CoreInstances (option_copied c.args.debug_name) _ (λ vs. record { section = refl; defined = refl; named = refl }) (core_exports_listed text now (λ s. serves_itself)) c.add_listed.ensures
+    listed_enters g.I.Iterator.next_gives c.args.exports c.args.self.now c.add_listed.new.self c.add_listed.result
+    (λ vs. core_instance_entry (option_copied c.args.debug_name) (CoreExports (map (named_triple now) vs)))
+    (kind_id kinds.CoreInstance) spaces.CoreInstances (option_copied c.args.debug_name) _
+    (λ vs. record { section = refl; defined = refl; named = refl }) (core_exports_listed text now (λ s. serves_itself))
+    c.add_listed.ensures
 
 pub add_listed-requires-clause-whole : goal.add_listed-requires-clause-whole
-add_listed-requires-clause-whole g c vs = item_piece (CoreInstanceItem (CoreExports (map (named_triple now) vs))) (core_exports_listed text now (λ s. serves_itself) vs)
+add_listed-requires-clause-whole g c vs =
+    item_piece (CoreInstanceItem (CoreExports (map (named_triple now) vs))) (core_exports_listed text now (λ s. serves_itself) vs)

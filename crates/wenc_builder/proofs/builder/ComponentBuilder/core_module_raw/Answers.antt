@@ -12,8 +12,11 @@ use Rattle.wenc_builder.proofs.builder.ComponentBuilder.core_module_raw.Goals as
 
 pub returns : goal.returns
 returns g c =
-    alone_enters c.args.self.now c.stand_alone.new.self c.stand_alone.result (module_entry (option_copied c.args.debug_name) c.args.bytes.now) (indices_in spaces.CoreModules 1) (option_copied c.args.debug_name)
-    (record { alone = refl; defined = refl; named = refl }) (rw (c.into.ensures, c.whole-bytes.ensures) (bytes_serve (section_number ids.CoreModule) c.args.bytes.now)) c.stand_alone.ensures
+    alone_enters c.args.self.now c.add_section.new.self c.add_section.result
+    (module_entry (option_copied c.args.debug_name) c.args.bytes.now) (indices_in spaces.CoreModules 1) (option_copied c.args.debug_name)
+    (record { alone = refl; defined = refl; named = refl })
+    (rw (c.into.ensures, c.whole-bytes.ensures) (bytes_serve (section_number ids.CoreModule) c.args.bytes.now)) c.add_section.ensures
 
-pub stand_alone-requires-clause-whole : goal.stand_alone-requires-clause-whole
-stand_alone-requires-clause-whole g c = rw (c.into.ensures, c.whole-bytes.ensures) (item_piece (ModuleItem c.args.bytes.now) (bytes_serve (section_number ids.CoreModule) c.args.bytes.now))
+pub add_section-requires-clause-whole : goal.add_section-requires-clause-whole
+add_section-requires-clause-whole g c = rw (c.into.ensures, c.whole-bytes.ensures)
+    (item_piece (ModuleItem c.args.bytes.now) (bytes_serve (section_number ids.CoreModule) c.args.bytes.now))

@@ -7,8 +7,13 @@ use Rattle.wenc_builder.proofs.builder.ComponentBuilder.custom_section.Goals as 
 
 pub returns : goal.returns
 returns g c =
-    without_index_enters c.args.self.now c.add_alone.new.self c.add_alone.result (custom_entry c.args.section.now.name.now c.args.section.now.data.now)
-    (record { alone = refl; defined = refl; named = refl }) (rw (c.into.ensures, c.whole.ensures) (custom_serves c.args.section.now.name.now c.args.section.now.data.now)) c.add_alone.ensures
+    without_index_enters c.args.self.now c.add_unindexed_section.new.self c.add_unindexed_section.result
+    (custom_entry c.args.section.now.name.now c.args.section.now.data.now)
+    (record { alone = refl; defined = refl; named = refl })
+    (rw (c.into.ensures, c.whole.ensures) (custom_serves c.args.section.now.name.now c.args.section.now.data.now))
+    c.add_unindexed_section.ensures
 
-pub add_alone-requires : goal.add_alone-requires
-add_alone-requires g c = rw (c.into.ensures, c.whole.ensures) (item_piece (CustomItem (record { label = c.args.section.now.name.now; bytes = c.args.section.now.data.now })) (custom_serves c.args.section.now.name.now c.args.section.now.data.now))
+pub add_unindexed_section-requires : goal.add_unindexed_section-requires
+add_unindexed_section-requires g c = rw (c.into.ensures, c.whole.ensures)
+    (item_piece (CustomItem (record { label = c.args.section.now.name.now; bytes = c.args.section.now.data.now }))
+    (custom_serves c.args.section.now.name.now c.args.section.now.data.now))

@@ -7,13 +7,15 @@ use Rattle.wenc_builder.specs.Item.{InstanceItem}
 use Rattle.wenc_sections.specs.InstanceTrees.{instance_tree_view}
 use Rattle.wenc_builder.specs.declared.builder.kind.Kind.TheVariants as kinds
 use Rattle.wenc_sections.specs.declared.space.Space.TheVariants as spaces
-use Rattle.wenc_builder.proofs.Entered.{draft_enters}
+use Rattle.wenc_builder.proofs.Entered.{new_item_enters}
 use Rattle.wenc_builder.proofs.Texts.{item_piece}
 use Rattle.wenc_builder.proofs.builder.ComponentBuilder.instance_tree.Goals as goal
 
 pub returns : goal.returns
 returns g c =
-    draft_enters c.args.self.now c.add.new.self c.add.result (instance_entry (option_copied c.args.debug_name) (instance_tree_view c.args.instance.now)) (kind_id kinds.Instance) spaces.Instances (option_copied c.args.debug_name)
+    new_item_enters c.args.self.now c.add.new.self c.add.result
+    (instance_entry (option_copied c.args.debug_name) (instance_tree_view c.args.instance.now)) (kind_id kinds.Instance) spaces.Instances
+    (option_copied c.args.debug_name)
     (record { section = refl; defined = refl; named = refl }) serves_itself c.add.ensures
 
 pub add-requires : goal.add-requires

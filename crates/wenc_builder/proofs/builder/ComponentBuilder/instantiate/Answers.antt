@@ -13,8 +13,13 @@ use Rattle.wenc_builder.proofs.builder.ComponentBuilder.instantiate.Goals as goa
 
 pub returns : goal.returns
 returns g c =
-    listed_enters g.I.Iterator.next_gives c.args.args c.args.self.now c.add_listed.new.self c.add_listed.result (λ vs. instance_entry (option_copied c.args.debug_name) (Instantiate c.args.component_index (map (named_triple g.S.Named.named) vs)))
-    (kind_id kinds.Instance) spaces.Instances (option_copied c.args.debug_name) _ (λ vs. record { section = refl; defined = refl; named = refl }) (instantiate_listed g.S.Encode.piece g.S.Named.named g.met.S.Named.as_name c.args.component_index) c.add_listed.ensures
+    listed_enters g.I.Iterator.next_gives c.args.args c.args.self.now c.add_listed.new.self c.add_listed.result
+    (λ vs. instance_entry (option_copied c.args.debug_name) (Instantiate c.args.component_index (map (named_triple g.S.Named.named) vs)))
+    (kind_id kinds.Instance) spaces.Instances (option_copied c.args.debug_name) _
+    (λ vs. record { section = refl; defined = refl; named = refl })
+    (instantiate_listed g.S.Encode.piece g.S.Named.named g.met.S.Named.as_name c.args.component_index) c.add_listed.ensures
 
 pub add_listed-requires-clause-whole : goal.add_listed-requires-clause-whole
-add_listed-requires-clause-whole g c vs = item_piece (InstanceItem (Instantiate c.args.component_index (map (named_triple g.S.Named.named) vs))) (instantiate_listed g.S.Encode.piece g.S.Named.named g.met.S.Named.as_name c.args.component_index vs)
+add_listed-requires-clause-whole g c vs = item_piece
+    (InstanceItem (Instantiate c.args.component_index (map (named_triple g.S.Named.named) vs)))
+    (instantiate_listed g.S.Encode.piece g.S.Named.named g.met.S.Named.as_name c.args.component_index vs)

@@ -10,7 +10,8 @@ use Rattle.wenc_builder.proofs.builder.ComponentBuilder.lower_func.Goals as goal
 
 pub returns : goal.returns
 returns g c =
-    options_enter g.I.Iterator.next_gives c.args.options c.args.self.now c.add_listed.new.self c.add_listed.result (λ os. Lower c.args.func_index os) spaces.CoreFuncs (option_copied c.args.debug_name)
+    options_enter g.I.Iterator.next_gives c.args.options c.args.self.now c.add_listed.new.self c.add_listed.result
+    (λ os. Lower c.args.func_index os) spaces.CoreFuncs (option_copied c.args.debug_name)
     _ (λ os. refl) (lower_serves c.args.func_index) c.add_listed.ensures
 
 pub add_listed-requires-clause-whole : goal.add_listed-requires-clause-whole

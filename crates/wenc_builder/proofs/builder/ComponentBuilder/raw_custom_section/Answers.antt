@@ -8,8 +8,9 @@ use Rattle.wenc_builder.proofs.builder.ComponentBuilder.raw_custom_section.Goals
 
 pub returns : goal.returns
 returns g c =
-    without_index_enters c.args.self.now c.add_alone.new.self c.add_alone.result (raw_entry c.args.section.now)
-    (record { alone = refl; defined = refl; named = refl }) (rw (c.into.ensures, c.whole.ensures) (raw_serves c.args.section.now)) c.add_alone.ensures
+    without_index_enters c.args.self.now c.add_unindexed_section.new.self c.add_unindexed_section.result (raw_entry c.args.section.now)
+    (record { alone = refl; defined = refl; named = refl }) (rw (c.into.ensures, c.whole.ensures) (raw_serves c.args.section.now))
+    c.add_unindexed_section.ensures
 
-pub add_alone-requires : goal.add_alone-requires
-add_alone-requires g c = rw (c.into.ensures, c.whole.ensures) (item_piece (RawItem c.args.section.now) (raw_serves c.args.section.now))
+pub add_unindexed_section-requires : goal.add_unindexed_section-requires
+add_unindexed_section-requires g c = rw (c.into.ensures, c.whole.ensures) (item_piece (RawItem c.args.section.now) (raw_serves c.args.section.now))

@@ -11,8 +11,11 @@ use Rattle.wenc_builder.proofs.builder.ComponentBuilder.start.Goals as goal
 
 pub returns : goal.returns
 returns g c =
-    alone_enters c.args.self.now c.stand_alone.new.self c.stand_alone.result (entry (StartItem (started c.args.function_index (g.V.AsSlice.items c.args.args) c.args.results)) None) (indices_in spaces.Values c.args.results) None
-    (record { alone = refl; defined = refl; named = refl }) (rw (c.into.ensures, c.as_slice.ensures, c.whole.ensures) plain_serves) c.stand_alone.ensures
+    alone_enters c.args.self.now c.add_section.new.self c.add_section.result
+    (entry (StartItem (started c.args.function_index (g.V.AsSlice.items c.args.args) c.args.results)) None)
+    (indices_in spaces.Values c.args.results) None
+    (record { alone = refl; defined = refl; named = refl }) (rw (c.into.ensures, c.as_slice.ensures, c.whole.ensures) plain_serves) c.add_section.ensures
 
-pub stand_alone-requires-clause-whole : goal.stand_alone-requires-clause-whole
-stand_alone-requires-clause-whole g c = rw (c.into.ensures, c.as_slice.ensures, c.whole.ensures) (item_piece (StartItem (started c.args.function_index (g.V.AsSlice.items c.args.args) c.args.results)) plain_serves)
+pub add_section-requires-clause-whole : goal.add_section-requires-clause-whole
+add_section-requires-clause-whole g c = rw (c.into.ensures, c.as_slice.ensures, c.whole.ensures)
+    (item_piece (StartItem (started c.args.function_index (g.V.AsSlice.items c.args.args) c.args.results)) plain_serves)

@@ -11,7 +11,7 @@ use Rattle.wenc_builder.specs.Item.{TypeItem}
 use Rattle.wenc_builder.specs.inside.Layout.{kind_id}
 use Rattle.wenc_builder.specs.declared.builder.kind.Kind.TheVariants as kinds
 use Rattle.wenc_sections.specs.declared.space.Space.TheVariants as spaces
-use Rattle.wenc_builder.proofs.Entered.{draft_as, draft_enters}
+use Rattle.wenc_builder.proofs.Entered.{new_item_as, new_item_enters}
 use Rattle.wenc_builder.proofs.builder.ComponentBuilder.type_component.Goals as goal
 
 pub returns-clause-entered : goal.returns-clause-entered
@@ -19,9 +19,13 @@ returns-clause-entered g c ds h =
     let t = c.args.ty.now in
     let s = component_serves t ds h in
     let finished = c.if-not-is_finished.ensures.finished in
-    draft_enters c.args.self.now c.add.new.self c.add.result (type_entry (option_copied c.args.debug_name) (ComponentType (components_of ds))) (kind_id kinds.«Type») spaces.Types (option_copied c.args.debug_name)
+    new_item_enters c.args.self.now c.add.new.self c.add.result
+    (type_entry (option_copied c.args.debug_name) (ComponentType (components_of ds))) (kind_id kinds.«Type») spaces.Types
+    (option_copied c.args.debug_name)
     (record { section = refl; defined = refl; named = refl }) serves_itself
-    (draft_as c.args.self.now c.add.new.self c.add.result (kind_id kinds.«Type») spaces.Types (option_copied c.args.debug_name) s.text s.fits (λ fault own. (let unfinished = own.1 in cc)) (type_lawful (ComponentType (components_of ds))).free c.add.ensures)
+    (new_item_as c.args.self.now c.add.new.self c.add.result (kind_id kinds.«Type») spaces.Types
+    (option_copied c.args.debug_name) s.text s.fits (λ fault own. (let unfinished = own.1 in cc))
+    (type_lawful (ComponentType (components_of ds))).free c.add.ensures)
 
 pub add-requires : goal.add-requires
 add-requires g c fits =

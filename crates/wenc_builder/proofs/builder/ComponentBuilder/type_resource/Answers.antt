@@ -9,14 +9,15 @@ use Rattle.wenc_builder.specs.Item.{TypeItem}
 use Rattle.wenc_builder.specs.inside.Layout.{kind_id}
 use Rattle.wenc_builder.specs.declared.builder.kind.Kind.TheVariants as kinds
 use Rattle.wenc_sections.specs.declared.space.Space.TheVariants as spaces
-use Rattle.wenc_builder.proofs.Entered.{draft_enters}
+use Rattle.wenc_builder.proofs.Entered.{new_item_enters}
 use Rattle.wenc_builder.proofs.Texts.{item_piece}
 use Rattle.wenc_builder.proofs.builder.ComponentBuilder.type_resource.Goals as goal
 
 pub returns : goal.returns
 returns g c =
     let t : DefType = type_view {A = Global} (trees.Resource c.args.rep c.args.dtor) in
-    draft_enters c.args.self.now c.add.new.self c.add.result (type_entry (option_copied c.args.debug_name) t) (kind_id kinds.«Type») spaces.Types (option_copied c.args.debug_name)
+    new_item_enters c.args.self.now c.add.new.self c.add.result (type_entry (option_copied c.args.debug_name) t)
+    (kind_id kinds.«Type») spaces.Types (option_copied c.args.debug_name)
     (record { section = refl; defined = refl; named = refl }) serves_itself c.add.ensures
 
 pub add-requires : goal.add-requires

@@ -7,5 +7,6 @@ use Rattle.wenc_builder.proofs.builder.flush.close_earlier.Goals as goal
 pub returns-then-body-lt127-clause-holder : goal.returns-then-body-lt127-clause-holder
 returns-then-body-lt127-clause-holder g c =
     let e = c.args.earlier.now in
-    let same = closed_items c.args.holder.now.kept e.closed_len e.items_end (kind_id c.in-Some.kind) e.count (rw c.in-Some.is at c.requires.section) c.requires.within in
+    let same = closed_items c.args.holder.now.kept e.closed_len e.items_end (kind_id c.in-Some.kind) e.count
+    (rw c.in-Some.is at c.requires.section) c.requires.within in
     c.fill_kept.ensures ∙ rw (c.short_head-head.ensures, c.in-Some.is) (ap (λ (kept : List ℕ). with_kept c.args.holder.now kept) same)

@@ -5,9 +5,11 @@ use Rattle.wenc_canon.specs.laws.Rows.{lift_serves}
 use Rattle.wenc_canon.proofs.canonicals.CanonicalFunctionSection.lift.Goals as goal
 
 pub returns : goal.returns
-returns g c = rw (← c.self.view_is) (adds_listed_as g.I.Iterator.next_gives c.args.options _ _ _ _ _ (lift_serves c.args.core_func c.args.ty) c.add_listed.ensures.added)
+returns g c = rw (← c.self.view_is) (adds_listed_as g.I.Iterator.next_gives c.args.options _ _ _ _ _
+    (lift_serves c.args.core_func c.args.ty) c.add_listed.ensures.added)
 
 pub invariant_of-self : goal.invariant_of-self
 invariant_of-self g c =
-    keeps_listed canonical g.I.Iterator.next_gives c.args.options c.self.inside.functions c.add_listed.new.self c.add_listed.result (λ os. Lift c.args.core_func os c.args.ty)
+    keeps_listed canonical g.I.Iterator.next_gives c.args.options c.self.inside.functions c.add_listed.new.self c.add_listed.result
+    (λ os. Lift c.args.core_func os c.args.ty)
     (adds_listed_as g.I.Iterator.next_gives c.args.options _ _ _ _ _ (lift_serves c.args.core_func c.args.ty) c.add_listed.ensures.added) c.self.invariant

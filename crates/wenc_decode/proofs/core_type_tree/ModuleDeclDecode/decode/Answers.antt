@@ -6,4 +6,5 @@ use Rattle.wenc_decode.proofs.Tables.{made_of}
 use Rattle.wenc_decode.proofs.core_type_tree.ModuleDeclDecode.decode.Goals as goal
 
 pub returns-in_ok-ty-in-1-default : goal.returns-in_ok-ty-in-1-default
-returns-in_ok-ty-in-1-default g c = at_first _ _ 0x01 _ _ _ c.in_ok-rest.ensures (search rules) ∙ made_of ModuleRecType read_group _ _ _ c.in_ok-ty-in-1-default.ensures
+returns-in_ok-ty-in-1-default g c =
+    at_first _ _ 0x01 _ _ _ c.in_ok-rest.ensures (search rules) ∙ made_of ModuleRecType read_group _ _ _ c.in_ok-ty-in-1-default.ensures

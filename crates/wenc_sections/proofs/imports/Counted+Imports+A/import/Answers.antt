@@ -13,4 +13,5 @@ returns g c = rw (← c.self.view_is) (adds_as _ c.add_encoded.new.self _ (impor
 pub invariant_of-self : goal.invariant_of-self
 invariant_of-self g c =
     keeps_took (HasForm import_item) _ c.self.inside.items c.add_encoded.new.self c.add_encoded.result
-    (serves_form import_item (imported (extern_name_view c.args.name) c.args.ty) (import_serves (extern_name_view c.args.name) c.args.ty)) c.add_encoded.ensures.added c.self.invariant
+    (serves_form import_item (imported (extern_name_view c.args.name) c.args.ty) (import_serves (extern_name_view c.args.name) c.args.ty))
+    c.add_encoded.ensures.added c.self.invariant

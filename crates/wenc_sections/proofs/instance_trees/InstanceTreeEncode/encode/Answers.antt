@@ -12,16 +12,21 @@ text s = name (string_bytes s)
 
 pub returns-in-Instantiate-clause-appended : goal.returns-in-Instantiate-clause-appended
 returns-in-Instantiate-clause-appended g c =
-    rw c.in-Instantiate.is (appends_as _ _ _ _ (instantiate_serves text string_bytes (λ s. serves_itself) c.in-Instantiate.component c.in-Instantiate.args.items) (rw c.as_slice.ensures.value at c.encode.ensures.appended))
+    rw c.in-Instantiate.is (appends_as _ _ _ _ (instantiate_serves text string_bytes
+    (λ s. serves_itself) c.in-Instantiate.component c.in-Instantiate.args.items)
+    (rw c.as_slice.ensures.value at c.encode.ensures.appended))
 
 pub returns-in-Instantiate-clause-fits : goal.returns-in-Instantiate-clause-fits
 returns-in-Instantiate-clause-fits g c =
-    rw c.in-Instantiate.is (fits_as _ (instantiate_serves text string_bytes (λ s. serves_itself) c.in-Instantiate.component c.in-Instantiate.args.items) (rw c.as_slice.ensures.value at c.encode.ensures.fits))
+    rw c.in-Instantiate.is (fits_as _ (instantiate_serves text string_bytes (λ s. serves_itself) c.in-Instantiate.component
+    c.in-Instantiate.args.items) (rw c.as_slice.ensures.value at c.encode.ensures.fits))
 
 pub returns-in-Exports-clause-appended : goal.returns-in-Exports-clause-appended
 returns-in-Exports-clause-appended g c =
-    rw c.in-Exports.is (appends_as _ _ _ _ (exports_serve name_tree_view c.in-Exports.exports.items) (rw c.as_slice-in-Exports.ensures.value at c.encode-in-Exports.ensures.appended))
+    rw c.in-Exports.is (appends_as _ _ _ _ (exports_serve name_tree_view c.in-Exports.exports.items)
+    (rw c.as_slice-in-Exports.ensures.value at c.encode-in-Exports.ensures.appended))
 
 pub returns-in-Exports-clause-fits : goal.returns-in-Exports-clause-fits
 returns-in-Exports-clause-fits g c =
-    rw c.in-Exports.is (fits_as _ (exports_serve name_tree_view c.in-Exports.exports.items) (rw c.as_slice-in-Exports.ensures.value at c.encode-in-Exports.ensures.fits))
+    rw c.in-Exports.is (fits_as _ (exports_serve name_tree_view c.in-Exports.exports.items)
+    (rw c.as_slice-in-Exports.ensures.value at c.encode-in-Exports.ensures.fits))

@@ -4,7 +4,8 @@ use Rattle.wenc_sections.proofs.names.ComponentNameSectionEncode.encode.Goals as
 
 pub returns-clause-appended : goal.returns-clause-appended
 returns-clause-appended g c =
-    appends_as _ _ _ _ (section_serves c.args.self.now c.as_custom.ensures.fits) (rw (c.as_custom.ensures.name, c.as_custom.ensures.bytes) at c.encode.ensures.appended)
+    appends_as _ _ _ _ (section_serves c.args.self.now c.as_custom.ensures.fits)
+    (rw (c.as_custom.ensures.name, c.as_custom.ensures.bytes) at c.encode.ensures.appended)
 
 pub returns-clause-fits : goal.returns-clause-fits
 returns-clause-fits g c = rw (c.as_custom.ensures.name, c.as_custom.ensures.bytes) at c.encode.ensures.fits

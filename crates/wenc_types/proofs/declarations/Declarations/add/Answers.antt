@@ -10,7 +10,8 @@ invariant_of-self-2 g c =
     let t = c.self.inside in
     let added = c.in_ok-add_encoded.ensures.added in
     rw (added.ok.state, c.counted-self-inside.ensures)
-    (declaring_added g.K.DeclaredKind.form g.K.DeclaredKind.sort (record { held = t.held; counts = t.counts; begun = t.begun }) (g.E.Encode.piece c.args.declaration.now).text c.args.sort
+    (declaring_added g.K.DeclaredKind.form g.K.DeclaredKind.space (record { held = t.held; counts = t.counts; begun = t.begun })
+    (g.E.Encode.piece c.args.declaration.now).text c.args.space
     (was_finished t.held _ added.unfinished_first) (c.requires added.ok.fits) c.self.invariant)
 
 pub returns : goal.returns
@@ -21,6 +22,7 @@ returns g c = λ d serves e.
       added = added;
       counts = refl;
       begun = refl;
-      declared = λ ds h. declares_next g.K.DeclaredKind.form g.K.DeclaredKind.sort (record { held = t.held; counts = t.counts; begun = t.begun }) c.add_encoded.new.self d ds added.ok.state added.ok.fits h;
+      declared = λ ds h. declares_next g.K.DeclaredKind.form g.K.DeclaredKind.space
+          (record { held = t.held; counts = t.counts; begun = t.begun }) c.add_encoded.new.self d ds added.ok.state added.ok.fits h;
       err = tt;
     })

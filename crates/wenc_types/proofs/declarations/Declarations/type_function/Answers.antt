@@ -6,4 +6,5 @@ use Rattle.wenc_types.proofs.declarations.Declarations.type_function.Goals as go
 
 pub new-requires-clause-whole : goal.new-requires-clause-whole
 new-requires-clause-whole g c t = λ fits.
-    rw (c.in_ok-begin.ensures.ok, written_text c.args.self.now.held (0x01 ∷ []) (function_type t).text) (∣ g.met.K.DeclaringKind.declares (Typed (FunctionType t)) fits ∣₁)
+    rw (c.in_ok-begin.ensures.ok, written_text c.args.self.now.held (0x01 ∷ []) (function_type t).text)
+    (∣ g.met.K.DeclaringKind.declares (Typed (FunctionType t)) fits ∣₁)

@@ -1,12 +1,12 @@
 use Rattle.wenc_base.specs.laws.Serves.{serves_itself}
 use Rattle.wenc_parts.specs.Aliases.{alias_view}
 use Rattle.wenc_types.specs.ComponentTypes.{Aliased, instance_declaration}
-use Rattle.wenc_types.specs.Declarations.{instance_sort}
+use Rattle.wenc_types.specs.Declarations.{instance_space}
 use Rattle.wenc_types.specs.laws.Declarations.{is_declaration}
 use Rattle.wenc_types.proofs.instance_type.Declarations+InstanceTypes+A.alias.Goals as goal
 
 pub returns : goal.returns
-returns g c = c.add.ensures (Aliased (alias_view c.args.alias)) serves_itself c.sort_of_alias-sort.ensures
+returns g c = c.add.ensures (Aliased (alias_view c.args.alias)) serves_itself c.space_of_alias-space.ensures
 
 pub add-requires : goal.add-requires
-add-requires g c = is_declaration instance_declaration instance_sort (Aliased (alias_view c.args.alias)) serves_itself c.sort_of_alias-sort.ensures
+add-requires g c = is_declaration instance_declaration instance_space (Aliased (alias_view c.args.alias)) serves_itself c.space_of_alias-space.ensures

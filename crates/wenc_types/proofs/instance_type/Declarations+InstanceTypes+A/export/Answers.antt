@@ -1,14 +1,18 @@
 use Rattle.std.proofs.Common.{refl}
 use Rattle.wenc_parts.specs.Imports.{extern_name_view, extern_name, type_reference}
 use Rattle.wenc_types.specs.ComponentTypes.{Exported, instance_declaration}
-use Rattle.wenc_types.specs.Declarations.{instance_sort}
+use Rattle.wenc_types.specs.Declarations.{instance_space}
 use Rattle.wenc_types.specs.laws.Declarations.{is_declaration}
 use Rattle.wenc_types.proofs.Serving.{pair_serves}
 use Rattle.wenc_types.proofs.instance_type.Declarations+InstanceTypes+A.export.Goals as goal
 
 pub returns : goal.returns
-returns g c = c.add.ensures (Exported (extern_name_view c.args.name) c.args.ty) (pair_serves 0x04 (extern_name (extern_name_view c.args.name)) (type_reference c.args.ty)) (rw (c.sort_of_kind.ensures, c.kind.ensures.is) refl)
+returns g c = c.add.ensures (Exported (extern_name_view c.args.name) c.args.ty)
+    (pair_serves 0x04 (extern_name (extern_name_view c.args.name)) (type_reference c.args.ty))
+    (rw (c.space_of_kind.ensures, c.kind.ensures.is) refl)
 
 pub add-requires : goal.add-requires
 add-requires g c =
-    is_declaration instance_declaration instance_sort (Exported (extern_name_view c.args.name) c.args.ty) (pair_serves 0x04 (extern_name (extern_name_view c.args.name)) (type_reference c.args.ty)) (rw (c.sort_of_kind.ensures, c.kind.ensures.is) refl)
+    is_declaration instance_declaration instance_space (Exported (extern_name_view c.args.name) c.args.ty)
+    (pair_serves 0x04 (extern_name (extern_name_view c.args.name)) (type_reference c.args.ty))
+    (rw (c.space_of_kind.ensures, c.kind.ensures.is) refl)

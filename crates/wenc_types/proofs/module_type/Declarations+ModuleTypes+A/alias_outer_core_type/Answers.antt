@@ -1,6 +1,6 @@
 use Rattle.std.proofs.Common.{refl}
 use Rattle.wenc_types.specs.CoreTypes.{ModuleOuter, module_declaration}
-use Rattle.wenc_types.specs.Declarations.{module_sort}
+use Rattle.wenc_types.specs.Declarations.{module_space}
 use Rattle.wenc_types.specs.laws.Declarations.{is_declaration}
 use Rattle.wenc_types.proofs.Serving.{outer_serves}
 use Rattle.wenc_types.proofs.module_type.Declarations+ModuleTypes+A.alias_outer_core_type.Goals as goal
@@ -9,4 +9,4 @@ pub returns : goal.returns
 returns g c = c.add.ensures (ModuleOuter c.args.count c.args.index) (outer_serves c.args.count c.args.index) refl
 
 pub add-requires : goal.add-requires
-add-requires g c = is_declaration module_declaration module_sort (ModuleOuter c.args.count c.args.index) (outer_serves c.args.count c.args.index) refl
+add-requires g c = is_declaration module_declaration module_space (ModuleOuter c.args.count c.args.index) (outer_serves c.args.count c.args.index) refl

@@ -2,7 +2,7 @@ use Rattle.std.proofs.Common.{refl}
 use Rattle.wenc_base.specs.Entities.{entity_type}
 use Rattle.wenc_base.specs.Forms.{name}
 use Rattle.wenc_types.specs.CoreTypes.{ModuleExport, module_declaration}
-use Rattle.wenc_types.specs.Declarations.{module_sort}
+use Rattle.wenc_types.specs.Declarations.{module_space}
 use Rattle.wenc_types.specs.laws.Declarations.{is_declaration}
 use Rattle.wenc_types.proofs.Serving.{pair_serves}
 use Rattle.wenc_types.proofs.module_type.Declarations+ModuleTypes+A.export.Goals as goal
@@ -11,4 +11,5 @@ pub returns : goal.returns
 returns g c = c.add.ensures (ModuleExport c.args.name.now c.args.ty) (pair_serves 0x03 (name c.args.name.now) (entity_type c.args.ty)) refl
 
 pub add-requires : goal.add-requires
-add-requires g c = is_declaration module_declaration module_sort (ModuleExport c.args.name.now c.args.ty) (pair_serves 0x03 (name c.args.name.now) (entity_type c.args.ty)) refl
+add-requires g c = is_declaration module_declaration module_space (ModuleExport c.args.name.now c.args.ty)
+    (pair_serves 0x03 (name c.args.name.now) (entity_type c.args.ty)) refl

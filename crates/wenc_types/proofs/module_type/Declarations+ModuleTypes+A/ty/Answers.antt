@@ -3,10 +3,11 @@ use Rattle.wenc_base.specs.Composites.{rec_type}
 use Rattle.wenc_base.specs.laws.Members.{written_text}
 use Rattle.wenc_base.specs.laws.Serves.{serves_itself}
 use Rattle.wenc_types.specs.CoreTypes.{ModuleRecType, module_declaration}
-use Rattle.wenc_types.specs.Declarations.{module_sort}
+use Rattle.wenc_types.specs.Declarations.{module_space}
 use Rattle.wenc_types.specs.laws.Declarations.{is_declaration}
 use Rattle.wenc_types.proofs.module_type.Declarations+ModuleTypes+A.ty.Goals as goal
 
 pub new-requires-clause-whole : goal.new-requires-clause-whole
 new-requires-clause-whole g c h = λ fits.
-    rw (c.in_ok-begin.ensures.ok, written_text c.args.self.now.held (0x01 ∷ []) (rec_type h).text) (∣ is_declaration module_declaration module_sort (ModuleRecType h) serves_itself refl fits ∣₁)
+    rw (c.in_ok-begin.ensures.ok, written_text c.args.self.now.held (0x01 ∷ []) (rec_type h).text)
+    (∣ is_declaration module_declaration module_space (ModuleRecType h) serves_itself refl fits ∣₁)

@@ -4,4 +4,5 @@ use Rattle.wenc_base.proofs.types.encoder.CoreTypeEncoder.array.Goals as goal
 
 pub end_with-requires-clause-whole : goal.end_with-requires-clause-whole
 end_with-requires-clause-whole g c =
-    final_ends g.L.Lender.is_whole g.L.Lender.appended c.args.self.lender.now c.args.self.guard c.args.self.whole (Array (record { element_type = c.args.ty.now; mutable = c.args.mutable }))
+    final_ends g.L.Parent.is_whole g.L.Parent.appended c.args.self.parent.now c.args.self.guard c.args.self.whole
+    (Array (record { element_type = c.args.ty.now; mutable = c.args.mutable }))

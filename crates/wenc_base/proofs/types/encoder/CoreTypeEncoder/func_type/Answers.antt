@@ -3,4 +3,5 @@ use Rattle.wenc_base.proofs.Ended.{final_ends}
 use Rattle.wenc_base.proofs.types.encoder.CoreTypeEncoder.func_type.Goals as goal
 
 pub end_with-requires-clause-whole : goal.end_with-requires-clause-whole
-end_with-requires-clause-whole g c = final_ends g.L.Lender.is_whole g.L.Lender.appended c.args.self.lender.now c.args.self.guard c.args.self.whole (func_type_view c.args.ty.now)
+end_with-requires-clause-whole g c = final_ends g.L.Parent.is_whole g.L.Parent.appended c.args.self.parent.now c.args.self.guard
+    c.args.self.whole (func_type_view c.args.ty.now)

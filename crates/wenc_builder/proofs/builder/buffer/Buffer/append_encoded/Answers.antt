@@ -4,5 +4,6 @@ use Rattle.wenc_builder.proofs.builder.buffer.Buffer.append_encoded.Goals as goa
 pub returns-clause-appended : goal.returns-clause-appended
 returns-clause-appended g c =
     let b = c.self.inside in
-    appended_value b.holder b.closed_len b.kind b.earlier c.args.self.now c.self.invariant c.self.view_is c.requires c.append_encoded.new.self c.append_encoded.result
+    appended_value b.holder b.closed_len b.kind b.earlier c.args.self.now c.self.invariant c.self.view_is c.requires
+    c.append_encoded.new.self c.append_encoded.result
     (g.E.Encode.piece c.args.value.now) c.append_encoded.ensures.appended

@@ -9,7 +9,8 @@ returns-then-ne-clause-free g c = apart_free c.open_apart.result c.args.self.now
 pub returns-else-ne-clause-free : goal.returns-else-ne-clause-free
 returns-else-ne-clause-free g c =
     let b = c.self.inside in
-    neighbour_free c.open.result b.holder b.closed_len b.kind b.earlier c.in-Some.open (kind_id c.args.kind) c.args.self.now c.self.view_is c.requires c.in-Some.is (search rules) c.open.ensures.opened.free
+    neighbour_free c.open.result b.holder b.closed_len b.kind b.earlier c.in-Some.open
+    (kind_id c.args.kind) c.args.self.now c.self.view_is c.requires c.in-Some.is (search rules) c.open.ensures.opened.free
 
 pub returns-in-None-clause-free : goal.returns-in-None-clause-free
 returns-in-None-clause-free g c = apart_free c.open_apart-in-None.result c.args.self.now.settled (kind_id c.args.kind) (search rules)

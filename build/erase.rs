@@ -1,0 +1,396 @@
+//! Erases Rattle to Rust: one file in, one file out, each token in its line.
+//!
+//! Rattle is Rust with contracts. Contracts are for the prover only, so a file without them is
+//! Rust, except for a few names with another meaning. The eraser
+//!
+//! - *leaves out*: clauses (`requires`, `ensures`), `ghost` items and fields with their comments,
+//!   the examples of documentation (they are Rattle) with the sentence before one that ends in a
+//!   colon, the attributes `tactic`, `cycle` and `error`, `Drop` among derives and bounds, and `use
+//!   thiserror::Error`;
+//! - *renames*: the roots of paths, so that `crate::` and `wenc_base::` are modules of
+//!   `crate::proved`, and `std::` is `crate::shim`, which has what the sources use of Rattle's
+//!   library; `Clone` and `clone`, which can fail in Rattle, to `TryClone` and `try_clone`; the
+//!   methods in [`ALLOCATING`], by appending `_using`; `derive_where` to `derive`; `pub` of the
+//!   methods that aren't for users ([`NARROWED`]) to `pub(crate)`;
+//! - *adds*: the names that are in scope by default, before a file's first item; the derives that
+//!   users of Rust expect of a type ([`known::TREES`], [`known::DERIVED_TOO`]); `Display` and
+//!   `Error` after an enum that derives `Error`; `pub` to `main`; `#[inline]` to the methods
+//!   `encode` of types, which are short and call each other;
+//! - *refuses*: everything else that it doesn't know, such as a module with a body, and a `Clone`
+//!   or a `clone` that the source defines itself. No crate is better than one that does something
+//!   else than was proved.
+//!
+//! `tests/honest.rs` compares each source with its Rust, with a lexer of its own, and knows the
+//! same list.
+
+#[path = "erase/attributes.rs"]
+mod attributes;
+#[path = "erase/known.rs"]
+mod known;
+#[path = "erase/lexer.rs"]
+mod lexer;
+
+use known::{ALLOCATING, HANDED, KEYWORDS, NARROWED, PLAIN, SHARED};
+use lexer::{Kind, Token, tokens};
+use std::borrow::Cow;
+
+/// The number of a line, and what is wrong in it.
+pub type Refused = (usize, &'static str);
+
+/// Erases a file of the crate `name`. `crates` are all crates of its folder.
+pub fn erase(name: &str, crates: &[&str], source: &str) -> Result<String, Refused> {
+    let tokens = tokens(source)?;
+    let mut eraser = Eraser::new(name, crates, &tokens);
+    eraser.run()?;
+    Ok(eraser.finish())
+}
+
+/// A file that is being erased.
+struct Eraser<'a> {
+    name: &'a str,
+    crates: &'a [&'a str],
+    tokens: &'a [Token<'a>],
+    /// The indices of the tokens other than blanks, comments and ghost ones. Each `i` below indexes
+    /// this.
+    code: Vec<usize>,
+    /// The text that each token becomes.
+    becomes: Vec<Cow<'a, str>>,
+}
+
+impl<'a> Eraser<'a> {
+    fn new(name: &'a str, crates: &'a [&'a str], tokens: &'a [Token<'a>]) -> Self {
+        let is_code =
+            |t: &usize| !matches!(tokens[*t].kind, Kind::Space | Kind::Comment | Kind::Ghost);
+        Eraser {
+            name,
+            crates,
+            tokens,
+            code: (0..tokens.len()).filter(is_code).collect(),
+            becomes: tokens.iter().map(|token| Cow::Borrowed(token.text)).collect(),
+        }
+    }
+
+    /// Returns the text of a token of the code, which is empty before the first and after the last.
+    fn at(&self, i: usize) -> &'a str {
+        self.code.get(i).map_or("", |&t| self.tokens[t].text)
+    }
+
+    /// Returns the text of the token `back` tokens before this one.
+    fn before(&self, i: usize, back: usize) -> &'a str {
+        i.checked_sub(back).map_or("", |i| self.at(i))
+    }
+
+    /// Returns whether these words, separated by blanks, are the tokens from `i` on.
+    fn stands(&self, i: usize, words: &str) -> bool {
+        words.split(' ').enumerate().all(|(n, word)| self.at(i + n) == word)
+    }
+
+    fn line(&self, i: usize) -> usize {
+        self.code.get(i).map_or(0, |&t| self.tokens[t].line)
+    }
+
+    /// Returns whether the token is a word.
+    fn is_word(&self, i: usize) -> bool {
+        self.code.get(i).is_some_and(|&t| self.tokens[t].kind == Kind::Word)
+    }
+
+    /// Replaces a token.
+    fn put(&mut self, i: usize, text: impl Into<Cow<'a, str>>) {
+        self.becomes[self.code[i]] = text.into();
+    }
+
+    /// Leaves these tokens out.
+    fn leave_out(&mut self, range: std::ops::Range<usize>) {
+        for i in range {
+            self.put(i, "");
+        }
+    }
+
+    /// Returns the position after the bracket that closes the one at `i`.
+    fn close(&self, i: usize) -> Result<usize, Refused> {
+        let mut depth = 0;
+        for j in i..self.code.len() {
+            match self.at(j) {
+                "(" | "[" | "{" => depth += 1,
+                ")" | "]" | "}" => depth -= 1,
+                _ => {}
+            }
+            if depth == 0 {
+                return Ok(j + 1);
+            }
+        }
+        Err((self.line(i), "a bracket without an end"))
+    }
+
+    fn run(&mut self) -> Result<(), Refused> {
+        for t in 0..self.tokens.len() {
+            if self.tokens[t].kind == Kind::Ghost {
+                self.ghost(t)?;
+            }
+        }
+        self.examples()?;
+        let mut i = 0;
+        while i < self.code.len() {
+            let is_left_out = self.becomes[self.code[i]].is_empty();
+            i = match self.at(i) {
+                _ if is_left_out => i + 1,
+                "#" => self.attribute(i)?,
+                _ => {
+                    self.token(i)?;
+                    i + 1
+                }
+            };
+        }
+        self.bring_prelude();
+        Ok(())
+    }
+
+    /// Erases a token outside of attributes.
+    fn token(&mut self, i: usize) -> Result<(), Refused> {
+        match self.at(i) {
+            "Drop" => self.bound(i)?,
+            "fn" if self.at(i + 1) == "main" => self.put(i, "pub fn"),
+            "fn" if self.is_inlined(i) => self.put(i, "#[inline] fn"),
+            "mod" if self.is_taken(self.at(i + 1)) => {
+                return Err((self.line(i), "a module with the name of a crate"));
+            }
+            "mod" if self.at(i + 2) != ";" => {
+                return Err((self.line(i), "a module that is no file"));
+            }
+            "extern" if self.at(i + 1) != "crate" => {
+                return Err((self.line(i), "an `extern` that is not known"));
+            }
+            "unsafe" => return Err((self.line(i), "an `unsafe`")),
+            "pub" if self.is_narrowed(i) => self.put(i, "pub(crate)"),
+            "Clone" if self.is_bound(i) => self.put(i, "TryClone"),
+            "clone" if self.is_method(i) => self.put(i, "try_clone"),
+            "Clone" => return Err((self.line(i), "a `Clone` that is no bound")),
+            "clone" => return Err((self.line(i), "a `clone` that is no method")),
+            method if self.before(i, 1) == "." && ALLOCATING.contains(&method) => {
+                self.put(i, format!("{method}_using"));
+            }
+            "!" if self.is_word(i.wrapping_sub(1)) => self.macro_call(i)?,
+            "use" if self.at(i + 1) == "thiserror" => {
+                if !self.stands(i, "use thiserror : : Error ;") {
+                    return Err((self.line(i), "a use of `thiserror` that is not known"));
+                }
+                self.leave_out(i..i + 6);
+            }
+            ":" if self.at(i + 1) == ":" => self.path(i)?,
+            word if self.is_taken(word) => self.root(i)?,
+            _ => {}
+        }
+        Ok(())
+    }
+
+    /// Returns whether the word is a bound.
+    fn is_bound(&self, i: usize) -> bool {
+        let is_led = self.before(i, 1) == "+" || self.before(i, 1) == ":" && !self.goes_on(i);
+        is_led && ["+", ",", ">", ")", "{"].contains(&self.at(i + 1))
+    }
+
+    /// Returns whether the word is the name of a method that is called or defined.
+    fn is_method(&self, i: usize) -> bool {
+        ["fn", "."].contains(&self.before(i, 1)) && self.at(i + 1) == "("
+    }
+
+    /// Returns whether the word continues a path.
+    fn goes_on(&self, i: usize) -> bool {
+        self.before(i, 1) == ":" && self.before(i, 2) == ":"
+    }
+
+    /// Returns whether a method begins here that stays in this crate.
+    fn is_narrowed(&self, i: usize) -> bool {
+        let is_item = |j: &usize| matches!(self.before(*j, 1), "" | ";" | "]" | "}");
+        let mut impls = (0..i).rev().filter(|j| self.at(*j) == "impl").filter(is_item);
+        NARROWED.iter().any(|(owner, method)| {
+            self.stands(i + 1, "fn")
+                && self.at(i + 2) == *method
+                && impls.next().is_some_and(|j| self.owner(j) == *owner)
+        })
+    }
+
+    /// Returns whether a method begins here that encodes a type, and that has no attribute in Rust.
+    fn is_inlined(&self, i: usize) -> bool {
+        let is_left = |j: &usize| !self.becomes[self.code[*j]].is_empty();
+        let last = (0..i).rev().find(is_left).map_or("", |j| self.at(j));
+        let is_method = self.at(i + 1) == "encode" && ["{", "}", ";"].contains(&last);
+        let mut words = (0..i).rev().map(|j| self.at(j));
+        is_method && words.find(|word| ["impl", "trait"].contains(word)) == Some("impl")
+    }
+
+    /// Returns the name of the type whose methods are in an `impl`, or of the trait.
+    fn owner(&self, i: usize) -> &'a str {
+        let mut depth = 0;
+        for j in i + 1..self.code.len() {
+            match self.at(j) {
+                "<" => depth += 1,
+                ">" if self.before(j, 1) != "-" => depth -= 1,
+                word if depth == 0 => return word,
+                _ => {}
+            }
+        }
+        ""
+    }
+
+    /// Returns whether a path may begin with this name.
+    fn is_taken(&self, word: &str) -> bool {
+        ["crate", "std", "core", "alloc", "thiserror"].contains(&word)
+            || self.crates.contains(&word)
+    }
+
+    /// Leaves out the examples of documentation, with the sentence before one that ends in a colon.
+    fn examples(&mut self) -> Result<(), Refused> {
+        let mut begun = None;
+        for (t, token) in self.tokens.iter().enumerate() {
+            if token.kind == Kind::Comment {
+                let is_fence = token.text.contains("```");
+                let is_doc = token.text.starts_with("///") || token.text.starts_with("//!");
+                if (is_fence || begun.is_some()) && !is_doc {
+                    return Err((token.line, "an example outside of documentation"));
+                }
+                if is_fence || begun.is_some() {
+                    self.becomes[t] = Cow::Borrowed("");
+                }
+                if is_fence {
+                    begun = if begun.is_none() { Some(token.line) } else { None };
+                }
+                if is_fence && begun.is_some() {
+                    self.introduction(t);
+                }
+            }
+        }
+        begun.map_or(Ok(()), |line| Err((line, "an example without an end")))
+    }
+
+    /// Leaves out the sentence that ends in a colon before the example that begins at `fence`.
+    fn introduction(&mut self, fence: usize) {
+        let tokens = self.tokens;
+        let is_doc = |t: &usize| [Kind::Space, Kind::Comment].contains(&tokens[*t].kind);
+        let lines = (0..fence).rev().take_while(is_doc);
+        let mut lines = lines.filter(|t| tokens[*t].kind == Kind::Comment).peekable();
+        while lines.next_if(|t| ["///", "//!"].contains(&tokens[*t].text)).is_some() {}
+        if !lines.peek().is_some_and(|t| tokens[*t].text.ends_with(':')) {
+            return;
+        }
+        for t in lines {
+            let text = tokens[t].text;
+            let is_before = text.ends_with('.') || ["///", "//!"].contains(&text);
+            let end = if is_before { text.len() } else { text.rfind(". ").map_or(0, |at| at + 1) };
+            self.becomes[t] = Cow::Borrowed(&text[..end]);
+            if end > 0 {
+                return;
+            }
+        }
+    }
+
+    /// Leaves out a clause, or a ghost item with its documentation.
+    fn ghost(&mut self, t: usize) -> Result<(), Refused> {
+        self.becomes[t] = Cow::Borrowed("");
+        let is_item = self.tokens[t].text.starts_with("ghost");
+        for before in (0..t).rev().take_while(|_| is_item) {
+            match self.tokens[before].kind {
+                Kind::Space => {}
+                Kind::Comment if self.tokens[before].text.starts_with("///") => {
+                    self.becomes[before] = Cow::Borrowed("");
+                }
+                Kind::Comment | Kind::Ghost => break,
+                _ if ["{", "}", ",", ";", "]"].contains(&self.tokens[before].text) => break,
+                _ => return Err((self.tokens[t].line, "a word in front of a ghost item")),
+            }
+        }
+        Ok(())
+    }
+
+    /// Refuses a path that begins with `::`, which would refer to Rust's crates.
+    fn path(&self, i: usize) -> Result<(), Refused> {
+        let last = self.before(i, 1);
+        let is_inside = last == ">" || self.is_word(i.wrapping_sub(1)) && !KEYWORDS.contains(&last);
+        if is_inside { Ok(()) } else { Err((self.line(i), "a path that begins with `::`")) }
+    }
+
+    /// Erases a word that may be the root of a path.
+    fn root(&mut self, i: usize) -> Result<(), Refused> {
+        let word = self.at(i);
+        if self.stands(i.wrapping_sub(1), "( crate )") {
+            self.put(i, format!("in crate::proved::{}", self.name));
+        } else if self.stands(i + 1, ": :") && !self.goes_on(i) {
+            let becomes = match word {
+                "crate" => format!("crate::proved::{}", self.name),
+                "std" => "crate::shim".into(),
+                _ if self.crates.contains(&word) => format!("crate::proved::{word}"),
+                _ => return Err((self.line(i), "a path that begins with a crate of the kit")),
+            };
+            self.put(i, becomes);
+        } else if word == "crate" || self.before(i, 1) == "use" || self.before(i, 1) == "extern" {
+            return Err((self.line(i), "a crate that is no path's root"));
+        }
+        Ok(())
+    }
+
+    /// Erases a bound `Drop`, which every type of Rust has. A trait with only this bound gets
+    /// `Sized`.
+    fn bound(&mut self, i: usize) -> Result<(), Refused> {
+        match (self.before(i, 1), self.at(i + 1)) {
+            ("+", "," | ">" | "{" | "+" | ")") => self.leave_out(i - 1..i + 1),
+            (":", "," | ">") if self.before(i, 2) != ":" => self.leave_out(i - 1..i + 1),
+            (":", "{") if self.before(i, 2) != ":" => self.put(i, "Sized"),
+            _ => return Err((self.line(i), "a use of `Drop` that is no bound")),
+        }
+        Ok(())
+    }
+
+    /// Erases a macro that is called or defined, whose `!` is here.
+    fn macro_call(&mut self, i: usize) -> Result<(), Refused> {
+        let (name, open) = (self.before(i, 1), self.at(i + 1));
+        if !["(", "[", "{"].contains(&open) {
+            let is_operator = open == "=" || KEYWORDS.contains(&name);
+            let is_known = is_operator || name == "macro_rules";
+            return if is_known { Ok(()) } else { Err((self.line(i), "a `!` that is not known")) };
+        }
+        let is_own = (0..i).any(|j| self.stands(j, "macro_rules !") && self.at(j + 2) == name);
+        if self.at(i + 2) == "in" && HANDED.contains(&name) {
+            self.put(i - 1, format!("crate::shim::{name}"));
+        } else if !is_own && ![&KEYWORDS[..], &PLAIN, &SHARED].concat().contains(&name) {
+            return Err((self.line(i), "a macro that is not known"));
+        }
+        Ok(())
+    }
+
+    /// Brings the shim's names into scope, before the first item.
+    fn bring_prelude(&mut self) {
+        let is_front = |t: &usize| match self.tokens[*t].kind {
+            Kind::Space | Kind::Ghost => true,
+            Kind::Comment => !self.tokens[*t].text.starts_with("///"),
+            _ => self.becomes[*t].is_empty(),
+        };
+        if let Some(t) = (0..self.tokens.len()).find(|t| !is_front(t)) {
+            let first = &self.becomes[t];
+            self.becomes[t] = format!("use crate::shim::prelude::*; {first}").into();
+        }
+    }
+
+    /// Concatenates the tokens. Of those left out, only the line ends remain.
+    fn finish(self) -> String {
+        let mut whole = String::new();
+        for (token, becomes) in self.tokens.iter().zip(&self.becomes) {
+            if becomes.is_empty() || token.kind == Kind::Space {
+                push_blank(&mut whole, token, becomes);
+            } else {
+                whole += becomes;
+            }
+        }
+        whole
+    }
+}
+
+/// Appends the line ends of a token, without the blanks before them, then the last line of what a
+/// blank becomes.
+fn push_blank(whole: &mut String, token: &Token<'_>, becomes: &str) {
+    let ends = token.text.matches('\n').count();
+    if ends > 0 {
+        whole.truncate(whole.trim_end_matches([' ', '\t']).len());
+        *whole += &"\n".repeat(ends);
+    }
+    *whole += becomes.rsplit('\n').next().unwrap_or("");
+}

@@ -1,0 +1,96 @@
+//! The closed lists of the eraser: the names that it knows.
+
+/// Methods that take an allocator in Rattle, but not in Rust's library, which has them on the same
+/// types.
+pub const ALLOCATING: [&str; 1] = ["collect"];
+
+/// Macros that take an allocator after `in`, and that the shim defines.
+pub const HANDED: [&str; 2] = ["format", "vec"];
+
+/// Macros with the same meaning in Rattle and in Rust.
+pub const PLAIN: [&str; 5] = ["concat", "matches", "unreachable", "write", "writeln"];
+
+/// Macros of the sources that other files of their crate use.
+pub const SHARED: [&str; 1] = ["given"];
+
+/// Words, other than names, that may precede a `!` or a path.
+pub const KEYWORDS: [&str; 15] = [
+    "as", "break", "dyn", "else", "extern", "for", "if", "impl", "in", "match", "mut", "ref",
+    "return", "use", "while",
+];
+
+/// Derives with the same name in Rattle and in Rust.
+pub const DERIVED: [&str; 8] =
+    ["Clone", "Copy", "Debug", "Eq", "Hash", "Ord", "PartialEq", "PartialOrd"];
+
+/// Attributes with the same meaning in Rattle and in Rust, as they are written.
+pub const ATTRIBUTES: [&str; 5] = [
+    "# [ cold ]",
+    "# [ inline ( always ) ]",
+    "# [ inline ( never ) ]",
+    "# [ inline ]",
+    "# [ repr ( u8 ) ]",
+];
+
+/// What a tree derives instead of `Drop`.
+pub const OF_TREES: &str = "Clone, Debug, PartialEq, Eq, Hash";
+
+/// What a tree derives if it has `derive_where` for the others.
+pub const OF_COMPARED_TREES: &str = "Clone, Hash";
+
+/// Trees of items and of commands, whose values users of Rust compare, print and copy.
+pub const TREES: [&str; 23] = [
+    "AliasTree",
+    "Built",
+    "CanonTree",
+    "CaseTree",
+    "Command",
+    "ComponentDecl",
+    "CompositeType",
+    "CoreInstanceTree",
+    "CoreTypeTree",
+    "DefinedTree",
+    "FuncType",
+    "GroupTree",
+    "InstanceDecl",
+    "InstanceTree",
+    "ItemTree",
+    "ListedSection",
+    "Listing",
+    "ModuleDecl",
+    "NameOptions",
+    "NameTree",
+    "StructType",
+    "SubType",
+    "TypeTree",
+];
+
+/// Types that derive more for users of Rust than their sources say, with the additional derives.
+pub const DERIVED_TOO: [(&str, &str); 22] = [
+    ("AbstractHeapType", "Hash"),
+    ("Alias", "Debug, Hash, PartialEq, Eq"),
+    ("ArrayType", "Hash"),
+    ("CanonicalOption", "Hash"),
+    ("ComponentExportKind", "Hash"),
+    ("ComponentOuterAliasKind", "Hash"),
+    ("ComponentSectionId", "Hash"),
+    ("EntityType", "Hash"),
+    ("ExportKind", "Hash"),
+    ("Fault", "Hash"),
+    ("FieldType", "Hash"),
+    ("GlobalType", "Hash"),
+    ("HeapType", "Hash"),
+    ("MemoryType", "Hash"),
+    ("ModuleArg", "Hash"),
+    ("RefType", "Hash"),
+    ("Space", "Hash, PartialOrd, Ord"),
+    ("StorageType", "Hash"),
+    ("TableType", "Hash"),
+    ("TagType", "Hash"),
+    ("Unread", "Hash"),
+    ("ValType", "Hash"),
+];
+
+/// Methods of trees that stay in this crate: their contracts require what nothing tests, or they
+/// return what the facade has in another form.
+pub const NARROWED: [(&str, &str); 2] = [("FuncType", "new"), ("NameTree", "as_name")];

@@ -1,0 +1,119 @@
+//! Erases the proved sources in `crates/` to Rust: a file for each of theirs, and `crates.rs`,
+//! which declares a module for each crate.
+//!
+//! It is the build script of the library and of the program `wenc`. Run in the repository with a
+//! folder as its argument, it writes the sources that the published package has instead of a build
+//! script.
+
+mod erase;
+mod tidy;
+
+use std::fs;
+use std::path::{Path, PathBuf};
+
+/// The crates that encode, lowest first.
+const WRITER: [&str; 6] =
+    ["wenc_base", "wenc_parts", "wenc_types", "wenc_canon", "wenc_sections", "wenc_builder"];
+
+/// The crates of the feature `reader`.
+const READER: [&str; 4] = ["wenc_read", "wenc_decode", "wenc_list", "wasm_encoder"];
+
+/// The crates of the programs.
+const PROGRAMS: [&str; 2] = ["wenc", "command_fuzz"];
+
+/// The crates that only tests use: proved callers, the examples of the documentation, and types as
+/// another crate defines them.
+const TESTS: [&str; 1] = ["proved_tests"];
+
+/// The crate that `src/proved` replaces.
+const BY_HAND: [&str; 1] = ["hex"];
+
+/// The lints to allow: the sources have checks of their own, not all of their calls are used by the
+/// facade, some names are for contracts only, and erasing leaves empty lines and braces.
+const ALLOWED: &str = "#[allow(clippy::all, dead_code, missing_docs, unused_braces)]\n\
+     #[allow(unused_imports, unused_variables)]\n";
+
+fn main() {
+    match std::env::args_os().nth(1) {
+        Some(folder) => erase_all(Path::new("crates"), Path::new(&folder), tidy::tidy),
+        None => build(),
+    }
+}
+
+/// Runs as a build script.
+fn build() {
+    let package = PathBuf::from(variable("CARGO_MANIFEST_DIR"));
+    let top = package.ancestors().find(|folder| folder.join("crates").is_dir());
+    let top = top.expect("the sources are above the package");
+    println!("cargo::rerun-if-changed={}", top.join("build").display());
+    for name in parts().iter().flat_map(|(names, _)| *names) {
+        println!("cargo::rerun-if-changed={}", top.join("crates").join(name).join("src").display());
+    }
+    println!("cargo::rustc-cfg=in_repository");
+    if variable("CARGO_PKG_NAME") != "wenc" {
+        println!("cargo::rustc-cfg=script");
+    }
+    let out = PathBuf::from(variable("OUT_DIR")).join("proved");
+    erase_all(&top.join("crates"), &out, |_, erased| erased.to_owned());
+}
+
+/// Returns the crates, each group with the condition under which it is compiled.
+fn parts() -> [(&'static [&'static str], &'static str); 4] {
+    [
+        (&WRITER, ""),
+        (&READER, "#[cfg(any(feature = \"reader\", script, test))]\n"),
+        (&PROGRAMS, "#[cfg(any(script, test))]\n"),
+        (&TESTS, "#[cfg(all(test, not(script)))]\n"),
+    ]
+}
+
+/// Lays out an erased source.
+type Layout = fn(&str, &str) -> String;
+
+/// Erases all crates of a folder into another folder.
+fn erase_all(sources: &Path, out: &Path, layout: Layout) {
+    let parts = parts();
+    let known: Vec<&str> =
+        parts.iter().flat_map(|(names, _)| *names).chain(&BY_HAND).copied().collect();
+    let _ = fs::remove_dir_all(out);
+    let mut declared = String::new();
+    for (names, condition) in parts {
+        for name in names {
+            let source = sources.join(name).join("src");
+            erase_folder(name, &known, (&source, &out.join(name)), layout);
+            let root = if source.join("lib.rt").exists() { "lib.rs" } else { "main.rs" };
+            let path = format!("#[path = \"{name}/{root}\"]\n");
+            declared += &format!("{condition}{ALLOWED}{path}pub mod {name};\n");
+        }
+    }
+    write(&out.join("crates.rs"), &declared);
+}
+
+fn variable(name: &str) -> String {
+    std::env::var(name).unwrap_or_else(|_| panic!("cargo sets {name}"))
+}
+
+/// Erases each file of a folder and its subfolders into another folder.
+fn erase_folder(name: &str, known: &[&str], (from, to): (&Path, &Path), layout: Layout) {
+    let made = fs::create_dir_all(to);
+    made.unwrap_or_else(|error| panic!("{}: {error}", to.display()));
+    let entries = fs::read_dir(from);
+    for entry in entries.unwrap_or_else(|error| panic!("{}: {error}", from.display())) {
+        let path = entry.expect("the folder can be read").path();
+        let target = to.join(path.file_name().expect("it has a name"));
+        if path.is_dir() {
+            erase_folder(name, known, (&path, &target), layout);
+        } else if path.extension().is_some_and(|extension| extension == "rt") {
+            let text = fs::read_to_string(&path);
+            let text = text.unwrap_or_else(|error| panic!("{}: {error}", path.display()));
+            match erase::erase(name, known, &text) {
+                Ok(erased) => write(&target.with_extension("rs"), &layout(&text, &erased)),
+                Err((line, why)) => panic!("{}:{line}: {why}", path.display()),
+            }
+        }
+    }
+}
+
+fn write(path: &Path, text: &str) {
+    fs::write(path, text).unwrap_or_else(|error| panic!("{}: {error}", path.display()));
+}

@@ -1,0 +1,297 @@
+-- Derived equality of trees of canonical functions is true exactly where they are seen as the same.
+use Rattle.std.proofs.Common.{arith, ◌≡◌, refl, sym, ◌∙◌, ap, subst, Bool, false, true≢false, ◌&&◌, ℕ, ◌+◌, ◌<◌, ◌≤◌, nat_eq, List, [], ◌∷◌}
+use Rattle.std.proofs.Common.{Option, Some, None, inl, inr}
+use Rattle.std.proofs.lemmas.Bool.Decides.{Decides-and, Decides-like}
+use Rattle.std.proofs.lemmas.Grind.{common_steps}
+use Rattle.std.specs.Bool.{Decides, beq}
+use Rattle.std.specs.Cmp.{booleans_Decides, unsigned_Decides}
+use Rattle.std.specs.Cmp.Lexicographic.{pointwise}
+use Rattle.std.specs.Option.{option_eq}
+use Rattle.std.specs.declared.alloc.Allocator.{Ghosts}
+use denote.Enum.Compared.{Each, by}
+use denote.Enum.Declared.{Choice}
+use denote.RattleType.{RattleType}
+use denote.Struct.Field.{Field as Part}
+use denote.Struct.Values.{Values as Parts}
+use mir.Syntax.{Dict}
+use Rattle.wenc_base.specs.declared.types.ValType.{ValType}
+use Rattle.wenc_base.specs.contracts.types.ValTypePartialEq.TheImpl.{eq-value as core_eq'}
+use Rattle.wenc_parts.specs.declared.types.ComponentValType.{ComponentValType}
+use Rattle.wenc_parts.specs.contracts.types.ComponentValTypePartialEq.TheImpl.{eq-value as value_eq'}
+use Rattle.wenc_sections.specs.CanonTrees.{canon_view}
+use Rattle.wenc_canon.specs.Canonicals as canon
+use Rattle.wenc_canon.specs.Canonicals.{Field, Index, Options, Flag, Zero, CoreType, Results, Value, Values, row, Canonical, Lift, Lower, OfBuiltin}
+use Rattle.wenc_sections.specs.declared.canon_tree.CanonTree.{CanonTree}
+use Rattle.wenc_canon.specs.declared.canonicals.CanonicalOption.{CanonicalOption}
+use Rattle.wenc_sections.specs.contracts.canon_tree.CanonTree.{enum}
+use Rattle.wenc_sections.specs.contracts.canon_tree.CanonTreePartialEq.TheImpl.{eq-value}
+use Rattle.wenc_canon.specs.contracts.canonicals.CanonicalOptionPartialEq.TheImpl.{eq-value as option_eq'}
+
+-- the byte that a canonical function begins with
+abbrev opcode_of : Canonical → ℕ
+opcode_of (Lift function options type_index) = 0x00
+opcode_of (Lower function options) = 0x01
+opcode_of (OfBuiltin i values) = (row i).opcode
+
+-- ---- a test that goes by variants
+
+module _ {S : Type 0} (kind : S → ℕ) where
+  -- a variant's values are of one kind, from n on, and its test tells whether two are seen alike
+  record Variant (Fs : List Part) (test : Parts Fs → Parts Fs → Bool) (seen : Parts Fs → S) (n : ℕ) : Type 0 where
+    k : ℕ
+    is : (x : Parts Fs) → kind (seen x) ≡ k
+    from : n ≤ k
+    tells : (x y : Parts Fs) → Decides (test x y) (seen x ≡ seen y)
+
+  -- so it is with all variants, one kind above the other
+  abbrev Tells : (Fss : List (List Part)) → Each Bool Fss → (Choice Fss → S) → ℕ → Type 0
+  Tells [] each seen n = Unit {0}
+  Tells (Fs ∷ Fss) each seen n = (r : Variant Fs each.0 (λ x. seen (inl x)) n) × Tells Fss each.1 (λ c. seen (inr c)) (r.k + 1)
+
+  from_there : (Fss : List (List Part)) (each : Each Bool Fss) (seen : Choice Fss → S) (n : ℕ) → Tells Fss each seen n → (c : Choice Fss) → n ≤ kind (seen c)
+  from_there [] each seen n t c = absurd c
+  from_there (Fs ∷ Fss) each seen n t (inl x) = omega (arith, t.0.is x, t.0.from)
+  from_there (Fs ∷ Fss) each seen n t (inr c) = omega (arith, t.0.from, from_there Fss each.1 (λ d. seen (inr d)) (t.0.k + 1) t.1 c)
+
+  apart : (s u : S) → kind s < kind u → Decides false (s ≡ u)
+  apart s u lt = (λ e. absurd (true≢false (sym e)), λ e. absurd (omega (arith, lt, ap kind e)))
+
+  apart_back : (s u : S) → kind u < kind s → Decides false (s ≡ u)
+  apart_back s u lt = (λ e. absurd (true≢false (sym e)), λ e. absurd (omega (arith, lt, ap kind e)))
+
+  by_decides : (Fss : List (List Part)) (each : Each Bool Fss) (seen : Choice Fss → S) (n : ℕ) → Tells Fss each seen n → (c d : Choice Fss)
+      → Decides (by false false Fss each c d) (seen c ≡ seen d)
+  by_decides [] each seen n t c d = absurd c
+  by_decides (Fs ∷ Fss) each seen n t (inl x) (inl y) = t.0.tells x y
+  by_decides (Fs ∷ Fss) each seen n t (inl x) (inr d) =
+      apart (seen (inl x)) (seen (inr d)) (omega (arith, t.0.is x, from_there Fss each.1 (λ e. seen (inr e)) (t.0.k + 1) t.1 d))
+  by_decides (Fs ∷ Fss) each seen n t (inr c) (inl y) =
+      apart_back (seen (inr c)) (seen (inl y)) (omega (arith, t.0.is y, from_there Fss each.1 (λ e. seen (inr e)) (t.0.k + 1) t.1 c))
+  by_decides (Fs ∷ Fss) each seen n t (inr c) (inr d) = by_decides Fss each.1 (λ e. seen (inr e)) (t.0.k + 1) t.1 c d
+
+-- ---- fields
+
+-- the fields of a canonical function, whatever it is
+data GivenTree : Type 0 where
+  Number : (n : ℕ) → GivenTree
+  Chosen : (options : List CanonicalOption) → GivenTree
+  Told : (b : Bool) → GivenTree
+  Fixed : GivenTree
+  Core : (t : ValType) → GivenTree
+  Answer : (r : Option ComponentValType) → GivenTree
+
+abbrev given_tree : (f : Field) → Value f → GivenTree
+given_tree Index n = Number n
+given_tree Options os = Chosen os
+given_tree Flag b = Told b
+given_tree Zero v = Fixed
+given_tree CoreType t = Core t
+given_tree Results r = Answer r
+
+abbrev all_given : (fs : List Field) → Values fs → List GivenTree
+all_given [] vs = []
+all_given (f ∷ []) v = given_tree f v ∷ []
+all_given (f ∷ g ∷ fs) vs = given_tree f vs.0 ∷ all_given (g ∷ fs) vs.1
+
+abbrev tree_fields_of : Canonical → List GivenTree
+tree_fields_of (Lift function options ty) = Number function ∷ Chosen options ∷ Number ty ∷ []
+tree_fields_of (Lower function options) = Number function ∷ Chosen options ∷ []
+tree_fields_of (OfBuiltin i values) = all_given (row i).fields values
+
+-- ---- tests of fields
+
+choices : (a b : CanonicalOption) → Decides (option_eq'.it a b) (a ≡ b)
+choices a b = grind (arith, common_steps)
+
+core_types : (a b : ValType) → Decides (core_eq'.it a b) (a ≡ b)
+core_types a b = grind (arith, common_steps)
+
+value_types : (a b : ComponentValType) → Decides (value_eq'.it a b) (a ≡ b)
+value_types a b = grind (arith, common_steps)
+
+answers : (r s : Option ComponentValType) → Decides (option_eq value_eq'.it r s) (r ≡ s)
+answers None None = (λ e. refl, λ e. refl)
+answers None (Some u) = (λ e. absurd cc, λ e. absurd cc)
+answers (Some t) None = (λ e. absurd cc, λ e. absurd cc)
+answers (Some t) (Some u) = Decides-like _ (λ e. cc) (λ e. cc) (value_types t u)
+
+lists : (xs ys : List CanonicalOption) → Decides (pointwise option_eq'.it xs ys) (xs ≡ ys)
+lists [] [] = (λ e. refl, λ e. refl)
+lists [] (y ∷ ys) = (λ e. absurd cc, λ e. absurd cc)
+lists (x ∷ xs) [] = (λ e. absurd cc, λ e. absurd cc)
+lists (x ∷ xs) (y ∷ ys) = Decides-like _ (λ e. let here = e.0 in let there = e.1 in cc) (λ e. (cc, cc)) (Decides-and _ _ (choices x y) (lists xs ys))
+
+-- ---- what fields tell
+
+abbrev first : List GivenTree → GivenTree
+first [] = Fixed
+first (g ∷ gs) = g
+
+abbrev second : List GivenTree → GivenTree
+second [] = Fixed
+second (g ∷ gs) = first gs
+
+abbrev third : List GivenTree → GivenTree
+third [] = Fixed
+third (g ∷ gs) = second gs
+
+same_number : (m n : ℕ) → Number m ≡ Number n → m ≡ n
+same_number m n e = cc
+
+same_chosen : (os ps : List CanonicalOption) → Chosen os ≡ Chosen ps → os ≡ ps
+same_chosen os ps e = cc
+
+same_told : (b c : Bool) → Told b ≡ Told c → b ≡ c
+same_told b c e = cc
+
+same_core : (t u : ValType) → Core t ≡ Core u → t ≡ u
+same_core t u e = cc
+
+same_answer : (r s : Option ComponentValType) → Answer r ≡ Answer s → r ≡ s
+same_answer r s e = cc
+
+-- what two equal functions have in common
+common : (f g : Canonical) (gs hs : List GivenTree) → tree_fields_of f ≡ gs → tree_fields_of g ≡ hs → f ≡ g → gs ≡ hs
+common f g gs hs p q e = sym p ∙ ap tree_fields_of e ∙ q
+
+index_row : (c : ℕ → Canonical) → ((n : ℕ) → tree_fields_of (c n) ≡ Number n ∷ []) → (x y : ℕ) → Decides (nat_eq x y) (c x ≡ c y)
+index_row c f x y = Decides-like _ (λ e. ap c e) (λ e. same_number x y (ap first (common (c x) (c y) _ _ (f x) (f y) e))) (unsigned_Decides x y)
+
+-- an index after what is fixed
+memory_row : (c : ℕ → Canonical) → ((n : ℕ) → tree_fields_of (c n) ≡ Fixed ∷ Number n ∷ []) → (x y : ℕ) → Decides (nat_eq x y) (c x ≡ c y)
+memory_row c f x y = Decides-like _ (λ e. ap c e) (λ e. same_number x y (ap second (common (c x) (c y) _ _ (f x) (f y) e))) (unsigned_Decides x y)
+
+flag_row : (c : Bool → Canonical) → ((b : Bool) → tree_fields_of (c b) ≡ Told b ∷ []) → (x y : Bool) → Decides (beq x y) (c x ≡ c y)
+flag_row c f x y = Decides-like _ (λ e. ap c e) (λ e. same_told x y (ap first (common (c x) (c y) _ _ (f x) (f y) e))) (booleans_Decides x y)
+
+options_row : (c : List CanonicalOption → Canonical) → ((os : List CanonicalOption) → tree_fields_of (c os) ≡ Chosen os ∷ [])
+    → (x y : List CanonicalOption) → Decides (pointwise option_eq'.it x y) (c x ≡ c y)
+options_row c f x y = Decides-like _ (λ e. ap c e) (λ e. same_chosen x y (ap first (common (c x) (c y) _ _ (f x) (f y) e))) (lists x y)
+
+-- two fields
+module _ {T U : Type 0} (one : T → GivenTree) (two : U → GivenTree) (same_one : (x y : T) → one x ≡ one y → x ≡ y)
+    (same_two : (x y : U) → two x ≡ two y → x ≡ y)
+    (eq : T → T → Bool) (fq : U → U → Bool) (eqs : (x y : T) → Decides (eq x y) (x ≡ y)) (fqs : (x y : U) → Decides (fq x y) (x ≡ y)) where
+  two_rows : (c : T → U → Canonical) → ((t : T) (u : U) → tree_fields_of (c t u) ≡ one t ∷ two u ∷ []) → (t : T) (u : U) (v : T) (w : U)
+      → Decides (eq t v && fq u w) (c t u ≡ c v w)
+  two_rows c f t u v w =
+      Decides-like _ (λ e. let p = e.0 in let q = e.1 in cc)
+      (λ e. let same = common (c t u) (c v w) _ _ (f t u) (f v w) e in (same_one t v (ap first same), same_two u w (ap second same)))
+      (Decides-and _ _ (eqs t v) (fqs u w))
+
+indices_row : (c : ℕ → ℕ → Canonical) → ((m n : ℕ) → tree_fields_of (c m n) ≡ Number m ∷ Number n ∷ []) → (m n k l : ℕ)
+    → Decides (nat_eq m k && nat_eq n l) (c m n ≡ c k l)
+indices_row = two_rows Number Number same_number same_number nat_eq nat_eq unsigned_Decides unsigned_Decides
+
+index_and_flag_row : (c : ℕ → Bool → Canonical) → ((n : ℕ) (b : Bool) → tree_fields_of (c n b) ≡ Number n ∷ Told b ∷ [])
+    → (n : ℕ) (b : Bool) (k : ℕ) (d : Bool) → Decides (nat_eq n k && beq b d) (c n b ≡ c k d)
+index_and_flag_row = two_rows Number Told same_number same_told nat_eq beq unsigned_Decides booleans_Decides
+
+type_and_index_row : (c : ValType → ℕ → Canonical) → ((t : ValType) (n : ℕ) → tree_fields_of (c t n) ≡ Core t ∷ Number n ∷ [])
+    → (t : ValType) (n : ℕ) (u : ValType) (k : ℕ) → Decides (core_eq'.it t u && nat_eq n k) (c t n ≡ c u k)
+type_and_index_row = two_rows Core Number same_core same_number core_eq'.it nat_eq core_types unsigned_Decides
+
+index_and_options_row : (c : ℕ → List CanonicalOption → Canonical)
+    → ((n : ℕ) (os : List CanonicalOption) → tree_fields_of (c n os) ≡ Number n ∷ Chosen os ∷ [])
+    → (n : ℕ) (os : List CanonicalOption) (k : ℕ) (ps : List CanonicalOption) → Decides (nat_eq n k && pointwise option_eq'.it os ps)
+    (c n os ≡ c k ps)
+index_and_options_row = two_rows Number Chosen same_number same_chosen nat_eq (pointwise option_eq'.it) unsigned_Decides lists
+
+results_and_options_row : (c : Option ComponentValType → List CanonicalOption → Canonical)
+    → ((r : Option ComponentValType) (os : List CanonicalOption) → tree_fields_of (c r os) ≡ Answer r ∷ Chosen os ∷ [])
+    → (r : Option ComponentValType) (os : List CanonicalOption) (s : Option ComponentValType) (ps : List CanonicalOption)
+    → Decides (option_eq value_eq'.it r s && pointwise option_eq'.it os ps) (c r os ≡ c s ps)
+results_and_options_row = two_rows Answer Chosen same_answer same_chosen (option_eq value_eq'.it) (pointwise option_eq'.it) answers lists
+
+lifted_row : (f t : ℕ) (os : List CanonicalOption) (g u : ℕ) (ps : List CanonicalOption)
+    → Decides (nat_eq f g && (nat_eq t u && pointwise option_eq'.it os ps)) (Lift f os t ≡ Lift g ps u)
+lifted_row f t os g u ps =
+    Decides-like _ (λ e. let p = e.0 in let q = e.1.0 in let r = e.1.1 in cc) (λ e. (cc, (cc, cc)))
+    (Decides-and _ _ (unsigned_Decides f g) (Decides-and _ _ (unsigned_Decides t u) (lists os ps)))
+
+-- ---- the whole
+
+-- rows, one after the other
+infixr 10 ◌then◌
+abbrev ◌then◌ : {T : Type 0} {U : T → Type 0} → (x : T) → U x → (y : T) × U y
+x then u = (x, u)
+
+abbrev row_at : (Fs : List Part) {test : Parts Fs → Parts Fs → Bool} {seen : Parts Fs → Canonical} {n : ℕ} (k : ℕ)
+    → ((x : Parts Fs) → opcode_of (seen x) ≡ k) → n ≤ k → ((x y : Parts Fs) → Decides (test x y) (seen x ≡ seen y))
+    → Variant opcode_of Fs test seen n
+row_at Fs k is from tells = record { k = k; is = is; from = from; tells = tells }
+
+module _ (A : RattleType) (al : Ghosts A.Denot) where
+  abbrev Parts_of : List (List Part)
+  Parts_of = (enum A al).parts
+
+  abbrev seen : Choice Parts_of → Canonical
+  seen c = canon_view ((enum A al).make c)
+
+  pub trees : (d e : Dict) (a b : CanonTree A.Denot) → Decides ((eq-value A al d e).it a b) (canon_view a ≡ canon_view b)
+  trees d e a b =
+      let same : Decides ((eq-value A al d e).it a b) (seen ((enum A al).as_values a) ≡ seen ((enum A al).as_values b)) =
+      by_decides opcode_of Parts_of _ seen 0 (
+      row_at _ 0x00 (λ x. refl) (omega arith) (λ x y. lifted_row x.0 x.1.0 x.1.1.0.items y.0 y.1.0 y.1.1.0.items) then
+      row_at _ 0x01 (λ x. refl) (omega arith) (λ x y. index_and_options_row (λ n os. Lower n os) (λ n os. refl) x.0 x.1.0.items y.0 y.1.0.items) then
+      row_at _ 0x02 (λ x. refl) (omega arith) (λ x y. index_row (OfBuiltin canon.ResourceNew) (λ n. refl) x.0 y.0) then
+      row_at _ 0x03 (λ x. refl) (omega arith) (λ x y. index_row (OfBuiltin canon.ResourceDrop) (λ n. refl) x.0 y.0) then
+      row_at _ 0x04 (λ x. refl) (omega arith) (λ x y. index_row (OfBuiltin canon.ResourceRep) (λ n. refl) x.0 y.0) then
+      row_at _ 0x05 (λ x. refl) (omega arith) (λ x y. (λ e. refl, λ e. refl)) then
+      row_at _ 0x06 (λ x. refl) (omega arith) (λ x y. flag_row (OfBuiltin canon.SubtaskCancel) (λ b. refl) x.0 y.0) then
+      row_at _ 0x09 (λ x. refl) (omega arith) (λ x y. results_and_options_row (λ r os. OfBuiltin canon.TaskReturn (r, os))
+      (λ r os. refl) x.0 x.1.0.items y.0 y.1.0.items) then
+      row_at _ 0x0a (λ x. refl) (omega arith) (λ x y. type_and_index_row (λ t n. OfBuiltin canon.ContextGet (t, n)) (λ t n. refl) x.0 x.1.0 y.0 y.1.0) then
+      row_at _ 0x0b (λ x. refl) (omega arith) (λ x y. type_and_index_row (λ t n. OfBuiltin canon.ContextSet (t, n)) (λ t n. refl) x.0 x.1.0 y.0 y.1.0) then
+      row_at _ 0x0c (λ x. refl) (omega arith) (λ x y. (λ e. refl, λ e. refl)) then
+      row_at _ 0x0d (λ x. refl) (omega arith) (λ x y. (λ e. refl, λ e. refl)) then
+      row_at _ 0x0e (λ x. refl) (omega arith) (λ x y. index_row (OfBuiltin canon.StreamNew) (λ n. refl) x.0 y.0) then
+      row_at _ 0x0f (λ x. refl) (omega arith) (λ x y. index_and_options_row (λ n os. OfBuiltin canon.StreamRead (n, os))
+      (λ n os. refl) x.0 x.1.0.items y.0 y.1.0.items) then
+      row_at _ 0x10 (λ x. refl) (omega arith) (λ x y. index_and_options_row (λ n os. OfBuiltin canon.StreamWrite (n, os))
+      (λ n os. refl) x.0 x.1.0.items y.0 y.1.0.items) then
+      row_at _ 0x11 (λ x. refl) (omega arith) (λ x y. index_and_flag_row (λ n b. OfBuiltin canon.StreamCancelRead (n, b))
+      (λ n b. refl) x.0 x.1.0 y.0 y.1.0) then
+      row_at _ 0x12 (λ x. refl) (omega arith) (λ x y. index_and_flag_row (λ n b. OfBuiltin canon.StreamCancelWrite (n, b))
+      (λ n b. refl) x.0 x.1.0 y.0 y.1.0) then
+      row_at _ 0x13 (λ x. refl) (omega arith) (λ x y. index_row (OfBuiltin canon.StreamDropReadable) (λ n. refl) x.0 y.0) then
+      row_at _ 0x14 (λ x. refl) (omega arith) (λ x y. index_row (OfBuiltin canon.StreamDropWritable) (λ n. refl) x.0 y.0) then
+      row_at _ 0x15 (λ x. refl) (omega arith) (λ x y. index_row (OfBuiltin canon.FutureNew) (λ n. refl) x.0 y.0) then
+      row_at _ 0x16 (λ x. refl) (omega arith) (λ x y. index_and_options_row (λ n os. OfBuiltin canon.FutureRead (n, os))
+      (λ n os. refl) x.0 x.1.0.items y.0 y.1.0.items) then
+      row_at _ 0x17 (λ x. refl) (omega arith) (λ x y. index_and_options_row (λ n os. OfBuiltin canon.FutureWrite (n, os))
+      (λ n os. refl) x.0 x.1.0.items y.0 y.1.0.items) then
+      row_at _ 0x18 (λ x. refl) (omega arith) (λ x y. index_and_flag_row (λ n b. OfBuiltin canon.FutureCancelRead (n, b))
+      (λ n b. refl) x.0 x.1.0 y.0 y.1.0) then
+      row_at _ 0x19 (λ x. refl) (omega arith) (λ x y. index_and_flag_row (λ n b. OfBuiltin canon.FutureCancelWrite (n, b))
+      (λ n b. refl) x.0 x.1.0 y.0 y.1.0) then
+      row_at _ 0x1a (λ x. refl) (omega arith) (λ x y. index_row (OfBuiltin canon.FutureDropReadable) (λ n. refl) x.0 y.0) then
+      row_at _ 0x1b (λ x. refl) (omega arith) (λ x y. index_row (OfBuiltin canon.FutureDropWritable) (λ n. refl) x.0 y.0) then
+      row_at _ 0x1c (λ x. refl) (omega arith) (λ x y. options_row (OfBuiltin canon.ErrorContextNew) (λ os. refl) x.0.items y.0.items) then
+      row_at _ 0x1d (λ x. refl) (omega arith) (λ x y. options_row (OfBuiltin canon.ErrorContextDebugMessage) (λ os. refl) x.0.items y.0.items) then
+      row_at _ 0x1e (λ x. refl) (omega arith) (λ x y. (λ e. refl, λ e. refl)) then
+      row_at _ 0x1f (λ x. refl) (omega arith) (λ x y. (λ e. refl, λ e. refl)) then
+      row_at _ 0x20 (λ x. refl) (omega arith) (λ x y. memory_row (λ n. OfBuiltin canon.WaitableSetWait (tt, n)) (λ n. refl) x.0 y.0) then
+      row_at _ 0x21 (λ x. refl) (omega arith) (λ x y. memory_row (λ n. OfBuiltin canon.WaitableSetPoll (tt, n)) (λ n. refl) x.0 y.0) then
+      row_at _ 0x22 (λ x. refl) (omega arith) (λ x y. (λ e. refl, λ e. refl)) then
+      row_at _ 0x23 (λ x. refl) (omega arith) (λ x y. (λ e. refl, λ e. refl)) then
+      row_at _ 0x24 (λ x. refl) (omega arith) (λ x y. (λ e. refl, λ e. refl)) then
+      row_at _ 0x25 (λ x. refl) (omega arith) (λ x y. (λ e. refl, λ e. refl)) then
+      row_at _ 0x26 (λ x. refl) (omega arith) (λ x y. (λ e. refl, λ e. refl)) then
+      row_at _ 0x27 (λ x. refl) (omega arith) (λ x y. indices_row (λ m n. OfBuiltin canon.ThreadNewIndirect (m, n)) (λ m n. refl) x.0 x.1.0 y.0 y.1.0) then
+      row_at _ 0x28 (λ x. refl) (omega arith) (λ x y. (λ e. refl, λ e. refl)) then
+      row_at _ 0x29 (λ x. refl) (omega arith) (λ x y. (λ e. refl, λ e. refl)) then
+      row_at _ 0x2a (λ x. refl) (omega arith) (λ x y. (λ e. refl, λ e. refl)) then
+      row_at _ 0x2b (λ x. refl) (omega arith) (λ x y. (λ e. refl, λ e. refl)) then
+      row_at _ 0x2c (λ x. refl) (omega arith) (λ x y. (λ e. refl, λ e. refl)) then
+      row_at _ 0x2d (λ x. refl) (omega arith) (λ x y. (λ e. refl, λ e. refl)) then
+      row_at _ 0x2e (λ x. refl) (omega arith) (λ x y. index_row (OfBuiltin canon.StreamForward) (λ n. refl) x.0 y.0) then
+      row_at _ 0x2f (λ x. refl) (omega arith) (λ x y. index_row (OfBuiltin canon.FutureForward) (λ n. refl) x.0 y.0) then
+      row_at _ 0x40 (λ x. refl) (omega arith) (λ x y. index_row (OfBuiltin canon.ThreadSpawnRef) (λ n. refl) x.0 y.0) then
+      row_at _ 0x41 (λ x. refl) (omega arith) (λ x y. indices_row (λ m n. OfBuiltin canon.ThreadSpawnIndirect (m, n)) (λ m n. refl) x.0 x.1.0 y.0 y.1.0) then
+      row_at _ 0x42 (λ x. refl) (omega arith) (λ x y. (λ e. refl, λ e. refl)) then
+      tt
+      ) ((enum A al).as_values a) ((enum A al).as_values b) in
+      let P : CanonTree A.Denot → CanonTree A.Denot → Type 0 = λ v w. Decides ((eq-value A al d e).it a b) (canon_view v ≡ canon_view w) in
+      subst (λ (w : CanonTree A.Denot). P a w) ((enum A al).eta b)
+      (subst (λ (v : CanonTree A.Denot). P v ((enum A al).make ((enum A al).as_values b))) ((enum A al).eta a) same)

@@ -1,4 +1,0 @@
-use Rattle.wenc_sections.proofs.counted.lender.CountedLender.append_list.Goals as goal
-
-pub returns : goal.returns
-returns g c = rw (← c.self.view_is) c.append_listed.ensures

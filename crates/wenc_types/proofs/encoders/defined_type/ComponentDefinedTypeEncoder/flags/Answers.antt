@@ -1,0 +1,12 @@
+use Rattle.std.proofs.Common.{◌∷◌, [], map}
+use Rattle.wenc_base.specs.laws.Parents.{whole_for}
+use Rattle.wenc_types.specs.DefinedTypes.{Flags}
+use Rattle.wenc_types.proofs.Serving.{names_serve, ends_listed_for}
+use Rattle.wenc_types.proofs.encoders.defined_type.ComponentDefinedTypeEncoder.flags.Goals as goal
+
+pub returns : goal.returns
+returns g c = ends_listed_for g.L.Parent.appended g.L.Parent.ended g.L.Parent.refuses (names_serve (0x6e ∷ [])) c.end_with_list.ensures
+
+pub end_with_list-requires-clause-whole : goal.end_with_list-requires-clause-whole
+end_with_list-requires-clause-whole g c vs =
+    whole_for g.L.Parent.is_whole g.L.Parent.appended c.args.self.parent.now (names_serve (0x6e ∷ []) vs) (c.args.self.whole (Flags (map (λ n. n.now) vs)))

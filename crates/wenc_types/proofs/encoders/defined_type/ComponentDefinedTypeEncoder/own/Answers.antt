@@ -1,0 +1,5 @@
+use Rattle.wenc_types.specs.DefinedTypes.{Own}
+use Rattle.wenc_types.proofs.encoders.defined_type.ComponentDefinedTypeEncoder.own.Goals as goal
+
+pub end_with-requires-clause-whole : goal.end_with-requires-clause-whole
+end_with-requires-clause-whole g c = c.args.self.whole (Own c.args.index)

@@ -1,0 +1,13 @@
+use Rattle.std.proofs.Common.{◌∷◌, [], map}
+use Rattle.wenc_base.specs.laws.Parents.{whole_for}
+use Rattle.wenc_types.specs.DefinedTypes.{Record, borrowed_labelled_type}
+use Rattle.wenc_types.proofs.Serving.{fields_serve, ends_listed_for}
+use Rattle.wenc_types.proofs.encoders.defined_type.ComponentDefinedTypeEncoder.record.Goals as goal
+
+pub returns : goal.returns
+returns g c = ends_listed_for g.L.Parent.appended g.L.Parent.ended g.L.Parent.refuses (fields_serve (0x72 ∷ [])) c.end_with_list.ensures
+
+pub end_with_list-requires-clause-whole : goal.end_with_list-requires-clause-whole
+end_with_list-requires-clause-whole g c vs =
+    whole_for g.L.Parent.is_whole g.L.Parent.appended c.args.self.parent.now (fields_serve (0x72 ∷ []) vs)
+    (c.args.self.whole (Record (map borrowed_labelled_type vs)))

@@ -1,0 +1,248 @@
+//! Makes one component with the items of two:
+//!
+//! ```sh
+//! cargo run -r --features reader --example merge -- ONE OTHER OUT
+//! ```
+//!
+//! The items of the second follow those of the first, and each index that they contain is changed
+//! to that of the same item in the whole. What both import under one name is imported once, and the
+//! second uses the import of the first: whether their types agree is left to a validator. They
+//! export different names. Debug names are kept, except that of the second component itself.
+
+use wenc::tree::{
+    Command, CoreTypeTree, GroupTree, IndexUse, ItemTree, NameTree, Scope, Space, build,
+};
+use wenc::{ComponentExportKind as Kind, ComponentNameSection, DebugNames, list};
+
+/// The maximum nesting depth of components.
+const LIMIT: usize = 100;
+
+/// The indices in the whole of a component's items, by the number of their space.
+#[derive(Default)]
+struct Moved {
+    /// The first index of each item, and that index in the whole.
+    firsts: [Vec<(u32, u32)>; 13],
+    /// The number of indices that are defined in each space.
+    counts: [u32; 13],
+}
+
+impl Moved {
+    /// Adds the next indices in a space, which begin at `to` in the whole.
+    fn define(&mut self, space: Space, count: u32, to: u32) -> Result<(), String> {
+        let next = &mut self.counts[space.number()];
+        self.firsts[space.number()].push((*next, to));
+        *next = next.checked_add(count).ok_or("too many indices")?;
+        Ok(())
+    }
+
+    /// Returns the index in the whole. A valid component has no index that nothing defines.
+    fn index(&self, space: Space, index: u32) -> u32 {
+        let firsts = &self.firsts[space.number()];
+        let after = firsts.partition_point(|(first, _)| *first <= index);
+        after.checked_sub(1).map_or(index, |at| {
+            let (first, to) = firsts[at];
+            to.saturating_add(index - first)
+        })
+    }
+
+    fn renumber(&self, used: IndexUse<'_>) {
+        if used.scope == Scope::Component(0) {
+            *used.index = self.index(used.space, *used.index);
+        }
+    }
+}
+
+/// Returns the space in which an item defines indices, and their number. Each type of a recursion
+/// group has an index of its own.
+fn defined(item: &ItemTree) -> Option<(Space, u32)> {
+    if let ItemTree::CoreType(ty) = item {
+        if let CoreTypeTree::Group(GroupTree::Rec(types)) = &**ty {
+            return Some((Space::CoreTypes, types.len().try_into().ok()?));
+        }
+    }
+    item.indices()
+}
+
+/// The items merged so far.
+#[derive(Default)]
+struct Merged {
+    commands: Vec<Command>,
+    /// The number of indices that are defined in each space.
+    counts: [u32; 13],
+    imports: Vec<(NameTree, Kind, u32)>,
+    exports: Vec<NameTree>,
+    names: DebugNames,
+}
+
+impl Merged {
+    /// Adds the items of a component.
+    fn add(&mut self, component: &[u8]) -> Result<(), String> {
+        let listing = list(component).map_err(|fault| fault.to_string())?;
+        let names = listing.names();
+        let mut moved = Moved::default();
+        for item in listing.into_items() {
+            self.add_item(item, &mut moved)?;
+        }
+        for (space, index, name) in names.iter() {
+            let index = moved.index(space, index);
+            if self.names.get(space, index).is_none() {
+                self.names.insert(space, index, name);
+            }
+        }
+        if let (None, Some(name)) = (self.names.component(), names.component()) {
+            self.names.set_component(name);
+        }
+        Ok(())
+    }
+
+    fn add_item(&mut self, mut item: ItemTree, moved: &mut Moved) -> Result<(), String> {
+        match &item {
+            // the names of both are written at the end
+            ItemTree::Custom { name, .. } if **name == *DebugNames::SECTION => return Ok(()),
+            ItemTree::Import { name, ty } => {
+                let (kind, space) = (ty.kind(), Space::from(ty.kind()));
+                let mut imports = self.imports.iter();
+                if let Some((.., index)) = imports.find(|of| of.0 == *name && of.1 == kind) {
+                    return moved.define(space, 1, *index);
+                }
+                self.imports.push((name.clone(), kind, self.counts[space.number()]));
+            }
+            ItemTree::Export { name, .. } if self.exports.contains(name) => {
+                return Err(format!("both export {}", &*name.name));
+            }
+            ItemTree::Export { name, .. } => self.exports.push(name.clone()),
+            _ => {}
+        }
+        if let Some((space, count)) = defined(&item) {
+            let next = &mut self.counts[space.number()];
+            moved.define(space, count, *next)?;
+            *next = next.checked_add(count).ok_or("too many indices")?;
+        }
+        item.indices_mut(|used| moved.renumber(used));
+        let nested = item.outer_indices_mut(LIMIT, |used| moved.renumber(used));
+        nested.map_err(|fault| fault.to_string())?;
+        self.commands.push(item.into());
+        Ok(())
+    }
+
+    /// Returns the component of all items.
+    fn finish(mut self) -> Result<Vec<u8>, String> {
+        let names = ComponentNameSection::from(&self.names);
+        if !names.is_empty() {
+            let data = names.as_custom().data.into_owned().into();
+            self.commands.push(Command::Custom { name: DebugNames::SECTION.into(), data });
+        }
+        let built = build(&self.commands).map_err(|error| error.to_string())?;
+        for answer in built.answers {
+            answer.map_err(|error| error.to_string())?;
+        }
+        Ok(built.bytes)
+    }
+}
+
+/// Returns the component with the items of both, or what is wrong with them.
+pub fn merge(one: &[u8], other: &[u8]) -> Result<Vec<u8>, String> {
+    let mut merged = Merged::default();
+    merged.add(one)?;
+    merged.add(other)?;
+    merged.finish()
+}
+
+#[allow(dead_code)]
+fn main() -> Result<(), String> {
+    let arguments: Vec<String> = std::env::args().skip(1).collect();
+    let [one, other, out] = arguments.as_slice() else {
+        return Err("merge ONE OTHER OUT".into());
+    };
+    let read = |path| std::fs::read(path).map_err(|error| format!("{path}: {error}"));
+    let merged = merge(&read(one)?, &read(other)?)?;
+    std::fs::write(out, merged).map_err(|error| format!("{out}: {error}"))
+}
+
+#[cfg(test)]
+mod tests {
+    use super::*;
+
+    /// Returns a component with these sections.
+    fn component(sections: &[&[u8]]) -> Vec<u8> {
+        [&[&b"\0asm\x0d\0\x01\0"[..]], sections].concat().concat()
+    }
+
+    /// A function type, and an import with this name.
+    const F: &[u8] = b"\x07\x05\x01\x40\0\x01\0\x0a\x06\x01\0\x01f\x01\0";
+    const G: &[u8] = b"\x07\x05\x01\x43\0\x01\0\x0a\x06\x01\0\x01g\x01\0";
+    /// Debug names of the component and of its function 0.
+    const NAMED_A: &[u8] = b"\0\x1a\x0ecomponent-name\0\x02\x01a\x01\x05\x01\x01\0\x01x";
+    const NAMED_B: &[u8] = b"\0\x1a\x0ecomponent-name\0\x02\x01b\x01\x05\x01\x01\0\x01y";
+
+    #[test]
+    fn items_follow_one_another() {
+        let one = component(&[NAMED_A, F]);
+        let other = component(&[G, NAMED_B, b"\x0b\x07\x01\0\x01h\x01\0\0"]);
+        let merged = component(&[
+            F,
+            b"\x07\x05\x01\x43\0\x01\0\x0a\x06\x01\0\x01g\x01\x01",
+            b"\x0b\x07\x01\0\x01h\x01\x01\0",
+            b"\0\x1d\x0ecomponent-name\0\x02\x01a\x01\x08\x01\x02\0\x01x\x01\x01y",
+        ]);
+        assert_eq!(merge(&one, &other), Ok(merged));
+    }
+
+    #[test]
+    fn what_both_import_is_imported_once() {
+        let one = component(&[F, b"\x07\x02\x01\x7f\x0a\x06\x01\0\x01g\x01\0"]);
+        // of the imports `i` and `f`, the second is the first of the other component
+        let two = b"\x07\x06\x02\x7f\x40\0\x01\0\x0a\x0b\x02\0\x01i\x01\x01\0\x01f\x01\x01";
+        let lower = |i, f| [&b"\x08\x09\x02\x01\0"[..], &[i], b"\0\x01\0", &[f], b"\0"].concat();
+        let other = component(&[two, &lower(0, 1)]);
+        let expected = component(&[
+            F,
+            b"\x07\x02\x01\x7f\x0a\x06\x01\0\x01g\x01\0",
+            b"\x07\x06\x02\x7f\x40\0\x01\0\x0a\x06\x01\0\x01i\x01\x03",
+            &lower(2, 0),
+        ]);
+        assert_eq!(merge(&one, &other), Ok(expected));
+        // an import of another kind isn't the same
+        let instance = component(&[b"\x07\x03\x01\x42\0\x0a\x06\x01\0\x01f\x05\0"]);
+        let expected = component(&[F, b"\x07\x03\x01\x42\0\x0a\x06\x01\0\x01f\x05\x01"]);
+        assert_eq!(merge(&component(&[F]), &instance), Ok(expected));
+    }
+
+    /// A nested component with an outer alias of a type, and one of a type two components further
+    /// out.
+    #[test]
+    fn nested_components_refer_to_the_same() {
+        let nested = |ty| {
+            let alias = [b"\x06\x09\x02\x03\x02\x01", &[ty][..], b"\x03\x02\x02\x07"].concat();
+            let component = component(&[&alias]);
+            [&[0x04, u8::try_from(component.len()).expect("it is short")], &component[..]].concat()
+        };
+        let other = component(&[G, &nested(0)]);
+        let import = b"\x07\x05\x01\x43\0\x01\0\x0a\x06\x01\0\x01g\x01\x01";
+        let merged = component(&[F, import, &nested(1)]);
+        assert_eq!(merge(&component(&[F]), &other), Ok(merged));
+    }
+
+    /// Each type of a recursion group has an index, and may refer to itself.
+    #[test]
+    fn recursion_groups_have_an_index_for_each_type() {
+        let group = |own| [&b"\x4e\x02\x5e\x64"[..], &[own], b"\0\x5f\0"].concat();
+        let section =
+            |own, of| [&b"\x03\x0d\x02"[..], &group(own), b"\x5e\x64", &[of], b"\0"].concat();
+        let one = component(&[&section(0, 1)]);
+        let both = [&b"\x03\x19\x04"[..], &section(0, 1)[3..], &section(3, 4)[3..]].concat();
+        assert_eq!(merge(&one, &one), Ok(component(&[&both])));
+    }
+
+    #[test]
+    fn what_is_wrong_is_told() {
+        let export = component(&[F, b"\x0b\x07\x01\0\x01h\x01\0\0"]);
+        assert_eq!(merge(&export, &export), Err("both export h".into()));
+        assert_eq!(merge(b"", &export), Err("no component's header at 0x0: found nothing".into()));
+        let start = component(&[b"\x09\x07\0\0\xff\xff\xff\xff\x0f"]);
+        assert_eq!(merge(&start, &start), Err("too many indices".into()));
+        let nested = component(&[b"\x04\x01\0"]);
+        let told = "a nested component isn't read: no component's header at 0x0: found other bytes";
+        assert_eq!(merge(&nested, &start), Err(told.into()));
+    }
+}

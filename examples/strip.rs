@@ -1,0 +1,64 @@
+//! Removes the custom sections of a component, such as debug names and producers:
+//!
+//! ```sh
+//! cargo run -r --features reader --example strip -- COMPONENT OUT
+//! ```
+//!
+//! Nested components lose theirs too; all else stays the same byte for byte. `Sections` reads the
+//! component section by section, and the sections to keep are appended to a `Component`.
+
+use wenc::{Component, ComponentSectionId, ListFault, NestedComponentBytes, Sections};
+
+/// Returns the component without custom sections, or why its sections can't be read.
+pub fn strip(bytes: &[u8]) -> Result<Vec<u8>, ListFault> {
+    let custom = ComponentSectionId::CoreCustom.into();
+    let nested = ComponentSectionId::Component.into();
+    let mut stripped = Component::new();
+    for section in Sections::new(bytes)? {
+        let section = section?;
+        if section.id() == nested {
+            stripped.section(&NestedComponentBytes(&strip(section.raw().data)?));
+        } else if section.id() != custom {
+            stripped.section(&section);
+        }
+    }
+    Ok(stripped.finish())
+}
+
+#[allow(dead_code)]
+fn main() -> Result<(), String> {
+    let arguments: Vec<String> = std::env::args().skip(1).collect();
+    let [component, out] = arguments.as_slice() else {
+        return Err("strip COMPONENT OUT".into());
+    };
+    let bytes = std::fs::read(component).map_err(|error| format!("{component}: {error}"))?;
+    let stripped = strip(&bytes).map_err(|fault| format!("{component}: {fault}"))?;
+    std::fs::write(out, stripped).map_err(|error| format!("{out}: {error}"))
+}
+
+#[cfg(test)]
+mod tests {
+    use super::*;
+
+    #[test]
+    fn custom_sections_are_left_out() {
+        let import = b"\x07\x05\x01\x40\0\x01\0\x0a\x06\x01\0\x01f\x01\0";
+        let nested = b"\x04\x0d\0asm\x0d\0\x01\0\0\x03\x01x\x07";
+        let custom = b"\0\x04\x01y\x08\x09";
+        let bytes = [b"\0asm\x0d\0\x01\0", &custom[..], import, custom, nested, custom].concat();
+        let stripped = [b"\0asm\x0d\0\x01\0", &import[..], b"\x04\x08\0asm\x0d\0\x01\0"].concat();
+        assert_eq!(strip(&bytes), Ok(stripped.clone()));
+        assert_eq!(strip(&stripped), Ok(stripped));
+        assert_eq!(strip(&bytes[..9]), Err(ListFault::BadSection { place: 8 }));
+    }
+
+    #[test]
+    fn what_is_kept_is_kept_as_it_stands() {
+        let header = b"\0asm\x0d\0\x01\0";
+        let module = [b"\x01\xc8\x01", [7; 200].as_slice()].concat();
+        // The size has one byte of padding.
+        let padded = b"\x0a\x86\0\x01\0\x01f\x01\0";
+        let bytes = [header, module.as_slice(), b"\0\x02\x01y", padded].concat();
+        assert_eq!(strip(&bytes), Ok([header, module.as_slice(), padded].concat()));
+    }
+}

@@ -1,0 +1,290 @@
+//! Compares two compilations of the proved programs: `command_fuzz` and `wenc` as compiled by the
+//! kit, and by rustc. Both get the same inputs, which are made from a seed, and have to write the
+//! same bytes to both outputs and end with the same status.
+//!
+//!     both DRIVEN WENC [SEED [NUMBER]]
+//!
+//! Some inputs of `command_fuzz` are stored with the output of upstream's own builder, which both
+//! have to write.
+//!
+//! DRIVEN and WENC are the kit's programs; those of rustc are in this program's folder.
+//! `gate/both/run` makes all of them, and calls this one. There are NUMBER other inputs for
+//! `command_fuzz`, that many scripts for `wenc`, and that many components for `wenc list`. An input
+//! with two different results is kept.
+
+mod answered;
+mod commands;
+mod listings;
+mod random;
+mod scripts;
+
+use random::Random;
+use std::io::{self, ErrorKind, Write};
+use std::path::{Path, PathBuf};
+use std::process::{Command, ExitCode, Output, Stdio};
+use std::sync::Mutex;
+use std::sync::atomic::{AtomicUsize, Ordering};
+use std::{env, fs, thread};
+
+/// The number of differences of a kind that are printed.
+const TOLD: usize = 5;
+
+/// The input of a program.
+struct Input {
+    words: &'static [&'static str],
+    bytes: Vec<u8>,
+    /// The expected output, if another program has written it.
+    wanted: Option<Vec<u8>>,
+}
+
+/// A program in both compilations.
+struct Program {
+    by_kit: PathBuf,
+    by_rustc: PathBuf,
+}
+
+/// Inputs of one kind.
+struct Kind<'a> {
+    name: &'static str,
+    program: &'a Program,
+    /// What `count` counts.
+    counted: &'static [&'static str],
+    input: Box<dyn Fn(usize) -> Input + Sync + 'a>,
+    /// The numbers of accepted and refused inputs, by the output; `None` if a program never ends
+    /// so.
+    count: fn(&Input, &Output) -> Option<Vec<usize>>,
+}
+
+/// How a program ended on an input.
+fn ended(program: &Path, input: &Input) -> io::Result<Output> {
+    let mut child = Command::new(program)
+        .args(input.words)
+        .stdin(Stdio::piped())
+        .stdout(Stdio::piped())
+        .stderr(Stdio::piped())
+        .spawn()?;
+    if let Some(mut stdin) = child.stdin.take() {
+        match stdin.write_all(&input.bytes) {
+            // It may end before it has read everything.
+            Err(error) if error.kind() != ErrorKind::BrokenPipe => return Err(error),
+            _ => {}
+        }
+    }
+    child.wait_with_output()
+}
+
+impl Kind<'_> {
+    /// Returns the results of the programs on an input, with what is counted of them, or their
+    /// difference.
+    fn compare(&self, input: &Input) -> Result<(Output, Vec<usize>), String> {
+        let [kit, rustc] = [&self.program.by_kit, &self.program.by_rustc].map(|program| {
+            ended(program, input).map_err(|error| format!("{}: {error}", program.display()))
+        });
+        let (kit, rustc) = (kit?, rustc?);
+        if kit.status != rustc.status {
+            return Err(format!("the kit's {}, rustc's {}", kit.status, rustc.status));
+        }
+        for (stream, of_kit, of_rustc) in
+            [("output", &kit.stdout, &rustc.stdout), ("error", &kit.stderr, &rustc.stderr)]
+        {
+            if of_kit != of_rustc {
+                let same = of_kit.iter().zip(of_rustc).take_while(|(a, b)| a == b).count();
+                return Err(format!("standard {stream}, from byte {same} on"));
+            }
+        }
+        if input.wanted.as_ref().is_some_and(|wanted| *wanted != kit.stdout) {
+            return Err("standard output, from what is stored".into());
+        }
+        match (self.count)(input, &kit) {
+            Some(counted) => Ok((kit, counted)),
+            None => Err(format!("in nothing, but both end with {}", kit.status)),
+        }
+    }
+
+    /// Returns the results on the inputs, in order, or none if they failed. Prints how they
+    /// compared.
+    fn run(&self, number: usize) -> Option<Vec<Output>> {
+        let mut answers = Vec::new();
+        let mut sums = vec![0; self.counted.len()];
+        let mut differences = 0;
+        for (at, answer) in
+            side_by_side(number, |at| self.compare(&(self.input)(at))).into_iter().enumerate()
+        {
+            match answer {
+                Ok((output, counted)) => {
+                    answers.push(output);
+                    sums.iter_mut().zip(counted).for_each(|(sum, more)| *sum += more);
+                }
+                Err(difference) => {
+                    differences += 1;
+                    if differences <= TOLD {
+                        self.tell(at, &difference);
+                    }
+                }
+            }
+        }
+        let counts: Vec<String> =
+            sums.iter().zip(self.counted).map(|(sum, what)| format!("{sum} {what}")).collect();
+        println!(
+            "{}: {number} inputs, {differences} differences; {}",
+            self.name,
+            counts.join(", ")
+        );
+        let is_idle = sums.contains(&0);
+        if is_idle {
+            println!("{}: where one of these is 0 little is compared", self.name);
+        }
+        (differences == 0 && !is_idle).then_some(answers)
+    }
+
+    /// Prints a difference, and keeps the input.
+    fn tell(&self, at: usize, difference: &str) {
+        let input = (self.input)(at);
+        let kept = self.program.by_rustc.with_file_name(format!("differs-{}-{at}", self.name));
+        println!("{}: input {at} differs: {difference}", self.name);
+        match fs::write(&kept, input.bytes) {
+            Ok(()) => println!("    it is in {}; words {:?}", kept.display(), input.words),
+            Err(error) => println!("    {}: {error}", kept.display()),
+        }
+    }
+}
+
+/// Runs that many jobs on all processors, and returns their results in order.
+fn side_by_side<T: Send>(number: usize, work: impl Fn(usize) -> T + Sync) -> Vec<T> {
+    let next = AtomicUsize::new(0);
+    let done = Mutex::new(Vec::new());
+    let take = || loop {
+        let at = next.fetch_add(1, Ordering::Relaxed);
+        if at >= number {
+            break;
+        }
+        let answer = work(at);
+        done.lock().expect("no thread panics with it").push((at, answer));
+    };
+    thread::scope(|scope| {
+        for _ in 0..thread::available_parallelism().map_or(1, |processors| processors.get()) {
+            scope.spawn(take);
+        }
+    });
+    let mut done = done.into_inner().expect("no thread panics with it");
+    done.sort_by_key(|(at, _)| *at);
+    done.into_iter().map(|(_, answer)| answer).collect()
+}
+
+/// Returns the last line of an output: a component in hexadecimal, if there is one.
+fn component(output: &Output) -> &[u8] {
+    output.stdout.trim_ascii_end().rsplit(|byte| *byte == b'\n').next().unwrap_or_default()
+}
+
+/// Counts how many of the outermost commands of `command_fuzz` were accepted and refused.
+fn commands_of(_: &Input, output: &Output) -> Option<Vec<usize>> {
+    let lines: Vec<&[u8]> = output.stdout.split(|byte| *byte == b'\n').collect();
+    let refused = lines.iter().filter(|line| line.starts_with(b"refused ")).count();
+    // The component is one line, and nothing follows the last line end.
+    let commands = lines.len().checked_sub(2)?;
+    (output.status.code() == Some(0)).then(|| vec![commands - refused, refused])
+}
+
+/// Counts one input by its status, if that is one of these.
+fn by_status(output: &Output, known: [i32; 3]) -> Option<Vec<usize>> {
+    let status = output.status.code()?;
+    known.contains(&status).then(|| known.map(|one| usize::from(one == status)).into())
+}
+
+/// Choice bytes for `command_fuzz`.
+fn of_command_fuzz(program: &Program, seed: u64) -> Kind<'_> {
+    Kind {
+        name: "command_fuzz",
+        program,
+        counted: &["commands accepted", "commands refused"],
+        input: Box::new(move |at| Input {
+            words: &[],
+            bytes: commands::choices(&mut Random::new(seed, 1, at as u64)),
+            wanted: None,
+        }),
+        count: commands_of,
+    }
+}
+
+/// Choice bytes for `command_fuzz` with the output of upstream, all of them.
+fn of_answered(program: &Program) -> bool {
+    let number = answered::inputs().len();
+    let kind = Kind {
+        name: "answered",
+        program,
+        counted: &answered::COUNTED,
+        input: Box::new(|at| answered::inputs().swap_remove(at)),
+        count: answered::count,
+    };
+    kind.run(number).is_some()
+}
+
+/// Scripts for `wenc`.
+fn of_scripts(program: &Program, seed: u64) -> Kind<'_> {
+    Kind {
+        name: "scripts",
+        program,
+        counted: &["accepted", "with a bad line", "with a refused command"],
+        input: Box::new(move |at| Input {
+            words: &[],
+            bytes: scripts::script(&mut Random::new(seed, 2, at as u64)),
+            wanted: None,
+        }),
+        count: |_, output| by_status(output, [0, 1, 2]),
+    }
+}
+
+/// Components for `wenc list`, from what the others wrote.
+fn of_listings<'a>(program: &'a Program, seed: u64, written: &'a [Output]) -> Kind<'a> {
+    Kind {
+        name: "listings",
+        program,
+        counted: &["listed", "refused as no component", "refused as no digits or for other words"],
+        input: Box::new(move |at| {
+            let mut random = Random::new(seed, 3, at as u64);
+            let digits = component(&written[random.below(written.len())]);
+            let words = listings::words(&mut random);
+            Input { words, bytes: listings::listing(&mut random, digits), wanted: None }
+        }),
+        count: |_, output| by_status(output, [0, 3, 1]),
+    }
+}
+
+/// Compares everything, and returns how many kinds passed and failed.
+fn compare_all(command_fuzz: &Program, wenc: &Program, seed: u64, number: usize) -> (usize, usize) {
+    let answers =
+        [of_command_fuzz(command_fuzz, seed).run(number), of_scripts(wenc, seed).run(number)];
+    let mut passed = answers.iter().flatten().count() + usize::from(of_answered(command_fuzz));
+    let written: Vec<Output> = answers.into_iter().flatten().flatten().collect();
+    if !written.is_empty() {
+        passed += usize::from(of_listings(wenc, seed, &written).run(number).is_some());
+    }
+    (passed, 4 - passed)
+}
+
+fn main() -> ExitCode {
+    let words: Vec<String> = env::args().skip(1).collect();
+    let number_at =
+        |at: usize, default: u64| words.get(at).map_or(Some(default), |it| it.parse().ok());
+    let own = env::current_exe().ok();
+    // Examples are in a folder below that of the programs.
+    let examples = own.as_deref().and_then(Path::parent);
+    let (Some(command_fuzz), Some(wenc), Some(seed), Some(number), Some(examples), Some(programs)) = (
+        words.first(),
+        words.get(1),
+        number_at(2, 1),
+        number_at(3, 1_000),
+        examples,
+        examples.and_then(Path::parent),
+    ) else {
+        eprintln!("both DRIVEN WENC [SEED [NUMBER]]");
+        return ExitCode::FAILURE;
+    };
+    let command_fuzz =
+        Program { by_kit: command_fuzz.into(), by_rustc: examples.join("command_fuzz") };
+    let wenc = Program { by_kit: wenc.into(), by_rustc: programs.join("wenc") };
+    println!("seed {seed}");
+    let (passed, failed) = compare_all(&command_fuzz, &wenc, seed, number as usize);
+    println!("{passed} passed, {failed} failed");
+    ExitCode::from(u8::from(failed > 0))
+}

@@ -1,0 +1,33 @@
+//! Colours on a terminal.
+
+use std::ffi::OsStr;
+
+/// A kind of text, by its colour.
+#[derive(Clone, Copy, PartialEq, Eq)]
+pub enum Hue {
+    /// A byte offset, or a range of them.
+    Place,
+    /// An index of an item.
+    Index,
+    /// A name.
+    Name,
+    /// Other text, which has no colour.
+    Plain,
+}
+
+impl Hue {
+    /// Returns the number of the colour.
+    pub fn colour(self) -> Option<u8> {
+        match self {
+            Self::Place => Some(2),
+            Self::Index => Some(36),
+            Self::Name => Some(32),
+            Self::Plain => None,
+        }
+    }
+}
+
+/// Returns whether standard output is coloured, given the variables `NO_COLOR` and `TERM`.
+pub fn are_wanted(is_terminal: bool, no_color: Option<&OsStr>, term: Option<&OsStr>) -> bool {
+    is_terminal && no_color.is_none_or(OsStr::is_empty) && term.is_none_or(|term| term != "dumb")
+}

@@ -1,0 +1,152 @@
+//! Parts of a file that can't be read.
+
+use std::fmt::{self, Display};
+use std::io;
+use wenc::{ListFault, ModuleFault, Unread};
+
+/// The exit status if memory ran out.
+pub const NO_MEMORY: u8 = 3;
+
+/// A part of a file that can't be read.
+#[derive(Debug)]
+pub enum Fault {
+    /// The file, which can't be opened or read.
+    Input(io::Error),
+    /// The part for which an allocation failed, and all that follows.
+    NoMemory,
+    /// A section, an item or a nested component, in a component.
+    List(ListFault),
+    /// A core module at this byte offset, or a section or an item of it.
+    Module(usize, ModuleFault),
+    /// A section at this byte offset with this id, which is unknown.
+    UnknownSection(usize, u8),
+    /// A custom section without a name, at this byte offset.
+    NoName(usize),
+    /// The component at this byte offset, which is nested in that many others.
+    TooDeep(usize, usize),
+    /// Debug names, from this byte offset on.
+    Names(usize),
+}
+
+impl Fault {
+    /// Converts the error of opening or reading a file.
+    pub fn of_input(error: io::Error) -> Self {
+        if error.kind() == io::ErrorKind::OutOfMemory { Self::NoMemory } else { Self::Input(error) }
+    }
+
+    /// Returns the byte offset of the part.
+    pub fn place(&self) -> Option<usize> {
+        match *self {
+            Self::List(
+                ListFault::BadItem { unread: Some(unread), .. }
+                | ListFault::TooDeep { unread: Some(unread), .. },
+            ) => Some(place_of(unread)),
+            Self::List(
+                ListFault::NotAComponent { place, .. }
+                | ListFault::BadSection { place }
+                | ListFault::BadItem { place, .. }
+                | ListFault::TooDeep { place, .. },
+            ) => Some(place),
+            Self::Module(at, ModuleFault::NotAModule { .. }) => Some(at),
+            Self::Module(at, ModuleFault::BadSection { place }) => Some(at + place),
+            Self::Module(at, ModuleFault::BadItem { unread }) => Some(at + place_of(unread)),
+            Self::UnknownSection(place, _)
+            | Self::NoName(place)
+            | Self::TooDeep(place, _)
+            | Self::Names(place) => Some(place),
+            _ => None,
+        }
+    }
+
+    /// Returns the words for the part in text, where they follow its byte offset.
+    pub fn words(&self) -> &'static str {
+        match self {
+            Self::List(ListFault::BadItem { unread: Some(unread), .. })
+            | Self::Module(_, ModuleFault::BadItem { unread }) => match unread {
+                Unread::Count { .. } => "no count",
+                Unread::Item { .. } => "items that aren't read",
+                Unread::Behind { .. } => "bytes behind the last item",
+            },
+            Self::List(ListFault::NotAComponent { .. }) => "no component's header",
+            Self::List(ListFault::BadSection { .. }) => "no section",
+            Self::Module(_, ModuleFault::NotAModule { .. }) => "no core module's header",
+            Self::Module(_, ModuleFault::BadSection { .. }) => "no core section",
+            Self::UnknownSection(..) => "unknown section",
+            Self::NoName(_) => "no name",
+            Self::TooDeep(..) => "too deep component",
+            Self::Names(_) => "names that aren't read",
+            _ => "items that aren't read",
+        }
+    }
+
+    /// Returns whether all items before the part were read, and none is left.
+    pub fn is_behind_items(&self) -> bool {
+        let behind = |unread| matches!(unread, Unread::Behind { .. });
+        match *self {
+            Self::List(ListFault::BadItem { unread, .. }) => unread.is_some_and(behind),
+            Self::Module(_, ModuleFault::BadItem { unread }) => behind(unread),
+            _ => false,
+        }
+    }
+
+    /// Returns the exit status of the program.
+    pub fn status(&self) -> u8 {
+        if matches!(self, Self::NoMemory) { NO_MEMORY } else { 1 }
+    }
+}
+
+/// Returns the byte offset of a part that can't be read.
+fn place_of(unread: Unread) -> usize {
+    match unread {
+        Unread::Count { place } | Unread::Item { place, .. } | Unread::Behind { place } => place,
+    }
+}
+
+/// Returns the part with `by` bytes added to its byte offset.
+fn moved(unread: Unread, by: usize) -> Unread {
+    match unread {
+        Unread::Count { place } => Unread::Count { place: place + by },
+        Unread::Item { number, place } => Unread::Item { number, place: place + by },
+        Unread::Behind { place } => Unread::Behind { place: place + by },
+    }
+}
+
+impl Display for Fault {
+    fn fmt(&self, f: &mut fmt::Formatter<'_>) -> fmt::Result {
+        match *self {
+            Self::Input(ref error) => error.fmt(f),
+            Self::NoMemory => f.write_str("memory ran out"),
+            Self::List(fault) => fault.fmt(f),
+            Self::Module(at, ModuleFault::NotAModule { found }) => {
+                write!(f, "no core module's header at {at:#x}: found {found}")
+            }
+            Self::Module(at, ModuleFault::BadSection { place }) => {
+                ModuleFault::BadSection { place: at + place }.fmt(f)
+            }
+            Self::Module(at, ModuleFault::BadItem { unread }) => {
+                ModuleFault::BadItem { unread: moved(unread, at) }.fmt(f)
+            }
+            Self::Module(_, fault) => fault.fmt(f),
+            Self::UnknownSection(place, id) => write!(f, "unknown section {id} at {place:#x}"),
+            Self::NoName(place) => write!(f, "custom section without a name at {place:#x}"),
+            Self::TooDeep(place, depth) => {
+                write!(f, "components more than {depth} deep at {place:#x}")
+            }
+            Self::Names(place) => write!(f, "bad debug names at {place:#x}"),
+        }
+    }
+}
+
+/// Why printing a file ended early.
+pub enum Failure {
+    /// An allocation failed.
+    NoMemory,
+    /// The output couldn't be written.
+    Write(io::Error),
+}
+
+impl From<io::Error> for Failure {
+    fn from(error: io::Error) -> Self {
+        Self::Write(error)
+    }
+}

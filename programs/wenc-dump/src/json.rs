@@ -1,0 +1,323 @@
+//! A report as JSON: a line for each file.
+
+use super::fault::Fault;
+use super::report::{Content, Label, Part, Report};
+use super::walk::DEPTH;
+use super::words;
+use std::ffi::OsStr;
+use std::fmt::{self, Display, Write as _};
+use std::io::{self, Write};
+use std::ops::Range;
+use std::path::Path;
+use wenc::tree::{Child, Node};
+
+/// The maximum number of open parts: the file, a section and an item for each component that is
+/// nested in it and for a module, and a section and an item of that module.
+const PARTS: usize = 1 + 2 * (DEPTH + 1) + 2;
+
+/// JSON, as the manual page of `wenc-dump` describes it.
+pub struct Json<'o, W> {
+    out: &'o mut W,
+    has_bytes: bool,
+    /// The open parts.
+    open: Vec<Open>,
+    /// Whether the open list is still empty.
+    is_first: bool,
+}
+
+/// The text that closes a part.
+struct Open {
+    /// The text before the byte offset from which on nothing is read.
+    list: &'static str,
+    /// That byte offset.
+    unread: Option<usize>,
+    /// Whether the part has a field for it even if all is read.
+    has_unread: bool,
+    /// The text after it.
+    object: &'static str,
+}
+
+/// Text within quotes.
+struct Letters<'o, W> {
+    out: &'o mut W,
+    /// The result of the writes.
+    written: io::Result<()>,
+}
+
+/// Returns whether a letter is escaped: if JSON requires it, and if the letter is invisible, or
+/// breaks a line or changes its direction.
+fn is_escaped(letter: char) -> bool {
+    matches!(letter, '"' | '\\')
+        || letter.is_control()
+        || matches!(letter, '\u{61c}' | '\u{200e}' | '\u{200f}')
+        || matches!(letter, '\u{2028}'..='\u{202e}' | '\u{2066}'..='\u{2069}')
+}
+
+impl<W: Write> Letters<'_, W> {
+    fn put(&mut self, mut text: &str) -> io::Result<()> {
+        while let Some((at, letter)) = text.char_indices().find(|(_, letter)| is_escaped(*letter)) {
+            self.out.write_all(&text.as_bytes()[..at])?;
+            match letter {
+                '"' | '\\' => write!(self.out, "\\{letter}")?,
+                _ => write!(self.out, "\\u{:04x}", u32::from(letter))?,
+            }
+            text = &text[at + letter.len_utf8()..];
+        }
+        self.out.write_all(text.as_bytes())
+    }
+}
+
+impl<W: Write> fmt::Write for Letters<'_, W> {
+    fn write_str(&mut self, text: &str) -> fmt::Result {
+        self.written = self.put(text);
+        self.written.as_ref().map_err(|_| fmt::Error).copied()
+    }
+}
+
+impl<'o, W: Write> Json<'o, W> {
+    /// Creates a writer of JSON, with or without the bytes of items.
+    pub fn new(out: &'o mut W, has_bytes: bool) -> Self {
+        Self { out, has_bytes, open: Vec::with_capacity(PARTS), is_first: true }
+    }
+
+    fn put(&mut self, text: &str) -> io::Result<()> {
+        self.out.write_all(text.as_bytes())
+    }
+
+    /// Writes a string in quotes.
+    fn text(&mut self, text: impl Display) -> io::Result<()> {
+        self.put("\"")?;
+        let mut letters = Letters { out: self.out, written: Ok(()) };
+        // an error is kept in `written`
+        let _ = write!(letters, "{text}");
+        letters.written?;
+        self.put("\"")
+    }
+
+    fn text_or_null(&mut self, text: Option<&str>) -> io::Result<()> {
+        match text {
+            Some(text) => self.text(text),
+            None => self.put("null"),
+        }
+    }
+
+    fn number_or_null(&mut self, number: Option<impl Display>) -> io::Result<()> {
+        match number {
+            Some(number) => write!(self.out, "{number}"),
+            None => self.put("null"),
+        }
+    }
+
+    /// Writes the beginning of an object with this range.
+    fn range(&mut self, range: &Range<usize>) -> io::Result<()> {
+        write!(self.out, "{{\"start\":{},\"end\":{}", range.start, range.end)
+    }
+
+    /// Writes the beginning of a list's member with this range.
+    fn member(&mut self, range: &Range<usize>) -> io::Result<()> {
+        if !self.is_first {
+            self.put(",")?;
+        }
+        self.range(range)
+    }
+
+    /// Writes the id of a section, and its word.
+    fn kind(&mut self, id: u8, word: Option<&str>) -> io::Result<()> {
+        write!(self.out, ",\"id\":{id},\"kind\":")?;
+        self.text_or_null(word)
+    }
+
+    fn label(&mut self, label: Option<&Label>) -> io::Result<()> {
+        let Some(Label { space, from, count, name }) = label else {
+            return self.put(",\"space\":null,\"index\":null,\"count\":0,\"name\":null");
+        };
+        write!(self.out, ",\"space\":\"{}\",\"index\":", words::space(*space))?;
+        self.number_or_null(*from)?;
+        write!(self.out, ",\"count\":{count},\"name\":")?;
+        self.text_or_null(*name)
+    }
+
+    /// Writes the bytes in hexadecimal, if they are wanted and there are any.
+    fn bytes(&mut self, bytes: &[u8]) -> io::Result<()> {
+        if !self.has_bytes || bytes.is_empty() {
+            return Ok(());
+        }
+        self.put(",\"hex\":\"")?;
+        for byte in bytes {
+            write!(self.out, "{byte:02x}")?;
+        }
+        self.put("\"")
+    }
+
+    /// Writes what a file or an item is. Returns what closes it.
+    fn content(&mut self, range: &Range<usize>, content: &Content) -> io::Result<Open> {
+        match content {
+            Content::Component(name) => {
+                self.range(range)?;
+                self.put(",\"name\":")?;
+                self.text_or_null(*name)?;
+                self.put(",\"sections\":[")?;
+                Ok(Open { list: "]", unread: None, has_unread: false, object: "}" })
+            }
+            Content::Module => {
+                self.range(range)?;
+                self.put(",\"sections\":[")?;
+                Ok(Open { list: "]", unread: None, has_unread: true, object: "}" })
+            }
+            Content::Custom(name, size) => {
+                self.put("{\"name\":")?;
+                self.text(name)?;
+                write!(self.out, ",\"size\":{size}")?;
+                Ok(Open { list: "", unread: None, has_unread: true, object: "}" })
+            }
+            Content::Node(node, _) => {
+                self.node(node)?;
+                Ok(Open { list: "", unread: None, has_unread: false, object: "" })
+            }
+        }
+    }
+
+    fn node(&mut self, node: &Node) -> io::Result<()> {
+        match node {
+            // the bytes of items aren't printed here
+            Node::Absent | Node::Bytes(_) => self.put("null"),
+            Node::Present(part) => self.child(*part),
+            Node::Number(number) => write!(self.out, "{number}"),
+            Node::Flag(flag) => write!(self.out, "{flag}"),
+            Node::Text(text) => self.text(text),
+            Node::Word(word) => self.text(word),
+            Node::Index { index, .. } => write!(self.out, "{index}"),
+            Node::List(list) => self.list(list.iter()),
+            Node::Tuple(values) => self.list(values.iter().map(|(_, value)| value)),
+            Node::Record(_, fields) => self.fields(fields.iter()),
+            Node::Variant(name, part) => self.fields([(*name, *part)]),
+            Node::Struct(name, fields) => {
+                write!(self.out, "{{\"{name}\":")?;
+                self.fields(fields.iter())?;
+                self.put("}")
+            }
+        }
+    }
+
+    /// Writes a part, in a stack frame of its own: nodes are large, and this recurses by their
+    /// depth.
+    #[inline(never)]
+    fn child(&mut self, child: Child) -> io::Result<()> {
+        self.node(&child.node())
+    }
+
+    fn list<'a>(&mut self, values: impl Iterator<Item = Child<'a>>) -> io::Result<()> {
+        self.put("[")?;
+        for (at, value) in values.enumerate() {
+            self.put(if at == 0 { "" } else { "," })?;
+            self.child(value)?;
+        }
+        self.put("]")
+    }
+
+    fn fields<'a>(
+        &mut self,
+        fields: impl IntoIterator<Item = (&'static str, Child<'a>)>,
+    ) -> io::Result<()> {
+        self.put("{")?;
+        for (at, (key, part)) in fields.into_iter().enumerate() {
+            write!(self.out, "{}\"{key}\":", if at == 0 { "" } else { "," })?;
+            self.child(part)?;
+        }
+        self.put("}")
+    }
+
+    /// Writes a part up to its contents. Returns what closes it.
+    fn front(&mut self, part: &Part) -> io::Result<Open> {
+        match part {
+            Part::File(range, content) => {
+                let is_module = matches!(content, Content::Module);
+                self.put(if is_module { ",\"module\":" } else { ",\"component\":" })?;
+                self.content(range, content)
+            }
+            Part::Section { range, id, count } => {
+                self.member(range)?;
+                self.kind(*id, words::section(*id))?;
+                self.put(",\"count\":")?;
+                self.number_or_null(*count)?;
+                self.put(",\"items\":[")?;
+                Ok(Open { list: "]", unread: None, has_unread: false, object: "}" })
+            }
+            Part::CoreSection { range, id, name, count, bytes } => {
+                self.member(range)?;
+                self.kind(*id, words::core_section(*id))?;
+                self.put(",\"name\":")?;
+                self.text_or_null(*name)?;
+                self.put(",\"count\":")?;
+                self.number_or_null(*count)?;
+                self.bytes(bytes)?;
+                self.put(",\"items\":[")?;
+                Ok(Open { list: "]", unread: None, has_unread: true, object: "}" })
+            }
+            Part::Item { range, label, content, bytes } => {
+                self.member(range)?;
+                self.label(label.as_ref())?;
+                self.bytes(bytes)?;
+                self.put(",\"item\":")?;
+                let open = self.content(range, content)?;
+                Ok(Open { object: if open.object.is_empty() { "}" } else { "}}" }, ..open })
+            }
+        }
+    }
+}
+
+impl<W: Write> Report for Json<'_, W> {
+    fn begin(&mut self, file: &OsStr) -> io::Result<()> {
+        self.put("{\"file\":")?;
+        self.text(Path::new(file).display())
+    }
+
+    fn open(&mut self, part: &Part) -> io::Result<()> {
+        let open = self.front(part)?;
+        self.open.push(open);
+        self.is_first = true;
+        Ok(())
+    }
+
+    fn unread(&mut self, place: usize, _: &str) -> io::Result<()> {
+        if let Some(open) = self.open.last_mut() {
+            open.unread = Some(place);
+        }
+        Ok(())
+    }
+
+    fn flush(&mut self) -> io::Result<()> {
+        self.out.flush()
+    }
+
+    fn close(&mut self) -> io::Result<()> {
+        let Some(Open { list, unread, has_unread, object }) = self.open.pop() else {
+            return Ok(());
+        };
+        self.put(list)?;
+        if has_unread || unread.is_some() {
+            self.put(",\"unread\":")?;
+            self.number_or_null(unread)?;
+        }
+        self.is_first = false;
+        self.put(object)
+    }
+
+    fn end(&mut self, fault: Option<&Fault>) -> io::Result<()> {
+        while !self.open.is_empty() {
+            self.close()?;
+        }
+        self.put(",\"fault\":")?;
+        match fault {
+            None => self.put("null")?,
+            Some(fault) => {
+                self.put("{\"place\":")?;
+                self.number_or_null(fault.place())?;
+                self.put(",\"message\":")?;
+                self.text(fault)?;
+                self.put("}")?;
+            }
+        }
+        self.put("}\n")
+    }
+}

@@ -1,0 +1,21 @@
+//! The program `wenc-dump`, which prints what components and core modules contain. All bytes are
+//! read by proved calls.
+#![forbid(unsafe_code)]
+
+mod arguments;
+mod colours;
+mod escape;
+mod fault;
+mod fold;
+mod json;
+mod modules;
+mod phrase;
+mod report;
+mod run;
+mod text;
+mod walk;
+mod words;
+
+pub use colours::are_wanted as colours_are_wanted;
+pub use fault::NO_MEMORY;
+pub use run::{Streams, run};

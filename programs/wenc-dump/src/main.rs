@@ -1,0 +1,47 @@
+//! The program `wenc-dump`, which prints what components and core modules contain.
+
+use std::env;
+use std::hint::black_box;
+use std::io::{self, BufWriter, IsTerminal};
+use std::process::ExitCode;
+use wenc_dump::{NO_MEMORY, Streams, colours_are_wanted, run};
+
+/// The bytes of stack for nested components and types, with room to spare.
+const STACK: usize = 0xc_0000;
+
+/// The other bytes of memory that the program takes before it reads a file.
+const START: usize = 0x4_0000;
+
+/// Grows the stack to its size, if there is memory for it. Otherwise, a file could take that
+/// memory, and a stack that can't grow aborts the program.
+fn has_stack() -> bool {
+    let mut room = Vec::<u8>::new();
+    let is_there = room.try_reserve_exact(STACK + START).is_ok();
+    // keeps the compiler from removing the request
+    drop(black_box(room));
+    if is_there {
+        grow();
+    }
+    is_there
+}
+
+#[inline(never)]
+fn grow() {
+    black_box([0_u8; STACK]);
+}
+
+fn main() -> ExitCode {
+    if !has_stack() {
+        eprintln!("wenc-dump: memory ran out");
+        return NO_MEMORY.into();
+    }
+    let out = io::stdout();
+    let (no_color, term) = (env::var_os("NO_COLOR"), env::var_os("TERM"));
+    let has_colours = colours_are_wanted(out.is_terminal(), no_color.as_deref(), term.as_deref());
+    let mut streams = Streams {
+        input: &mut io::stdin(),
+        out: &mut BufWriter::new(out.lock()),
+        err: &mut BufWriter::new(io::stderr()),
+    };
+    ExitCode::from(run(env::args_os(), has_colours, &mut streams))
+}

@@ -1,0 +1,123 @@
+//! Walks through a core module, part by part.
+
+use super::fault::{Failure, Fault};
+use super::phrase;
+use super::report::{Content, Part, Report};
+use super::walk::{Indices, Walk};
+use std::ops::Range;
+use wenc::tree::{CoreEntityType, Space};
+use wenc::{CoreItem, CoreSection, CoreSections, ModuleFault, RawSection, SectionId};
+
+/// Returns the space in which an item has an index, if any.
+fn space(item: &CoreItem) -> Option<Space> {
+    let CoreItem::Import { ty, .. } = item else { return None };
+    Some(match ty {
+        CoreEntityType::Function(_) => Space::CoreFuncs,
+        CoreEntityType::Table(_) => Space::CoreTables,
+        CoreEntityType::Memory(_) => Space::CoreMemories,
+        CoreEntityType::Global(_) => Space::CoreGlobals,
+        CoreEntityType::Tag(_) => Space::CoreTags,
+    })
+}
+
+impl<R: Report> Walk<'_, '_, R> {
+    /// Reports the sections of a core module, which begins at this byte offset in a component.
+    pub(super) fn module(&mut self, at: usize, bytes: &[u8]) -> Result<(), Failure> {
+        match CoreSections::new(bytes) {
+            Ok(sections) => self.core_sections(at, sections),
+            Err(fault) => Ok(self.unread(Fault::Module(at, fault))?),
+        }
+    }
+
+    /// Reports the sections of a core module, which begins at this byte offset, up to the first
+    /// without a size within bounds.
+    pub(super) fn core_sections(
+        &mut self,
+        at: usize,
+        mut sections: CoreSections,
+    ) -> Result<(), Failure> {
+        let mut next = Indices::default();
+        let mut here = sections.clone();
+        while let Some(section) = sections.next() {
+            let frame = here.next_raw();
+            match (section, frame) {
+                (Ok(section), _) => self.core_section(at, &section, &mut next)?,
+                (Err(ModuleFault::NoMemory), _) => return Err(Failure::NoMemory),
+                (Err(_), Some((range, raw))) => {
+                    self.without_name(at, range, raw)?;
+                    sections = here.clone();
+                }
+                (Err(fault), None) => self.unread(Fault::Module(at, fault))?,
+            }
+        }
+        Ok(())
+    }
+
+    /// Reports a custom section without a name.
+    fn without_name(
+        &mut self,
+        at: usize,
+        range: Range<usize>,
+        RawSection { id, data }: RawSection,
+    ) -> Result<(), Failure> {
+        let range = at + range.start..at + range.end;
+        let place = range.start;
+        self.report.open(&Part::CoreSection { range, id, name: None, count: None, bytes: data })?;
+        self.unread(Fault::NoName(place))?;
+        Ok(self.report.close()?)
+    }
+
+    fn core_section(
+        &mut self,
+        at: usize,
+        section: &CoreSection,
+        next: &mut Indices,
+    ) -> Result<(), Failure> {
+        let are_shown = matches!(
+            section.kind(),
+            Some(SectionId::Import | SectionId::Export | SectionId::Start)
+        );
+        let range = at + section.range.start..at + section.range.end;
+        self.report.open(&Part::CoreSection {
+            range: range.clone(),
+            id: section.id,
+            name: section.name.as_deref(),
+            count: section.count(),
+            bytes: if are_shown { &[] } else { section.data },
+        })?;
+        if section.kind().is_none() {
+            self.unread(Fault::UnknownSection(range.start, section.id))?;
+        }
+        for item in section.items() {
+            match item {
+                Ok((range, item)) => self.core_item(at, section, range, &item, next)?,
+                Err(ModuleFault::NoMemory) => return Err(Failure::NoMemory),
+                Err(fault) => {
+                    let fault = Fault::Module(at, fault);
+                    next.note(&fault);
+                    self.unread(fault)?;
+                }
+            }
+        }
+        Ok(self.report.close()?)
+    }
+
+    /// Reports an item of a section of the core module that begins at this byte offset.
+    fn core_item(
+        &mut self,
+        at: usize,
+        section: &CoreSection,
+        range: Range<usize>,
+        item: &CoreItem,
+        next: &mut Indices,
+    ) -> Result<(), Failure> {
+        let data_start = section.range.end - section.data.len();
+        self.report.open(&Part::Item {
+            range: at + range.start..at + range.end,
+            label: space(item).map(|space| next.take(space, 1, None)),
+            content: Content::Node(&phrase::of_item(item.node()), &[]),
+            bytes: &section.data[range.start - data_start..range.end - data_start],
+        })?;
+        Ok(self.report.close()?)
+    }
+}

@@ -1,0 +1,93 @@
+//! Reports of a file: parts that contain others, each opened and closed.
+
+use super::fault::Fault;
+use super::fold::Names;
+use std::ffi::OsStr;
+use std::io;
+use std::ops::Range;
+use wenc::tree::{Node, Space};
+
+/// A format of reports.
+pub trait Report {
+    /// Begins a file with this name.
+    fn begin(&mut self, file: &OsStr) -> io::Result<()>;
+
+    /// Opens a part, within the innermost open part.
+    fn open(&mut self, part: &Part) -> io::Result<()>;
+
+    /// Notes that nothing is read from this byte offset to the end of the innermost open part, and
+    /// what can't be read there.
+    fn unread(&mut self, place: usize, what: &str) -> io::Result<()>;
+
+    /// Writes everything that was reported so far.
+    fn flush(&mut self) -> io::Result<()>;
+
+    /// Closes the innermost open part.
+    fn close(&mut self) -> io::Result<()>;
+
+    /// Ends the file with its first fault, if any, and closes all open parts.
+    fn end(&mut self, fault: Option<&Fault>) -> io::Result<()>;
+}
+
+/// A part of a file. Byte offsets are those of the file.
+pub enum Part<'a> {
+    /// The component or the core module that the file is.
+    File(Range<usize>, Content<'a>),
+    /// A section of a component.
+    Section {
+        /// Its bytes, from its id on.
+        range: Range<usize>,
+        /// Its id.
+        id: u8,
+        /// The number of its items; `None` if that can't be read.
+        count: Option<u32>,
+    },
+    /// A section of a core module.
+    CoreSection {
+        /// Its bytes, from its id on.
+        range: Range<usize>,
+        /// Its id.
+        id: u8,
+        /// The name of a custom section.
+        name: Option<&'a str>,
+        /// The number of its items, if it is a section of items.
+        count: Option<u32>,
+        /// Its content; empty if its items are reported.
+        bytes: &'a [u8],
+    },
+    /// An item of a section.
+    Item {
+        /// Its byte offsets.
+        range: Range<usize>,
+        /// Its indices; `None` if items of its kind have none.
+        label: Option<Label<'a>>,
+        /// What it is.
+        content: Content<'a>,
+        /// Its bytes; empty if parts of it are reported.
+        bytes: &'a [u8],
+    },
+}
+
+/// The indices of an item.
+pub struct Label<'a> {
+    /// Their space.
+    pub space: Space,
+    /// The first of them; `None` if an item before it can't be read.
+    pub from: Option<u128>,
+    /// The number of indices.
+    pub count: u32,
+    /// The debug name of the first.
+    pub name: Option<&'a str>,
+}
+
+/// What a file or an item is.
+pub enum Content<'a> {
+    /// A component, with its own debug name, whose sections are reported.
+    Component(Option<&'a str>),
+    /// A core module, whose sections are reported.
+    Module,
+    /// A custom section with this name, and the number of bytes after it.
+    Custom(&'a str, usize),
+    /// Another item, with the debug names that its indices may have.
+    Node(&'a Node<'a>, Names<'a>),
+}

@@ -1,0 +1,121 @@
+//! Runs the program.
+
+use super::arguments::{HELP, Options, Request, USAGE, request};
+use super::escape::Escaped;
+use super::fault::{Failure, Fault};
+use super::json::Json;
+use super::report::Report;
+use super::text::Text;
+use super::walk::walk;
+use std::ffi::{OsStr, OsString};
+use std::io::{self, Read, Write};
+use std::{fmt, fs};
+
+/// The streams that the program reads and writes.
+pub struct Streams<'s, I, O, E> {
+    /// Standard input.
+    pub input: &'s mut I,
+    /// Standard output.
+    pub out: &'s mut O,
+    /// Standard error.
+    pub err: &'s mut E,
+}
+
+/// Runs `wenc-dump` with these arguments, of which the first is the program's name, and returns the
+/// exit status: 0 if all was read and printed, 1 if a part of a file can't be read or a write
+/// failed, 2 if the arguments are bad, 3 if memory ran out. It is no failure if the reader of the
+/// output closes it.
+pub fn run(
+    arguments_with_name: impl Iterator<Item = OsString>,
+    has_colours: bool,
+    streams: &mut Streams<'_, impl Read, impl Write, impl Write>,
+) -> u8 {
+    let mut status = 0;
+    let done = match request(arguments_with_name.skip(1)) {
+        Ok(Request::Help) => print(streams.out, &format!("{USAGE}{HELP}")),
+        Ok(Request::Version) => {
+            print(streams.out, concat!("wenc-dump ", env!("CARGO_PKG_VERSION"), "\n"))
+        }
+        Ok(Request::Dump(options)) => dump(&options, has_colours, streams, &mut status),
+        Err(why) => {
+            complain(streams.err, format_args!("wenc-dump: {why}\n{USAGE}"));
+            return 2;
+        }
+    };
+    match done {
+        Err(error) if error.kind() != io::ErrorKind::BrokenPipe => {
+            complain(streams.err, format_args!("wenc-dump: standard output: {error}\n"));
+            status.max(1)
+        }
+        _ => status,
+    }
+}
+
+fn print(out: &mut impl Write, text: &str) -> io::Result<()> {
+    out.write_all(text.as_bytes())?;
+    out.flush()
+}
+
+/// Prints a message. A failure of that can't be reported.
+fn complain(err: &mut impl Write, message: fmt::Arguments) {
+    let _ = err.write_fmt(message).and_then(|()| err.flush());
+}
+
+/// Prints all files, and raises the exit status.
+fn dump(
+    options: &Options,
+    has_colours: bool,
+    streams: &mut Streams<'_, impl Read, impl Write, impl Write>,
+    status: &mut u8,
+) -> io::Result<()> {
+    for file in &options.files {
+        let tell = &mut |fault: &Fault| {
+            complain(streams.err, format_args!("{}: {fault}\n", Escaped(file)));
+            *status = fault.status().max(*status);
+        };
+        if options.json {
+            report(&mut Json::new(streams.out, options.hex), file, streams.input, tell)?;
+        } else {
+            let has_titles = options.files.len() > 1;
+            let mut text = Text::new(streams.out, has_colours, options.hex, has_titles);
+            report(&mut text, file, streams.input, tell)?;
+        }
+    }
+    Ok(())
+}
+
+/// Returns the bytes of a file.
+fn bytes_of(file: &OsStr, input: &mut impl Read) -> io::Result<Vec<u8>> {
+    if file != "-" {
+        return fs::read(file);
+    }
+    let mut bytes = Vec::new();
+    input.read_to_end(&mut bytes)?;
+    Ok(bytes)
+}
+
+/// Reports a file, and passes on each fault.
+fn report(
+    report: &mut impl Report,
+    file: &OsStr,
+    input: &mut impl Read,
+    tell: &mut dyn FnMut(&Fault),
+) -> io::Result<()> {
+    let mut first = None;
+    let tell = &mut |fault| {
+        tell(&fault);
+        first.get_or_insert(fault);
+    };
+    report.begin(file)?;
+    let fault = match bytes_of(file, input).map(|bytes| walk(&bytes, report, tell)) {
+        Err(error) => Some(Fault::of_input(error)),
+        Ok(Err(Failure::NoMemory)) => Some(Fault::NoMemory),
+        Ok(Err(Failure::Write(error))) => return Err(error),
+        Ok(Ok(())) => None,
+    };
+    // what comes before a fault is written before its message
+    report.flush()?;
+    fault.into_iter().for_each(tell);
+    report.end(first.as_ref())?;
+    report.flush()
+}

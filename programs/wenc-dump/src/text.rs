@@ -1,0 +1,308 @@
+//! A report as text.
+
+use super::colours::Hue;
+use super::escape::Escaped;
+use super::fault::Fault;
+use super::fold::{Members, Names, Pieces, clause_lead, closing, fits, flat, opening};
+use super::phrase::{is_phrase, spoken};
+use super::report::{Content, Label, Part, Report};
+use super::words;
+use std::ffi::OsStr;
+use std::fmt::Display;
+use std::io::{self, Write};
+use std::ops::Range;
+use wenc::tree::Node;
+
+/// The number of columns of a line, if it can be folded.
+const COLUMNS: usize = 100;
+
+/// The maximum indentation in columns, so that each line has room for text, and the size of the
+/// output is linear in that of the file.
+const INDENTATION: usize = 40;
+
+/// The number of bytes in a line of bytes.
+const BYTES: usize = 16;
+
+/// Text whose lines are indented by their depth.
+pub struct Text<'o, W> {
+    out: &'o mut W,
+    has_colours: bool,
+    has_bytes: bool,
+    has_titles: bool,
+    /// The number of open parts.
+    depth: usize,
+    /// The number of columns that are taken on the line.
+    columns: usize,
+}
+
+/// A writer that counts columns.
+struct Counted<'o, W> {
+    out: &'o mut W,
+    columns: &'o mut usize,
+}
+
+impl<W: Write> Write for Counted<'_, W> {
+    fn write(&mut self, bytes: &[u8]) -> io::Result<usize> {
+        let len = self.out.write(bytes)?;
+        // each character has one byte that isn't a continuation byte
+        *self.columns += bytes[..len].iter().filter(|byte| **byte & 0xc0 != 0x80).count();
+        Ok(len)
+    }
+
+    fn flush(&mut self) -> io::Result<()> {
+        self.out.flush()
+    }
+}
+
+impl<W: Write> Pieces for Text<'_, W> {
+    type Stop = io::Error;
+
+    fn piece(&mut self, hue: Hue, text: impl Display) -> io::Result<()> {
+        let mut counted = Counted { out: self.out, columns: &mut self.columns };
+        let Some(colour) = hue.colour().filter(|_| self.has_colours) else {
+            return write!(counted, "{text}");
+        };
+        write!(counted.out, "\x1b[{colour}m")?;
+        write!(counted, "{text}")?;
+        write!(counted.out, "\x1b[0m")
+    }
+
+    fn plain(&mut self, text: &str) -> io::Result<()> {
+        Counted { out: self.out, columns: &mut self.columns }.write_all(text.as_bytes())
+    }
+}
+
+impl<'o, W: Write> Text<'o, W> {
+    /// Creates a writer of text, with or without colours, the bytes of items, and titles with the
+    /// names of files.
+    pub fn new(out: &'o mut W, has_colours: bool, has_bytes: bool, has_titles: bool) -> Self {
+        Self { out, has_colours, has_bytes, has_titles, depth: 0, columns: 0 }
+    }
+
+    fn begin_line(&mut self, depth: usize) -> io::Result<()> {
+        self.columns = INDENTATION.min(2 * depth);
+        write!(self.out, "{:width$}", "", width = self.columns)
+    }
+
+    fn end_line(&mut self) -> io::Result<()> {
+        self.out.write_all(b"\n")
+    }
+
+    /// Writes a range of byte offsets, or only the first.
+    fn place(&mut self, range: &Range<usize>, is_whole: bool) -> io::Result<()> {
+        let Range { start, end } = range;
+        if is_whole {
+            self.piece(Hue::Place, format_args!("{start:#x}..{end:#x}"))?;
+        } else {
+            self.piece(Hue::Place, format_args!("{start:#x}"))?;
+        }
+        self.plain(" ")
+    }
+
+    /// Writes a name in quotes, after this text.
+    fn named(&mut self, lead: &str, name: Option<&str>) -> io::Result<()> {
+        let Some(name) = name else { return Ok(()) };
+        self.plain(lead)?;
+        self.piece(Hue::Name, format_args!("{name:?}"))
+    }
+
+    /// Writes the word of a section, or its id.
+    fn section(&mut self, word: Option<&str>, id: u8) -> io::Result<()> {
+        match word {
+            Some(word) => self.piece(Hue::Plain, format_args!("{word} section")),
+            None => self.piece(Hue::Plain, format_args!("section {id}")),
+        }
+    }
+
+    fn size(&mut self, size: usize) -> io::Result<()> {
+        self.piece(Hue::Plain, format_args!(", {}", words::Counted(size, "byte")))
+    }
+
+    fn items(&mut self, count: Option<u32>) -> io::Result<()> {
+        let Some(count) = count else { return Ok(()) };
+        // a count of 32 bits fits
+        self.piece(Hue::Plain, format_args!(", {}", words::Counted(count as usize, "item")))
+    }
+
+    fn label(&mut self, label: &Label) -> io::Result<()> {
+        let word = words::space(label.space);
+        match (label.count, label.from) {
+            (0, _) => self.piece(Hue::Plain, format_args!("no {word}"))?,
+            (_, None) => self.piece(Hue::Index, format_args!("{word} ?"))?,
+            (1, Some(from)) => self.piece(Hue::Index, format_args!("{word} {from}"))?,
+            (count, Some(from)) => {
+                let to = from + u128::from(count) - 1;
+                self.piece(Hue::Index, format_args!("{word} {from} to {to}"))?;
+            }
+        }
+        self.named(" ", label.name)
+    }
+
+    fn file(&mut self, range: &Range<usize>, content: &Content) -> io::Result<()> {
+        self.place(range, true)?;
+        match content {
+            Content::Component(name) => {
+                self.plain("component")?;
+                self.named(" ", *name)?;
+            }
+            _ => self.plain("core module")?,
+        }
+        self.size(range.len())
+    }
+
+    fn item(
+        &mut self,
+        range: &Range<usize>,
+        label: Option<&Label>,
+        content: &Content,
+    ) -> io::Result<()> {
+        self.place(range, matches!(content, Content::Component(_) | Content::Module))?;
+        if let Some(label) = label {
+            self.label(label)?;
+        }
+        match content {
+            Content::Component(own) => {
+                self.named(": component ", *own)?;
+                self.size(range.len())
+            }
+            Content::Module => self.size(range.len()),
+            Content::Custom(name, size) => {
+                self.named("custom ", Some(name))?;
+                self.size(*size)
+            }
+            Content::Node(node, names) => {
+                self.plain(if label.is_some() { ": " } else { "" })?;
+                self.node(node, names, self.depth, 0)
+            }
+        }
+    }
+
+    /// Writes a node on a line of this depth, with `after` columns to spare.
+    fn node(&mut self, node: &Node, names: Names, depth: usize, after: usize) -> io::Result<()> {
+        match node {
+            Node::Record(name, fields) if is_phrase(name) => {
+                for (at, (lead, node)) in spoken(name, *fields).enumerate() {
+                    clause_lead(at, lead, self)?;
+                    self.node(&node, names, depth, after)?;
+                }
+                return Ok(());
+            }
+            _ => {}
+        }
+        let columns = COLUMNS.saturating_sub(self.columns + after);
+        match Members::of(node) {
+            Some(members) if !fits(node, names, columns) => {
+                self.unfold(node, &members, names, depth)
+            }
+            _ => flat(node, names, self),
+        }
+    }
+
+    /// Writes each member of a node on its own line.
+    fn unfold(
+        &mut self,
+        node: &Node,
+        members: &Members,
+        names: Names,
+        depth: usize,
+    ) -> io::Result<()> {
+        opening(node, self)?;
+        self.end_line()?;
+        members.try_each(|_, key, part| {
+            self.begin_line(depth + 1)?;
+            if let Some(key) = key {
+                self.plain(key)?;
+                self.plain(": ")?;
+            }
+            self.node(&part.node(), names, depth + 1, 1)?;
+            self.plain(",")?;
+            self.end_line()
+        })?;
+        self.begin_line(depth)?;
+        closing(node, self)
+    }
+
+    /// Writes the bytes, which begin at this byte offset, if they are wanted.
+    fn bytes(&mut self, mut place: usize, bytes: &[u8]) -> io::Result<()> {
+        if !self.has_bytes {
+            return Ok(());
+        }
+        for some in bytes.chunks(BYTES) {
+            self.begin_line(self.depth + 1)?;
+            self.piece(Hue::Place, format_args!("{place:#x}:"))?;
+            some.iter().try_for_each(|byte| self.piece(Hue::Plain, format_args!(" {byte:02x}")))?;
+            self.end_line()?;
+            place += some.len();
+        }
+        Ok(())
+    }
+
+    /// Writes the line of a part. Returns the bytes that follow it, and their byte offset.
+    fn line<'b>(&mut self, part: &Part<'b>) -> io::Result<(usize, &'b [u8])> {
+        match part {
+            Part::File(range, content) => {
+                self.file(range, content)?;
+                Ok((0, &[]))
+            }
+            Part::Section { range, id, count } => {
+                self.place(range, true)?;
+                self.section(words::section(*id), *id)?;
+                self.size(range.len())?;
+                self.items(*count)?;
+                Ok((0, &[]))
+            }
+            Part::CoreSection { range, id, name, count, bytes } => {
+                self.place(range, true)?;
+                self.section(words::core_section(*id), *id)?;
+                self.named(" ", *name)?;
+                self.size(range.len())?;
+                self.items(*count)?;
+                Ok((range.end - bytes.len(), bytes))
+            }
+            Part::Item { range, label, content, bytes } => {
+                self.item(range, label.as_ref(), content)?;
+                Ok((range.start, bytes))
+            }
+        }
+    }
+}
+
+impl<W: Write> Report for Text<'_, W> {
+    fn begin(&mut self, file: &OsStr) -> io::Result<()> {
+        self.depth = 0;
+        if self.has_titles {
+            self.piece(Hue::Plain, format_args!("{}:", Escaped(file)))?;
+            self.end_line()?;
+        }
+        Ok(())
+    }
+
+    fn open(&mut self, part: &Part) -> io::Result<()> {
+        self.begin_line(self.depth)?;
+        let (place, bytes) = self.line(part)?;
+        self.end_line()?;
+        self.bytes(place, bytes)?;
+        self.depth += 1;
+        Ok(())
+    }
+
+    fn unread(&mut self, place: usize, what: &str) -> io::Result<()> {
+        self.begin_line(self.depth)?;
+        self.place(&(place..place), false)?;
+        self.plain(what)?;
+        self.end_line()
+    }
+
+    fn flush(&mut self) -> io::Result<()> {
+        self.out.flush()
+    }
+
+    fn close(&mut self) -> io::Result<()> {
+        self.depth -= 1;
+        Ok(())
+    }
+
+    fn end(&mut self, _: Option<&Fault>) -> io::Result<()> {
+        Ok(())
+    }
+}

@@ -1,0 +1,249 @@
+//! Walks through a file, part by part.
+
+use super::fault::{Failure, Fault};
+use super::phrase;
+use super::report::{Content, Label, Part, Report};
+use std::io;
+use std::ops::Range;
+use wenc::tree::{ItemTree, Space};
+use wenc::{CoreSections, DebugNames, ListFault, NamesFault, SectionReader, Sections};
+
+/// The maximum nesting depth of components, which is that of types.
+pub const DEPTH: usize = 100;
+
+/// A walk through a file.
+pub struct Walk<'f, 'r, R> {
+    /// The bytes of the file.
+    pub(super) bytes: &'f [u8],
+    pub(super) report: &'r mut R,
+    /// The function to call with each fault.
+    tell: &'r mut dyn FnMut(Fault),
+    /// The debug names of the components around the next part, the outermost first.
+    names: Vec<DebugNames>,
+}
+
+/// The next index of each space.
+#[derive(Default)]
+pub(super) struct Indices {
+    next: [u128; 13],
+    /// Whether an item can't be read, so that further indices are unknown.
+    are_lost: bool,
+}
+
+impl Indices {
+    /// Takes this number of indices of a space, which have these debug names.
+    pub(super) fn take<'a>(
+        &mut self,
+        space: Space,
+        count: u32,
+        names: Option<&'a DebugNames>,
+    ) -> Label<'a> {
+        let next = &mut self.next[space.number()];
+        let from = (!self.are_lost).then_some(*next);
+        *next += u128::from(count);
+        let index = from.and_then(|from| u32::try_from(from).ok()).filter(|_| count > 0);
+        let name = names.zip(index).and_then(|(names, index)| names.get(space, index));
+        Label { space, from, count, name }
+    }
+
+    /// Notes that this can't be read.
+    pub(super) fn note(&mut self, fault: &Fault) {
+        self.are_lost |= !fault.is_behind_items();
+    }
+}
+
+/// Reports the component or the core module with these bytes, and passes on its faults. Before
+/// each, the report is written up to it.
+///
+/// # Errors
+///
+/// Fails if an allocation or a write fails. What comes before is reported.
+pub fn walk(
+    bytes: &[u8],
+    report: &mut impl Report,
+    tell: &mut dyn FnMut(Fault),
+) -> Result<(), Failure> {
+    let mut walk = Walk { bytes, report, tell, names: Vec::new() };
+    if let Ok(sections) = CoreSections::new(bytes) {
+        walk.report.open(&Part::File(0..bytes.len(), Content::Module))?;
+        walk.core_sections(0, sections)?;
+        return Ok(walk.report.close()?);
+    }
+    match Sections::new(bytes) {
+        Ok(sections) => walk.component(sections),
+        Err(fault) => Ok(walk.fault(Fault::List(fault))?),
+    }
+}
+
+/// Returns the debug names of a component.
+fn names_of(sections: Sections) -> Result<DebugNames, Failure> {
+    sections.try_names().map_err(|_| Failure::NoMemory)
+}
+
+/// Returns the byte offset of the first debug names in an item that can't be read, in its data.
+fn unread_names(item: &ItemTree) -> Result<Option<usize>, Failure> {
+    match DebugNames::new().read(item) {
+        Ok(()) => Ok(None),
+        Err(NamesFault::BadSubsection { place }) => Ok(Some(place)),
+        Err(_) => Err(Failure::NoMemory),
+    }
+}
+
+/// The byte offsets and the id of a section, if it has a size within bounds, and its items.
+type Framed<'f> = (Option<(Range<usize>, u8)>, Result<SectionReader<'f>, ListFault>);
+
+/// Returns the sections that have a size within bounds, each with its byte offsets, its id, and its
+/// items or why they can't be counted; then why no section follows.
+fn framed<'f>(mut sections: Sections<'f>) -> impl Iterator<Item = Framed<'f>> {
+    std::iter::from_fn(move || {
+        let mut here = sections;
+        let section = sections.next()?;
+        let frame = here.next_raw().map(|(range, raw)| (range, raw.id));
+        if section.is_err() && frame.is_some() {
+            sections = here;
+        }
+        Some((frame, section))
+    })
+}
+
+impl<'f, R: Report> Walk<'f, '_, R> {
+    /// Passes on a fault, after writing what comes before it.
+    fn fault(&mut self, fault: Fault) -> io::Result<()> {
+        self.report.flush()?;
+        (self.tell)(fault);
+        Ok(())
+    }
+
+    /// Reports that nothing more is read of the innermost open part.
+    pub(super) fn unread(&mut self, fault: Fault) -> io::Result<()> {
+        if let Some(place) = fault.place() {
+            self.report.unread(place, fault.words())?;
+        }
+        self.fault(fault)
+    }
+
+    /// Reports the component that the file is.
+    fn component(&mut self, sections: Sections<'f>) -> Result<(), Failure> {
+        let names = names_of(sections)?;
+        let range = 0..self.bytes.len();
+        self.report.open(&Part::File(range, Content::Component(names.component())))?;
+        self.sections(sections, names)?;
+        Ok(self.report.close()?)
+    }
+
+    /// Reports the sections of a component with these debug names.
+    fn sections(&mut self, sections: Sections<'f>, names: DebugNames) -> Result<(), Failure> {
+        self.names.try_reserve(1).map_err(|_| Failure::NoMemory)?;
+        self.names.push(names);
+        let mut next = Indices::default();
+        for (frame, section) in framed(sections) {
+            match (section, frame) {
+                (Ok(section), _) => self.section(section, &mut next)?,
+                (Err(fault), None) => self.unread(Fault::List(fault))?,
+                (Err(fault), Some((range, id))) => {
+                    self.unread_section(range, id, fault, &mut next)?;
+                }
+            }
+        }
+        self.names.pop();
+        Ok(())
+    }
+
+    /// Reports a section whose items can't be read.
+    fn unread_section(
+        &mut self,
+        range: Range<usize>,
+        id: u8,
+        fault: ListFault,
+        next: &mut Indices,
+    ) -> Result<(), Failure> {
+        let fault = match fault {
+            ListFault::BadSection { place } => Fault::UnknownSection(place, id),
+            fault => Fault::List(fault),
+        };
+        self.report.open(&Part::Section { range, id, count: None })?;
+        next.note(&fault);
+        self.unread(fault)?;
+        Ok(self.report.close()?)
+    }
+
+    fn section(&mut self, section: SectionReader<'f>, next: &mut Indices) -> Result<(), Failure> {
+        let (range, id, count) = (section.range(), section.id(), Some(section.count()));
+        self.report.open(&Part::Section { range, id, count })?;
+        for item in section.items() {
+            let fault = match item {
+                Ok((range, ItemTree::Component(bytes))) => {
+                    // frees the bytes while the component's sections are reported
+                    drop(bytes);
+                    self.nested(range, section, next)?;
+                    continue;
+                }
+                Ok((range, item)) => {
+                    self.item(range, &item, next)?;
+                    continue;
+                }
+                Err(ListFault::NoMemory) => return Err(Failure::NoMemory),
+                Err(ListFault::BadSection { place }) => Fault::NoName(place),
+                Err(fault) => Fault::List(fault),
+            };
+            next.note(&fault);
+            self.unread(fault)?;
+        }
+        Ok(self.report.close()?)
+    }
+
+    /// Reports a nested component.
+    fn nested(
+        &mut self,
+        range: Range<usize>,
+        section: SectionReader<'f>,
+        next: &mut Indices,
+    ) -> Result<(), Failure> {
+        let place = range.start;
+        let sections = section.component();
+        let own = match sections {
+            Ok(Some(sections)) => names_of(sections)?,
+            _ => DebugNames::new(),
+        };
+        let label = Some(next.take(Space::Components, 1, self.names.last()));
+        let content = Content::Component(own.component());
+        self.report.open(&Part::Item { range, label, content, bytes: &[] })?;
+        match sections {
+            _ if self.names.len() == DEPTH => self.unread(Fault::TooDeep(place, DEPTH))?,
+            Ok(Some(sections)) => self.sections(sections, own)?,
+            Ok(None) => {}
+            Err(fault) => self.unread(Fault::List(fault))?,
+        }
+        Ok(self.report.close()?)
+    }
+
+    /// Reports an item that isn't a component.
+    fn item(
+        &mut self,
+        range: Range<usize>,
+        item: &ItemTree,
+        next: &mut Indices,
+    ) -> Result<(), Failure> {
+        let names = self.names.last();
+        let label = item.indices().map(|(space, count)| next.take(space, count, names));
+        let bytes = &self.bytes[range.clone()];
+        let node = phrase::of_item(item.node());
+        let (content, shown) = match item {
+            ItemTree::Module(_) => (Content::Module, &[][..]),
+            ItemTree::Custom { name, data } => (Content::Custom(name, data.len()), bytes),
+            _ => (Content::Node(&node, &self.names), bytes),
+        };
+        let part = Part::Item { range: range.clone(), label, content, bytes: shown };
+        self.report.open(&part)?;
+        match item {
+            ItemTree::Module(_) => self.module(range.start, bytes)?,
+            ItemTree::Custom { data, .. } => {
+                if let Some(place) = unread_names(item)? {
+                    self.unread(Fault::Names(range.end - data.len() + place))?;
+                }
+            }
+            _ => {}
+        }
+        Ok(self.report.close()?)
+    }
+}

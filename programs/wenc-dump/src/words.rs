@@ -1,0 +1,85 @@
+//! Words for numbers of the format, and for counts.
+
+use std::fmt::{self, Display};
+use wenc::tree::Space;
+use wenc::{ComponentSectionId, SectionId};
+
+/// The sections of components, with their words.
+const SECTIONS: [(ComponentSectionId, &str); 12] = [
+    (ComponentSectionId::CoreCustom, "custom"),
+    (ComponentSectionId::CoreModule, "core module"),
+    (ComponentSectionId::CoreInstance, "core instance"),
+    (ComponentSectionId::CoreType, "core type"),
+    (ComponentSectionId::Component, "component"),
+    (ComponentSectionId::Instance, "instance"),
+    (ComponentSectionId::Alias, "alias"),
+    (ComponentSectionId::Type, "type"),
+    (ComponentSectionId::CanonicalFunction, "canonical function"),
+    (ComponentSectionId::Start, "start"),
+    (ComponentSectionId::Import, "import"),
+    (ComponentSectionId::Export, "export"),
+];
+
+/// The sections of core modules, with their words.
+const CORE_SECTIONS: [(SectionId, &str); 14] = [
+    (SectionId::Custom, "custom"),
+    (SectionId::Type, "type"),
+    (SectionId::Import, "import"),
+    (SectionId::Function, "function"),
+    (SectionId::Table, "table"),
+    (SectionId::Memory, "memory"),
+    (SectionId::Global, "global"),
+    (SectionId::Export, "export"),
+    (SectionId::Start, "start"),
+    (SectionId::Element, "element"),
+    (SectionId::Code, "code"),
+    (SectionId::Data, "data"),
+    (SectionId::DataCount, "data count"),
+    (SectionId::Tag, "tag"),
+];
+
+/// Returns the word for a section of a component; `None` if its id is above 11.
+pub fn section(id: u8) -> Option<&'static str> {
+    found(&SECTIONS, id)
+}
+
+/// Returns the word for a section of a core module; `None` if its id is above 13.
+pub fn core_section(id: u8) -> Option<&'static str> {
+    found(&CORE_SECTIONS, id)
+}
+
+fn found<I: Copy>(all: &[(I, &'static str)], id: u8) -> Option<&'static str>
+where
+    u8: From<I>,
+{
+    all.iter().find(|(of, _)| u8::from(*of) == id).map(|(_, word)| *word)
+}
+
+/// Returns the word for an index space.
+pub fn space(space: Space) -> &'static str {
+    match space {
+        Space::CoreModules => "core module",
+        Space::CoreFuncs => "core func",
+        Space::CoreTypes => "core type",
+        Space::CoreMemories => "core memory",
+        Space::CoreTables => "core table",
+        Space::CoreInstances => "core instance",
+        Space::CoreTags => "core tag",
+        Space::CoreGlobals => "core global",
+        Space::Funcs => "func",
+        Space::Instances => "instance",
+        Space::Values => "value",
+        Space::Components => "component",
+        Space::Types => "type",
+    }
+}
+
+/// A number of things: "1 byte", "2 bytes".
+pub struct Counted<'a>(pub usize, pub &'a str);
+
+impl Display for Counted<'_> {
+    fn fmt(&self, f: &mut fmt::Formatter<'_>) -> fmt::Result {
+        let Self(count, word) = self;
+        write!(f, "{count} {word}{}", if *count == 1 { "" } else { "s" })
+    }
+}

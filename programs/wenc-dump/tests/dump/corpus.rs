@@ -1,0 +1,196 @@
+//! What is printed of the components of the corpus.
+
+use crate::values::Value;
+use crate::{dump, file_of};
+use std::ffi::OsStr;
+use std::fs;
+use std::path::{Path, PathBuf};
+use std::process::Output;
+use wenc::tree::Space;
+use wenc::{ListedSection, list};
+
+pub fn corpus(of: &str) -> PathBuf {
+    Path::new(env!("CARGO_MANIFEST_DIR")).join("../../tests/real/corpus").join(of)
+}
+
+/// The FNV-1a hash of 64 bits.
+fn digest(bytes: &[u8]) -> u64 {
+    let prime = 0x0100_0000_01b3;
+    bytes
+        .iter()
+        .fold(0xcbf2_9ce4_8422_2325, |hash, byte| (hash ^ u64::from(*byte)).wrapping_mul(prime))
+}
+
+#[test]
+fn digests_are_fnv() {
+    assert_eq!(digest(b""), 0xcbf2_9ce4_8422_2325);
+    assert_eq!(digest(b"a"), 0xaf63_dc4c_8601_ec8c);
+    assert_eq!(digest(b"foobar"), 0x8594_4171_f739_67e8);
+}
+
+/// The names of the components.
+fn names() -> Vec<String> {
+    let files = fs::read_dir(corpus("wasm")).expect("the corpus is there");
+    let names = files.map(|file| file.expect("it is there").path());
+    let mut names: Vec<String> = names
+        .map(|path| path.file_stem().expect("it has a name").to_string_lossy().into_owned())
+        .collect();
+    names.sort();
+    names
+}
+
+/// The lines of what is printed and their digest, with what is said of the component.
+fn line(name: &str, format: &str, output: &Output) -> String {
+    let lines = output.stdout.iter().filter(|byte| **byte == b'\n').count();
+    let err = String::from_utf8_lossy(&output.stderr);
+    let whys = err.lines().filter_map(|line| line.split_once(".wasm: "));
+    let why: String = whys.map(|(_, why)| format!(", {why}")).collect();
+    assert_eq!(output.status.code(), Some((!why.is_empty()).into()), "{name}");
+    format!("{name}{format}: {lines} lines, {:016x}{why}\n", digest(&output.stdout))
+}
+
+/// The stored output at this path. Where it is to be another, this one is written, and the test
+/// fails: `dumps` is `write`.
+fn stored(path: &Path, output: &[u8], dumps: Option<&OsStr>) -> String {
+    if dumps.is_some_and(|dumps| dumps == "write") {
+        fs::write(path, output).expect("it can be written");
+        panic!("{}: written", path.display());
+    }
+    fs::read_to_string(path).expect("it is there")
+}
+
+/// The stored output of the corpus, which `DUMPS=write` in the environment writes.
+fn stored_in_corpus(path: &str, output: &[u8]) -> String {
+    stored(&corpus(path), output, std::env::var_os("DUMPS").as_deref())
+}
+
+#[test]
+fn only_write_writes_what_is_stored() {
+    let path = file_of("stored.txt", b"old");
+    for dumps in [None, Some(""), Some("1"), Some("WRITE"), Some("write ")] {
+        assert_eq!(stored(&path, b"new", dumps.map(OsStr::new)), "old", "{dumps:?}");
+        assert_eq!(fs::read(&path).expect("it is there"), b"old", "{dumps:?}");
+    }
+    let written = std::panic::catch_unwind(|| stored(&path, b"new", Some(OsStr::new("write"))));
+    let message = written.expect_err("the test fails");
+    assert!(message.downcast_ref::<String>().is_some_and(|text| text.ends_with(": written")));
+    assert_eq!(fs::read(&path).expect("it is there"), b"new");
+}
+
+/// `corpus/dumps.txt` has two lines for each component, of its text and of that with all bytes.
+#[test]
+fn the_corpus() {
+    let mut lines = String::new();
+    for name in names() {
+        let file = corpus(&format!("wasm/{name}.wasm"));
+        for (options, format) in [(&[][..], ""), (&["--hex"], " in hexadecimal")] {
+            lines += &line(&name, format, &dump(options, &file));
+        }
+    }
+    let stored = stored_in_corpus("dumps.txt", lines.as_bytes());
+    for (is, wanted) in lines.lines().zip(stored.lines()) {
+        assert_eq!(is, wanted);
+    }
+    let faults = lines.lines().filter(|line| line.contains(" in the section at ")).count();
+    assert_eq!((lines.lines().count(), stored.lines().count(), faults), (92, 92, 12));
+}
+
+fn expect_whole(name: &str) {
+    let output = dump(&[], &corpus(&format!("wasm/{name}.wasm")));
+    let wanted = stored_in_corpus(&format!("dumps/{name}.txt"), &output.stdout);
+    assert_eq!(String::from_utf8_lossy(&output.stdout), wanted, "{name}");
+}
+
+#[test]
+fn whole_output_of_an_empty_component() {
+    expect_whole("29-empty");
+}
+
+#[test]
+fn whole_output_of_resources() {
+    expect_whole("10-resource-export");
+}
+
+#[test]
+fn whole_output_of_a_start() {
+    expect_whole("35-start");
+}
+
+/// No line that can be folded is longer than 100 columns: what is, is one text or one name.
+#[test]
+fn lines_are_folded() {
+    for name in names() {
+        let output = dump(&[], &corpus(&format!("wasm/{name}.wasm")));
+        let text = String::from_utf8(output.stdout).expect("it is text");
+        for line in text.lines().filter(|line| line.chars().count() > 100) {
+            assert!(!line.contains(['(', '{', '[']) || line.contains('"'), "{line}");
+        }
+    }
+}
+
+/// The JSON of each component has the sections and the indices that `list` finds, and its sections
+/// are one after the other.
+#[test]
+fn json_is_what_is_listed() {
+    let mut compared = 0;
+    for name in names() {
+        let file = corpus(&format!("wasm/{name}.wasm"));
+        let output = dump(&["--json"], &file);
+        let json = Value::read(std::str::from_utf8(&output.stdout).expect("it is text"));
+        let bytes = fs::read(file).expect("it is there");
+        let Ok(listing) = list(&bytes) else {
+            assert_ne!(json.at("fault"), &Value::Null, "{name}");
+            continue;
+        };
+        let component = json.at("component");
+        let mut next = [0; 13];
+        let mut end = 8;
+        let sections = component.at("sections").list();
+        assert_eq!(sections.len(), listing.sections.len(), "{name}");
+        for (is, listed) in sections.iter().zip(&listing.sections) {
+            assert_eq!(is.at("start").number(), end, "{name}");
+            end = is.at("end").number();
+            section(is, listed, &mut next);
+        }
+        assert_eq!((component.at("start").number(), end), (0, bytes.len() as u128), "{name}");
+        assert_eq!((next, json.at("fault")), (listing.counts, &Value::Null), "{name}");
+        compared += 1;
+    }
+    assert_eq!(compared, 40);
+}
+
+/// The section is the one that was listed, and its items have the next indices.
+fn section(is: &Value, listed: &ListedSection, next: &mut [u128; 13]) {
+    let (id, start) = (is.at("id").number(), is.at("start").number());
+    assert_eq!((id, start), (listed.id.into(), listed.place as u128));
+    let items = is.at("items").list();
+    assert_eq!(items.len(), listed.items.len());
+    assert_eq!(is.at("count").number(), items.len() as u128);
+    for (item, listed) in items.iter().zip(&listed.items) {
+        let Some((space, count)) = listed.indices() else {
+            assert_eq!((item.at("space"), item.at("index")), (&Value::Null, &Value::Null));
+            continue;
+        };
+        assert_eq!(item.at("space").text(), WORDS[space.number()]);
+        assert_eq!(item.at("index").number(), next[space.number()]);
+        assert_eq!(item.at("count").number(), count.into());
+        next[space.number()] += u128::from(count);
+    }
+}
+
+/// The words for the index spaces.
+const WORDS: [&str; Space::ALL.len()] = [
+    "core module",
+    "core func",
+    "core type",
+    "core memory",
+    "core table",
+    "core instance",
+    "core tag",
+    "core global",
+    "func",
+    "instance",
+    "value",
+    "component",
+    "type",
+];

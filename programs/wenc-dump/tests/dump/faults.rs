@@ -1,0 +1,263 @@
+//! What is printed in front of a fault, and what is said of it.
+
+use crate::{dump, expect, expect_of, file_of};
+use std::path::Path;
+
+#[test]
+fn faults_of_sections_and_items() {
+    let bad = "\
+bad item 1 at 0x10 in the section at 0x8: the section ends where an import is expected";
+    let out = "\
+0x0..0x10 component, 16 bytes
+  0x8..0x10 import section, 8 bytes, 2 items
+    0xb func 0: import \"f\" Func(0)
+    0x10 items that aren't read
+";
+    expect("bad_item", b"\x0a\x06\x02\0\x01f\x01\0", out, Some(bad));
+    let out = "0x0..0xb component, 11 bytes\n  0x8 no section\n";
+    expect("bad_section", b"\x06\x05\x01", out, Some("bad section at 0x8"));
+    let bad = "bad count at 0xa in the section at 0x8";
+    let out = "\
+0x0..0xb component, 11 bytes
+  0x8..0xb alias section, 3 bytes
+    0xa no count
+";
+    expect("bad_count", b"\x06\x01\x80", out, Some(bad));
+    let bad = "bytes behind the last item at 0xb in the section at 0x8";
+    let out = "\
+0x0..0xc component, 12 bytes
+  0x8..0xc alias section, 4 bytes, 0 items
+    0xb bytes behind the last item
+";
+    expect("behind", b"\x06\x02\0\0", out, Some(bad));
+}
+
+#[test]
+fn types_too_deep_are_a_fault() {
+    // 101 instance types, each the only declaration of the one around it
+    let mut ty = vec![0x42, 0];
+    for _ in 0..100 {
+        ty.splice(0..0, [0x42, 1, 1]);
+    }
+    let section = [&[7, 0xaf, 2, 1][..], &ty].concat();
+    let out = "\
+0x0..0x13a component, 314 bytes
+  0x8..0x13a type section, 306 bytes, 1 item
+    0xc items that aren't read
+";
+    let bad = "too deep item 0 at 0xc in the section at 0x8";
+    expect("too_deep_type", &section, out, Some(bad));
+}
+
+#[test]
+fn faults_of_nested_components() {
+    let out = "\
+0x0..0x16 component, 22 bytes
+  0x8..0x16 component section, 14 bytes, 1 item
+    0xa..0x16 component 0, 12 bytes
+      0x12..0x16 alias section, 4 bytes, 1 item
+        0x15 items that aren't read
+";
+    let nested = b"\x04\x0c\0asm\x0d\0\x01\0\x06\x02\x01\x09";
+    let bad = "\
+bad item 0 at 0x15 in the section at 0x12: 0x09 where an alias is expected";
+    expect("bad_nested", nested, out, Some(bad));
+    let out = "\
+0x0..0xd component, 13 bytes
+  0x8..0xd component section, 5 bytes, 1 item
+    0xa..0xd component 0, 3 bytes
+      0xa no component's header
+";
+    let bad = "no component's header at 0xa: found other bytes";
+    expect("no_component", b"\x04\x03\0as", out, Some(bad));
+    let out = "\
+0x0..0x12 component, 18 bytes
+  0x8..0x12 component section, 10 bytes, 1 item
+    0xa..0x12 component 0, 8 bytes
+      0xa no component's header
+";
+    let bad = "no component's header at 0xa: found a core module";
+    expect("module_as_component", b"\x04\x08\0asm\x01\0\0\0", out, Some(bad));
+}
+
+#[test]
+fn files_that_are_none_of_both() {
+    let none = [
+        (&b""[..], "nothing"),
+        (b"(component)", "WebAssembly text"),
+        (b"\0asm\x0c\0\x01\0", "another version of the format"),
+        (b"hello", "other bytes"),
+    ];
+    for (bytes, found) in none {
+        let bad = format!("no component's header at 0x0: found {found}");
+        expect_of(&[], &file_of("none_of_both", bytes), "", Some(&bad));
+    }
+    let output = dump(&[], Path::new("there is none"));
+    assert_eq!((output.status.code(), output.stdout.len()), (Some(1), 0));
+    assert!(output.stderr.starts_with(b"there is none: "));
+}
+
+#[test]
+fn core_modules_are_printed_as_far_as_they_are_read() {
+    let file = file_of("cut_module", b"\0asm\x01\0\0\0\0\x02\x01x\x01\x01");
+    let out = "\
+0x0..0xe core module, 14 bytes
+  0x8..0xc custom section \"x\", 4 bytes
+  0xc no core section
+";
+    expect_of(&[], &file, out, Some("bad core section at 0xc"));
+    // the second import has no kind; there is one export less than bytes; no start
+    let module = b"\0asm\x01\0\0\0\
+        \x02\x0c\x02\x01m\x01f\0\0\x01m\x01f\x05\
+        \x07\x06\x01\x01f\0\0\x09\
+        \x08\0";
+    let out = "\
+0x0..0x20 core module, 32 bytes
+  0x8..0x16 import section, 14 bytes, 2 items
+    0xb core func 0: import \"m\" \"f\" Function(0)
+    0x11 items that aren't read
+  0x16..0x1e export section, 8 bytes, 1 item
+    0x19 export \"f\" Func 0
+    0x1d bytes behind the last item
+  0x1e..0x20 start section, 2 bytes, 1 item
+    0x20 items that aren't read
+";
+    let bad = "bad item 1 at 0x11\nbytes behind the last item at 0x1d\nbad item 0 at 0x20";
+    expect_of(&[], &file_of("bad_entries", module), out, Some(bad));
+}
+
+/// Sections without a count, with an unknown id, without a name, with bytes for no items; one that
+/// is read; one that is cut.
+const BAD_SECTIONS: &[u8] = b"\0asm\x01\0\0\0\x01\0\x41\0\0\x01\x07\x03\x02\0\0\x0b\x01\0\x01\x7f";
+
+#[test]
+fn sections_of_core_modules_are_faults() {
+    let out = "\
+0x0..0x18 core module, 24 bytes
+  0x8..0xa type section, 2 bytes
+    0xa no count
+  0xa..0xc section 65, 2 bytes
+    0xa unknown section
+  0xc..0xf custom section, 3 bytes
+    0xc no name
+  0xf..0x13 function section, 4 bytes, 0 items
+    0x12 bytes behind the last item
+  0x13..0x16 data section, 3 bytes, 0 items
+  0x16 no core section
+";
+    let bad = "\
+bad count at 0xa
+unknown section 65 at 0xa
+custom section without a name at 0xc
+bytes behind the last item at 0x12
+bad core section at 0x16";
+    expect_of(&[], &file_of("bad_sections", BAD_SECTIONS), out, Some(bad));
+}
+
+/// What follows the module is printed too.
+#[test]
+fn sections_of_core_modules_in_components_are_faults() {
+    let out = "\
+0x0..0x25 component, 37 bytes
+  0x8..0x22 core module section, 26 bytes, 1 item
+    0xa..0x22 core module 0, 24 bytes
+      0x12..0x14 type section, 2 bytes
+        0x14 no count
+      0x14..0x16 section 65, 2 bytes
+        0x14 unknown section
+      0x16..0x19 custom section, 3 bytes
+        0x16 no name
+      0x19..0x1d function section, 4 bytes, 0 items
+        0x1c bytes behind the last item
+      0x1d..0x20 data section, 3 bytes, 0 items
+      0x20 no core section
+  0x22..0x25 alias section, 3 bytes, 0 items
+";
+    let bad = "\
+bad count at 0x14
+unknown section 65 at 0x14
+custom section without a name at 0x16
+bytes behind the last item at 0x1c
+bad core section at 0x20";
+    let sections = [b"\x01\x18", BAD_SECTIONS, b"\x06\x01\0"].concat();
+    expect("bad_sections_nested", &sections, out, Some(bad));
+}
+
+#[test]
+fn nested_modules_that_are_none_are_faults() {
+    let out = "\
+0x0..0x12 component, 18 bytes
+  0x8..0xf core module section, 7 bytes, 1 item
+    0xa..0xf core module 0, 5 bytes
+      0xa no core module's header
+  0xf..0x12 alias section, 3 bytes, 0 items
+";
+    let bad = "no core module's header at 0xa: found other bytes";
+    expect("no_module", b"\x01\x05hello\x06\x01\0", out, Some(bad));
+}
+
+/// Sections that aren't read, and some that are.
+const FAULTY: &[u8] = b"\x0a\x06\x02\0\x01f\x01\0\
+        \x0c\x01\x07\
+        \x06\x01\x80\
+        \0\x01\x07\
+        \x07\x03\x01\x69\0\
+        \x04\x0c\0asm\x0d\0\x01\0\x06\x02\x01\x09\
+        \x04\x03\0as\
+        \0\x1a\x0ecomponent-name\0\x02\x01c\x01\x05\x03\x01\0\x01t\
+        \x06\x05\x01";
+
+/// What is printed of them. Behind an item that isn't read, indices are unknown, and so are their
+/// names.
+const FAULTY_TEXT: &str = "\
+0x0..0x50 component \"c\", 80 bytes
+  0x8..0x10 import section, 8 bytes, 2 items
+    0xb func 0: import \"f\" Func(0) \"t\"
+    0x10 items that aren't read
+  0x10..0x13 section 12, 3 bytes
+    0x10 unknown section
+  0x13..0x16 alias section, 3 bytes
+    0x15 no count
+  0x16..0x19 custom section, 3 bytes, 1 item
+    0x16 no name
+  0x19..0x1e type section, 5 bytes, 1 item
+    0x1c type ?: Defined(Own(0) \"t\")
+  0x1e..0x2c component section, 14 bytes, 1 item
+    0x20..0x2c component ?, 12 bytes
+      0x28..0x2c alias section, 4 bytes, 1 item
+        0x2b items that aren't read
+  0x2c..0x31 component section, 5 bytes, 1 item
+    0x2e..0x31 component ?, 3 bytes
+      0x2e no component's header
+  0x31..0x4d custom section, 28 bytes, 1 item
+    0x33 custom \"component-name\", 11 bytes
+  0x4d no section
+";
+
+/// A section that isn't read is followed by the next, as long as they are framed.
+#[test]
+fn what_follows_a_fault_is_printed() {
+    let bad = "\
+bad item 1 at 0x10 in the section at 0x8: the section ends where an import is expected
+unknown section 12 at 0x10
+bad count at 0x15 in the section at 0x13
+custom section without a name at 0x16
+bad item 0 at 0x2b in the section at 0x28: 0x09 where an alias is expected
+no component's header at 0x2e: found other bytes
+bad section at 0x4d";
+    expect("goes_on", FAULTY, FAULTY_TEXT, Some(bad));
+}
+
+/// All items in front of them were read.
+#[test]
+fn indices_behind_bytes_behind_items_are_known() {
+    let out = "\
+0x0..0x11 component, 17 bytes
+  0x8..0xc alias section, 4 bytes, 0 items
+    0xb bytes behind the last item
+  0xc..0x11 type section, 5 bytes, 1 item
+    0xf type 0: Defined(Own(0))
+";
+    let bad = "bytes behind the last item at 0xb in the section at 0x8";
+    expect("known", b"\x06\x02\0\0\x07\x03\x01\x69\0", out, Some(bad));
+}

@@ -1,0 +1,121 @@
+//! Memory that is limited: the program says that it ran out, and has a status for that.
+
+use crate::values::Value;
+use crate::{PROGRAM, component, file, file_of};
+use std::path::Path;
+use std::process::{Command, Output};
+use wenc::tree::Space;
+use wenc::{ComponentNameSection, ComponentSection, DebugNames};
+
+/// How many KiB are between two limits.
+const STEP: usize = 64;
+
+/// Runs the program with so many KiB of memory.
+fn limited(kib: usize, options: &[&str], file: &Path) -> Output {
+    let mut shell = Command::new("sh");
+    shell.args(["-c", "ulimit -v \"$0\" && exec \"$@\"", &kib.to_string(), PROGRAM]);
+    shell.args(options).arg(file).output().expect("the shell is there")
+}
+
+/// The first limit in which the program starts.
+fn least() -> usize {
+    let empty = file("limits_empty", b"");
+    let mut limits = (1024..1 << 20).step_by(STEP);
+    limits.find(|kib| limited(*kib, &[], &empty).status.success()).expect("it starts")
+}
+
+/// In each limit up to one that suffices the program prints the file, or says that memory ran out.
+/// That happens in so many limits, at least.
+fn sweep(file: &Path, refusals: usize) {
+    let least = least();
+    let message = format!("{}: memory ran out\n", file.display());
+    for option in [&[][..], &["--json"]] {
+        let mut refused = 0;
+        for kib in (least..).step_by(STEP) {
+            let output = limited(kib, option, file);
+            let err = String::from_utf8_lossy(&output.stderr);
+            match output.status.code() {
+                Some(0) => break,
+                Some(3) => assert_eq!(err, message, "{kib}"),
+                _ => panic!("{} in {kib} KiB: {err}", output.status),
+            }
+            if !option.is_empty() {
+                let out = Value::read(std::str::from_utf8(&output.stdout).expect("it is text"));
+                assert_eq!(out.at("fault").at("message").text(), "memory ran out");
+            }
+            refused += 1;
+        }
+        assert!(refused >= refusals, "{}: {refused}", file.display());
+    }
+}
+
+/// The number, in 5 bytes.
+fn padded(number: usize) -> [u8; 5] {
+    let byte = |at: usize| u8::try_from(number >> (7 * at) & 0x7f).expect("it has 7 bits");
+    [byte(0) | 0x80, byte(1) | 0x80, byte(2) | 0x80, byte(3) | 0x80, byte(4)]
+}
+
+/// A section with this content.
+fn section(id: u8, content: &[u8]) -> Vec<u8> {
+    [&[id][..], &padded(content.len()), content].concat()
+}
+
+#[test]
+fn a_large_type() {
+    let declared = b"\x01\x7f".repeat(30_000);
+    let ty = [&[1, 0x42][..], &padded(30_000), &declared].concat();
+    sweep(&file("limits_type", &section(7, &ty)), 10);
+}
+
+#[test]
+fn a_large_custom_section_and_what_is_around_it() {
+    let custom = section(0, &[&[1, b'x'][..], &[7; 1 << 20]].concat());
+    let nested = section(4, &component(&section(4, &component(&custom))));
+    sweep(&file("limits_custom", &nested), 10);
+}
+
+#[test]
+fn long_names_of_a_core_module() {
+    let name = [&padded(1 << 19)[..], &[b'n'; 1 << 19]].concat();
+    let imports = section(2, &[&[1][..], &name, &name, &[0, 0]].concat());
+    let custom = section(0, &name);
+    sweep(&file_of("limits_module", &[b"\0asm\x01\0\0\0", &imports[..], &custom].concat()), 10);
+}
+
+#[test]
+fn many_debug_names() {
+    let mut names = DebugNames::new();
+    names.set_component("n".repeat(1 << 18));
+    (0..20_000).for_each(|index| names.insert(Space::Types, index, "name"));
+    let mut bytes = component(b"\x07\x03\x01\x69\0");
+    ComponentNameSection::from(&names).append_to_component(&mut bytes);
+    sweep(&file_of("limits_names", &bytes), 10);
+}
+
+/// The reader has many types at once, and prints them one in the other.
+#[test]
+fn deep_types() {
+    let mut ty = vec![0x42, 0];
+    for _ in 0..99 {
+        let aliases = b"\x01\x7f".repeat(100);
+        ty = [&[0x42][..], &padded(101), &aliases, &[1], &ty].concat();
+    }
+    sweep(&file("limits_deep", &section(7, &[&[1][..], &ty].concat())), 3);
+}
+
+/// The other files are printed, and the status says the worst.
+#[test]
+fn files_after_the_one_that_memory_ran_out_in() {
+    let declared = b"\x01\x7f".repeat(30_000);
+    let ty = [&[1, 0x42][..], &padded(30_000), &declared].concat();
+    let (large, bad) = (file("limits_first", &section(7, &ty)), file_of("limits_bad", b""));
+    let empty = file("limits_second", b"");
+    let (large, empty) = (large.to_str().expect("text"), empty.to_str().expect("text"));
+    let output = limited(least() + STEP, &[large, empty], &bad);
+    let out = String::from_utf8_lossy(&output.stdout);
+    assert!(out.contains(&format!("{empty}:\n0x0..0x8 component, 8 bytes\n")), "{out}");
+    let bad = format!("{}: no component's header at 0x0: found nothing", bad.display());
+    let err = format!("{large}: memory ran out\n{bad}\n");
+    assert_eq!(String::from_utf8_lossy(&output.stderr), err);
+    assert_eq!(output.status.code(), Some(3));
+}

@@ -1,0 +1,78 @@
+//! The program `wenc-dump`: what it prints of worked components and of the corpus, as text and as
+//! JSON, and what it says of bad ones.
+
+mod corpus;
+mod faults;
+mod json;
+#[cfg(target_os = "linux")]
+mod limits;
+#[cfg(unix)]
+#[path = "../../../wenc/tests/program/manual.rs"]
+mod manual;
+mod options;
+mod size;
+mod text;
+mod values;
+
+use std::fs;
+use std::path::{Path, PathBuf};
+use std::process::{Command, Output};
+
+const PROGRAM: &str = env!("CARGO_BIN_EXE_wenc-dump");
+
+/// A component that imports a function.
+const FUNCTION: &[u8] = b"\x07\x05\x01\x40\0\x01\0\x0a\x06\x01\0\x01f\x01\0";
+
+/// What is printed of it.
+const FUNCTION_TEXT: &str = "\
+0x0..0x17 component, 23 bytes
+  0x8..0xf type section, 7 bytes, 1 item
+    0xb type 0: Func { is_async: false, params: [], result: None }
+  0xf..0x17 import section, 8 bytes, 1 item
+    0x12 func 0: import \"f\" Func(0)
+";
+
+/// Runs the program with these options on a file.
+fn dump(options: &[&str], file: &Path) -> Output {
+    Command::new(PROGRAM).args(options).arg(file).output().expect("the program stands there")
+}
+
+/// A file with these bytes.
+fn file_of(name: &str, bytes: &[u8]) -> PathBuf {
+    let path = Path::new(env!("CARGO_TARGET_TMPDIR")).join(name);
+    fs::write(&path, bytes).expect("it is written");
+    path
+}
+
+/// The component that has these sections.
+fn component(sections: &[u8]) -> Vec<u8> {
+    [b"\0asm\x0d\0\x01\0", sections].concat()
+}
+
+/// A file with the component that has these sections.
+fn file(name: &str, sections: &[u8]) -> PathBuf {
+    file_of(name, &component(sections))
+}
+
+/// The component with these sections is printed so, and these lines are said of it, each with its
+/// file in front.
+fn expect(name: &str, sections: &[u8], out: &str, err: Option<&str>) {
+    expect_of(&[], &file(name, sections), out, err);
+}
+
+/// The file is printed so, and these lines are said of it, each with its path in front.
+fn expect_of(options: &[&str], file: &Path, out: &str, err: Option<&str>) {
+    let output = dump(options, file);
+    let name = file.display();
+    assert_eq!(String::from_utf8_lossy(&output.stdout), out, "{name}");
+    let err: String =
+        err.iter().flat_map(|err| err.lines()).map(|why| format!("{name}: {why}\n")).collect();
+    assert_eq!(String::from_utf8_lossy(&output.stderr), err, "{name}");
+    assert_eq!(output.status.code(), Some(i32::from(!err.is_empty())), "{name}");
+}
+
+#[cfg(unix)]
+#[test]
+fn of_the_manual() {
+    manual::run(PROGRAM, 5);
+}

@@ -1,0 +1,183 @@
+//! Options, files and streams.
+
+use crate::corpus::corpus;
+use crate::{FUNCTION, FUNCTION_TEXT, PROGRAM, component, dump, expect_of, file, file_of};
+use std::fs;
+use std::io::{self, BufRead, BufReader, Write};
+use std::path::Path;
+use std::process::{Command, Output, Stdio};
+use wenc_dump::Streams;
+
+const USAGE: &str = "usage: wenc-dump [OPTION]... FILE...\n";
+
+fn run(arguments: &[&str], input: &[u8]) -> Output {
+    let mut command = Command::new(PROGRAM);
+    command.args(arguments).stdin(Stdio::piped()).stdout(Stdio::piped()).stderr(Stdio::piped());
+    let mut child = command.spawn().expect("the program stands there");
+    let mut stdin = child.stdin.take().expect("it is a pipe");
+    stdin.write_all(input).expect("it has room");
+    drop(stdin);
+    child.wait_with_output().expect("it ends")
+}
+
+/// The program has this status, prints this and says that.
+fn expect_run(arguments: &[&str], input: &[u8], (status, out, err): (i32, &str, &str)) {
+    let output = run(arguments, input);
+    assert_eq!(String::from_utf8_lossy(&output.stdout), out, "{arguments:?}");
+    assert_eq!(String::from_utf8_lossy(&output.stderr), err, "{arguments:?}");
+    assert_eq!(output.status.code(), Some(status), "{arguments:?}");
+}
+
+#[test]
+fn bad_arguments_have_the_usage_printed() {
+    expect_run(&[], b"", (2, "", &format!("wenc-dump: no file\n{USAGE}")));
+    expect_run(&["-x", "--"], b"", (2, "", &format!("wenc-dump: no file\n{USAGE}")));
+    let bad = format!("wenc-dump: no option --he\\n\n{USAGE}");
+    expect_run(&["-", "--he\n"], b"", (2, "", &bad));
+}
+
+#[test]
+fn help_and_version() {
+    for help in [&["--help"][..], &["-h"], &["-x", "-", "-h"]] {
+        let output = run(help, b"");
+        let out = String::from_utf8(output.stdout).expect("it is text");
+        assert!(output.status.success() && output.stderr.is_empty());
+        assert!(out.starts_with(USAGE) && out.lines().all(|line| line.len() < 100));
+        for word in ["--hex", "--json", "--help", "--version", "standard input", "\"fault\""] {
+            assert!(out.contains(word), "{word}");
+        }
+    }
+    let version = format!("wenc-dump {}\n", env!("CARGO_PKG_VERSION"));
+    for arguments in [["--version"], ["-V"]] {
+        expect_run(&arguments, b"", (0, &version, ""));
+    }
+}
+
+#[test]
+fn standard_input_is_read() {
+    expect_run(&["-"], &component(FUNCTION), (0, FUNCTION_TEXT, ""));
+    let bad = "-: no component's header at 0x0: found nothing\n";
+    expect_run(&["-"], b"", (1, "", bad));
+    // after `--` all are files, and this one doesn't exist
+    let output = run(&["--", "--json"], b"");
+    assert_eq!(output.status.code(), Some(1));
+    assert!(output.stderr.starts_with(b"--json: "));
+}
+
+#[test]
+fn several_files_have_their_names_in_front() {
+    let (good, bad) = (file("first of two", FUNCTION), file_of("second of two", b""));
+    let output = Command::new(PROGRAM).args([&good, &bad, &good]).output().expect("it runs");
+    let front = format!("{}:\n{FUNCTION_TEXT}", good.display());
+    let out = format!("{front}{}:\n{front}", bad.display());
+    assert_eq!(String::from_utf8_lossy(&output.stdout), out);
+    let err = format!("{}: no component's header at 0x0: found nothing\n", bad.display());
+    assert_eq!(String::from_utf8_lossy(&output.stderr), err);
+    assert_eq!(output.status.code(), Some(1));
+}
+
+#[test]
+fn bytes_are_printed() {
+    let out = "\
+0x0..0x17 component, 23 bytes
+  0x8..0xf type section, 7 bytes, 1 item
+    0xb type 0: Func { is_async: false, params: [], result: None }
+      0xb: 40 00 01 00
+  0xf..0x17 import section, 8 bytes, 1 item
+    0x12 func 0: import \"f\" Func(0)
+      0x12: 00 01 66 01 00
+";
+    for option in ["-x", "--hex"] {
+        expect_of(&[option], &file("bytes", FUNCTION), out, None);
+    }
+    // those of a module are printed where they are read; 17 of them are on two lines
+    let module = b"\x01\x27\0asm\x01\0\0\0\x07\x05\x01\x01f\0\x02\
+        \0\x16\x04four0123456789abcdef\x10\x0a\x01\0";
+    let out = "\
+0x0..0x31 component, 49 bytes
+  0x8..0x31 core module section, 41 bytes, 1 item
+    0xa..0x31 core module 0, 39 bytes
+      0x12..0x19 export section, 7 bytes, 1 item
+        0x15 export \"f\" Func 2
+          0x15: 01 66 00 02
+      0x19..0x31 custom section \"four\", 24 bytes
+        0x20: 30 31 32 33 34 35 36 37 38 39 61 62 63 64 65 66
+        0x30: 10
+";
+    let module = &module[..41];
+    expect_of(&["-x"], &file("bytes of a module", module), out, None);
+}
+
+/// What can't be printed in a file's name is escaped, a line break as well.
+#[cfg(unix)]
+#[test]
+fn names_of_files_are_escaped() {
+    use std::ffi::OsStr;
+    use std::os::unix::ffi::OsStrExt;
+    let name = OsStr::from_bytes(b"it's\n\x1b[2J \xe2\x80\xae\xff\\\"\xc3\xa9");
+    let output = dump(&[], Path::new(name));
+    let err = String::from_utf8(output.stderr).expect("it is text");
+    let escaped = "it's\\n\\u{1b}[2J \\u{202e}\\xff\\\\\"é: ";
+    assert!(err.starts_with(escaped), "{err}");
+    assert_eq!(output.status.code(), Some(1));
+}
+
+/// A writer whose reader leaves after so many bytes.
+struct Left(usize);
+
+impl Write for Left {
+    fn write(&mut self, bytes: &[u8]) -> io::Result<usize> {
+        self.0 = self.0.checked_sub(bytes.len()).ok_or(io::ErrorKind::BrokenPipe)?;
+        Ok(bytes.len())
+    }
+
+    fn flush(&mut self) -> io::Result<()> {
+        Ok(())
+    }
+}
+
+#[test]
+fn a_reader_that_leaves_ends_it_quietly() {
+    let path = file("left", FUNCTION).into_os_string();
+    for (option, len) in [(None, FUNCTION_TEXT.len()), (Some("--json"), 400)] {
+        for room in 0..len {
+            let arguments = ["wenc-dump".into()].into_iter().chain(option.map(Into::into));
+            let arguments = arguments.chain([path.clone()]);
+            let (mut out, mut err) = (Left(room), Vec::new());
+            let mut streams = Streams { input: &mut io::empty(), out: &mut out, err: &mut err };
+            let status = wenc_dump::run(arguments, false, &mut streams);
+            assert_eq!((status, err.len()), (0, 0), "{room}");
+        }
+    }
+}
+
+/// More is printed than a pipe holds.
+#[test]
+fn a_closed_pipe_ends_it_quietly() {
+    let path = corpus("wasm/33-many.wasm");
+    let mut command = Command::new(PROGRAM);
+    command.args([&path; 9]).stdout(Stdio::piped()).stderr(Stdio::piped());
+    let mut child = command.spawn().expect("the program stands there");
+    let mut out = BufReader::new(child.stdout.take().expect("it is a pipe"));
+    let mut line = String::new();
+    out.read_line(&mut line).expect("it is printed");
+    drop(out);
+    assert_eq!(line, format!("{}:\n", path.display()));
+    let output = child.wait_with_output().expect("it ends");
+    assert_eq!((output.status.code(), output.stderr.len()), (Some(0), 0));
+}
+
+/// A device that is full takes no byte.
+#[cfg(target_os = "linux")]
+#[test]
+fn a_write_that_fails_has_a_message() {
+    for option in ["--hex", "--json", "--help"] {
+        let full = fs::File::options().write(true).open("/dev/full").expect("it is there");
+        let mut command = Command::new(PROGRAM);
+        let command = command.arg(option).args([file("full", FUNCTION), file("full", FUNCTION)]);
+        let output = command.stdout(full).output().expect("it runs");
+        let err = String::from_utf8(output.stderr).expect("it is text");
+        assert!(err.starts_with("wenc-dump: standard output: ") && err.lines().count() == 1);
+        assert_eq!(output.status.code(), Some(1));
+    }
+}

@@ -1,0 +1,95 @@
+//! The debug names that follow the indices of an item, in each form that contains an index. The rows
+//! are those of the test `indices`.
+
+#[path = "../../../tests/indices/canonicals.rs"]
+mod canonicals;
+#[path = "../../../tests/indices/core_types.rs"]
+mod core_types;
+#[path = "../../../tests/indices/items.rs"]
+mod items;
+#[path = "../../../tests/indices/types.rs"]
+mod types;
+
+use wenc::tree::{Command, ItemTree, NameTree, Scope, Space, String as Text, build};
+use wenc::{
+    Component, ComponentNameSection, ComponentSection, ComponentSectionId, DebugNames, RawSection,
+};
+use wenc_dump::{Streams, run as dump};
+
+/// A space, how a scope is seen from the item, and an index.
+type Seen = (Space, Scope, u32);
+
+/// An index in this component.
+fn here(space: Space, index: u32) -> Seen {
+    (space, Scope::Component(0), index)
+}
+
+/// An index in the outermost type that the item is.
+fn inside(space: Space, index: u32) -> Seen {
+    (space, Scope::Type(1), index)
+}
+
+fn text(text: &str) -> Text {
+    text.into()
+}
+
+fn name(text: &str) -> NameTree {
+    NameTree::from(Text::from(text))
+}
+
+/// The debug name of an index, where its scope has names.
+fn named(&(space, scope, index): &Seen) -> Option<String> {
+    match scope {
+        Scope::Component(out @ (0 | 1)) => Some(format!("@{out}{space:?}{index}@")),
+        _ => None,
+    }
+}
+
+/// A section of the names of these indices, of those that are so many components out.
+fn names_section(indices: &[Seen], out: u32) -> ComponentNameSection {
+    let mut names = DebugNames::new();
+    for seen in indices.iter().filter(|(_, scope, _)| *scope == Scope::Component(out)) {
+        names.insert(seen.0, seen.2, named(seen).expect("it has one"));
+    }
+    ComponentNameSection::from(&names)
+}
+
+/// What is printed of the item after its own index, in a component in another, where both have names.
+fn printed(item: &ItemTree, indices: &[Seen]) -> String {
+    let mut inner = build(&[Command::from(item.clone())]).expect("there is memory").bytes;
+    names_section(indices, 0).append_to_component(&mut inner);
+    let mut outer = Component::new();
+    let id = ComponentSectionId::Component.into();
+    outer.section(&RawSection { id, data: &inner }).section(&names_section(indices, 1));
+    let outer = outer.finish();
+    let (mut out, mut err) = (Vec::new(), Vec::new());
+    let mut streams = Streams { input: &mut &outer[..], out: &mut out, err: &mut err };
+    let arguments = ["wenc-dump", "-"].map(Into::into);
+    let status = dump(arguments.into_iter(), false, &mut streams);
+    // the bytes of these are no module and no names
+    assert_eq!(status, matches!(item, ItemTree::Module(_) | ItemTree::Custom { .. }).into());
+    let text = String::from_utf8(out).expect("it is text");
+    let (_, item) = text.split_once("        0x").expect("the item is there");
+    item.split_once(": ").map(|(_, item)| item.to_owned()).unwrap_or_default()
+}
+
+/// The item is printed with the names of these indices.
+fn expect(item: ItemTree, indices: &[Seen]) {
+    if let ItemTree::Component(_) = item {
+        assert!(indices.is_empty(), "its items are printed themselves");
+        return;
+    }
+    let text = printed(&item, indices);
+    let mut printed: Vec<&str> = text.split('"').filter(|part| part.starts_with('@')).collect();
+    let mut wanted: Vec<String> = indices.iter().filter_map(named).collect();
+    printed.sort_unstable();
+    wanted.sort_unstable();
+    assert_eq!(printed, wanted, "{text}");
+    // each name follows its index
+    for seen in indices {
+        if let Some(name) = named(seen) {
+            let follows = [" ", ") "].map(|space| format!("{}{space}\"{name}\"", seen.2));
+            assert!(follows.iter().any(|follows| text.contains(follows)), "{text}");
+        }
+    }
+}

@@ -1,0 +1,189 @@
+//! Arguments from C: strings, arrays, and the structures of the header.
+
+use super::numbers;
+use super::{Result, Status};
+use crate::proved::wasm_encoder::{ComponentExternName, EntityType};
+use crate::shim::borrow::CowStr;
+use core::{slice, str};
+
+/// A `bool` of C: true unless it is 0.
+#[derive(Clone, Copy)]
+#[repr(transparent)]
+pub struct Flag(pub u8);
+
+impl Flag {
+    pub fn is_set(self) -> bool {
+        self.0 != 0
+    }
+}
+
+/// `wenc_part`: a member of a list of names.
+#[derive(Clone, Copy)]
+#[repr(C)]
+pub struct Part {
+    pub name: *const u8,
+    pub name_len: usize,
+    pub kind: u32,
+    pub number: u32,
+}
+
+/// `wenc_pair`: a member of a list without names.
+#[derive(Clone, Copy)]
+#[repr(C)]
+pub struct Pair {
+    pub kind: u32,
+    pub number: u32,
+}
+
+/// `wenc_name`: a name with its options.
+#[repr(C)]
+pub struct Name {
+    pub name: *const u8,
+    pub name_len: usize,
+    pub implements: *const u8,
+    pub implements_len: usize,
+    pub version_suffix: *const u8,
+    pub version_suffix_len: usize,
+    pub external_id: *const u8,
+    pub external_id_len: usize,
+    pub has_implements: Flag,
+    pub has_version_suffix: Flag,
+    pub has_external_id: Flag,
+}
+
+/// `wenc_entity`: an import or an export of a core module.
+#[derive(Clone, Copy)]
+#[repr(C)]
+pub struct Entity {
+    pub minimum: u64,
+    pub maximum: u64,
+    pub kind: u32,
+    pub ty: u32,
+    pub index: u32,
+    pub has_maximum: Flag,
+    pub is_long: Flag,
+    pub is_shared: Flag,
+}
+
+/// `wenc_subtype`: a core type as a subtype.
+#[repr(C)]
+pub struct Subtype {
+    pub fields: *const Pair,
+    pub fields_len: usize,
+    pub results: *const Pair,
+    pub results_len: usize,
+    pub kind: u32,
+    pub supertype: u32,
+    pub has_supertype: Flag,
+    pub is_final: Flag,
+}
+
+/// `wenc_producer`: a tool, its version and its field.
+#[repr(C)]
+pub struct Producer {
+    pub field: *const u8,
+    pub field_len: usize,
+    pub tool: *const u8,
+    pub tool_len: usize,
+    pub version: *const u8,
+    pub version_len: usize,
+}
+
+/// `wenc_index_name`: the name of an item.
+#[repr(C)]
+pub struct IndexName {
+    pub name: *const u8,
+    pub name_len: usize,
+    pub index: u32,
+}
+
+/// Returns an array. The pointer of an empty one isn't used.
+///
+/// # Errors
+///
+/// Fails if the pointer is NULL, or the array would be too long.
+pub unsafe fn list<'a, T>(at: *const T, len: usize) -> Result<&'a [T]> {
+    if len == 0 {
+        Ok(&[])
+    } else if at.is_null() || len > isize::MAX as usize / size_of::<T>() {
+        Err(Status::BadArgument)
+    } else {
+        Ok(unsafe { slice::from_raw_parts(at, len) })
+    }
+}
+
+/// Returns a UTF-8 string. Most are ASCII, which is faster to check.
+pub unsafe fn text<'a>(at: *const u8, len: usize) -> Result<&'a str> {
+    let bytes = unsafe { list(at, len) }?;
+    if bytes.is_ascii() {
+        return Ok(unsafe { str::from_utf8_unchecked(bytes) });
+    }
+    str::from_utf8(bytes).map_err(|_| Status::Malformed)
+}
+
+/// Returns a string if the flag is set. Otherwise, the pointer isn't used.
+pub unsafe fn optional<'a>(has: Flag, at: *const u8, len: usize) -> Result<Option<&'a str>> {
+    if has.is_set() { unsafe { text(at, len) }.map(Some) } else { Ok(None) }
+}
+
+impl Name {
+    /// Returns the name with its options.
+    pub unsafe fn read<'a>(&self) -> Result<ComponentExternName<'a>> {
+        let option = |has, at, len| -> Result<Option<CowStr<'a>>> {
+            Ok(unsafe { optional(has, at, len) }?.map(CowStr::Borrowed))
+        };
+        Ok(ComponentExternName {
+            name: CowStr::Borrowed(unsafe { text(self.name, self.name_len) }?),
+            implements: option(self.has_implements, self.implements, self.implements_len)?,
+            version_suffix: option(
+                self.has_version_suffix,
+                self.version_suffix,
+                self.version_suffix_len,
+            )?,
+            external_id: option(self.has_external_id, self.external_id, self.external_id_len)?,
+        })
+    }
+}
+
+impl Entity {
+    /// Returns the type of the import or the export.
+    pub fn read(&self) -> Result<EntityType> {
+        numbers::entity(self).ok_or(Status::BadArgument)
+    }
+}
+
+/// Returns an iterator over values with their names. All of them are checked first, so it yields
+/// all.
+///
+/// # Errors
+///
+/// Fails if a name isn't UTF-8, or a pair of numbers isn't known to `of`.
+pub unsafe fn named<'a, T>(
+    parts: &'a [Part],
+    of: impl Fn(u32, u32) -> Option<T> + 'a,
+) -> Result<impl Iterator<Item = (&'a str, T)>> {
+    for part in parts {
+        unsafe { text(part.name, part.name_len) }?;
+        of(part.kind, part.number).ok_or(Status::BadArgument)?;
+    }
+    Ok(parts.iter().filter_map(move |part| {
+        let name = unsafe { str::from_utf8_unchecked(list(part.name, part.name_len).ok()?) };
+        Some((name, of(part.kind, part.number)?))
+    }))
+}
+
+/// Returns an iterator over values without names, as [`named`] does.
+pub fn unnamed<'a, T>(
+    pairs: &'a [Pair],
+    of: impl Fn(u32, u32) -> Option<T> + 'a,
+) -> Result<impl Iterator<Item = T>> {
+    if pairs.iter().any(|pair| of(pair.kind, pair.number).is_none()) {
+        return Err(Status::BadArgument);
+    }
+    Ok(pairs.iter().filter_map(move |pair| of(pair.kind, pair.number)))
+}
+
+/// Returns an iterator over names alone, as [`named`] does. The numbers with them aren't used.
+pub unsafe fn names(parts: &[Part]) -> Result<impl Iterator<Item = &str>> {
+    Ok(unsafe { named(parts, |_, _| Some(())) }?.map(|(name, ())| name))
+}

@@ -1,0 +1,278 @@
+//! The calls that add items: imports, exports, aliases, modules, components, instances, functions.
+
+use super::arguments::{Name, Pair, Part, named, unnamed};
+use super::session::{Session, counted};
+use super::{Handle, Result, Status, calls, numbers, other};
+use crate::proved::wasm_encoder::{
+    AddsBuiltin, AddsSlot, Alias, CanonicalOption, ComponentExternName, ComponentSectionId,
+    ComponentStartSection, ModuleArg, RawSection, ValType,
+};
+
+/// Returns the value of a number, or fails with `BadArgument`.
+fn known<T>(value: Option<T>) -> Result<T> {
+    value.ok_or(Status::BadArgument)
+}
+
+calls! {
+    wenc_import(name[name_len]: text, reference: u32, of: u32) -> index = |session| {
+        session.import(name.into(), known(numbers::type_ref(reference, of))?)
+    };
+    wenc_import_named(&name: Name, reference: u32, of: u32) -> index = |session| {
+        session.import(name.read()?, known(numbers::type_ref(reference, of))?)
+    };
+    wenc_export(
+        name[name_len]: text, kind: u32, item: u32, reference: u32, of: u32
+    ) -> index = |session| {
+        let kind = known(numbers::kind(kind))?;
+        session.export(name.into(), kind, item, known(numbers::maybe_type_ref(reference, of))?)
+    };
+    wenc_export_named(&name: Name, kind: u32, item: u32, reference: u32, of: u32) -> index
+        = |session| {
+        let kind = known(numbers::kind(kind))?;
+        session.export(name.read()?, kind, item, known(numbers::maybe_type_ref(reference, of))?)
+    };
+    wenc_alias_export(instance: u32, kind: u32, name[name_len]: text) -> index = |session| {
+        let kind = known(numbers::kind(kind))?;
+        match session {
+            Session::Building(builder) => Ok(builder.alias_export(instance, name, kind)?),
+            _ => session.alias(None, Alias::InstanceExport { instance, kind, name }),
+        }
+    };
+    wenc_alias_instance_export(
+        debug_name: name, instance: u32, kind: u32, name[name_len]: text
+    ) -> index = |session| {
+        let kind = known(numbers::kind(kind))?;
+        session.alias(debug_name, Alias::InstanceExport { instance, kind, name })
+    };
+    wenc_alias_core_export(
+        debug_name: name, instance: u32, kind: u32, name[name_len]: text
+    ) -> index = |session| {
+        let kind = known(numbers::core_kind(kind))?;
+        session.alias(debug_name, Alias::CoreInstanceExport { instance, kind, name })
+    };
+    wenc_alias_outer(debug_name: name, kind: u32, count: u32, item: u32) -> index = |session| {
+        let kind = known(numbers::outer_kind(kind))?;
+        session.alias(debug_name, Alias::Outer { kind, count, index: item })
+    };
+    wenc_core_module(debug_name: name, bytes[len]: u8) -> index = |session| match session {
+        Session::Building(builder) => Ok(builder.core_module_raw(debug_name, bytes)?),
+        _ => session.append(&RawSection { id: ComponentSectionId::CoreModule.into(), data: bytes }),
+    };
+    wenc_component_bytes(debug_name: name, bytes[len]: u8) -> index = |session| {
+        add_component(session, debug_name, bytes)
+    };
+    wenc_start(function: u32, args[args_len]: u32, results: u32) -> index = |session| {
+        match session {
+            Session::Building(builder) => Ok(builder.start(function, args, results)?),
+            _ => session.append(&ComponentStartSection { function_index: function, args, results }),
+        }
+    };
+    wenc_lift(debug_name: name, function: u32, ty: u32, options[options_len]: Pair) -> index
+        = |session| {
+        let options = unnamed(options, numbers::option)?;
+        match session {
+            Session::Building(to) => Ok(to.lift_func(debug_name, function, ty, options)?),
+            Session::Functions(to) => counted!(to => to.lift(function, ty, options)),
+            _ => Err(session.refusal()),
+        }
+    };
+    wenc_lower(debug_name: name, function: u32, options[options_len]: Pair) -> index = |session| {
+        let options = unnamed(options, numbers::option)?;
+        match session {
+            Session::Building(to) => Ok(to.lower_func(debug_name, function, options)?),
+            Session::Functions(to) => counted!(to => to.lower(function, options)),
+            _ => Err(session.refusal()),
+        }
+    };
+    wenc_builtin(function: u32, first: u32, second: u32) -> index = |session| match session {
+        Session::Building(to) => add_builtin(to, function, first, second),
+        Session::Functions(to) => counted!(to => add_builtin(to, function, first, second)),
+        _ => Err(session.refusal()),
+    };
+    wenc_builtin_with(function: u32, first: u32, options[options_len]: Pair) -> index = |session| {
+        let options = unnamed(options, numbers::option)?;
+        match session {
+            Session::Building(to) => add_builtin_with(to, function, first, options),
+            Session::Functions(to) => {
+                counted!(to => add_builtin_with(to, function, first, options))
+            }
+            _ => Err(session.refusal()),
+        }
+    };
+    wenc_task_return(reference: u32, of: u32, options[options_len]: Pair) -> index = |session| {
+        let ty = known(numbers::maybe_value(reference, of))?;
+        let options = unnamed(options, numbers::option)?;
+        match session {
+            Session::Building(to) => Ok(to.task_return(ty, options)?),
+            Session::Functions(to) => counted!(to => to.task_return(ty, options)),
+            _ => Err(session.refusal()),
+        }
+    };
+    wenc_context(function: u32, ty: u32, slot: u32) -> index = |session| {
+        let ty = known(numbers::core_number(ty))?;
+        match session {
+            Session::Building(to) => add_slot(to, function, ty, slot),
+            Session::Functions(to) => counted!(to => add_slot(to, function, ty, slot)),
+            _ => Err(session.refusal()),
+        }
+    };
+    wenc_core_instantiate(debug_name: name, module: u32, args[args_len]: Part) -> index
+        = |session| {
+        let args = named(args, |_, instance| Some(ModuleArg::Instance(instance)))?;
+        match session {
+            Session::Building(to) => Ok(to.core_instantiate(debug_name, module, args)?),
+            Session::CoreInstances(to) => counted!(to => to.instantiate(module, args)),
+            _ => Err(session.refusal()),
+        }
+    };
+    wenc_core_exports(debug_name: name, exports[exports_len]: Part) -> index = |session| {
+        let exports = named(exports, |kind, item| Some((numbers::core_kind(kind)?, item)))?;
+        let exports = exports.map(|(name, (kind, item))| (name, kind, item));
+        match session {
+            Session::Building(to) => Ok(to.core_instantiate_exports(debug_name, exports)?),
+            Session::CoreInstances(to) => counted!(to => to.export_items(exports)),
+            _ => Err(session.refusal()),
+        }
+    };
+    wenc_instantiate(debug_name: name, component: u32, args[args_len]: Part) -> index = |session| {
+        let args = named(args, |kind, item| Some((numbers::kind(kind)?, item)))?;
+        let args = args.map(|(name, (kind, item))| (name, kind, item));
+        match session {
+            Session::Building(to) => Ok(to.instantiate(debug_name, component, args)?),
+            Session::Instances(to) => counted!(to => to.instantiate(component, args)),
+            _ => Err(session.refusal()),
+        }
+    };
+    wenc_export_items(debug_name: name, items[items_len]: Part) -> index = |session| {
+        let items = named(items, |kind, item| Some((numbers::kind(kind)?, item)))?;
+        let items = items.map(|(name, (kind, item))| (ComponentExternName::from(name), kind, item));
+        match session {
+            Session::Building(to) => Ok(to.instantiate_exports(debug_name, items)?),
+            Session::Instances(to) => counted!(to => to.export_items(items)),
+            _ => Err(session.refusal()),
+        }
+    };
+    wenc_component_ref(debug_name: name, nested: *mut Handle) -> index = |session| {
+        let nested = other(session, nested)?;
+        nest(session, debug_name, nested)
+    };
+    wenc_component(debug_name: name, nested: *mut Handle) -> index = |session| {
+        let given = other(session, nested)?;
+        let index = nest(session, debug_name, given)?;
+        super::life::wenc_free(nested);
+        Ok(index)
+    };
+}
+
+/// Adds a component given as bytes.
+fn add_component(session: &mut Session, debug_name: Option<&str>, bytes: &[u8]) -> Result<u32> {
+    match session {
+        Session::Building(builder) => Ok(builder.component_raw(debug_name, bytes)?),
+        _ => session.append(&RawSection { id: ComponentSectionId::Component.into(), data: bytes }),
+    }
+}
+
+/// Nests the other handle's component; that handle stays valid.
+fn nest(session: &mut Session, debug_name: Option<&str>, nested: &Session) -> Result<u32> {
+    match nested {
+        Session::Building(nested) => Ok(session.builder()?.component_ref(debug_name, nested)?),
+        Session::ByHand(nested) => add_component(session, debug_name, nested.as_slice()),
+        _ => Err(nested.refusal()),
+    }
+}
+
+/// Converts a number to a flag.
+fn flag(number: u32) -> Result<bool> {
+    match number {
+        0 => Ok(false),
+        1 => Ok(true),
+        _ => Err(Status::BadArgument),
+    }
+}
+
+/// Adds a builtin of `enum wenc_function`.
+fn add_builtin<B: AddsBuiltin>(
+    to: &mut B,
+    function: u32,
+    first: u32,
+    second: u32,
+) -> Result<B::Answer> {
+    let added = match function {
+        1 => to.resource_new(first),
+        2 => to.resource_drop(first),
+        3 => to.resource_rep(first),
+        5 => to.subtask_cancel(flag(first)?),
+        8 => to.stream_new(first),
+        9 => to.stream_cancel_read(first, flag(second)?),
+        10 => to.stream_cancel_write(first, flag(second)?),
+        11 => to.stream_drop_readable(first),
+        12 => to.stream_drop_writable(first),
+        13 => to.future_new(first),
+        14 => to.future_cancel_read(first, flag(second)?),
+        15 => to.future_cancel_write(first, flag(second)?),
+        16 => to.future_drop_readable(first),
+        17 => to.future_drop_writable(first),
+        20 => to.waitable_set_wait(first),
+        21 => to.waitable_set_poll(first),
+        27 => to.thread_new_indirect(first, second),
+        34 => to.stream_forward(first),
+        35 => to.future_forward(first),
+        36 => to.thread_spawn_ref(first),
+        37 => to.thread_spawn_indirect(first, second),
+        _ => return add_plain_builtin(to, function),
+    };
+    Ok(added?)
+}
+
+/// Adds a builtin of `enum wenc_function` that takes no number.
+fn add_plain_builtin<B: AddsBuiltin>(to: &mut B, function: u32) -> Result<B::Answer> {
+    let added = match function {
+        4 => to.task_cancel(),
+        6 => to.thread_yield(),
+        7 => to.subtask_drop(),
+        18 => to.error_context_drop(),
+        19 => to.waitable_set_new(),
+        22 => to.waitable_set_drop(),
+        23 => to.waitable_join(),
+        24 => to.backpressure_inc(),
+        25 => to.backpressure_dec(),
+        26 => to.thread_index(),
+        28 => to.thread_resume_later(),
+        29 => to.thread_suspend(),
+        30 => to.thread_suspend_then_resume(),
+        31 => to.thread_yield_then_resume(),
+        32 => to.thread_suspend_then_promote(),
+        33 => to.thread_yield_then_promote(),
+        38 => to.thread_available_parallelism(),
+        _ => return Err(Status::BadArgument),
+    };
+    Ok(added?)
+}
+
+/// Adds a builtin of `enum wenc_function_with`.
+fn add_builtin_with<B: AddsBuiltin>(
+    to: &mut B,
+    function: u32,
+    first: u32,
+    options: impl Iterator<Item = CanonicalOption>,
+) -> Result<B::Answer> {
+    let added = match function {
+        1 => to.stream_read(first, options),
+        2 => to.stream_write(first, options),
+        3 => to.future_read(first, options),
+        4 => to.future_write(first, options),
+        5 => to.error_context_new(options),
+        6 => to.error_context_debug_message(options),
+        _ => return Err(Status::BadArgument),
+    };
+    Ok(added?)
+}
+
+/// Adds a builtin of `enum wenc_context_function`.
+fn add_slot<B: AddsSlot>(to: &mut B, function: u32, ty: ValType, slot: u32) -> Result<B::Answer> {
+    match function {
+        1 => Ok(to.context_get(ty, slot)?),
+        2 => Ok(to.context_set(ty, slot)?),
+        _ => Err(Status::BadArgument),
+    }
+}

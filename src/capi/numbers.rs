@@ -1,0 +1,258 @@
+//! The values for the numbers of the header's enumerations. Each list is in the order of the
+//! header.
+
+use super::arguments::Entity;
+use crate::proved::wasm_encoder::{
+    AbstractHeapType, CanonicalOption, ComponentExportKind, ComponentOuterAliasKind,
+    ComponentSectionId, ComponentTypeRef, ComponentValType, EntityType, ExportKind, FieldType,
+    HeapType, PrimitiveValType, RefType, Space, StorageType, TypeBounds, ValType,
+};
+use crate::proved::wenc_base::{GlobalType, MemoryType, TableType, TagType};
+
+/// `enum wenc_primitive`, from 1 on.
+const PRIMITIVES: [PrimitiveValType; 14] = [
+    PrimitiveValType::Bool,
+    PrimitiveValType::S8,
+    PrimitiveValType::U8,
+    PrimitiveValType::S16,
+    PrimitiveValType::U16,
+    PrimitiveValType::S32,
+    PrimitiveValType::U32,
+    PrimitiveValType::S64,
+    PrimitiveValType::U64,
+    PrimitiveValType::F32,
+    PrimitiveValType::F64,
+    PrimitiveValType::Char,
+    PrimitiveValType::String,
+    PrimitiveValType::ErrorContext,
+];
+
+/// `enum wenc_kind`.
+const KINDS: [ComponentExportKind; 6] = [
+    ComponentExportKind::Module,
+    ComponentExportKind::Func,
+    ComponentExportKind::Value,
+    ComponentExportKind::Type,
+    ComponentExportKind::Component,
+    ComponentExportKind::Instance,
+];
+
+/// `enum wenc_core_kind`.
+const CORE_KINDS: [ExportKind; 5] =
+    [ExportKind::Func, ExportKind::Table, ExportKind::Memory, ExportKind::Global, ExportKind::Tag];
+
+/// `enum wenc_outer_kind`.
+const OUTER_KINDS: [ComponentOuterAliasKind; 4] = [
+    ComponentOuterAliasKind::CoreModule,
+    ComponentOuterAliasKind::CoreType,
+    ComponentOuterAliasKind::Type,
+    ComponentOuterAliasKind::Component,
+];
+
+/// `enum wenc_core_type`, from 1 on: the numbers.
+const NUMBERS: [ValType; 5] =
+    [ValType::I32, ValType::I64, ValType::F32, ValType::F64, ValType::V128];
+
+/// `enum wenc_core_type`, after those: the heap types of references.
+const HEAP_TYPES: [AbstractHeapType; 12] = [
+    AbstractHeapType::Func,
+    AbstractHeapType::Extern,
+    AbstractHeapType::Any,
+    AbstractHeapType::None,
+    AbstractHeapType::NoExtern,
+    AbstractHeapType::NoFunc,
+    AbstractHeapType::Eq,
+    AbstractHeapType::Struct,
+    AbstractHeapType::Array,
+    AbstractHeapType::I31,
+    AbstractHeapType::Exn,
+    AbstractHeapType::NoExn,
+];
+
+/// `enum wenc_core_type`, after those: a core type by its index, and the packed types.
+const CONCRETE: u32 = 18;
+const I8: u32 = 19;
+const I16: u32 = 20;
+
+/// The flags that are added to a number of `enum wenc_core_type`.
+const NULLABLE: u32 = 0x100;
+const MUTABLE: u32 = 0x200;
+
+/// `enum wenc_section`.
+const SECTIONS: [ComponentSectionId; 12] = [
+    ComponentSectionId::CoreCustom,
+    ComponentSectionId::CoreModule,
+    ComponentSectionId::CoreInstance,
+    ComponentSectionId::CoreType,
+    ComponentSectionId::Component,
+    ComponentSectionId::Instance,
+    ComponentSectionId::Alias,
+    ComponentSectionId::Type,
+    ComponentSectionId::CanonicalFunction,
+    ComponentSectionId::Start,
+    ComponentSectionId::Import,
+    ComponentSectionId::Export,
+];
+
+/// `enum wenc_space`.
+const SPACES: [Space; 13] = [
+    Space::CoreModules,
+    Space::CoreFuncs,
+    Space::CoreTypes,
+    Space::CoreMemories,
+    Space::CoreTables,
+    Space::CoreInstances,
+    Space::CoreTags,
+    Space::CoreGlobals,
+    Space::Funcs,
+    Space::Instances,
+    Space::Values,
+    Space::Components,
+    Space::Types,
+];
+
+fn nth<T: Copy>(all: &[T], number: u32) -> Option<T> {
+    all.get(usize::try_from(number).ok()?).copied()
+}
+
+/// Returns the position of a value in a list.
+fn number_in<T: PartialEq>(all: &[T], value: &T) -> u32 {
+    (0..).zip(all).find(|(_, one)| *one == value).map_or(u32::MAX, |(number, _)| number)
+}
+
+pub fn primitive(number: u32) -> Option<PrimitiveValType> {
+    nth(&PRIMITIVES, number.checked_sub(1)?)
+}
+
+pub fn kind(number: u32) -> Option<ComponentExportKind> {
+    nth(&KINDS, number)
+}
+
+pub fn core_kind(number: u32) -> Option<ExportKind> {
+    nth(&CORE_KINDS, number)
+}
+
+pub fn outer_kind(number: u32) -> Option<ComponentOuterAliasKind> {
+    nth(&OUTER_KINDS, number)
+}
+
+pub fn section(number: u32) -> Option<ComponentSectionId> {
+    nth(&SECTIONS, number)
+}
+
+pub fn space(number: u32) -> Option<Space> {
+    nth(&SPACES, number)
+}
+
+/// Returns the number of an index space in `enum wenc_space`.
+pub fn of_space(space: Space) -> u32 {
+    number_in(&SPACES, &space)
+}
+
+/// `enum wenc_ref`: a value type.
+pub fn value(reference: u32, of: u32) -> Option<ComponentValType> {
+    match reference {
+        3 => Some(ComponentValType::Type(of)),
+        8 => Some(ComponentValType::Primitive(primitive(of)?)),
+        _ => None,
+    }
+}
+
+/// `enum wenc_ref`: the type of an import, or the type ascribed to an export.
+pub fn type_ref(reference: u32, of: u32) -> Option<ComponentTypeRef> {
+    Some(match reference {
+        1 => ComponentTypeRef::Module(of),
+        2 => ComponentTypeRef::Func(of),
+        4 => ComponentTypeRef::Type(TypeBounds::Eq(of)),
+        5 => ComponentTypeRef::Component(of),
+        6 => ComponentTypeRef::Instance(of),
+        7 => ComponentTypeRef::Type(TypeBounds::SubResource),
+        _ => ComponentTypeRef::Value(value(reference, of)?),
+    })
+}
+
+/// `enum wenc_ref`: a value type, or none.
+pub fn maybe_value(reference: u32, of: u32) -> Option<Option<ComponentValType>> {
+    if reference == 0 { Some(None) } else { value(reference, of).map(Some) }
+}
+
+/// `enum wenc_ref`: the type ascribed to an export, or none.
+pub fn maybe_type_ref(reference: u32, of: u32) -> Option<Option<ComponentTypeRef>> {
+    if reference == 0 { Some(None) } else { type_ref(reference, of).map(Some) }
+}
+
+/// `enum wenc_option`.
+pub fn option(number: u32, of: u32) -> Option<CanonicalOption> {
+    Some(match number {
+        0 => CanonicalOption::UTF8,
+        1 => CanonicalOption::UTF16,
+        2 => CanonicalOption::CompactUTF16,
+        3 => CanonicalOption::Memory(of),
+        4 => CanonicalOption::Realloc(of),
+        5 => CanonicalOption::PostReturn(of),
+        6 => CanonicalOption::Async,
+        7 => CanonicalOption::Callback(of),
+        8 => CanonicalOption::CoreType(of),
+        9 => CanonicalOption::Gc,
+        _ => return None,
+    })
+}
+
+/// `enum wenc_core_type`: a reference type. A nullable one has [`NULLABLE`] added.
+fn reference(number: u32, index: u32) -> Option<RefType> {
+    let nullable = number & NULLABLE != 0;
+    let heap_type = match number & !NULLABLE {
+        CONCRETE => HeapType::Concrete(index),
+        number => HeapType::Abstract(nth(&HEAP_TYPES, number.checked_sub(6)?)?),
+    };
+    Some(RefType { nullable, heap_type })
+}
+
+/// `enum wenc_core_type`: a value type.
+pub fn core_value(number: u32, index: u32) -> Option<ValType> {
+    let plain = number.checked_sub(1).and_then(|number| nth(&NUMBERS, number));
+    plain.or_else(|| reference(number, index).map(ValType::Ref))
+}
+
+/// `enum wenc_core_type`: a number or vector type.
+pub fn core_number(number: u32) -> Option<ValType> {
+    nth(&NUMBERS, number.checked_sub(1)?)
+}
+
+/// `enum wenc_core_type`: the type of a field, or of the elements of an array. A mutable one has
+/// [`MUTABLE`] added.
+pub fn field(number: u32, index: u32) -> Option<FieldType> {
+    let mutable = number & MUTABLE != 0;
+    let element_type = match number & !MUTABLE {
+        I8 => StorageType::I8,
+        I16 => StorageType::I16,
+        number => StorageType::Val(core_value(number, index)?),
+    };
+    Some(FieldType { element_type, mutable })
+}
+
+/// Returns the type of an import or an export of a core module.
+pub fn entity(entity: &Entity) -> Option<EntityType> {
+    let (minimum, maximum) =
+        (entity.minimum, entity.has_maximum.is_set().then_some(entity.maximum));
+    Some(match core_kind(entity.kind)? {
+        ExportKind::Func => EntityType::Function(entity.ty),
+        ExportKind::Table => EntityType::Table(TableType {
+            element_type: reference(entity.ty, entity.index)?,
+            table64: entity.is_long.is_set(),
+            minimum,
+            maximum,
+        }),
+        ExportKind::Memory => EntityType::Memory(MemoryType {
+            minimum,
+            maximum,
+            memory64: entity.is_long.is_set(),
+            shared: entity.is_shared.is_set(),
+        }),
+        ExportKind::Global => EntityType::Global(GlobalType {
+            val_type: core_value(entity.ty & !MUTABLE, entity.index)?,
+            mutable: entity.ty & MUTABLE != 0,
+        }),
+        ExportKind::Tag => EntityType::Tag(TagType { func_type_idx: entity.ty }),
+    })
+}

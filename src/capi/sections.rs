@@ -1,0 +1,93 @@
+//! The calls that append sections, and the section of debug names.
+
+use super::arguments::{IndexName, Producer, text};
+use super::session::Session;
+use super::{Handle, Result, Status, calls, numbers, other};
+use crate::component::name_items;
+use crate::proved::wasm_encoder::{
+    ComponentNameSection, CustomSection, NameMap, ProducersField, ProducersSection,
+    RawCustomSection, RawSection,
+};
+use crate::shim::alloc::Global;
+
+calls! {
+    wenc_custom_section(name[name_len]: text, data[data_len]: u8) = |session| {
+        add_custom(session, &CustomSection { name, data })
+    };
+    wenc_raw_custom_section(bytes[len]: u8) = |session| match session {
+        Session::Building(builder) => Ok(builder.raw_custom_section(bytes)?),
+        _ => session.append(&RawCustomSection(bytes)).map(drop),
+    };
+    wenc_raw_section(id: u8, bytes[len]: u8) = |session| {
+        session.append(&RawSection { id, data: bytes }).map(drop)
+    };
+    wenc_producers(producers[producers_len]: Producer) = |session| {
+        let section = read_producers(producers)?;
+        match session {
+            Session::Building(builder) => Ok(builder.producers_section(&section)?),
+            _ => session.append(&section).map(drop),
+        }
+    };
+    wenc_append_names() = |session| Ok(session.builder()?.append_names()?);
+    wenc_section(section: *mut Handle) = |session| {
+        match other(session, section)? {
+            Session::CoreInstances(section) => session.append(section).map(drop),
+            Session::CoreTypes(section) => session.append(section).map(drop),
+            Session::Instances(section) => session.append(section).map(drop),
+            Session::Aliases(section) => session.append(section).map(drop),
+            Session::Types(section) => session.append(section).map(drop),
+            Session::Functions(section) => session.append(section).map(drop),
+            Session::Imports(section) => session.append(section).map(drop),
+            Session::Exports(section) => session.append(section).map(drop),
+            Session::Names(section) => add_custom(session, &section.as_custom()),
+            _ => Err(Status::BadArgument),
+        }
+    };
+    wenc_names_component(name[name_len]: text) = |session| Ok(of_names(session)?.component(name)?);
+    wenc_names_items(space: u32, names[names_len]: IndexName) = |session| {
+        let section = of_names(session)?;
+        let space = numbers::space(space).ok_or(Status::BadArgument)?;
+        let mut map = NameMap::new(Global);
+        for named in names {
+            map.append(named.index, text(named.name, named.name_len)?)?;
+        }
+        Ok(name_items(section, space, &map)?)
+    };
+    wenc_names_raw(id: u8, bytes[len]: u8) = |session| Ok(of_names(session)?.raw(id, bytes)?);
+}
+
+fn add_custom(session: &mut Session, section: &CustomSection<'_>) -> Result<()> {
+    match session {
+        Session::Building(builder) => Ok(builder.custom_section(section)?),
+        _ => session.append(section).map(drop),
+    }
+}
+
+/// Returns the section of debug names that a handle owns.
+fn of_names(session: &mut Session) -> Result<&mut ComponentNameSection> {
+    match session {
+        Session::Names(section) => Ok(section),
+        _ => Err(session.refusal()),
+    }
+}
+
+/// Makes a producers section of these tools. Adjacent tools with the same field share it.
+unsafe fn read_producers(producers: &[Producer]) -> Result<ProducersSection> {
+    let field_of = |producer: &Producer| unsafe { text(producer.field, producer.field_len) };
+    let mut section = ProducersSection::new(Global);
+    let mut rest = producers;
+    while let Some(first) = rest.first() {
+        let name = field_of(first)?;
+        let mut field = ProducersField::new(Global);
+        while let Some((producer, behind)) = rest.split_first() {
+            if field_of(producer)? != name {
+                break;
+            }
+            let tool = unsafe { text(producer.tool, producer.tool_len) }?;
+            field.value(tool, unsafe { text(producer.version, producer.version_len) }?)?;
+            rest = behind;
+        }
+        section.field(name, &field)?;
+    }
+    Ok(section)
+}

@@ -1,0 +1,234 @@
+//! Components and their sections.
+
+mod aliases;
+mod builder;
+mod canonicals;
+mod components;
+mod exports;
+mod imports;
+mod instances;
+mod modules;
+mod names;
+mod start;
+mod types;
+
+pub use aliases::*;
+pub use builder::*;
+pub use canonicals::{CanonicalFunctionSection, CanonicalOption};
+pub use components::*;
+pub use exports::*;
+pub use imports::*;
+pub use instances::*;
+pub use modules::*;
+pub use names::*;
+pub use start::*;
+pub use types::*;
+
+use crate::encode::{Encode, Foreign, append, copied};
+use crate::error::or_panic;
+use crate::proved::wasm_encoder as proved;
+use alloc::vec::Vec;
+use core::cell::Cell;
+use core::fmt;
+
+pub use proved::ComponentSectionId;
+
+/// A section of a component ([component model, binary format, "Component
+/// Definitions"][definitions]). Your own types can implement it too.
+///
+/// [definitions]: https://github.com/WebAssembly/component-model/blob/main/design/mvp/Binary.md#component-definitions
+///
+/// ```
+/// use wenc::{Component, ComponentSection, ComponentSectionId, Encode};
+///
+/// /// A custom section with the name `x`.
+/// struct Marked(Vec<u8>);
+///
+/// impl Encode for Marked {
+///     fn encode(&self, sink: &mut Vec<u8>) {
+///         (2 + self.0.len()).encode(sink);
+///         "x".encode(sink);
+///         sink.extend_from_slice(&self.0);
+///     }
+/// }
+///
+/// impl ComponentSection for Marked {
+///     fn id(&self) -> u8 {
+///         ComponentSectionId::CoreCustom.into()
+///     }
+/// }
+///
+/// let mut component = Component::new();
+/// component.section(&Marked(vec![7]));
+/// assert_eq!(component.as_slice()[8..], [0, 3, 1, b'x', 7]);
+/// ```
+pub trait ComponentSection: Encode {
+    /// Returns the section's id, from 0 to 255.
+    fn id(&self) -> u8;
+
+    /// Appends the section with its id to `dst`.
+    ///
+    /// # Panics
+    ///
+    /// Panics as [`Encode::encode`] does, with `dst` unchanged.
+    fn append_to_component(&self, dst: &mut Vec<u8>) {
+        append_section(self, dst);
+    }
+}
+
+/// Appends a section with its id, or leaves the bytes unchanged. Room for the id is reserved
+/// separately: if that fails, the section is written first and then moved.
+fn append_section<S: ComponentSection + ?Sized>(section: &S, dst: &mut Vec<u8>) {
+    let _ = dst.try_reserve(1);
+    let section = Foreign { value: section, own: &Cell::default() };
+    or_panic(append(dst, |sink| proved::ComponentSection::append_to_component(&section, sink)));
+}
+
+impl<S: ComponentSection + ?Sized> proved::ComponentSection for Foreign<'_, S> {
+    fn id(&self) -> u8 {
+        self.value.id()
+    }
+}
+
+/// A component that is built section by section, in order. Neither the order nor the sections are
+/// checked.
+///
+/// ```
+/// use wenc::{Component, ComponentImportSection, ComponentTypeRef, ComponentTypeSection};
+///
+/// let mut types = ComponentTypeSection::new();
+/// types.function().params([] as [(&str, wenc::ComponentValType); 0]).result(None);
+/// let mut imports = ComponentImportSection::new();
+/// imports.import("f", ComponentTypeRef::Func(0));
+///
+/// let mut component = Component::new();
+/// component.section(&types).section(&imports);
+/// assert_eq!(
+///     component.finish(),
+///     b"\0asm\x0d\0\x01\0\x07\x05\x01\x40\0\x01\0\x0a\x06\x01\0\x01f\x01\0",
+/// );
+/// ```
+#[derive(Clone, Debug, PartialEq, Eq, Hash)]
+pub struct Component {
+    bytes: Vec<u8>,
+}
+
+impl Component {
+    /// The first bytes of every component.
+    pub const HEADER: [u8; 8] = <proved::Component>::HEADER;
+
+    /// Creates a component without sections.
+    ///
+    /// # Panics
+    ///
+    /// Panics if an allocation fails.
+    pub fn new() -> Self {
+        Self { bytes: or_panic(copied(Self::HEADER)) }
+    }
+
+    /// Returns the bytes of the component.
+    pub fn finish(self) -> Vec<u8> {
+        self.bytes
+    }
+
+    /// Appends a section.
+    ///
+    /// # Panics
+    ///
+    /// Panics as [`Encode::encode`] does, with the component unchanged.
+    pub fn section(&mut self, section: &impl ComponentSection) -> &mut Self {
+        append_section(section, &mut self.bytes);
+        self
+    }
+
+    /// Returns the bytes so far.
+    pub fn as_slice(&self) -> &[u8] {
+        &self.bytes
+    }
+}
+
+impl Default for Component {
+    fn default() -> Self {
+        Self::new()
+    }
+}
+
+/// Implements the methods of sections with a count, their ids, and comparison by content.
+macro_rules! sections {
+    ($($name:ident)*) => {
+        $(impl $name {
+            /// Returns the number of items, including an unfinished one.
+            pub fn len(&self) -> u32 {
+                self.0.len()
+            }
+
+            /// Returns `true` if the section has no items.
+            pub fn is_empty(&self) -> bool {
+                self.0.is_empty()
+            }
+        }
+
+        impl $crate::ComponentSection for $name {
+            fn id(&self) -> u8 {
+                $crate::proved::wasm_encoder::ComponentSection::id(&self.0)
+            }
+        }
+
+        $crate::eq_by_bytes::eq_by_bytes! { $name })*
+    };
+}
+
+pub(crate) use sections;
+
+crate::encode::encode! {
+    ComponentSectionId, value => *value;
+}
+
+impl ComponentSectionId {
+    /// All ids, in ascending order.
+    pub const ALL: [Self; 12] = [
+        Self::CoreCustom,
+        Self::CoreModule,
+        Self::CoreInstance,
+        Self::CoreType,
+        Self::Component,
+        Self::Instance,
+        Self::Alias,
+        Self::Type,
+        Self::CanonicalFunction,
+        Self::Start,
+        Self::Import,
+        Self::Export,
+    ];
+}
+
+impl TryFrom<u8> for ComponentSectionId {
+    type Error = UnknownSectionId;
+
+    fn try_from(id: u8) -> Result<Self, UnknownSectionId> {
+        Self::ALL.into_iter().find(|known| u8::from(*known) == id).ok_or(UnknownSectionId(id))
+    }
+}
+
+/// The error of converting a `u8` that is no section's id to a [`ComponentSectionId`] or a
+/// [`SectionId`](crate::SectionId).
+///
+/// ```
+/// use wenc::{ComponentSectionId, UnknownSectionId};
+///
+/// assert_eq!(ComponentSectionId::try_from(11), Ok(ComponentSectionId::Export));
+/// assert_eq!(ComponentSectionId::try_from(12), Err(UnknownSectionId(12)));
+/// ```
+#[derive(Clone, Copy, Debug, PartialEq, Eq, Hash)]
+pub struct UnknownSectionId(
+    /// The id, from 0 to 255.
+    pub u8,
+);
+
+impl fmt::Display for UnknownSectionId {
+    fn fmt(&self, f: &mut fmt::Formatter<'_>) -> fmt::Result {
+        write!(f, "no section has the id {}", self.0)
+    }
+}
+
+impl core::error::Error for UnknownSectionId {}

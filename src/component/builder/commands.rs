@@ -1,0 +1,118 @@
+//! Building by commands.
+
+use crate::Error;
+use crate::component::ComponentBuilder;
+use crate::proved::wasm_encoder as proved;
+use crate::tree::Command;
+
+/// Commands.
+impl ComponentBuilder {
+    /// Makes the call that a command describes. Returns the index of the item that it adds, or
+    /// `None` for a custom section and for names. An item that [`list`](crate::list) returns
+    /// becomes a command by `From`; [`build`](crate::tree::build) runs commands on a new builder.
+    ///
+    /// Needs the feature `reader`.
+    ///
+    /// # Errors
+    ///
+    /// The error of that call; for a nested component, the first error of its commands. The builder
+    /// is unchanged, since a type that can't be encoded is discarded.
+    ///
+    /// ```
+    /// use wenc::tree::{Command, String};
+    /// use wenc::{ComponentBuilder, ComponentExportKind, ComponentTypeRef, TypeBounds};
+    ///
+    /// let mut builder = ComponentBuilder::default();
+    /// let file = builder.import("file", ComponentTypeRef::Type(TypeBounds::SubResource));
+    /// let export = Command::Export {
+    ///     name: String::from("handle").into(),
+    ///     kind: ComponentExportKind::Type,
+    ///     index: file,
+    ///     ty: None,
+    /// };
+    /// assert_eq!(builder.command(&export)?, Some(1));
+    /// assert_eq!(
+    ///     builder.finish()[8..],
+    ///     *b"\x0a\x09\x01\0\x04file\x03\x01\x0b\x0c\x01\0\x06handle\x03\0\0",
+    /// );
+    /// # Ok::<(), wenc::Error>(())
+    /// ```
+    pub fn command(&mut self, command: &Command) -> Result<Option<u32>, Error> {
+        let was_finished = self.is_finished();
+        let result = self.run(command);
+        if result.is_err() && was_finished {
+            self.discard_unfinished();
+        }
+        result
+    }
+
+    /// Makes the call that a command describes. A type that can't be encoded is left unfinished.
+    fn run(&mut self, command: &Command) -> Result<Option<u32>, Error> {
+        let (builder, name) = (&mut self.0, debug_name(command));
+        let index = match command {
+            Command::CoreModule { bytes, .. } => builder.core_module_raw(name, bytes)?,
+            Command::CoreInstance { instance, .. } => builder.core_instance_tree(name, instance)?,
+            Command::CoreType { ty, .. } => {
+                let (index, encoder) = builder.core_type(name)?;
+                encoder.tree(ty)?;
+                index
+            }
+            Command::Component { commands, .. } => self.nested(name, commands)?,
+            Command::ComponentRaw { bytes, .. } => builder.component_raw(name, bytes)?,
+            Command::Instance { instance, .. } => builder.instance_tree(name, instance)?,
+            Command::Alias { alias, .. } => builder.alias(name, alias.as_alias())?,
+            Command::Type { ty, .. } => {
+                let (index, encoder) = builder.ty(name)?;
+                encoder.tree(ty)?;
+                index
+            }
+            Command::Canon { canon, .. } => builder.canonical_tree(name, canon)?,
+            Command::Start { function, args, results } => {
+                builder.start(*function, args, *results)?
+            }
+            Command::Import { name, ty } => builder.import(name.as_name(), *ty)?,
+            Command::Export { name, kind, index, ty } => {
+                builder.export(name.as_name(), *kind, *index, *ty)?
+            }
+            Command::AppendNames => return self.try_append_names().map(|()| None),
+            Command::Custom { name, data } => {
+                builder.custom_section(&proved::CustomSection { name, data })?;
+                return Ok(None);
+            }
+            Command::RawCustom { bytes } => {
+                return self.try_raw_custom_section(bytes).map(|()| None);
+            }
+        };
+        Ok(Some(index))
+    }
+
+    /// Builds the component that these commands describe, and nests it.
+    fn nested(&mut self, debug_name: Option<&str>, commands: &[Command]) -> Result<u32, Error> {
+        let mut nested = Self::try_new()?;
+        for command in commands {
+            nested.command(command)?;
+        }
+        self.try_component(debug_name, nested)
+    }
+}
+
+/// The debug name of a command's item.
+fn debug_name(command: &Command) -> Option<&str> {
+    match command {
+        Command::CoreModule { debug_name, .. }
+        | Command::CoreInstance { debug_name, .. }
+        | Command::CoreType { debug_name, .. }
+        | Command::Component { debug_name, .. }
+        | Command::ComponentRaw { debug_name, .. }
+        | Command::Instance { debug_name, .. }
+        | Command::Alias { debug_name, .. }
+        | Command::Type { debug_name, .. }
+        | Command::Canon { debug_name, .. } => debug_name.as_deref(),
+        Command::Start { .. }
+        | Command::Import { .. }
+        | Command::Export { .. }
+        | Command::AppendNames
+        | Command::Custom { .. }
+        | Command::RawCustom { .. } => None,
+    }
+}

@@ -1,0 +1,167 @@
+//! A core module section by section.
+
+use crate::list::{Found, Unread, write_part};
+use crate::proved::wenc_list::{behind_module_header, part_of};
+use crate::proved::wenc_read::{Refusal, name_of};
+use crate::shim::alloc::Global;
+use crate::{RawSection, SectionId};
+use alloc::string::String;
+use core::fmt;
+use core::ops::Range;
+
+/// A section of a core module (WebAssembly 3.0, binary format, "Sections").
+///
+/// Needs the feature `reader`.
+#[derive(Clone, Debug, PartialEq, Eq)]
+pub struct CoreSection<'a> {
+    /// Its id, from 0 to 255.
+    pub id: u8,
+    /// The name of a custom section; `None` for every other section.
+    pub name: Option<String>,
+    /// Its content after the size; for a custom section, the bytes after the name.
+    pub data: &'a [u8],
+    /// Its bytes in the module, from its id to the end of its content.
+    pub range: Range<usize>,
+}
+
+impl CoreSection<'_> {
+    /// Returns the section's id as a [`SectionId`]; `None` for an id above 13.
+    pub fn kind(&self) -> Option<SectionId> {
+        self.id.try_into().ok()
+    }
+}
+
+/// The sections of a core module, in order (WebAssembly 3.0, binary format, "Modules"). Their
+/// contents aren't read, except for the names of custom sections, and their order isn't checked.
+///
+/// Needs the feature `reader`.
+///
+/// The iterator ends after an error.
+///
+/// ```
+/// use wenc::{CoreSections, ModuleFault, SectionId};
+///
+/// let module = b"\0asm\x01\0\0\0\x01\x04\x01\x60\0\0\0\x03\x01x\x07\x0a";
+/// let mut sections = CoreSections::new(module)?;
+///
+/// let types = sections.next().unwrap()?;
+/// assert_eq!((types.kind(), types.range), (Some(SectionId::Type), 8..14));
+/// let custom = sections.next().unwrap()?;
+/// assert_eq!((custom.name.as_deref(), custom.data), (Some("x"), &[7][..]));
+///
+/// assert_eq!(sections.next(), Some(Err(ModuleFault::BadSection { place: 19 })));
+/// assert_eq!(sections.next(), None);
+/// # Ok::<(), ModuleFault>(())
+/// ```
+#[derive(Clone, Debug)]
+pub struct CoreSections<'a> {
+    /// The size of the module.
+    len: usize,
+    rest: &'a [u8],
+}
+
+impl<'a> CoreSections<'a> {
+    /// Returns the sections of the core module with these bytes.
+    ///
+    /// # Errors
+    ///
+    /// [`ModuleFault::NotAModule`] if the bytes don't begin with the header of a core module.
+    pub fn new(module: &'a [u8]) -> Result<Self, ModuleFault> {
+        let rest = behind_module_header(module)
+            .ok_or_else(|| ModuleFault::NotAModule { found: Found::of(module) })?;
+        Ok(Self { len: module.len(), rest })
+    }
+
+    /// Returns the next section as its id and the bytes after its size, with its byte offsets,
+    /// without reading its content; `None` at the end, after an error, and if there is no id or no
+    /// size within bounds. A clone made before an error can continue past a custom section without
+    /// a name.
+    ///
+    /// ```
+    /// use wenc::{CoreSections, ModuleFault, RawSection};
+    ///
+    /// // a custom section without a name
+    /// let mut sections = CoreSections::new(b"\0asm\x01\0\0\0\0\x01\x07")?;
+    /// let mut clone = sections.clone();
+    /// assert_eq!(sections.next(), Some(Err(ModuleFault::BadSection { place: 8 })));
+    /// assert_eq!(sections.next_raw(), None);
+    ///
+    /// assert_eq!(clone.next_raw(), Some((8..11, RawSection { id: 0, data: &[7] })));
+    /// assert_eq!(clone.next(), None);
+    /// # Ok::<(), ModuleFault>(())
+    /// ```
+    pub fn next_raw(&mut self) -> Option<(Range<usize>, RawSection<'a>)> {
+        let place = self.len - self.rest.len();
+        let ((id, data), rest) = part_of(self.rest).ok()?;
+        self.rest = rest;
+        Some((place..self.len - rest.len(), RawSection { id, data }))
+    }
+
+    /// Reads the first section of what is left. Returns it and the bytes after it.
+    fn first(&self) -> Result<(CoreSection<'a>, &'a [u8]), Refusal> {
+        let ((id, content), rest) = part_of(self.rest)?;
+        let (name, data) = if id == SectionId::Custom.into() {
+            let (name, data) = name_of(Global, content)?;
+            (Some(name.into()), data)
+        } else {
+            (None, content)
+        };
+        let range = self.len - self.rest.len()..self.len - rest.len();
+        Ok((CoreSection { id, name, data, range }, rest))
+    }
+}
+
+impl<'a> Iterator for CoreSections<'a> {
+    type Item = Result<CoreSection<'a>, ModuleFault>;
+
+    fn next(&mut self) -> Option<Self::Item> {
+        if self.rest.is_empty() {
+            return None;
+        }
+        let place = self.len - self.rest.len();
+        let first = self.first();
+        self.rest = first.as_ref().map_or(&[], |(_, rest)| rest);
+        Some(first.map(|(section, _)| section).map_err(|refusal| match refusal {
+            Refusal::Memory => ModuleFault::NoMemory,
+            Refusal::Malformed => ModuleFault::BadSection { place },
+        }))
+    }
+}
+
+/// Why a core module can't be read.
+///
+/// Needs the feature `reader`.
+#[derive(Clone, Copy, Debug, PartialEq, Eq, Hash)]
+#[non_exhaustive]
+pub enum ModuleFault {
+    /// An allocation failed.
+    NoMemory,
+    /// The bytes don't begin with the header of a core module.
+    NotAModule {
+        /// What they are instead.
+        found: Found,
+    },
+    /// A section lacks a size, a custom section lacks a name, or a size exceeds the module.
+    BadSection {
+        /// The byte offset of its id in the module.
+        place: usize,
+    },
+    /// The content of a section isn't a count and that many items, or isn't exactly one start.
+    BadItem {
+        /// The first part of it that can't be read, by its byte offset in the module.
+        unread: Unread,
+    },
+}
+
+impl fmt::Display for ModuleFault {
+    fn fmt(&self, f: &mut fmt::Formatter<'_>) -> fmt::Result {
+        match self {
+            Self::NoMemory => f.write_str("no memory"),
+            Self::NotAModule { found } => write!(f, "no core module's header: found {found}"),
+            Self::BadSection { place } => write!(f, "bad core section at {place:#x}"),
+            Self::BadItem { unread } => write_part(f, "bad item", *unread),
+        }
+    }
+}
+
+impl core::error::Error for ModuleFault {}

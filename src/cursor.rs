@@ -1,0 +1,436 @@
+//! Reading a component section by section, and a section item by item.
+
+use crate::proved::wenc_list as proved;
+use crate::shim::alloc::Global;
+use crate::tree::{ItemTree, NameTree, Space};
+use crate::twins::twins;
+use crate::{
+    ComponentExportKind, ComponentSectionId, ComponentTypeRef, DebugNames, Found, ListFault,
+    RawSection,
+};
+use alloc::vec::Vec;
+use core::fmt;
+use core::iter;
+use core::mem;
+use core::ops::Range;
+
+/// An iterator over the sections of a component.
+///
+/// Needs the feature `reader`.
+///
+/// Sections and items are read as [`list`](crate::list) reads them, but one at a time, so that only
+/// one item takes memory. Each comes with its range of byte offsets in the component. The iterator
+/// ends after an error. Methods that take `self` by value work on a copy, from the current section
+/// on.
+///
+/// The opcodes of some canonical functions, such as `thread.suspend-to`, have moved between
+/// releases: in components of older and newer tools these may be read as other functions, without
+/// an error (`docs/FORMAT.md`, "Where the public standard differs").
+///
+/// ```
+/// use wenc::tree::ItemTree;
+/// use wenc::{ComponentTypeRef, ListFault, Sections};
+///
+/// let bytes = b"\0asm\x0d\0\x01\0\x07\x05\x01\x40\0\x01\0\x0a\x06\x01\0\x01f\x01\0";
+/// let mut imports = Vec::new();
+/// for section in Sections::new(bytes)? {
+///     let section = section?;
+///     // Only the ids and sizes of the other sections are read.
+///     if section.id() == 10 {
+///         assert_eq!((section.range(), section.count()), (15..23, 1));
+///         imports.extend(section.items().collect::<Result<Vec<_>, _>>()?);
+///     }
+/// }
+/// let name = wenc::tree::String::from("f").into();
+/// let import = ItemTree::Import { name, ty: ComponentTypeRef::Func(0) };
+/// assert_eq!(imports, [(18..23, import)]);
+/// # Ok::<(), ListFault>(())
+/// ```
+#[derive(Clone, Copy)]
+pub struct Sections<'a> {
+    /// The component, or the outermost one around it.
+    bytes: &'a [u8],
+    /// The sections that are left; `None` after an error.
+    left: Option<proved::Sections<'a>>,
+}
+
+impl<'a> Sections<'a> {
+    /// Returns the sections of the component with these bytes.
+    ///
+    /// # Errors
+    ///
+    /// [`ListFault::NotAComponent`] if the bytes don't begin with a component's header.
+    pub fn new(bytes: &'a [u8]) -> Result<Self, ListFault> {
+        let left = proved::Sections::new(bytes).map_err(|fault| ListFault::new(bytes, fault))?;
+        Ok(Self { bytes, left: Some(left) })
+    }
+
+    /// Returns the next section as its id and the bytes after its size, with its byte offsets,
+    /// without reading its content; `None` at the end, after an error, and if there is no id or no
+    /// size within bounds. A copy made before an error can continue past the section that can't be
+    /// read.
+    ///
+    /// ```
+    /// use wenc::{Component, ListFault, RawSection, Sections};
+    ///
+    /// // a section with an id above 11, and an alias section without an item
+    /// let bytes = [&Component::HEADER[..], &[12, 1, 7], &[6, 1, 0]].concat();
+    /// let mut sections = Sections::new(&bytes)?;
+    /// let mut copy = sections;
+    /// assert!(sections.next().unwrap().is_err());
+    /// assert!(sections.next().is_none());
+    ///
+    /// assert_eq!(copy.next_raw(), Some((8..11, RawSection { id: 12, data: &[7] })));
+    /// assert_eq!(copy.next().unwrap()?.range(), 11..14);
+    /// assert_eq!(copy.next_raw(), None);
+    /// # Ok::<(), ListFault>(())
+    /// ```
+    pub fn next_raw(&mut self) -> Option<(Range<usize>, RawSection<'a>)> {
+        let left = self.left.as_mut()?;
+        let place = left.place();
+        let ((id, data), rest) = proved::part_of(left.rest).ok()?;
+        left.rest = rest;
+        Some((place..left.place(), RawSection { id, data }))
+    }
+
+    /// Returns the items of all sections, each with its byte offsets, up to the first that can't be
+    /// read.
+    pub fn items(self) -> impl Iterator<Item = Result<(Range<usize>, ItemTree), ListFault>> + 'a {
+        self.items_of(|_| true)
+    }
+
+    /// Returns the imports, each by its name and its type. The items of other sections aren't read.
+    pub fn imports(
+        self,
+    ) -> impl Iterator<Item = Result<(NameTree, ComponentTypeRef), ListFault>> + 'a {
+        self.items_of(|id| id == ComponentSectionId::Import.into()).filter_map(|item| match item {
+            Ok((_, ItemTree::Import { name, ty })) => Some(Ok((name, ty))),
+            Ok(_) => None,
+            Err(fault) => Some(Err(fault)),
+        })
+    }
+
+    /// Returns the exports, each by its name, and the kind and the index of the exported item.
+    /// Ascribed types are left out. The items of other sections aren't read.
+    pub fn exports(
+        self,
+    ) -> impl Iterator<Item = Result<(NameTree, ComponentExportKind, u32), ListFault>> + 'a {
+        self.items_of(|id| id == ComponentSectionId::Export.into()).filter_map(|item| match item {
+            Ok((_, ItemTree::Export { name, kind, index, ty: _ })) => Some(Ok((name, kind, index))),
+            Ok(_) => None,
+            Err(fault) => Some(Err(fault)),
+        })
+    }
+
+    /// Returns the number of indices that the items define in a space, as
+    /// [`Listing::count`](crate::Listing::count) does. All items are read.
+    ///
+    /// # Errors
+    ///
+    /// The first fault of a section or of an item.
+    pub fn index_count(self, space: Space) -> Result<u128, ListFault> {
+        self.items().try_fold(0, |count, item| match item?.1.indices() {
+            Some((of, more)) if of == space => Ok(count + u128::from(more)),
+            _ => Ok(count),
+        })
+    }
+
+    twins! {
+        /// Returns the debug names of the component and of its items, as
+        /// [`Listing::names`](crate::Listing::names) does. Sections other than custom ones are
+        /// skipped by their sizes. Names after bytes that aren't the id and the size of a section
+        /// are left out.
+        fn names | try_names(self) -> DebugNames {
+            DebugNames::of_sections(self.left.map_or(&[], |left| left.rest))
+        }
+    }
+
+    /// Returns the sections of the component and of all components that are nested in it, up to
+    /// `limit` deep.
+    pub fn nested(self, limit: usize) -> NestedSections<'a> {
+        NestedSections { innermost: self, around: Vec::new(), limit, last: None }
+    }
+
+    /// Returns the items of the sections whose ids are kept, up to the first that can't be read.
+    fn items_of(
+        self,
+        is_kept: impl Fn(u8) -> bool + 'a,
+    ) -> impl Iterator<Item = Result<(Range<usize>, ItemTree), ListFault>> + 'a {
+        let sections =
+            self.filter(move |section| section.as_ref().map_or(true, |of| is_kept(of.id())));
+        up_to_fault(sections.flat_map(|section| {
+            let (items, fault) = match section {
+                Ok(section) => (Some(section.items()), None),
+                Err(fault) => (None, Some(Err(fault))),
+            };
+            items.into_iter().flatten().chain(fault)
+        }))
+    }
+}
+
+impl fmt::Debug for Sections<'_> {
+    fn fmt(&self, f: &mut fmt::Formatter<'_>) -> fmt::Result {
+        let offset = self.left.map(|left| left.place());
+        f.debug_struct("Sections").field("offset", &offset).finish_non_exhaustive()
+    }
+}
+
+/// Returns the values up to the first fault, and the fault.
+fn up_to_fault<T, E>(
+    mut values: impl Iterator<Item = Result<T, E>>,
+) -> impl Iterator<Item = Result<T, E>> {
+    let mut is_over = false;
+    iter::from_fn(move || {
+        let value = if is_over { None } else { values.next() };
+        is_over = !matches!(value, Some(Ok(_)));
+        value
+    })
+}
+
+/// # Errors
+///
+/// [`ListFault::BadSection`] if the bytes aren't a section, and [`ListFault::BadItem`] if a section
+/// lacks its count.
+impl<'a> Iterator for Sections<'a> {
+    type Item = Result<SectionReader<'a>, ListFault>;
+
+    fn next(&mut self) -> Option<Self::Item> {
+        let next = self.left.as_mut()?.next().transpose()?;
+        if next.is_err() {
+            self.left = None;
+        }
+        let to_fault = |fault| ListFault::new(self.bytes, fault);
+        Some(next.map(|left| SectionReader { bytes: self.bytes, left }).map_err(to_fault))
+    }
+}
+
+/// A section of a component. Appended to another component, as a
+/// [`ComponentSection`](crate::ComponentSection), it is copied byte for byte.
+///
+/// Needs the feature `reader`.
+///
+/// ```
+/// use wenc::{Component, ComponentSectionId, Sections};
+///
+/// // a custom section, and imports whose size is padded
+/// let bytes = b"\0asm\x0d\0\x01\0\0\x03\x01x\x07\x0a\x89\0\x01\0\x04file\x03\x01";
+/// let mut component = Component::new();
+/// for section in Sections::new(bytes)? {
+///     let section = section?;
+///     if section.id() != u8::from(ComponentSectionId::CoreCustom) {
+///         component.section(&section);
+///     }
+/// }
+/// assert_eq!(component.finish(), b"\0asm\x0d\0\x01\0\x0a\x89\0\x01\0\x04file\x03\x01");
+/// # Ok::<(), wenc::ListFault>(())
+/// ```
+#[derive(Clone, Copy)]
+pub struct SectionReader<'a> {
+    bytes: &'a [u8],
+    left: proved::SectionItems<'a>,
+}
+
+impl<'a> SectionReader<'a> {
+    /// Returns the section's id, from 0 to 11.
+    pub fn id(&self) -> u8 {
+        self.left.id
+    }
+
+    /// Returns the byte offsets of the section, from its id to its end.
+    pub fn range(&self) -> Range<usize> {
+        self.left.place..self.left.ends
+    }
+
+    /// Returns the bytes of the section, from its id on.
+    pub fn bytes(&self) -> &'a [u8] {
+        &self.bytes[self.range()]
+    }
+
+    /// Returns the section as its id and the bytes after its size: for a core module or a nested
+    /// component, the bytes of that module or component.
+    ///
+    /// ```
+    /// use wenc::Sections;
+    ///
+    /// // a component in a component
+    /// let bytes = b"\0asm\x0d\0\x01\0\x04\x08\0asm\x0d\0\x01\0";
+    /// let section = Sections::new(bytes)?.next().expect("a section")?;
+    /// assert_eq!(section.bytes(), &bytes[8..]);
+    /// assert_eq!(section.raw().data, b"\0asm\x0d\0\x01\0");
+    /// # Ok::<(), wenc::ListFault>(())
+    /// ```
+    pub fn raw(&self) -> RawSection<'a> {
+        let Ok(((id, data), _)) = proved::part_of(self.bytes()) else {
+            unreachable!("its size was read")
+        };
+        RawSection { id, data }
+    }
+
+    /// Returns the number of items that the section states. A custom section, a module, a nested
+    /// component and a start are one item.
+    pub fn count(&self) -> u32 {
+        self.left.left
+    }
+
+    /// Returns the section's items.
+    pub fn items(&self) -> Items<'a> {
+        Items { bytes: self.bytes, left: Some(self.left) }
+    }
+
+    /// Returns the sections of the nested component that this section is, or `None` for another
+    /// section. All byte offsets are counted from the start of the outermost component.
+    ///
+    /// # Errors
+    ///
+    /// [`ListFault::NotAComponent`] if its bytes don't begin with the header of a component.
+    ///
+    /// ```
+    /// use wenc::{ListFault, Sections};
+    ///
+    /// // an alias section without an item, in a component in a component
+    /// let component = b"\0asm\x0d\0\x01\0\x04\x0b\0asm\x0d\0\x01\0\x06\x01\0";
+    /// let nested = Sections::new(component)?.next().unwrap()?;
+    /// let aliases = nested.component()?.unwrap().next().unwrap()?;
+    /// assert_eq!((aliases.id(), aliases.range()), (6, 18..21));
+    /// assert!(aliases.component()?.is_none());
+    /// # Ok::<(), ListFault>(())
+    /// ```
+    pub fn component(&self) -> Result<Option<Sections<'a>>, ListFault> {
+        if self.id() != ComponentSectionId::Component.into() {
+            return Ok(None);
+        }
+        let place = self.left.reached();
+        let left = proved::Sections::new(self.left.rest);
+        let found = || Found::of(self.left.rest);
+        let left = left.map_err(|_| ListFault::NotAComponent { place, found: found() })?;
+        let left = proved::Sections { ends: self.left.ends, ..left };
+        Ok(Some(Sections { bytes: self.bytes, left: Some(left) }))
+    }
+}
+
+impl fmt::Debug for Items<'_> {
+    fn fmt(&self, f: &mut fmt::Formatter<'_>) -> fmt::Result {
+        let offset = self.left.map(|left| left.reached());
+        f.debug_struct("Items").field("offset", &offset).finish_non_exhaustive()
+    }
+}
+
+impl fmt::Debug for SectionReader<'_> {
+    fn fmt(&self, f: &mut fmt::Formatter<'_>) -> fmt::Result {
+        let mut shown = f.debug_struct("SectionReader");
+        shown.field("id", &self.id()).field("range", &self.range()).finish_non_exhaustive()
+    }
+}
+
+/// The sections of a component and of all components nested in it, one by one, up to the first that
+/// lacks a size within bounds or a count, or [`ListFault::NoMemory`]. The sections of a nested
+/// component follow the section that contains it. All byte offsets are counted from the start of
+/// the outermost component.
+///
+/// Needs the feature `reader`.
+///
+/// Each section comes with the depth of its component: 0 is the outermost, 1 one that is nested in
+/// that, and so on. A component that is nested deeper than the limit is a fault,
+/// [`ListFault::TooDeep`] with the byte offset of its section, and follows that section.
+///
+/// ```
+/// use wenc::{ListFault, Sections};
+///
+/// // a component in a component in a component
+/// let component = b"\0asm\x0d\0\x01\0\x04\x12\0asm\x0d\0\x01\0\x04\x08\0asm\x0d\0\x01\0";
+/// let sections = Sections::new(component)?;
+///
+/// let all: Result<Vec<_>, ListFault> = sections.nested(2).collect();
+/// let places = all?.iter().map(|(depth, section)| (*depth, section.range())).collect::<Vec<_>>();
+/// assert_eq!(places, [(0, 8..28), (1, 18..28)]);
+///
+/// let fault = sections.nested(1).last().unwrap().err();
+/// assert_eq!(fault, Some(ListFault::TooDeep { place: 18, unread: None }));
+/// # Ok::<(), ListFault>(())
+/// ```
+#[derive(Clone, Debug)]
+pub struct NestedSections<'a> {
+    /// The innermost component that may have the next section.
+    innermost: Sections<'a>,
+    /// The components around it, the outermost first.
+    around: Vec<Sections<'a>>,
+    limit: usize,
+    /// The section that was last returned.
+    last: Option<SectionReader<'a>>,
+}
+
+impl<'a> NestedSections<'a> {
+    /// Enters the component that the section contains.
+    fn enter(&mut self, section: SectionReader<'a>) -> Result<(), ListFault> {
+        let Some(component) = section.component()? else { return Ok(()) };
+        if self.around.len() >= self.limit {
+            return Err(ListFault::TooDeep { place: section.range().start, unread: None });
+        }
+        self.around.try_reserve(1).map_err(|_| ListFault::NoMemory)?;
+        self.around.push(mem::replace(&mut self.innermost, component));
+        Ok(())
+    }
+
+    /// Returns the next section, with the depth of its component.
+    fn take(&mut self) -> Result<Option<(usize, SectionReader<'a>)>, ListFault> {
+        if let Some(section) = self.last.take() {
+            self.enter(section)?;
+        }
+        loop {
+            if let Some(section) = self.innermost.next() {
+                self.last = Some(section?);
+                return Ok(self.last.map(|section| (self.around.len(), section)));
+            }
+            match self.around.pop() {
+                Some(around) => self.innermost = around,
+                None => return Ok(None),
+            }
+        }
+    }
+}
+
+impl<'a> Iterator for NestedSections<'a> {
+    type Item = Result<(usize, SectionReader<'a>), ListFault>;
+
+    fn next(&mut self) -> Option<Self::Item> {
+        let next = self.take();
+        if next.is_err() {
+            self.innermost.left = None;
+            self.around.clear();
+        }
+        next.transpose()
+    }
+}
+
+/// An iterator over the items of a section, each with its byte offsets in the component. It ends
+/// after an error.
+///
+/// Needs the feature `reader`.
+#[derive(Clone, Copy)]
+pub struct Items<'a> {
+    bytes: &'a [u8],
+    /// The items that are left; `None` after an error.
+    left: Option<proved::SectionItems<'a>>,
+}
+
+/// # Errors
+///
+/// [`ListFault::BadItem`] if an item can't be read or bytes follow the last one, and
+/// [`ListFault::TooDeep`], both with the byte offsets of the section and of the item;
+/// [`ListFault::BadSection`] for a custom section without a name; or [`ListFault::NoMemory`].
+impl Iterator for Items<'_> {
+    type Item = Result<(Range<usize>, ItemTree), ListFault>;
+
+    #[inline(always)]
+    fn next(&mut self) -> Option<Self::Item> {
+        let left = self.left.as_mut()?;
+        let place = left.reached();
+        match left.next(Global).transpose()? {
+            Ok(item) => Some(Ok((place..left.reached(), item))),
+            Err(fault) => {
+                self.left = None;
+                Some(Err(ListFault::new(self.bytes, fault)))
+            }
+        }
+    }
+}

@@ -1,0 +1,228 @@
+//! Values with an encoding in the binary format.
+
+use crate::Error;
+use crate::error::or_panic;
+use crate::proved::wenc_base::{self as proved, Fault};
+use crate::shim::alloc::Allocator;
+use crate::shim::vec::Vec as ProvedVec;
+use alloc::vec::Vec;
+use core::cell::Cell;
+use core::mem::take;
+
+/// A value with an encoding in the binary format. Your own types can implement it, for sections of
+/// your own: when such a value is appended to a component, or is in a list or an `Option`, it
+/// encodes to an empty sink, whose bytes are then appended.
+///
+/// ```
+/// use wenc::{ComponentValType, Encode};
+///
+/// let mut sink = Vec::new();
+/// ComponentValType::Type(64).encode(&mut sink);
+/// "f".encode(&mut sink);
+/// assert_eq!(sink, [0xc0, 0x00, 0x01, b'f']);
+/// ```
+pub trait Encode {
+    /// Appends the bytes of the value to the sink.
+    ///
+    /// # Panics
+    ///
+    /// Panics, with the sink unchanged, if a length exceeds 4294967295, a type or a section is
+    /// unfinished, a core type isn't in WebAssembly 3.0, or an allocation fails.
+    fn encode(&self, sink: &mut Vec<u8>);
+
+    /// Whether `encode` is this crate's, which never changes the bytes already in the sink. Other
+    /// crates can't override this.
+    #[doc(hidden)]
+    #[inline]
+    fn appends(&self) -> Appends {
+        Appends(false)
+    }
+}
+
+/// The result of [`Encode::appends`]. No other crate can name it, and so none can override that
+/// method.
+pub struct Appends(pub(crate) bool);
+
+/// Implements `appends` for this crate's types.
+macro_rules! appends {
+    () => {
+        #[inline]
+        fn appends(&self) -> $crate::encode::Appends {
+            $crate::encode::Appends(true)
+        }
+    };
+}
+
+pub(crate) use appends;
+
+/// A sink that was taken from its owner and is given back on drop, truncated to what it had before
+/// if a user's `Encode` panicked.
+struct Taken<'a> {
+    owner: &'a mut Vec<u8>,
+    bytes: ProvedVec<u8>,
+    start: usize,
+    is_written: bool,
+}
+
+impl Drop for Taken<'_> {
+    #[inline]
+    fn drop(&mut self) {
+        if !self.is_written {
+            self.bytes.truncate(self.start);
+        }
+        *self.owner = take(&mut self.bytes.inner);
+    }
+}
+
+/// Passes a vector of std to the proved code, which appends to it or leaves it unchanged.
+#[inline]
+pub(crate) fn append<E>(
+    sink: &mut Vec<u8>,
+    write: impl FnOnce(&mut ProvedVec<u8>) -> Result<(), E>,
+) -> Result<(), E> {
+    let start = sink.len();
+    let bytes = take(sink).into();
+    let mut taken = Taken { owner: sink, bytes, start, is_written: false };
+    write(&mut taken.bytes)?;
+    taken.is_written = true;
+    Ok(())
+}
+
+/// Appends the encoding of a value of the proved code, which never panics on its way.
+#[inline]
+#[track_caller]
+pub(crate) fn append_proved<T: proved::Encode>(sink: &mut Vec<u8>, value: &T) {
+    let mut bytes = ProvedVec::from(take(sink));
+    let result = value.encode(&mut bytes);
+    *sink = bytes.into();
+    or_panic(result);
+}
+
+/// Returns a vector of these bytes.
+pub(crate) fn copied(bytes: [u8; 8]) -> Result<Vec<u8>, Error> {
+    let mut copy = Vec::new();
+    copy.try_reserve_exact(bytes.len()).map_err(|_| Error::NoMemory)?;
+    copy.extend(bytes);
+    Ok(copy)
+}
+
+/// Adapts a value with [`Encode`] to the proved code. A user's implementation gets a sink of its
+/// own, so that it can't reach other bytes.
+#[derive(Clone, Copy)]
+pub(crate) struct Foreign<'a, T: ?Sized> {
+    pub value: &'a T,
+    /// The sink for users' implementations, reused from one value to the next.
+    pub own: &'a Cell<Vec<u8>>,
+}
+
+impl<T: Encode + ?Sized> proved::Encode for Foreign<'_, T> {
+    #[inline]
+    fn encode<A: Allocator>(&self, sink: &mut ProvedVec<u8, A>) -> Result<(), Fault> {
+        if self.value.appends().0 {
+            self.value.encode(&mut sink.inner);
+            return Ok(());
+        }
+        let mut own = self.own.take();
+        own.clear();
+        self.value.encode(&mut own);
+        sink.extend_from_slice(&own)?;
+        self.own.set(own);
+        Ok(())
+    }
+}
+
+/// Returns the number of bytes of the LEB128 encoding of a number, from 1 to 5.
+///
+/// ```
+/// assert_eq!(wenc::encoding_size(127), 1);
+/// assert_eq!(wenc::encoding_size(u32::MAX), 5);
+/// ```
+pub fn encoding_size(n: u32) -> usize {
+    proved::encoding_size(n)
+}
+
+impl<T: Encode + ?Sized> Encode for &T {
+    #[inline]
+    fn encode(&self, sink: &mut Vec<u8>) {
+        T::encode(self, sink);
+    }
+
+    #[inline]
+    fn appends(&self) -> Appends {
+        T::appends(self)
+    }
+}
+
+/// Encodes a list: the number of values, then each value.
+impl<T: Encode> Encode for [T] {
+    fn encode(&self, sink: &mut Vec<u8>) {
+        let own = Cell::default();
+        let values = self.iter().map(|value| Foreign { value, own: &own });
+        or_panic(append(sink, |sink| proved::encode_list(values, sink)));
+    }
+
+    appends! {}
+}
+
+impl<T: Encode> Encode for Option<T> {
+    fn encode(&self, sink: &mut Vec<u8>) {
+        let own = Cell::default();
+        let value = self.as_ref().map(|value| Foreign { value, own: &own });
+        or_panic(append(sink, |sink| proved::Encode::encode(&value, sink)));
+    }
+
+    appends! {}
+}
+
+/// Encodes a list of bytes.
+impl Encode for [u8] {
+    #[inline]
+    fn encode(&self, sink: &mut Vec<u8>) {
+        append_proved(sink, &self);
+    }
+
+    appends! {}
+}
+
+impl Encode for str {
+    #[inline]
+    fn encode(&self, sink: &mut Vec<u8>) {
+        append_proved(sink, &self);
+    }
+
+    appends! {}
+}
+
+impl Encode for usize {
+    #[inline]
+    fn encode(&self, sink: &mut Vec<u8>) {
+        or_panic(u32::try_from(*self).map_err(|_| Error::TooMany)).encode(sink);
+    }
+
+    appends! {}
+}
+
+/// Implements [`Encode`] by the proved encoding of the expression after the arrow.
+macro_rules! encode {
+    ($($type:ty, $value:ident => $proved:expr;)*) => {
+        $(impl $crate::Encode for $type {
+            #[inline]
+            fn encode(&self, sink: &mut alloc::vec::Vec<u8>) {
+                let $value = self;
+                $crate::encode::append_proved(sink, &$proved);
+            }
+
+            $crate::encode::appends! {}
+        })*
+    };
+}
+
+pub(crate) use encode;
+
+encode! {
+    bool, value => *value;
+    u32, value => *value;
+    i32, value => i64::from(*value);
+    u64, value => *value;
+    i64, value => *value;
+}

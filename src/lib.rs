@@ -1,0 +1,166 @@
+//! Writes and lists WebAssembly components. The code is proved as Rattle and compiled as Rust.
+//!
+//! The names and signatures are those of the component layer of `wasm-encoder` 0.263.0. A program
+//! that builds components with `wasm_encoder::ComponentBuilder`, or section by section, changes its
+//! `use` line:
+//!
+//! ```
+//! use wenc::{ComponentBuilder, ComponentExportKind, ExportKind, PrimitiveValType};
+//!
+//! /// Wraps a core module that exports a function "run" in a component that exports it too.
+//! fn wrapped(module: &[u8]) -> Vec<u8> {
+//!     let mut builder = ComponentBuilder::default();
+//!     let module = builder.core_module_raw(None, module);
+//!     let instance = builder.core_instantiate(None, module, []);
+//!     let core_run = builder.core_alias_export(None, instance, "run", ExportKind::Func);
+//!     let (ty, mut function) = builder.type_function(None);
+//!     function.params([("n", PrimitiveValType::U32)]).result(None);
+//!     let run = builder.lift_func(None, core_run, ty, []);
+//!     builder.export("run", ComponentExportKind::Func, run, None);
+//!     builder.finish()
+//! }
+//!
+//! // The module exports "run", a function that takes a number.
+//! let module = b"\0asm\x01\0\0\0\x01\x05\x01\x60\x01\x7f\0\x03\x02\x01\0\x07\x07\x01\x03run\0\0\x0a\x04\x01\x02\0\x0b";
+//! assert_eq!(
+//!     wrapped(module)[8 + 2 + module.len()..],
+//!     *b"\x02\x04\x01\0\0\0\x06\x09\x01\0\0\x01\0\x03run\
+//!        \x07\x08\x01\x40\x01\x01n\x79\x01\0\x08\x06\x01\0\0\0\0\0\x0b\x09\x01\0\x03run\x01\0\0",
+//! );
+//! ```
+//!
+//! With the feature `reader`, [`list`] reads a component into values of [`tree`], from which
+//! `tree::build` builds it again. [`Sections`] reads it section by section, and each section can be
+//! written again byte for byte ([`SectionReader`]) or item by item ([`ItemSection`]). To renumber
+//! what was read, `ItemTree::indices_mut` visits each index that an item contains.
+//!
+//! # What is proved
+//!
+//! The proofs are of the sources in `crates/`, from which this crate is made: a call that succeeds
+//! adds exactly the item that was passed, and returns that item's index in its space. A call that
+//! fails changes nothing. Unless one of them is a raw custom section, the added items in their
+//! order are the only reading of the finished bytes, and `list` returns that reading.
+//!
+//! That the Rust code does the same rests on the eraser, which removes the contracts (`build`,
+//! checked by `tests/honest.rs`), on the replacement of Rattle's standard library (`src/shim`), on
+//! equal tokens meaning the same in both languages, and on rustc. The calls with upstream's names
+//! are a layer of plain Rust that passes values on and contains no byte of the format.
+//!
+//! # Errors
+//!
+//! A call with upstream's name panics if it fails. Each such call has a form with `try_` in front,
+//! which returns an [`Error`]:
+//!
+//! ```
+//! use wenc::{ComponentBuilder, ComponentTypeRef, Error, PrimitiveValType};
+//!
+//! let mut builder = ComponentBuilder::default();
+//! builder.start(7, vec![], u32::MAX);
+//! let byte = ComponentTypeRef::Value(PrimitiveValType::U8.into());
+//! assert_eq!(builder.try_import("v", byte), Err(Error::TooMany));
+//! assert_eq!(builder.value_count(), u32::MAX);
+//! ```
+//!
+//! An encoder that is dropped before its last call leaves its parent unfinished: calls that add to
+//! the parent or take it fail until `discard_unfinished`. The same can happen when an iterator, a
+//! name or an `Into` of the caller panics during a call; otherwise the receiver is unchanged.
+//! Finished output never contains a partial item.
+//!
+//! # The standard
+//!
+//! Documentation cites the [binary format][binary] and the [explainer][explainer] of the component
+//! model, and [WebAssembly 3.0][core].
+//!
+//! [binary]: https://github.com/WebAssembly/component-model/blob/main/design/mvp/Binary.md
+//! [explainer]: https://github.com/WebAssembly/component-model/blob/main/design/mvp/Explainer.md
+//! [core]: https://webassembly.github.io/spec/core/
+//!
+//! # Features
+//!
+//! The crate is `no_std` and needs `alloc`. None of its features is on by default:
+//!
+//! - `reader` adds the reading of components, and items as values: [`list`], [`Sections`],
+//!   [`CoreSections`], [`DebugNames`], [`ItemSection`] and [`tree`]. The crate then takes longer to
+//!   compile.
+//! - `capi` adds the functions of `c/wenc.h`, for C. In a profile that aborts on panic, the library
+//!   allocates by C's `malloc` alone; any other profile needs `std` too.
+//! - `std` links Rust's `std`, which nothing else here needs.
+// Without the feature there is nothing to link to but its description.
+#![cfg_attr(not(feature = "reader"), doc = "")]
+#![cfg_attr(not(feature = "reader"), doc = "[`list`]: #features")]
+#![cfg_attr(not(feature = "reader"), doc = "[`Sections`]: #features")]
+#![cfg_attr(not(feature = "reader"), doc = "[`SectionReader`]: #features")]
+#![cfg_attr(not(feature = "reader"), doc = "[`ItemSection`]: #features")]
+#![cfg_attr(not(feature = "reader"), doc = "[`CoreSections`]: #features")]
+#![cfg_attr(not(feature = "reader"), doc = "[`DebugNames`]: #features")]
+#![cfg_attr(not(feature = "reader"), doc = "[`tree`]: #features")]
+#![no_std]
+#![cfg_attr(not(feature = "capi"), forbid(unsafe_code))]
+#![deny(missing_docs)]
+#![warn(clippy::missing_errors_doc, clippy::missing_panics_doc)]
+
+extern crate alloc;
+#[cfg(any(feature = "std", test))]
+extern crate std;
+
+#[cfg(feature = "capi")]
+mod capi;
+mod collections;
+mod component;
+mod core;
+#[cfg(feature = "reader")]
+mod core_items;
+#[cfg(feature = "reader")]
+mod core_sections;
+#[cfg(feature = "reader")]
+mod cursor;
+mod encode;
+mod encoders;
+mod eq_by_bytes;
+mod error;
+#[cfg(feature = "reader")]
+mod list;
+mod lists;
+#[cfg(feature = "reader")]
+mod names;
+mod proved;
+mod raw;
+#[cfg(feature = "reader")]
+mod rewrite;
+// Without `reader`, parts of it aren't used.
+#[cfg_attr(not(feature = "reader"), allow(dead_code, unused_imports))]
+mod shim;
+#[cfg(feature = "reader")]
+pub mod tree;
+mod twins;
+
+pub use self::core::*;
+pub use component::*;
+#[cfg(feature = "reader")]
+pub use core_items::{CoreItem, CoreItems};
+#[cfg(feature = "reader")]
+pub use core_sections::{CoreSection, CoreSections, ModuleFault};
+#[cfg(feature = "reader")]
+pub use cursor::{Items, NestedSections, SectionReader, Sections};
+pub use encode::{Encode, encoding_size};
+pub use error::{Error, Unsupported};
+#[cfg(feature = "reader")]
+pub use list::{Definitions, Found, ListFault, ListedSection, Listing, Unread, list};
+#[cfg(feature = "reader")]
+pub use names::{DebugNames, NamesFault};
+pub use raw::RawSection;
+#[cfg(feature = "reader")]
+pub use rewrite::ItemSection;
+
+/// What was proved of the sources in `crates/`: by which logic and which kits, the number of
+/// functions with a proof (without those of a `derive`), the number of edits of the code that the
+/// prover rejected, and a SHA-256 digest of each crate's `src`, `specs`, `proofs` and `must-fail`.
+///
+/// A digest is that of the lines that `sha256sum` prints for a folder's files, in the order of
+/// their paths. A test of this package, `tests/proof.rs`, computes and compares the digests of the
+/// sources that it has.
+///
+/// ```
+/// assert!(wenc::PROOF.starts_with("logic: "));
+/// ```
+pub const PROOF: &str = include_str!("../PROOF");

@@ -1,0 +1,215 @@
+//! Listing a component.
+
+use crate::ComponentSectionId;
+use crate::proved::wasm_encoder as proved;
+use crate::proved::wenc_list::part_of;
+use crate::shim::alloc::Global;
+use core::fmt;
+use found::item_of;
+
+pub use found::Found;
+pub use proved::{ListedSection, Listing, Unread};
+pub use queries::Definitions;
+
+mod found;
+mod queries;
+
+/// Why a component can't be listed. A place is a byte offset in the component; for a section, the
+/// offset of its id.
+///
+/// Needs the feature `reader`.
+///
+/// ```
+/// use wenc::{ComponentSectionId, ListFault, Unread, list};
+///
+/// let mut bytes = *b"\0asm\x0d\0\x01\0\x07\x05\x01\x40\0\x01\0\x0a\x06\x01\0\x01f\x01\0";
+/// // The count of imports becomes two.
+/// bytes[17] = 2;
+/// let fault = list(&bytes).unwrap_err();
+/// let section = ComponentSectionId::Import;
+/// let unread = Some(Unread::Item { number: 1, place: 23 });
+/// assert_eq!(fault, ListFault::BadItem { place: 15, section, unread, byte: None });
+/// assert_eq!(
+///     fault.to_string(),
+///     "bad item 1 at 0x17 in the section at 0xf: the section ends where an import is expected",
+/// );
+/// ```
+#[derive(Clone, Copy, Debug, PartialEq, Eq, Hash)]
+#[non_exhaustive]
+pub enum ListFault {
+    /// An allocation failed.
+    NoMemory,
+    /// The bytes don't begin with the header of a component.
+    NotAComponent {
+        /// 0, or the byte offset of a nested component.
+        place: usize,
+        /// What they are instead.
+        found: Found,
+    },
+    /// A section has an id above 11, lacks a size, extends past the end, or is a custom section
+    /// without a name.
+    BadSection {
+        /// The byte offset of the first section that can't be read.
+        place: usize,
+    },
+    /// The content of a section isn't a count and that many items, or isn't exactly one start.
+    BadItem {
+        /// The byte offset of the first section that can't be read.
+        place: usize,
+        /// The section's id.
+        section: ComponentSectionId,
+        /// The first part of it that can't be read; `None` if finding it ran out of memory.
+        unread: Option<Unread>,
+        /// The first byte of that part; `None` where the section ends.
+        byte: Option<u8>,
+    },
+    /// A section has types that are nested more than 100 deep, or is a component that is nested
+    /// deeper than the limit of [`Sections::nested`](crate::Sections::nested) or of
+    /// [`ItemTree::outer_indices_mut`](crate::tree::ItemTree::outer_indices_mut).
+    TooDeep {
+        /// The byte offset of the first section that can't be read.
+        place: usize,
+        /// The item with these types; `None` for a nested component, or if finding it ran out of
+        /// memory.
+        unread: Option<Unread>,
+    },
+}
+
+impl ListFault {
+    /// Converts the proved fault of these bytes, and finds the part of the section that can't be
+    /// read.
+    pub(crate) fn new(bytes: &[u8], fault: proved::ListFault) -> Self {
+        let unread = |place| proved::first_unread(Global, bytes, place).unwrap_or(None);
+        match fault {
+            proved::ListFault::Memory => Self::NoMemory,
+            proved::ListFault::NotAComponent { place } => {
+                Self::NotAComponent { place, found: Found::of(bytes.get(place..).unwrap_or(&[])) }
+            }
+            proved::ListFault::BadSection { place } => Self::BadSection { place },
+            proved::ListFault::BadItem { place } => Self::bad_item(bytes, place, unread(place)),
+            proved::ListFault::TooDeep { place } => Self::TooDeep { place, unread: unread(place) },
+        }
+    }
+
+    /// The fault of an item of the section at this byte offset.
+    fn bad_item(bytes: &[u8], place: usize, unread: Option<Unread>) -> Self {
+        // A section whose items were looked at has an id and a size.
+        let framed = bytes.get(place..).map(part_of);
+        let Some(Ok(((id, _), rest))) = framed else { return Self::BadSection { place } };
+        let Ok(section) = id.try_into() else { return Self::BadSection { place } };
+        let end = bytes.len() - rest.len();
+        let byte = unread.and_then(|unread| bytes[..end].get(place_of(unread))).copied();
+        Self::BadItem { place, section, unread, byte }
+    }
+}
+
+/// The byte offset of a part that isn't read.
+fn place_of(unread: Unread) -> usize {
+    match unread {
+        Unread::Count { place } | Unread::Item { place, .. } | Unread::Behind { place } => place,
+    }
+}
+
+/// Writes the part of a section that can't be read, then the section's place.
+fn write_unread(
+    f: &mut fmt::Formatter<'_>,
+    item: &str,
+    unread: Option<Unread>,
+    section: usize,
+) -> fmt::Result {
+    match unread {
+        None => f.write_str(item)?,
+        Some(unread) => write_part(f, item, unread)?,
+    }
+    write!(f, " in the section at {section:#x}")
+}
+
+/// Writes what was found where an item is expected.
+fn write_expected(
+    f: &mut fmt::Formatter<'_>,
+    section: ComponentSectionId,
+    unread: Option<Unread>,
+    byte: Option<u8>,
+) -> fmt::Result {
+    let Some(Unread::Item { .. }) = unread else { return Ok(()) };
+    match byte {
+        Some(byte) => write!(f, ": {byte:#04x}")?,
+        None => f.write_str(": the section ends")?,
+    }
+    write!(f, " where {} is expected", item_of(section))
+}
+
+/// Writes the part of a section that can't be read.
+pub(crate) fn write_part(f: &mut fmt::Formatter<'_>, item: &str, unread: Unread) -> fmt::Result {
+    match unread {
+        Unread::Count { place } => write!(f, "bad count at {place:#x}"),
+        Unread::Item { number, place } => write!(f, "{item} {number} at {place:#x}"),
+        Unread::Behind { place } => write!(f, "bytes behind the last item at {place:#x}"),
+    }
+}
+
+impl fmt::Display for ListFault {
+    fn fmt(&self, f: &mut fmt::Formatter<'_>) -> fmt::Result {
+        match *self {
+            Self::NoMemory => f.write_str("no memory"),
+            Self::NotAComponent { place, found } => {
+                write!(f, "no component's header at {place:#x}: found {found}")
+            }
+            Self::BadSection { place } => write!(f, "bad section at {place:#x}"),
+            Self::BadItem { place, section, unread, byte } => {
+                write_unread(f, "bad item", unread, place)?;
+                write_expected(f, section, unread, byte)
+            }
+            Self::TooDeep { place, unread } => write_unread(f, "too deep item", unread, place),
+        }
+    }
+}
+
+impl core::error::Error for ListFault {}
+
+/// Reads a component. Returns its sections with their items and byte offsets, and the number of
+/// indices that the items define ([component model, binary format, "Component
+/// Definitions"][definitions]). The bytes have at most one reading, and this is it. Core modules
+/// and nested components are returned as bytes, which aren't read.
+///
+/// Needs the feature `reader`.
+///
+/// Besides what this crate encodes, it accepts numbers that are padded to at most 5 bytes (10 for
+/// 64-bit ones), padded type indices among value types, a nullable abstract reference as its heap
+/// type's byte, `func` and `extern` in the long form of such a reference, and names of imports and
+/// exports that begin with `01`.
+///
+/// The opcodes of some canonical functions, such as `thread.suspend-to`, have moved between
+/// releases: in components of older and newer tools these may be read as other functions, without
+/// an error (`docs/FORMAT.md`, "Where the public standard differs").
+///
+/// A listing takes up to 184 bytes of memory for each byte of the component on a 64-bit machine:
+/// the most if each section has one empty item. [`Sections`](crate::Sections) takes memory for one
+/// item at a time.
+///
+/// # Errors
+///
+/// The first section that can't be read, as [`ListFault`] describes, or
+/// [`NoMemory`](ListFault::NoMemory). A count that the bytes can't fill reserves nothing.
+///
+/// [definitions]: https://github.com/WebAssembly/component-model/blob/main/design/mvp/Binary.md#component-definitions
+///
+/// ```
+/// use wenc::tree::ItemTree;
+/// use wenc::{ComponentTypeRef, ListFault, list};
+///
+/// let bytes = b"\0asm\x0d\0\x01\0\x07\x05\x01\x40\0\x01\0\x0a\x06\x01\0\x01f\x01\0";
+/// let listing = list(bytes)?;
+/// assert_eq!(listing.sections.len(), 2);
+/// let section = &listing.sections[1];
+/// assert_eq!((section.id, section.place), (10, 15));
+/// let name = wenc::tree::String::from("f").into();
+/// assert_eq!(section.items[0], ItemTree::Import { name, ty: ComponentTypeRef::Func(0) });
+/// assert_eq!(listing.counts, [0, 0, 0, 0, 0, 0, 0, 0, 1, 0, 0, 0, 1]);
+///
+/// assert_eq!(list(&bytes[..13]), Err(ListFault::BadSection { place: 8 }));
+/// # Ok::<(), ListFault>(())
+/// ```
+pub fn list(bytes: &[u8]) -> Result<Listing, ListFault> {
+    proved::list(Global, bytes).map_err(|fault| ListFault::new(bytes, fault))
+}

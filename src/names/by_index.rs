@@ -1,0 +1,131 @@
+//! Names by the indices of their items.
+
+use alloc::collections::TryReserveError;
+use alloc::string::String;
+use alloc::vec::Vec;
+use core::fmt;
+
+/// The maximum number of names in a page.
+const PAGE: usize = 512;
+
+/// The names of items in the order of their indices: a `BTreeMap<u32, String>` of two levels, whose
+/// insertions return an error if an allocation fails, where std's abort.
+#[derive(Clone, Default)]
+pub(crate) struct ByIndex {
+    /// Pages of names. None is empty.
+    pages: Vec<Vec<(u32, String)>>,
+}
+
+impl ByIndex {
+    /// Returns `true` if there are no names.
+    pub fn is_empty(&self) -> bool {
+        self.pages.is_empty()
+    }
+
+    /// Returns the names with their indices, in ascending order.
+    pub fn iter(&self) -> impl Iterator<Item = (u32, &str)> {
+        self.pages.iter().flatten().map(|(index, name)| (*index, name.as_str()))
+    }
+
+    /// Returns the name of the item with this index.
+    pub fn get(&self, index: u32) -> Option<&str> {
+        let (page, place) = self.find(index);
+        Some(&self.pages.get(page)?[place.ok()?].1)
+    }
+
+    /// Names an item, unless it has a name.
+    ///
+    /// # Errors
+    ///
+    /// Fails if an allocation fails.
+    pub fn add(&mut self, index: u32, name: String) -> Result<(), TryReserveError> {
+        match self.find(index) {
+            (_, Ok(_)) => Ok(()),
+            (page, Err(place)) => self.insert(page, place, (index, name)),
+        }
+    }
+
+    /// Names an item. An earlier name is replaced.
+    ///
+    /// # Errors
+    ///
+    /// Fails if an allocation fails.
+    pub fn replace(&mut self, index: u32, name: String) -> Result<(), TryReserveError> {
+        match self.find(index) {
+            (page, Ok(place)) => {
+                self.pages[page][place].1 = name;
+                Ok(())
+            }
+            (page, Err(place)) => self.insert(page, place, (index, name)),
+        }
+    }
+
+    /// Returns the page for an index, and the position of its name there or the one to insert it
+    /// at.
+    fn find(&self, index: u32) -> (usize, Result<usize, usize>) {
+        let behind = self.pages.partition_point(|names| names[0].0 <= index);
+        let page = behind.saturating_sub(1);
+        let names = self.pages.get(page).map_or(&[][..], Vec::as_slice);
+        (page, names.binary_search_by_key(&index, |(index, _)| *index))
+    }
+
+    /// Inserts a name at a position in a page.
+    fn insert(
+        &mut self,
+        page: usize,
+        place: usize,
+        name: (u32, String),
+    ) -> Result<(), TryReserveError> {
+        // 32 bits: there are fewer pages than bytes.
+        let is_last = page + 1 >= self.pages.len();
+        match self.pages.get_mut(page) {
+            Some(names) if names.len() < PAGE => {
+                names.try_reserve(1)?;
+                names.insert(place, name);
+            }
+            Some(_) if place < PAGE || !is_last => {
+                self.split(page)?;
+                let (page, place) = match place.checked_sub(PAGE / 2) {
+                    // 32 bits: there are fewer pages than bytes.
+                    Some(place @ 1..) => (page + 1, place),
+                    _ => (page, place),
+                };
+                return self.insert(page, place, name);
+            }
+            _ => {
+                let mut names = Vec::new();
+                names.try_reserve(1)?;
+                self.pages.try_reserve(1)?;
+                names.push(name);
+                self.pages.push(names);
+            }
+        }
+        Ok(())
+    }
+
+    /// Moves half of the names of a full page to a page after it.
+    fn split(&mut self, page: usize) -> Result<(), TryReserveError> {
+        let mut half = Vec::new();
+        half.try_reserve_exact(PAGE)?;
+        self.pages.try_reserve(1)?;
+        half.extend(self.pages[page].drain(PAGE / 2..));
+        // 32 bits: there are fewer pages than bytes.
+        self.pages.insert(page + 1, half);
+        Ok(())
+    }
+}
+
+/// Maps are equal if they have the same names, regardless of their pages.
+impl PartialEq for ByIndex {
+    fn eq(&self, other: &Self) -> bool {
+        self.iter().eq(other.iter())
+    }
+}
+
+impl Eq for ByIndex {}
+
+impl fmt::Debug for ByIndex {
+    fn fmt(&self, f: &mut fmt::Formatter<'_>) -> fmt::Result {
+        f.debug_map().entries(self.iter()).finish()
+    }
+}

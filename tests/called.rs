@@ -1,0 +1,155 @@
+//! Each public function and method of the proved crates is called by a test of the proved calls
+//! (`tests/proved`), and each law, which does nothing, by `proved_tests` or by another law: this reads
+//! the sources, as the build script erases them, and those tests, and fails where one has no caller.
+//!
+//! It goes by names. A function is called where its name stands outside of a `use`; a method where
+//! its name follows a dot or `::` in a file that names its type, an alias of it, or a method that
+//! borrows it. A trait's method counts for each type that implements it, and is called by the generic
+//! helpers in `HELPERS` too. It doesn't see which of two types of one file has a method of that
+//! name called, whether the line runs, impls for tuples and type parameters, the standard library's
+//! traits but for `From`, and what `derive` writes.
+
+#[path = "called/calls.rs"]
+mod calls;
+#[path = "common/erased.rs"]
+mod erased;
+#[path = "honest/lexer.rs"]
+mod lexer;
+#[path = "called/parser.rs"]
+mod parser;
+#[path = "called/sources.rs"]
+mod sources;
+
+use calls::Calls;
+use sources::{Function, Sources};
+use std::fs;
+use std::path::{Path, PathBuf};
+
+/// All files of a folder and of those in it, with their paths below it.
+fn files(folder: &Path) -> Vec<(PathBuf, String)> {
+    fn gather(top: &Path, folder: &Path, found: &mut Vec<(PathBuf, String)>) {
+        for entry in fs::read_dir(folder).expect("the folder can be read") {
+            let path = entry.expect("an entry").path();
+            if path.is_dir() {
+                gather(top, &path, found);
+            } else {
+                let text = fs::read_to_string(&path).expect("a text");
+                found.push((path.strip_prefix(top).expect("it is below").to_owned(), text));
+            }
+        }
+    }
+    let mut found = Vec::new();
+    gather(folder, folder, &mut found);
+    found.sort();
+    found
+}
+
+/// The sources of the crates, as they are erased.
+fn sources() -> Sources {
+    let mut sources = Sources::default();
+    for entry in fs::read_dir(erased::folder()).expect("the Rust is there") {
+        let folder = entry.expect("an entry").path();
+        let name = folder.file_name().expect("a name").to_string_lossy().into_owned();
+        if folder.is_dir() && name.starts_with('w') {
+            sources.add_crate(&name, &files(&folder));
+        }
+    }
+    sources
+}
+
+#[test]
+fn each_public_function_is_called() {
+    let mut sources = sources();
+    let tests = files(&Path::new(env!("CARGO_MANIFEST_DIR")).join("tests/proved"));
+    let mut facts = files(&erased::folder().join("proved_tests"));
+    let own = files(&erased::folder().join("wasm_encoder"));
+    facts.extend(own.into_iter().filter(|(path, _)| path.starts_with("laws")));
+    tests.iter().for_each(|(_, text)| sources.add_aliases(text));
+    let calls_of = |files: &[(PathBuf, String)]| -> Vec<Calls> {
+        files.iter().map(|(_, text)| Calls::of(text, &sources)).collect()
+    };
+    let (calls, proved_calls) = (calls_of(&tests), calls_of(&facts));
+    let functions = sources.functions();
+    assert!(functions.len() > 500, "only {} functions are found", functions.len());
+    let is_called = |function: &Function| {
+        let is_law = function.module.starts_with("::laws");
+        let mut callers = if is_law { &proved_calls } else { &calls }.iter();
+        callers.any(|calls| calls.call(function))
+    };
+    let missing: Vec<String> =
+        functions.values().filter(|f| !is_called(f)).map(Function::path).collect();
+    assert!(missing.is_empty(), "{} have no test:\n{}", missing.len(), missing.join("\n"));
+}
+
+/// A crate with what is found and what isn't.
+const SOURCE: &str = "\
+mod hidden;
+mod shown;
+pub use shown::{Borrowed, Shown};
+pub use crate::proved::named::shown::free as another;
+pub type Alias = Shown<u8>;
+pub trait Writes { fn write(&self); fn twice(&self) { self.write(); } }
+pub(crate) fn of_the_crate() {}
+fn private() { pub fn inner() {} }
+pub fn free(text: &str) -> u8 { \"pub fn in_a_text() {}\"; 0 }
+impl<T: Iterator<Item = u8>> Writes for Shown<T> { fn write(&self) {} }
+";
+
+const SHOWN: &str = "\
+pub struct Shown<T>(T);
+pub struct Borrowed<'a>(&'a u8);
+impl<T> Shown<T> {
+    pub fn borrow(&self) -> Result<Borrowed<'_>, u8> { todo!() }
+    pub const fn len(&self) -> u32 { 0 }
+    fn private(&self) {}
+}
+impl Borrowed<'_> { pub fn end(self) {} }
+";
+
+const HIDDEN: &str = "pub struct Hidden; impl Hidden { pub fn new() {} } pub fn out_of_reach() {}";
+
+fn made_up() -> Sources {
+    let file = |path: &str, text: &str| (PathBuf::from(path), text.to_owned());
+    let mut sources = Sources::default();
+    let files = [file("lib.rs", SOURCE), file("shown.rs", SHOWN), file("hidden.rs", HIDDEN)];
+    sources.add_crate("named", &files);
+    sources
+}
+
+#[test]
+fn what_others_reach_is_found() {
+    let paths: Vec<String> = made_up().functions().into_keys().collect();
+    let wanted = [
+        "named::Borrowed::end",
+        "named::Shown::borrow",
+        "named::Shown::len",
+        "named::Shown::twice",
+        "named::Shown::write",
+        "named::free",
+    ];
+    assert_eq!(paths, wanted);
+}
+
+/// Those of the functions that this test calls.
+fn called(test: &str) -> Vec<String> {
+    let sources = made_up();
+    let calls = Calls::of(test, &sources);
+    sources.functions().values().filter(|f| calls.call(f)).map(|f| f.path()).collect()
+}
+
+#[test]
+fn what_is_not_called_is_reported() {
+    let nothing: [&str; 0] = [];
+    assert_eq!(
+        called("use named::free; fn len() {} // free() Shown.len()\n \"Shown::len()\""),
+        nothing
+    );
+    assert_eq!(called("fn test() { other.len(); }"), nothing);
+    assert_eq!(called("fn test() { free(); }"), ["named::free"]);
+    assert_eq!(called("fn test(x: Shown<u8>) { x.len(); }"), ["named::Shown::len"]);
+    assert_eq!(called("fn test(x: Alias) { x.len(); }"), ["named::Shown::len"]);
+    let borrowed = ["named::Borrowed::end", "named::Shown::borrow"];
+    assert_eq!(called("fn test(x: Alias) { x.borrow().unwrap().end(); }"), borrowed);
+    assert_eq!(called("fn test(x: Alias) { x.end(); }"), nothing);
+    assert_eq!(called("const CALLS: [fn(&Alias); 1] = [Alias::twice];"), ["named::Shown::twice"]);
+}

@@ -1,0 +1,69 @@
+//! What a test calls.
+
+use crate::lexer::lex;
+use crate::parser::is_word;
+use crate::sources::{Function, Sources};
+use std::collections::BTreeSet;
+
+/// The names in a file of tests.
+pub struct Calls {
+    /// The types that it names, or that a method that it calls borrows.
+    types: BTreeSet<String>,
+    /// What stands after a dot or `::`.
+    methods: BTreeSet<String>,
+    /// What stands elsewhere, but for `use`, and where a function is declared.
+    functions: BTreeSet<String>,
+}
+
+impl Calls {
+    pub fn of(text: &str, sources: &Sources) -> Self {
+        let mut calls =
+            Calls { types: BTreeSet::new(), methods: BTreeSet::new(), functions: BTreeSet::new() };
+        let tokens = lex(text);
+        let text = |at: usize| tokens.get(at).map_or("", |token| token.text.as_str());
+        let mut is_import = false;
+        for at in 0..tokens.len() {
+            let word = text(at);
+            is_import = (is_import || word == "use") && word != ";";
+            if !is_word(word) {
+                continue;
+            }
+            calls.types.insert(sources.stands_for(word).to_owned());
+            let before = if at == 0 { "" } else { text(at - 1) };
+            if is_import || before == "fn" {
+                continue;
+            }
+            if [".", "::"].contains(&before) {
+                calls.types.extend(sources.borrowed_by(word).cloned());
+                calls.methods.insert(word.to_owned());
+            }
+            if before != "." {
+                calls.functions.insert(word.to_owned());
+            }
+        }
+        calls
+    }
+
+    /// Whether the function is called.
+    pub fn call(&self, function: &Function) -> bool {
+        match &function.ty {
+            Some(ty) => {
+                let helpers = HELPERS.iter().filter(|(method, _)| *method == function.name);
+                let mut through = helpers.flat_map(|(_, helpers)| *helpers);
+                self.types.contains(ty)
+                    && (self.methods.contains(&function.name)
+                        || through.any(|helper| self.functions.contains(*helper)))
+            }
+            None => self.functions.contains(&function.name),
+        }
+    }
+}
+
+/// Generic functions of the tests that call a trait's method for the type that they are given.
+const HELPERS: [(&str, &[&str]); 5] = [
+    ("encode", &["again", "check", "check_all", "is", "sweep_encode"]),
+    ("decode", &["again"]),
+    ("append_to", &["check_section", "module_section_is"]),
+    ("append_to_component", &["check_section", "section_is"]),
+    ("id", &["check_section", "module_section_is", "section_is"]),
+];

@@ -1,0 +1,519 @@
+//! What the header says of NULL, of numbers that stand for nothing, and of handles.
+
+use crate::capi::arguments::{Entity, Flag, Name, Pair, Part, Producer, Subtype};
+use crate::capi::core_types::*;
+use crate::capi::items::*;
+use crate::capi::life::*;
+use crate::capi::listing::*;
+use crate::capi::sections::*;
+use crate::capi::types::*;
+use crate::capi::{Handle, Status};
+use alloc::vec::Vec;
+use core::ffi::CStr;
+use core::{mem, ptr, slice};
+
+const NO: Flag = Flag(0);
+const YES: Flag = Flag(1);
+const EMPTY: *const u8 = ptr::null();
+
+/// A handle, which is freed.
+struct Held(Handle);
+
+impl Held {
+    fn nothing() -> Self {
+        Self(Handle { at: ptr::null_mut() })
+    }
+
+    fn new(begin: impl FnOnce(*mut Handle) -> Status) -> Self {
+        let mut held = Self::nothing();
+        assert_eq!(begin(&mut held.0), Status::Done);
+        held
+    }
+
+    fn builder() -> Self {
+        Self::new(|handle| unsafe { wenc_new(handle) })
+    }
+
+    fn types(kind: u32) -> Self {
+        Self::new(|handle| unsafe { wenc_types_new(handle, kind) })
+    }
+
+    fn at(&mut self) -> *mut Handle {
+        &mut self.0
+    }
+
+    fn finished(mut self) -> Vec<u8> {
+        let (mut at, mut len) = (ptr::null(), 0);
+        assert_eq!(unsafe { wenc_finish(self.at(), &mut at, &mut len) }, Status::Done);
+        unsafe { slice::from_raw_parts(at, len) }.into()
+    }
+}
+
+impl Drop for Held {
+    fn drop(&mut self) {
+        unsafe { wenc_free(&mut self.0) };
+    }
+}
+
+/// Imports a resource type under an empty name: the index.
+fn import(handle: *mut Handle) -> (Status, u32) {
+    let mut index = 77;
+    let status = unsafe { wenc_import(handle, EMPTY, 0, 7, 0, &mut index) };
+    (status, index)
+}
+
+#[test]
+fn statuses_have_texts() {
+    let text = |status| unsafe { CStr::from_ptr(wenc_status_text(status)) };
+    let texts: Vec<&CStr> = (0..14).map(text).collect();
+    assert_eq!((texts[0], texts[7], texts[12]), (c"done", c"bad argument", c"bad item"));
+    for (number, one) in texts.iter().enumerate() {
+        assert!(!texts[..number].contains(one) && !one.is_empty());
+    }
+    assert_eq!(text(u32::MAX), texts[13]);
+    assert_eq!(wenc_version(), 200);
+}
+
+#[test]
+fn null_is_empty_or_nothing() {
+    let (mut builder, none) = (Held::builder(), ptr::null_mut());
+    let at = builder.at();
+    unsafe {
+        assert_eq!(wenc_import(at, EMPTY, 0, 7, 0, ptr::null_mut()), Status::Done);
+        assert_eq!(import(at), (Status::Done, 1));
+        assert_eq!(wenc_type_tuple(at, NO, EMPTY, 9, ptr::null(), 0, none), Status::Done);
+        assert_eq!(wenc_type_flags(at, YES, EMPTY, 0, ptr::null(), 0, none), Status::Done);
+        assert_eq!(wenc_core_module(at, NO, EMPTY, 9, EMPTY, 0, none), Status::Done);
+        assert_eq!(wenc_start(at, 0, ptr::null(), 0, 0, none), Status::Done);
+        assert_eq!(wenc_custom_section(at, EMPTY, 0, EMPTY, 0), Status::Done);
+        assert_eq!(wenc_producers(at, ptr::null(), 0), Status::Done);
+        assert_eq!(wenc_finish(at, ptr::null_mut(), ptr::null_mut()), Status::Done);
+        wenc_free(ptr::null_mut());
+    }
+    let mut wanted = crate::ComponentBuilder::default();
+    let resource = crate::ComponentTypeRef::Type(crate::TypeBounds::SubResource);
+    wanted.import("", resource);
+    wanted.import("", resource);
+    wanted.type_defined(None).1.tuple([] as [crate::ComponentValType; 0]);
+    wanted.type_defined(Some("")).1.flags([]);
+    wanted.core_module_raw(None, &[]);
+    wanted.start(0, Vec::new(), 0);
+    wanted.custom_section(&crate::CustomSection { name: "".into(), data: (&[][..]).into() });
+    wanted.producers_section(&crate::ProducersSection::new());
+    assert_eq!(builder.finished(), wanted.finish());
+}
+
+#[test]
+fn null_and_impossible_lengths_are_refused() {
+    let (mut builder, mut nothing, none) = (Held::builder(), Held::nothing(), ptr::null_mut());
+    let (at, a) = (builder.at(), b"a".as_ptr());
+    let (pair, most) = (Pair { kind: 0, number: 0 }, usize::MAX);
+    let statuses = unsafe {
+        [
+            wenc_import(at, EMPTY, 5, 7, 0, none),
+            wenc_import(at, a, most, 7, 0, none),
+            wenc_type_own(at, YES, EMPTY, 1, 0, none),
+            wenc_type_tuple(at, NO, EMPTY, 0, ptr::null(), 1, none),
+            wenc_type_tuple(at, NO, EMPTY, 0, &pair, most / 8, none),
+            wenc_core_module(at, NO, EMPTY, 0, EMPTY, 8, none),
+            wenc_start(at, 0, ptr::null(), 1, 0, none),
+            wenc_producers(at, ptr::null(), 1),
+            wenc_list(nothing.at(), EMPTY, 8, ptr::null_mut()),
+        ]
+    };
+    assert_eq!(statuses, [Status::BadArgument; 9]);
+    assert_eq!(unsafe { wenc_finish(at, ptr::null_mut(), ptr::null_mut()) }, Status::Done);
+    assert_eq!(unsafe { wenc_bytes(at, ptr::null_mut(), 8) }, Status::BadArgument);
+    assert_eq!(builder.finished().len(), 8);
+}
+
+#[test]
+fn structures_are_not_null() {
+    let (mut builder, mut module) = (Held::builder(), Held::types(0));
+    let none = ptr::null_mut();
+    unsafe {
+        let at = builder.at();
+        assert_eq!(wenc_import_named(at, ptr::null(), 7, 0, none), Status::BadArgument);
+        assert_eq!(wenc_export_named(at, ptr::null(), 0, 0, 0, 0, none), Status::BadArgument);
+        assert_eq!(
+            wenc_core_type_subtype(at, NO, EMPTY, 0, ptr::null(), none),
+            Status::BadArgument
+        );
+        let status = wenc_core_type_export(module.at(), EMPTY, 0, ptr::null());
+        assert_eq!(status, Status::BadArgument);
+    }
+}
+
+#[test]
+fn handles_that_have_nothing() {
+    let (mut nothing, mut builder) = (Held::nothing(), Held::builder());
+    for at in [ptr::null_mut(), nothing.at()] {
+        assert_eq!(import(at), (Status::NoHandle, 77));
+        unsafe {
+            assert_eq!(wenc_append_names(at), Status::NoHandle);
+            assert_eq!(wenc_finish(at, ptr::null_mut(), ptr::null_mut()), Status::NoHandle);
+            assert_eq!(wenc_bytes(at, ptr::null_mut(), 0), Status::NoHandle);
+            assert_eq!(wenc_len(at, ptr::null_mut()), Status::NoHandle);
+            let to = builder.at();
+            let nested = wenc_component(to, NO, EMPTY, 0, at, ptr::null_mut());
+            assert_eq!(nested, Status::NoHandle);
+            assert_eq!(wenc_type(to, NO, EMPTY, 0, at, ptr::null_mut()), Status::NoHandle);
+        }
+    }
+    assert_eq!(unsafe { wenc_new(ptr::null_mut()) }, Status::NoHandle);
+    assert_eq!(unsafe { wenc_new(builder.at()) }, Status::BadArgument);
+    assert_eq!(unsafe { wenc_list(builder.at(), EMPTY, 0, ptr::null_mut()) }, Status::BadArgument);
+}
+
+#[test]
+fn one_handle_is_not_two() {
+    let (mut builder, mut types) = (Held::builder(), Held::types(4));
+    let (mut copy, mut types_copy) = (Handle { at: builder.0.at }, Handle { at: types.0.at });
+    let none = ptr::null_mut();
+    unsafe {
+        for nested in [builder.at(), &raw mut copy] {
+            let at = builder.at();
+            assert_eq!(wenc_component(at, NO, EMPTY, 0, nested, none), Status::BadArgument);
+            assert_eq!(wenc_component_ref(at, NO, EMPTY, 0, nested, none), Status::BadArgument);
+        }
+        for twice in [types.at(), &raw mut types_copy] {
+            assert_eq!(wenc_type(types.at(), NO, EMPTY, 0, twice, none), Status::BadArgument);
+        }
+    }
+    assert_eq!(import(builder.at()), (Status::Done, 0));
+}
+
+#[test]
+fn finished_components_take_no_more() {
+    let (mut builder, mut nested) = (Held::builder(), Held::builder());
+    let (mut len, mut again, none) = (0, 0, ptr::null_mut());
+    unsafe {
+        let at = builder.at();
+        assert_eq!(wenc_bytes(at, ptr::null_mut(), 8), Status::Unfinished);
+        assert_eq!(wenc_finish(at, ptr::null_mut(), &mut len), Status::Done);
+        assert_eq!(wenc_finish(at, ptr::null_mut(), &mut again), Status::Done);
+        assert_eq!((len, again), (8, 8));
+        assert_eq!(import(at), (Status::Finished, 77));
+        let mut bytes = [0; 9];
+        assert_eq!(wenc_bytes(at, bytes.as_mut_ptr(), 9), Status::BadArgument);
+        assert_eq!(bytes, [0; 9]);
+        assert_eq!(
+            wenc_core_type_struct(at, YES, EMPTY, 0, ptr::null(), 0, none),
+            Status::Finished
+        );
+        let mut count = 77;
+        assert_eq!((wenc_count(at, 0, &mut count), count), (Status::Finished, 77));
+        let to = nested.at();
+        assert_eq!(wenc_component(to, NO, EMPTY, 0, at, none), Status::Finished);
+        assert_eq!(wenc_component_ref(at, NO, EMPTY, 0, to, none), Status::Finished);
+    }
+}
+
+#[test]
+fn texts_are_utf8() {
+    let (mut builder, bad, none) = (Held::builder(), [b'a', 0xff], ptr::null_mut());
+    let (at, bytes) = (builder.at(), bad.as_ptr());
+    let part = |name: *const u8, name_len| Part { name, name_len, kind: 0, number: 0 };
+    let parts = [part(EMPTY, 0), part(bytes, 2)];
+    let name = Name {
+        name: bytes,
+        name_len: 1,
+        implements: bytes,
+        implements_len: 1,
+        version_suffix: bytes,
+        version_suffix_len: 1,
+        external_id: bytes,
+        external_id_len: 2,
+        has_implements: YES,
+        has_version_suffix: YES,
+        has_external_id: YES,
+    };
+    let tool = Producer {
+        field: bytes,
+        field_len: 1,
+        tool: bytes,
+        tool_len: 1,
+        version: bytes,
+        version_len: 2,
+    };
+    let statuses = unsafe {
+        [
+            wenc_import(at, bytes, 2, 7, 0, none),
+            wenc_import_named(at, &name, 7, 0, none),
+            wenc_type_own(at, YES, bytes, 2, 0, none),
+            wenc_type_enum(at, NO, EMPTY, 0, parts.as_ptr(), 2, none),
+            wenc_core_instantiate(at, NO, EMPTY, 0, 0, parts.as_ptr(), 2, none),
+            wenc_producers(at, &tool, 1),
+        ]
+    };
+    assert_eq!(statuses, [Status::Malformed; 6]);
+    assert_eq!(unsafe { wenc_type_own(at, NO, bytes, 2, 0, none) }, Status::Done);
+    assert_eq!(builder.finished().len(), 8 + 5);
+}
+
+#[test]
+fn numbers_stand_for_something() {
+    let (mut builder, none) = (Held::builder(), ptr::null_mut());
+    let (at, pair) = (builder.at(), Pair { kind: 10, number: 0 });
+    let statuses = unsafe {
+        [
+            wenc_import(at, EMPTY, 0, 9, 0, none),
+            wenc_import(at, EMPTY, 0, 0, 0, none),
+            wenc_import(at, EMPTY, 0, 8, 15, none),
+            wenc_import(at, EMPTY, 0, u32::MAX, 0, none),
+            wenc_export(at, EMPTY, 0, 6, 0, 0, 0, none),
+            wenc_alias_core_export(at, NO, EMPTY, 0, 0, 5, EMPTY, 0, none),
+            wenc_alias_outer(at, NO, EMPTY, 0, 4, 0, 0, none),
+            wenc_builtin(at, 0, 0, 0, none),
+            wenc_builtin(at, 39, 0, 0, none),
+            wenc_builtin(at, 5, 2, 0, none),
+            wenc_builtin(at, 15, 0, 2, none),
+            wenc_builtin_with(at, 7, 0, ptr::null(), 0, none),
+            wenc_context(at, 3, 1, 0, none),
+            wenc_context(at, 1, 6, 0, none),
+            wenc_lift(at, NO, EMPTY, 0, 0, 0, &pair, 1, none),
+            wenc_type_primitive(at, NO, EMPTY, 0, 0, none),
+            wenc_type_list(at, NO, EMPTY, 0, 0, 0, none),
+            wenc_item(at, 12, NO, EMPTY, 0, EMPTY, 0, none),
+            wenc_count(at, 13, ptr::null_mut()),
+        ]
+    };
+    assert_eq!(statuses, [Status::BadArgument; 19]);
+    assert_eq!(builder.finished().len(), 8);
+}
+
+/// A type by its kind and its fields.
+fn subtype(kind: u32, fields: &[Pair]) -> Subtype {
+    Subtype {
+        fields: fields.as_ptr(),
+        fields_len: fields.len(),
+        results: ptr::null(),
+        results_len: 0,
+        kind,
+        supertype: 0,
+        has_supertype: NO,
+        is_final: YES,
+    }
+}
+
+/// What a core module imports or exports, by its kind and its type.
+fn entity(kind: u32, ty: u32) -> Entity {
+    Entity {
+        minimum: 0,
+        maximum: 0,
+        kind,
+        ty,
+        index: 0,
+        has_maximum: NO,
+        is_long: NO,
+        is_shared: NO,
+    }
+}
+
+#[test]
+fn numbers_of_core_types_stand_for_something() {
+    let (mut builder, mut module, none) = (Held::builder(), Held::types(0), ptr::null_mut());
+    let (at, of, pairs) = (builder.at(), module.at(), [Pair { kind: 21, number: 0 }]);
+    let statuses = unsafe {
+        [
+            wenc_core_type_struct(at, NO, EMPTY, 0, pairs.as_ptr(), 1, none),
+            wenc_core_type_function(at, NO, EMPTY, 0, ptr::null(), 0, pairs.as_ptr(), 1, none),
+            wenc_core_type_array(at, NO, EMPTY, 0, 0x400 + 1, 0, none),
+            wenc_core_type_array(at, NO, EMPTY, 0, 0x100 + 1, 0, none),
+            wenc_core_type_subtype(at, NO, EMPTY, 0, &subtype(4, &[]), none),
+            wenc_core_type_subtype(at, NO, EMPTY, 0, &subtype(3, &[]), none),
+            wenc_core_type_group(at, NO, EMPTY, 0, &subtype(2, &pairs), 1, none),
+            wenc_core_type_export(of, EMPTY, 0, &entity(5, 0)),
+            wenc_core_type_export(of, EMPTY, 0, &entity(1, 1)),
+            wenc_core_type_export(of, EMPTY, 0, &entity(3, 19)),
+        ]
+    };
+    assert_eq!(statuses, [Status::BadArgument; 10]);
+    assert_eq!(builder.finished().len(), 8);
+}
+
+#[test]
+fn handles_of_another_kind() {
+    let mut builder = Held::builder();
+    let at = builder.at();
+    let statuses = unsafe {
+        [
+            wenc_core_type_export(at, EMPTY, 0, &entity(0, 0)),
+            wenc_raw_section(at, 0, EMPTY, 0),
+            wenc_names_component(at, EMPTY, 0),
+            wenc_len(at, ptr::null_mut()),
+            wenc_section_at(at, 0, ptr::null_mut()),
+            wenc_type_export(at, EMPTY, 0, 7, 0, ptr::null_mut()),
+        ]
+    };
+    assert_eq!(statuses, [Status::BadArgument; 6]);
+    let mut nothing = Held::nothing();
+    for section in [0, 1, 4, 9, 12] {
+        assert_eq!(unsafe { wenc_section_new(nothing.at(), section) }, Status::BadArgument);
+    }
+    for kind in [1, 2, 3, 6] {
+        assert_eq!(unsafe { wenc_types_new(nothing.at(), kind) }, Status::BadArgument);
+    }
+    assert!(nothing.0.at.is_null());
+}
+
+/// Reads bytes: the status, and what isn't read, as the section, its place, part and item.
+fn listed(bytes: &[u8]) -> (Status, [usize; 4]) {
+    let mut unread: UnreadPart = unsafe { mem::zeroed() };
+    let mut listing = Held::nothing();
+    let status = unsafe { wenc_list(listing.at(), bytes.as_ptr(), bytes.len(), &mut unread) };
+    assert_eq!(listing.0.at.is_null(), status != Status::Done);
+    (status, numbers(&unread))
+}
+
+fn numbers(unread: &UnreadPart) -> [usize; 4] {
+    [unread.section, unread.place, unread.part as usize, unread.item as usize]
+}
+
+/// Whatever is wrong, `*unread` is written.
+#[test]
+fn what_is_not_read_is_put_out_always() {
+    let bytes = *b"\0asm\x0d\0\x01\0\x06\x01\0";
+    let put_out = |handle, bytes, len| {
+        let mut unread = UnreadPart { section: 7, place: 7, part: 7, item: 7 };
+        (unsafe { wenc_list(handle, bytes, len, &mut unread) }, numbers(&unread))
+    };
+    let (mut taken, mut nothing) = (Held::builder(), Held::nothing());
+    let is = |status| (status, [0; 4]);
+    assert_eq!(put_out(ptr::null_mut(), bytes.as_ptr(), 11), is(Status::NoHandle));
+    assert_eq!(put_out(taken.at(), bytes.as_ptr(), 11), is(Status::BadArgument));
+    assert_eq!(put_out(nothing.at(), EMPTY, 11), is(Status::BadArgument));
+    assert_eq!(put_out(nothing.at(), bytes.as_ptr(), 11), is(Status::Done));
+}
+
+/// The items of 160,000 sections are found in less than the time that going through all sections in
+/// front of each takes.
+#[test]
+fn items_of_many_sections_are_found() {
+    const SECTIONS: usize = 160_000;
+    let custom = *b"\0\x02\x01a\x06\x01\0\x01\x08\0asm\x01\0\0\0";
+    let bytes = [&b"\0asm\x0d\0\x01\0"[..], &custom.repeat(SECTIONS)].concat();
+    let mut listing = Held::nothing();
+    let at = listing.at();
+    let status = unsafe { wenc_list(at, bytes.as_ptr(), bytes.len(), ptr::null_mut()) };
+    assert_eq!(status, Status::Done);
+    let begun = std::time::Instant::now();
+    for number in 0..SECTIONS {
+        let mut module: ItemRow = unsafe { mem::zeroed() };
+        let statuses = [
+            unsafe { wenc_item_at(at, 3 * number, 0, ptr::null_mut()) },
+            unsafe { wenc_item_at(at, 3 * number + 1, 0, ptr::null_mut()) },
+            unsafe { wenc_item_at(at, 3 * number + 2, 0, &mut module) },
+        ];
+        assert_eq!(statuses, [Status::Done, Status::BadArgument, Status::Done]);
+        assert_eq!((module.index, module.section), (number as u64, 1));
+    }
+    assert!(begun.elapsed().as_secs() < 60, "{:?}", begun.elapsed());
+}
+
+#[test]
+fn what_is_not_read_is_put_out() {
+    let component = *b"\0asm\x0d\0\x01\0\x07\x05\x01\x40\0\x01\0\x0a\x06\x01\0\x01f\x01\0";
+    let changed = |at: usize, byte| {
+        let mut bytes = component;
+        bytes[at] = byte;
+        listed(&bytes)
+    };
+    assert_eq!(listed(&component), (Status::Done, [0; 4]));
+    assert_eq!(listed(&[]), (Status::NotAComponent, [0; 4]));
+    assert_eq!(changed(8, 12), (Status::BadSection, [8, 8, 0, 0]));
+    // Two imports, of which the second isn't there; no count; a byte behind the type.
+    assert_eq!(changed(17, 2), (Status::BadItem, [15, 23, 2, 1]));
+    assert_eq!(listed(&component[..8 + 2 + 1]).0, Status::BadSection);
+    assert_eq!(listed(b"\0asm\x0d\0\x01\0\x07\x00"), (Status::BadItem, [8, 10, 1, 0]));
+    assert_eq!(changed(10, 0), (Status::BadItem, [8, 11, 3, 0]));
+}
+
+#[test]
+fn items_that_were_read() {
+    let component =
+        b"\0asm\x0d\0\x01\0\x07\x05\x01\x40\0\x01\0\x0a\x0b\x02\0\x01f\x01\0\0\x01g\x01\0\
+        \0\x03\x01xy";
+    let mut listing = Held::nothing();
+    let (mut len, mut count) = (0, 0);
+    unsafe {
+        let at = listing.at();
+        assert_eq!(
+            wenc_list(at, component.as_ptr(), component.len(), ptr::null_mut()),
+            Status::Done
+        );
+        assert_eq!((wenc_len(at, &mut len), len), (Status::Done, 3));
+        assert_eq!((wenc_count(at, 8, &mut count), count), (Status::Done, 2));
+        let section = |number| {
+            let mut row: SectionRow = mem::zeroed();
+            assert_eq!(wenc_section_at(at, number, &mut row), Status::Done);
+            [row.place, row.len, row.items, row.id as usize]
+        };
+        assert_eq!([0, 1, 2].map(section), [[8, 7, 1, 7], [15, 13, 2, 10], [28, 5, 1, 0]]);
+        let item = |section, number| {
+            let mut row: ItemRow = mem::zeroed();
+            assert_eq!(wenc_item_at(at, section, number, &mut row), Status::Done);
+            row
+        };
+        let second = item(1, 1);
+        assert_eq!(slice::from_raw_parts(second.name, second.name_len), b"g");
+        assert_eq!((second.index, second.section, second.space, second.indices), (1, 10, 8, 1));
+        assert!(second.bytes.is_null() && second.bytes_len == 0);
+        let ty = item(0, 0);
+        assert_eq!((ty.index, ty.section, ty.space, ty.indices), (0, 7, 12, 1));
+        assert!(ty.name.is_null() && ty.name_len == 0);
+        let custom = item(2, 0);
+        assert_eq!(slice::from_raw_parts(custom.bytes, custom.bytes_len), b"y");
+        assert_eq!((custom.index, custom.space, custom.indices), (0, 13, 0));
+        let none = ptr::null_mut();
+        assert_eq!(wenc_section_at(at, 3, ptr::null_mut()), Status::BadArgument);
+        assert_eq!(wenc_item_at(at, 1, 2, ptr::null_mut()), Status::BadArgument);
+        assert_eq!(wenc_item_at(at, 3, 0, ptr::null_mut()), Status::BadArgument);
+        let mut builder = Held::builder();
+        let to = builder.at();
+        assert_eq!(wenc_copy(to, NO, EMPTY, 0, at, 1, 2, none), Status::BadArgument);
+        assert_eq!(wenc_copy(at, NO, EMPTY, 0, to, 0, 0, none), Status::BadArgument);
+        assert_eq!(wenc_copy(to, NO, EMPTY, 0, at, 1, 0, none), Status::Done);
+        let mut index = 77;
+        assert_eq!(wenc_copy(to, YES, EMPTY, 0, at, 0, 0, &mut index), Status::Done);
+        assert_eq!(index, 0);
+    }
+}
+
+#[test]
+fn items_by_their_bytes() {
+    let mut builder = Held::builder();
+    let mut item = |section, bytes: &[u8]| {
+        let mut index = 77;
+        let (at, len) = (bytes.as_ptr(), bytes.len());
+        let status = unsafe { wenc_item(builder.at(), section, NO, EMPTY, 0, at, len, &mut index) };
+        (status, index)
+    };
+    assert_eq!(item(0, b"\x01xy"), (Status::Done, 0));
+    assert_eq!(item(1, b"m"), (Status::Done, 0));
+    assert_eq!(item(2, b"\x01\x00"), (Status::Done, 0));
+    assert_eq!(item(3, b"\x60\x00\x00"), (Status::Done, 0));
+    assert_eq!(item(4, b"c"), (Status::Done, 0));
+    assert_eq!(item(5, b"\x01\x00"), (Status::Done, 0));
+    assert_eq!(item(6, b"\x01\x00\x80\x00\x01f"), (Status::Done, 0));
+    assert_eq!(item(7, b"\x40\x00\x01\x00"), (Status::Done, 0));
+    assert_eq!(item(8, b"\x05"), (Status::Done, 0));
+    assert_eq!(item(9, b"\x00\x00\x02"), (Status::Done, 0));
+    assert_eq!(item(10, b"\x00\x01f\x01\x00"), (Status::Done, 1));
+    assert_eq!(item(11, b"\x00\x01g\x01\x01\x00"), (Status::Done, 2));
+    for (section, bytes) in
+        [(0, &b"\x02x"[..]), (2, b"\x02"), (7, b"\x40\x00\x01\x00\x00"), (9, b"\0")]
+    {
+        assert_eq!(item(section, bytes), (Status::Malformed, 77));
+    }
+    let mut deep = b"\x41\x01\x01".repeat(101);
+    deep.extend_from_slice(b"\x41\x00");
+    assert_eq!(item(7, &deep), (Status::TooDeep, 77));
+    assert_eq!(
+        builder.finished()[8..],
+        *b"\0\x03\x01xy\x01\x01m\x02\x03\x01\x01\x00\x03\x04\x01\x60\x00\x00\x04\x01c\
+           \x05\x03\x01\x01\x00\x06\x06\x01\x01\x00\x00\x01f\x07\x05\x01\x40\x00\x01\x00\
+           \x08\x02\x01\x05\x09\x03\x00\x00\x02\x0a\x06\x01\x00\x01f\x01\x00\
+           \x0b\x07\x01\x00\x01g\x01\x01\x00"
+    );
+}

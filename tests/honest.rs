@@ -1,0 +1,235 @@
+//! Reads each source beside the Rust that the build script made of it. Where they part, it has to
+//! be in one of the ways that `honest/reader.rs` lists; whatever else is left out, changed, added
+//! or moved to another line is found.
+
+#[path = "common/erased.rs"]
+mod erased;
+#[path = "honest/lexer.rs"]
+mod lexer;
+#[path = "honest/reader.rs"]
+mod reader;
+
+use lexer::{Token, lex};
+use reader::{DERIVED_TOO, NARROWED, TREES, WAYS, compare, read};
+use std::collections::BTreeMap;
+use std::fs;
+use std::path::{Path, PathBuf};
+
+/// Whether each token is in the line that it has in the source: not in the published package, where
+/// no line is left of contracts.
+const HAS_LINES: bool = cfg!(in_repository);
+
+/// The sources, each with what it was erased to: the crate, the path, the text and the Rust.
+fn sources() -> Vec<(String, PathBuf, String, String)> {
+    let erased = erased::folder();
+    let sources = Path::new(env!("CARGO_MANIFEST_DIR")).join("crates");
+    let mut found = Vec::new();
+    for entry in fs::read_dir(erased).expect("the Rust is there") {
+        let rust = entry.expect("the folder can be read").path();
+        if rust.is_dir() {
+            let name = rust.file_name().expect("it has a name").to_string_lossy().into_owned();
+            let source = sources.join(&name).join("src");
+            gather(&name, &source, &rust, &mut found);
+        }
+    }
+    found
+}
+
+fn gather(name: &str, from: &Path, to: &Path, found: &mut Vec<(String, PathBuf, String, String)>) {
+    let names = |folder: &Path| {
+        let entries = fs::read_dir(folder).expect("the folder can be read");
+        let mut names: Vec<PathBuf> =
+            entries.map(|entry| entry.expect("an entry").path().with_extension("")).collect();
+        names.sort();
+        names.iter().map(|path| path.file_name().expect("a name").to_owned()).collect::<Vec<_>>()
+    };
+    assert_eq!(names(from), names(to), "each file has its Rust, and no other is there");
+    for entry in fs::read_dir(from).expect("the folder can be read") {
+        let path = entry.expect("an entry").path();
+        let rust = to.join(path.file_name().expect("a name"));
+        if path.is_dir() {
+            gather(name, &path, &rust, found);
+        } else {
+            let old = fs::read_to_string(&path).expect("the source");
+            let new = fs::read_to_string(rust.with_extension("rs")).expect("the Rust");
+            found.push((name.to_owned(), path, old, new));
+        }
+    }
+}
+
+#[test]
+fn erased_sources_are_the_sources() {
+    let mut counts = BTreeMap::new();
+    let sources = sources();
+    assert!(sources.len() > 150, "only {} files", sources.len());
+    for (name, path, old, new) in sources {
+        if let Err(why) = read(&name, &old, &new, HAS_LINES, &mut counts) {
+            panic!("{}:{why}", path.display());
+        }
+    }
+    println!("{counts:#?}");
+    let unused: Vec<&&str> = WAYS.iter().filter(|way| !counts.contains_key(**way)).collect();
+    assert!(unused.is_empty(), "nothing differs in these ways any more: {unused:?}");
+    assert_eq!(counts["derive of a tree"], TREES.len());
+    assert_eq!(counts["derive of more"], DERIVED_TOO.len());
+    assert_eq!(counts["method that stays in this crate"], NARROWED.len());
+}
+
+/// A source with most of the ways in which the two may part.
+const SOURCE: &str = "\
+use crate::b;
+#[derive(Clone, Copy)]
+pub struct Pair<T: Drop>(u8, T);
+#[derive(Drop)]
+#[cycle(types)]
+pub enum TypeTree {
+    A,
+    ghost whole: { length a ≡ 1 },
+}
+#[inline]
+fn f(x: u8) -> Result<u8, E>
+    requires { x < 3 }
+{
+    let y = x.clone()?;
+    g(x + 12, \"text\");
+    h(1, 2);
+    Ok(y)
+}
+impl Encode for A {
+    ghost piece = { 1 };
+    fn encode(&self) {}
+}
+";
+
+/// What it has to be erased to.
+const RUST: &str = "\
+use crate::shim::prelude::*; use crate::proved::named::b;
+#[derive(Clone, Copy)]
+pub struct Pair<T>(u8, T);
+#[derive(Clone, Debug, PartialEq, Eq, Hash)]
+
+pub enum TypeTree {
+    A,
+
+}
+#[inline]
+fn f(x: u8) -> Result<u8, E>
+
+{
+    let y = x.try_clone()?;
+    g(x + 12, \"text\");
+    h(1, 2);
+    Ok(y)
+}
+impl Encode for A {
+
+    #[inline] fn encode(&self) {}
+}
+";
+
+/// Changes of that Rust, by the words that are replaced: each is to be found.
+const CHANGES: [(&str, &str, &str); 21] = [
+    ("a number", "12", "13"),
+    ("a statement that is dropped", "h(1, 2);", ""),
+    ("a statement twice", "h(1, 2);", "h(1, 2); h(1, 2);"),
+    ("arguments in another order", "h(1, 2)", "h(2, 1)"),
+    ("another word", "g(x", "h(x"),
+    ("another operator", "x + 12", "x - 12"),
+    ("a letter of a text", "text", "test"),
+    ("a blank in a text", "\"text\"", "\"text \""),
+    ("a token more", "Ok(y)", "Ok(!y)"),
+    ("a mark less", "clone()?", "clone()"),
+    ("a name that stays", "try_clone", "clone"),
+    ("a path's root", "proved::named", "proved::other"),
+    ("an attribute that is dropped", "#[inline]", ""),
+    ("an attribute that came in", "#[inline]", "#[inline] #[cold]"),
+    ("an attribute that is missing", "#[inline] fn encode", "fn encode"),
+    ("a derive that is dropped", "Clone, Copy", "Clone"),
+    ("a tree's derive", "Clone, Debug, PartialEq, Eq, Hash", "Clone"),
+    ("a clause that became code", "E>\n\n{", "E>\n{ x < 3 }\n{"),
+    ("a ghost field that stays", "A,\n\n", "A,\n    whole: u8,\n"),
+    ("a line that moved", "h(1, 2);\n", "h(1, 2);\n\n"),
+    ("the prelude", "use crate::shim::prelude::*;", ""),
+];
+
+#[test]
+fn each_change_is_found() {
+    let read = |rust: &str| read("named", SOURCE, rust, true, &mut BTreeMap::new());
+    assert_eq!(read(RUST), Ok(()));
+    for (what, from, to) in CHANGES {
+        assert!(RUST.contains(from), "{what}");
+        assert!(read(&RUST.replacen(from, to, 1)).is_err(), "{what} is not found");
+    }
+    assert!(read(&RUST[..RUST.len() - 2]).is_err(), "an end that is missing");
+    assert!(read(&format!("{RUST}fn g() {{}}")).is_err(), "an item that came in");
+}
+
+/// Sources whose words mean something else in Rust where they stay or get another name, and what
+/// they would become.
+const UNKNOWN: [(&str, &str); 16] = [
+    ("fn f(x: std::A) {}", "fn f(x: std::A) {}"),
+    ("fn f<T: std::A>() {}", "fn f<T: std::A>() {}"),
+    ("fn f() { let x: wenc_base::A; }", "fn f() { let x: wenc_base::A; }"),
+    ("struct S { a: crate::A }", "struct S { a: crate::A }"),
+    ("fn f(x: core::A) {}", "fn f(x: core::A) {}"),
+    ("use alloc::vec;", "use alloc::vec;"),
+    ("use thiserror::Display;", "use thiserror::Display;"),
+    ("mod inner { fn f() {} }", "mod inner { fn f() {} }"),
+    ("pub mod inner {}", "pub mod inner {}"),
+    ("enum Op { Clone, Copy }", "enum Op { TryClone, Copy }"),
+    ("enum Op { Copy, Clone }", "enum Op { Copy, Clone }"),
+    ("fn f() { Clone::clone(x) }", "fn f() { TryClone::try_clone(x) }"),
+    ("use a::Clone;", "use a::TryClone;"),
+    ("struct S { clone: u8 }", "struct S { try_clone: u8 }"),
+    ("fn f() { s.clone }", "fn f() { s.try_clone }"),
+    ("fn f() { clone(s) }", "fn f() { clone(s) }"),
+];
+
+#[test]
+fn what_means_something_else_in_rust_is_found() {
+    let read = |source: &str, rust: &str| {
+        let rust = format!("use crate::shim::prelude::*; {rust}");
+        read("named", source, &rust, true, &mut BTreeMap::new())
+    };
+    for (source, rust) in UNKNOWN {
+        assert!(read(source, rust).is_err(), "{source}");
+    }
+    for (source, rust) in [
+        ("fn f(x: std::A) {}", "fn f(x: crate::shim::A) {}"),
+        ("fn f<T: wenc_base::A>() {}", "fn f<T: crate::proved::wenc_base::A>() {}"),
+        ("struct S { a: crate::A }", "struct S { a: crate::proved::named::A }"),
+        ("mod inner; use self::core::A;", "mod inner; use self::core::A;"),
+        (
+            "fn f<T: Clone>() where A: B + Clone, {}",
+            "fn f<T: TryClone>() where A: B + TryClone, {}",
+        ),
+        ("fn clone() { s.clone() }", "fn try_clone() { s.try_clone() }"),
+    ] {
+        assert_eq!(read(source, rust), Ok(()), "{source}");
+    }
+}
+
+/// In one file in five, if it is short: each token left out, changed, and another put in after it.
+#[test]
+fn each_token_counts() {
+    let mut sources = sources();
+    sources.sort();
+    let (mut planted, mut counts) = (0, BTreeMap::new());
+    for (name, path, old, new) in sources.into_iter().step_by(5) {
+        let (old, mut new) = (lex(&old), lex(&new));
+        for at in 0..if new.len() < 500 { new.len() } else { 0 } {
+            let place = format!("{}:{}", path.display(), new[at].line);
+            let mut is_found =
+                |new: &[Token]| compare(&name, &old, new, HAS_LINES, &mut counts).is_err();
+            let token = new.remove(at);
+            assert!(is_found(&new), "{place}: left out");
+            new.insert(at, Token { line: token.line, text: format!("{}x", token.text) });
+            assert!(is_found(&new), "{place}: changed");
+            new.insert(at, token);
+            assert!(is_found(&new), "{place}: something put in");
+            new.remove(at + 1);
+            planted += 3;
+        }
+    }
+    assert!(planted > 3000, "only {planted} changes");
+}

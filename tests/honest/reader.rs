@@ -1,0 +1,483 @@
+//! The closed list of ways in which a source and its Rust may part. What stands in the source says
+//! which of them it is, and what has to stand in the Rust then.
+
+use super::lexer::{Token, lex};
+use std::collections::BTreeMap;
+
+/// The ways, each of which some source takes.
+pub const WAYS: [&str; 27] = [
+    "kept",
+    "prelude",
+    "ghost use left out",
+    "ghost member or field left out",
+    "clause left out",
+    "attribute of the prover left out",
+    "derive of Drop left out",
+    "derive of a tree",
+    "derive kept",
+    "derive of more",
+    "method that stays in this crate",
+    "derive of an error",
+    "derive_where is derive",
+    "text of an error left out",
+    "Display and Error of an error",
+    "bound Drop left out",
+    "bound Drop of a trait",
+    "use of thiserror left out",
+    "root of the crate",
+    "root of std",
+    "root of another crate",
+    "pub(crate)",
+    "refusable clone",
+    "method that is handed an allocator",
+    "macro that is handed an allocator",
+    "main is pub",
+    "method that is inlined",
+];
+
+const CRATES: [&str; 14] = [
+    "wenc_base",
+    "wenc_parts",
+    "wenc_types",
+    "wenc_canon",
+    "wenc_sections",
+    "wenc_builder",
+    "wenc_read",
+    "wenc_decode",
+    "wenc_list",
+    "wasm_encoder",
+    "wenc",
+    "command_fuzz",
+    "proved_tests",
+    "hex",
+];
+
+/// Trees, which a user compares, hashes, prints and copies.
+pub const TREES: [&str; 23] = [
+    "AliasTree",
+    "Built",
+    "CanonTree",
+    "CaseTree",
+    "Command",
+    "ComponentDecl",
+    "CompositeType",
+    "CoreInstanceTree",
+    "CoreTypeTree",
+    "DefinedTree",
+    "FuncType",
+    "GroupTree",
+    "InstanceDecl",
+    "InstanceTree",
+    "ItemTree",
+    "ListedSection",
+    "Listing",
+    "ModuleDecl",
+    "NameOptions",
+    "NameTree",
+    "StructType",
+    "SubType",
+    "TypeTree",
+];
+
+/// Types that derive more than their sources say, and what.
+pub const DERIVED_TOO: [(&str, &str); 22] = [
+    ("AbstractHeapType", "Hash"),
+    ("Alias", "Debug, Hash, PartialEq, Eq"),
+    ("ArrayType", "Hash"),
+    ("CanonicalOption", "Hash"),
+    ("ComponentExportKind", "Hash"),
+    ("ComponentOuterAliasKind", "Hash"),
+    ("ComponentSectionId", "Hash"),
+    ("EntityType", "Hash"),
+    ("ExportKind", "Hash"),
+    ("Fault", "Hash"),
+    ("FieldType", "Hash"),
+    ("GlobalType", "Hash"),
+    ("HeapType", "Hash"),
+    ("MemoryType", "Hash"),
+    ("ModuleArg", "Hash"),
+    ("RefType", "Hash"),
+    ("Space", "Hash, PartialOrd, Ord"),
+    ("StorageType", "Hash"),
+    ("TableType", "Hash"),
+    ("TagType", "Hash"),
+    ("Unread", "Hash"),
+    ("ValType", "Hash"),
+];
+
+/// Methods of trees that only this crate calls.
+pub const NARROWED: [(&str, &str); 2] = [("FuncType", "new"), ("NameTree", "as_name")];
+
+/// What both have next: the way, how many tokens of the source, and the tokens of the Rust.
+struct Step {
+    way: &'static str,
+    old: usize,
+    new: String,
+}
+
+fn step(way: &'static str, old: usize, new: impl Into<String>) -> Step {
+    Step { way, old, new: new.into() }
+}
+
+/// Reads a source of this crate beside its Rust, and counts each way in which they part. Refuses
+/// what is in no way, and where lines count, what is in another line.
+pub fn read(
+    crate_name: &str,
+    old: &str,
+    new: &str,
+    has_lines: bool,
+    counts: &mut BTreeMap<&'static str, usize>,
+) -> Result<(), String> {
+    compare(crate_name, &lex(old), &lex(new), has_lines, counts)?;
+    let lines = (old.lines().count(), new.lines().count());
+    if lines.0 == lines.1 || !has_lines {
+        Ok(())
+    } else {
+        Err(format!("{} lines became {}", lines.0, lines.1))
+    }
+}
+
+/// Reads the tokens of a source beside those of its Rust, and counts each way in which they part.
+/// Refuses what is in no way.
+pub fn compare(
+    crate_name: &str,
+    old: &[Token],
+    new: &[Token],
+    has_lines: bool,
+    counts: &mut BTreeMap<&'static str, usize>,
+) -> Result<(), String> {
+    let mut source = Source::new(crate_name, old);
+    let mut rest = new;
+    if !rest.is_empty() {
+        // It stands in the line of what documents the first item.
+        let line = has_lines.then_some(rest[0].line);
+        take("prelude", line, "use crate::shim::prelude::*;", &mut rest)?;
+        counts.insert("prelude", 1);
+    }
+    while let Some(first) = old.get(source.at) {
+        if let Some(why) = source.unknown() {
+            return Err(format!("{}: {:?} is {why}", first.line, first.text));
+        }
+        let Step { way, old, new } = source.step();
+        let line = has_lines.then_some(first.line);
+        take(way, line, &new, &mut rest).map_err(|why| format!("{}: {why}", first.line))?;
+        *counts.entry(way).or_default() += 1;
+        source.at += old;
+    }
+    match rest.first() {
+        Some(more) => Err(format!("{}: {:?} came in", more.line, more.text)),
+        None => Ok(()),
+    }
+}
+
+/// Takes these tokens from the rest of the Rust. The first is in this line, if one is given.
+fn take(way: &str, line: Option<usize>, wanted: &str, rest: &mut &[Token]) -> Result<(), String> {
+    let wanted = if way == "kept" {
+        vec![wanted.to_owned()]
+    } else {
+        lex(wanted).into_iter().map(|token| token.text).collect()
+    };
+    for (n, text) in wanted.iter().enumerate() {
+        let Some((found, behind)) = rest.split_first().filter(|(f, _)| f.text == *text) else {
+            let found = rest.first().map_or("", |found| &found.text);
+            return Err(format!("{text:?} became {found:?} ({way})"));
+        };
+        if line.is_some_and(|line| n == 0 && found.line != line || found.line < line) {
+            return Err(format!("it became line {} ({way})", found.line));
+        }
+        *rest = behind;
+    }
+    Ok(())
+}
+
+/// A source that is being read.
+struct Source<'a> {
+    crate_name: &'a str,
+    tokens: &'a [Token],
+    at: usize,
+    /// Where an enum of errors ends, and what is written there.
+    error: Option<(usize, String)>,
+}
+
+impl<'a> Source<'a> {
+    fn new(crate_name: &'a str, tokens: &'a [Token]) -> Self {
+        Source { crate_name, tokens, at: 0, error: None }
+    }
+
+    /// The token so many after this.
+    fn text(&self, ahead: usize) -> &'a str {
+        self.tokens.get(self.at + ahead).map_or("", |token| &token.text)
+    }
+
+    /// The token so many before this.
+    fn before(&self, back: usize) -> &'a str {
+        self.at.checked_sub(back).map_or("", |at| &self.tokens[at].text)
+    }
+
+    fn stands(&self, words: &str) -> bool {
+        self.stands_at(0, words)
+    }
+
+    fn stands_at(&self, ahead: usize, words: &str) -> bool {
+        words.split(' ').enumerate().all(|(i, word)| self.text(ahead + i) == word)
+    }
+
+    /// How many tokens there are from the bracket so many after this to the one that closes it,
+    /// with both.
+    fn block(&self, ahead: usize) -> usize {
+        let mut depth = 0;
+        for len in 1.. {
+            match self.text(ahead + len - 1) {
+                "(" | "[" | "{" => depth += 1,
+                ")" | "]" | "}" => depth -= 1,
+                "" => return len,
+                _ => {}
+            }
+            if depth == 0 {
+                return len;
+            }
+        }
+        unreachable!("it ends")
+    }
+
+    /// How many tokens a block of antt has, in which only braces are brackets.
+    fn antt(&self, ahead: usize) -> usize {
+        let mut depth = 0;
+        for len in 1.. {
+            match self.text(ahead + len - 1) {
+                "{" => depth += 1,
+                "}" => depth -= 1,
+                "" => return len,
+                _ => {}
+            }
+            if depth == 0 {
+                return len;
+            }
+        }
+        unreachable!("it ends")
+    }
+
+    /// Why what stands here would mean something else in Rust, if it would, whatever became of it.
+    fn unknown(&self) -> Option<&'static str> {
+        let (last, word, next) = (self.before(1), self.text(0), self.text(1));
+        match word {
+            "mod" => (self.text(2) == "{").then_some("a module without the prelude"),
+            "core" | "alloc" | "thiserror" if next == "::" && last != "::" => {
+                Some("a crate that is another one in Rust")
+            }
+            "Clone" => (!self.is_bound()).then_some("a name that is no bound"),
+            "clone" => {
+                let is_method = matches!((last, next), ("fn" | ".", "("));
+                (!is_method).then_some("a name that is no method")
+            }
+            _ => None,
+        }
+    }
+
+    /// Whether a trait stands here that is asked for: behind a colon or a plus, and in front of
+    /// what ends or goes on with the list.
+    fn is_bound(&self) -> bool {
+        matches!((self.before(1), self.text(1)), (":" | "+", "," | ">" | "+" | ")" | "{"))
+    }
+
+    fn step(&mut self) -> Step {
+        if let Some((_, text)) = self.error.take_if(|(at, _)| *at == self.at) {
+            return step("Display and Error of an error", 1, text);
+        }
+        let found = self.proof().or_else(|| self.attribute()).or_else(|| self.name());
+        found.unwrap_or_else(|| step("kept", 1, self.text(0)))
+    }
+
+    /// What is for the prover alone.
+    fn proof(&self) -> Option<Step> {
+        match self.text(0) {
+            "ghost" if self.text(1) == "use" => {
+                let len = (0..).find(|ahead| [";", ""].contains(&self.text(*ahead)))? + 1;
+                Some(step("ghost use left out", len, ""))
+            }
+            "ghost" => {
+                let mut len = 2;
+                while [":", "="].contains(&self.text(len)) && self.text(len + 1) == "{" {
+                    len += 1 + self.antt(len + 1);
+                }
+                let ends = [";", ","].contains(&self.text(len)) && len > 2;
+                ends.then(|| step("ghost member or field left out", len + 1, ""))
+            }
+            "requires" | "ensures" => {
+                let open = (1..4).find(|ahead| self.text(*ahead) == "{")?;
+                Some(step("clause left out", open + self.antt(open), ""))
+            }
+            _ => None,
+        }
+    }
+
+    fn attribute(&mut self) -> Option<Step> {
+        if self.text(0) != "#" {
+            return None;
+        }
+        let open = if self.text(1) == "!" { 2 } else { 1 };
+        let len = open + self.block(open);
+        match self.text(open + 1) {
+            "tactic" | "cycle" => Some(step("attribute of the prover left out", len, "")),
+            "error" => Some(step("text of an error left out", len, "")),
+            "derive_where" => {
+                Some(step("derive_where is derive", len, self.shown(len).replacen("_where", "", 1)))
+            }
+            "derive" => Some(self.derive(len)),
+            _ => None,
+        }
+    }
+
+    /// These tokens, with blanks between them.
+    fn shown(&self, len: usize) -> String {
+        (0..len).map(|ahead| self.text(ahead)).collect::<Vec<_>>().join(" ")
+    }
+
+    /// A derive of so many tokens.
+    fn derive(&mut self, len: usize) -> Step {
+        if self.stands("# [ derive ( Drop ) ]") {
+            let is_compared = self.stands_at(len, "# [ derive_where");
+            let more = if is_compared { "" } else { "Debug, PartialEq, Eq, " };
+            return if TREES.contains(&self.public_type(len)) {
+                step("derive of a tree", len, format!("#[derive(Clone, {more}Hash)]"))
+            } else {
+                step("derive of Drop left out", len, "")
+            };
+        }
+        let shown = self.shown(len);
+        let is_error = shown.ends_with(", Error ) ]");
+        if is_error {
+            self.error = Some(self.display(len));
+        }
+        let kept = shown.replace(", Error )", ")");
+        let owner = self.public_type(len);
+        match DERIVED_TOO.iter().find(|(name, _)| *name == owner) {
+            Some((_, too)) => {
+                step("derive of more", len, kept.replace(" ) ]", &format!(", {too} ) ]")))
+            }
+            None if is_error => step("derive of an error", len, kept),
+            None => step("derive kept", len, kept),
+        }
+    }
+
+    /// The name of the public type so many tokens after this, its other attributes first.
+    fn public_type(&self, ahead: usize) -> &'a str {
+        let mut item = ahead;
+        while self.text(item) == "#" {
+            item += 1 + self.block(item + 1);
+        }
+        if self.text(item) == "pub" { self.text(item + 2) } else { "" }
+    }
+
+    /// Where the enum ends that begins here, and what stands there: `Display` and `Error`.
+    fn display(&self, item: usize) -> (usize, String) {
+        let name = self.text(item + 2);
+        let end = item + 3 + self.block(item + 3) - 1;
+        let mut arms = String::new();
+        for ahead in item..end {
+            if self.stands_at(ahead, "# [ error (") {
+                let (text, variant) = (self.text(ahead + 4), self.text(ahead + 7));
+                let place = if text.contains("{place}") { "place, " } else { "" };
+                arms += &format!("{name}::{variant} {{ {place}.. }} => write!(f, {text}),");
+            }
+        }
+        let text = format!(
+            "}} impl ::core::fmt::Display for {name} {{
+                fn fmt(&self, f: &mut ::core::fmt::Formatter<'_>) -> ::core::fmt::Result {{
+                    match self {{ {arms} }}
+                }}
+            }}
+            impl ::core::error::Error for {name} {{}}"
+        );
+        (self.at + end, text)
+    }
+
+    /// A name that is another one in Rust.
+    fn name(&self) -> Option<Step> {
+        let (word, next) = (self.text(0), self.text(1));
+        match word {
+            "+" if next == "Drop" => Some(step("bound Drop left out", 2, "")),
+            ":" if self.stands(": Drop >") || self.stands(": Drop ,") => {
+                Some(step("bound Drop left out", 2, ""))
+            }
+            ":" if self.stands(": Drop {") => Some(step("bound Drop of a trait", 2, ": Sized")),
+            "use" if self.stands("use thiserror :: Error ;") => {
+                Some(step("use of thiserror left out", 5, ""))
+            }
+            "(" if self.stands("( crate )") => {
+                Some(step("pub(crate)", 3, format!("(in crate::proved::{})", self.crate_name)))
+            }
+            "pub" if NARROWED.contains(&(self.owner(), self.text(2))) => {
+                Some(step("method that stays in this crate", 1, "pub(crate)"))
+            }
+            "fn" if next == "main" => Some(step("main is pub", 2, "pub fn main")),
+            "fn" if next == "encode" && self.is_bare_method() => {
+                Some(step("method that is inlined", 2, "#[inline] fn encode"))
+            }
+            "Clone" => Some(step("refusable clone", 1, "TryClone")),
+            "clone" => Some(step("refusable clone", 1, "try_clone")),
+            "collect" if self.before(1) == "." => {
+                Some(step("method that is handed an allocator", 1, "collect_using"))
+            }
+            "format" | "vec" if next == "!" && self.text(3) == "in" => {
+                let name = format!("crate::shim::{word}");
+                Some(step("macro that is handed an allocator", 1, name))
+            }
+            _ => self.root(),
+        }
+    }
+
+    /// Whether a method of a type begins here, and not one that a trait asks for, and no attribute stands in front of it but
+    /// the prover's.
+    fn is_bare_method(&self) -> bool {
+        let mut before = &self.tokens[..self.at];
+        let last = before.iter().rfind(|token| ["impl", "trait"].contains(&&*token.text));
+        while before.last().is_some_and(|token| token.text == "]") {
+            let begin = before.iter().rposition(|token| token.text == "#").unwrap_or(0);
+            if !["tactic", "cycle"].contains(&&*before[begin + 2].text) {
+                return false;
+            }
+            before = &before[..begin];
+        }
+        let is_shown = before.last().is_some_and(|token| token.text == "pub");
+        !is_shown && last.is_some_and(|token| token.text == "impl")
+    }
+
+    /// The type of the `impl` that this stands in, which has no trait.
+    fn owner(&self) -> &'a str {
+        let is_impl = |at: &usize| {
+            let (before, _) = self.tokens.split_at(*at);
+            let is_first = before.last().is_none_or(|b| [";", "}", "]"].contains(&&*b.text));
+            self.tokens[*at].text == "impl" && is_first
+        };
+        let Some(at) = (0..self.at).rev().find(is_impl) else { return "" };
+        let mut depth = 0;
+        for token in &self.tokens[at + 1..] {
+            match &*token.text {
+                "<" => depth += 1,
+                ">" => depth -= 1,
+                word if depth == 0 => return word,
+                _ => {}
+            }
+        }
+        ""
+    }
+
+    /// The root of a path.
+    fn root(&self) -> Option<Step> {
+        if self.text(1) != "::" || self.before(1) == "::" {
+            return None;
+        }
+        match self.text(0) {
+            "crate" => {
+                let root = format!("crate::proved::{}", self.crate_name);
+                Some(step("root of the crate", 1, root))
+            }
+            "std" => Some(step("root of std", 1, "crate::shim")),
+            word if CRATES.contains(&word) => {
+                Some(step("root of another crate", 1, format!("crate::proved::{word}")))
+            }
+            _ => None,
+        }
+    }
+}

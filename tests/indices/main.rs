@@ -1,0 +1,74 @@
+//! The indices that items contain: each form that has one, and components that are renumbered. The
+//! nodes of items.
+#![cfg(feature = "reader")]
+
+mod canonicals;
+mod core_types;
+mod items;
+mod nested;
+mod nodes;
+mod types;
+
+use wenc::tree::{ItemTree, NameTree, Node, Scope, Space, String};
+
+/// A space, how a scope is seen from the item, and an index.
+type Seen = (Space, Scope, u32);
+
+/// An index in this component.
+fn here(space: Space, index: u32) -> Seen {
+    (space, Scope::Component(0), index)
+}
+
+/// An index in the outermost type that the item is.
+fn inside(space: Space, index: u32) -> Seen {
+    (space, Scope::Type(1), index)
+}
+
+fn text(text: &str) -> String {
+    text.into()
+}
+
+fn name(text: &str) -> NameTree {
+    NameTree::from(String::from(text))
+}
+
+fn seen(item: &mut ItemTree) -> Vec<Seen> {
+    let mut seen = Vec::new();
+    item.indices_mut(|used| seen.push((used.space, used.scope, *used.index)));
+    seen
+}
+
+/// Adds the indices in the node.
+fn add_indices(node: Node, seen: &mut Vec<Seen>) {
+    match node {
+        Node::Index { space, scope, index } => seen.push((space, scope, index)),
+        Node::Present(child) | Node::Variant(_, child) => add_indices(child.node(), seen),
+        Node::List(list) => list.iter().for_each(|child| add_indices(child.node(), seen)),
+        Node::Tuple(fields) | Node::Record(_, fields) | Node::Struct(_, fields) => {
+            fields.iter().for_each(|(_, child)| add_indices(child.node(), seen));
+        }
+        _ => {}
+    }
+}
+
+/// The item contains these indices, in this order, and each can be changed. Its node has them too,
+/// in the order of fields.
+fn expect(mut item: ItemTree, indices: &[Seen]) {
+    let before = item.clone();
+    assert_eq!(seen(&mut item), indices, "{before:?}");
+    assert_eq!(item, before, "nothing was changed");
+
+    let mut of_node = Vec::new();
+    add_indices(item.node(), &mut of_node);
+    let [mut of_node, mut sorted] = [of_node, indices.to_vec()];
+    of_node.sort_by_key(|seen| format!("{seen:?}"));
+    sorted.sort_by_key(|seen| format!("{seen:?}"));
+    assert_eq!(of_node, sorted, "{before:?}");
+
+    item.indices_mut(|used| *used.index += 1000);
+    let raised: Vec<Seen> = indices.iter().map(|(of, from, at)| (*of, *from, at + 1000)).collect();
+    assert_eq!(seen(&mut item), raised, "{before:?}");
+    assert_eq!(item != before, !indices.is_empty(), "{before:?}");
+    item.indices_mut(|used| *used.index -= 1000);
+    assert_eq!(item, before, "nothing else was changed");
+}

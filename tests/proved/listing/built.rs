@@ -1,0 +1,40 @@
+//! What `build` makes of the commands of scripts, as it is printed.
+
+use super::checks::encoded;
+use crate::proved::tests::hex;
+use crate::proved::wenc_list::{Listing, list};
+use crate::shim::alloc::Global;
+use std::str::from_utf8;
+use std::vec::Vec;
+
+/// The items have, one after the other, the indices that these answers tell, and no others: the
+/// next one in its space each. A custom section has none.
+fn are_answered(listing: &Listing, answers: &[u128]) {
+    let mut counts = [0u128; 13];
+    let mut rest = answers;
+    for section in &listing.sections {
+        for item in &section.items {
+            if let Some((space, number)) = item.indices() {
+                let [index, behind @ ..] = rest else { panic!("an item has no answer") };
+                let count = &mut counts[space.number()];
+                assert_eq!(*count, *index);
+                *count = index + u128::from(number);
+                rest = behind;
+            }
+        }
+    }
+    assert!(rest.is_empty() && listing.counts == counts);
+}
+
+/// The component that is printed here is listed with the items and the counts of the accepted
+/// commands, whose answers stand in front of it, and encoded again it is the same. A refused
+/// command's answer is no number, nor is one of names.
+pub fn is_listed(printed: &[u8]) {
+    let text = from_utf8(printed).unwrap().trim_end();
+    let (lines, component) = text.rsplit_once('\n').unwrap_or(("", text));
+    let answers: Vec<u128> = lines.split('\n').filter_map(|line| line.parse().ok()).collect();
+    let bytes = hex::bytes(component);
+    let listing = list(Global, &bytes).unwrap();
+    are_answered(&listing, &answers);
+    assert_eq!(encoded(&listing).as_slice(), bytes);
+}

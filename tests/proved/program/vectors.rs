@@ -1,0 +1,65 @@
+//! Scripts, and what has to come out of them. But for those by hand they are outside answers, made
+//! with the Rust crate `wasm-encoder` 0.263.0.
+
+use super::outcome::expect;
+use crate::proved::tests::hex::digits;
+use crate::proved::tests::listing::built::is_listed;
+use crate::proved::wenc::failure::Failure;
+use crate::proved::wenc::program::translate;
+use crate::shim::alloc::Global;
+use crate::shim::vec::Vec;
+use std::format;
+
+mod bad;
+mod by_hand;
+mod edges;
+mod long;
+mod long_words;
+mod short;
+mod words;
+
+/// A script, and the status, the standard output and the standard error of its run.
+pub struct Vector {
+    pub name: &'static str,
+    pub script: &'static [u8],
+    pub status: u8,
+    pub out: &'static [u8],
+    pub err: &'static [u8],
+}
+
+/// What the script is translated to is what its run prints, or tells the bad line.
+fn is_translated(vector: &Vector) {
+    match translate(Global, Global, Vec::from(vector.script.to_vec())) {
+        Ok(printout) => {
+            let line = format!("{}\n", digits(&printout.bytes));
+            let printed = [printout.lines.as_slice(), line.as_bytes()].concat();
+            assert_eq!((printout.status, &*printed), (vector.status, vector.out));
+        }
+        Err(Failure::BadLine(line)) => {
+            assert_eq!((1, format!("line {line}\n").as_bytes()), (vector.status, vector.err));
+        }
+        Err(failure) => panic!("{}: {failure:?}", vector.name),
+    }
+}
+
+#[test]
+fn scripts() {
+    for vectors in [
+        bad::VECTORS,
+        by_hand::VECTORS,
+        edges::VECTORS,
+        short::VECTORS,
+        long::VECTORS,
+        words::VECTORS,
+        long_words::VECTORS,
+    ] {
+        for vector in vectors {
+            let end = (vector.status, vector.out, vector.err);
+            expect(vector.name, &[], vector.script, &end);
+            is_translated(vector);
+            if vector.status != 1 {
+                is_listed(vector.out);
+            }
+        }
+    }
+}

@@ -1,0 +1,213 @@
+//! The shim against what the pages of Rattle's library say: what each call does, that it answers
+//! each refusal and leaves its collection as it was, and that it asks only where room is missing.
+
+use super::refusing::Refusing;
+use crate::proved::hex::{self, FromHexError};
+use crate::shim::alloc::{AllocError, AllocFailed, Global, TryClone};
+use crate::shim::borrow::CowStr;
+use crate::shim::convert::AsSlice;
+use crate::shim::prelude::*;
+use std::borrow::Cow;
+use std::string::{String as RustString, ToString};
+use std::vec;
+use std::vec::Vec as RustVec;
+
+/// An allocator, and a vector of it with these elements and no room for more.
+fn full<'a>(heap: &'a Refusing, values: &[u16]) -> Vec<u16, &'a Refusing> {
+    let vec = Vec::from_slice(heap, values).expect("it is granted");
+    assert_eq!(vec.capacity(), values.len());
+    vec
+}
+
+#[test]
+fn a_vector_asks_only_where_room_is_missing() {
+    let heap = Refusing::new();
+    heap.refuse_all();
+    let mut vec: Vec<u16, _> = Vec::new(&heap);
+    assert!(vec.try_reserve(0).is_ok() && vec.extend_from_slice(&[]).is_ok());
+    assert!(Vec::<u16, _>::with_capacity(&heap, 0).is_ok());
+    assert_eq!(heap.requests(), 0);
+    heap.refuse_none();
+    vec.try_reserve(3).expect("it is granted");
+    assert_eq!((heap.requests(), heap.was_refused()), (1, false));
+    let room = vec.capacity();
+    heap.refuse_all();
+    vec.push(1).expect("there is room");
+    vec.insert(0, 2).expect("there is room");
+    vec.extend_from_slice(&[3]).expect("there is room");
+    assert_eq!((vec.as_slice(), vec.capacity(), heap.requests()), (&[2, 1, 3][..], room, 0));
+}
+
+#[test]
+fn a_refused_vector_is_as_it_was() {
+    let heap = Refusing::new();
+    let mut vec = full(&heap, &[7, 8]);
+    heap.refuse_all();
+    assert_eq!(vec.push(9).map_err(|failed| failed.value), Err(9));
+    assert_eq!(vec.insert(1, 9).map_err(|failed| failed.value), Err(9));
+    assert_eq!(vec.extend_from_slice(&[9]), Err(AllocError));
+    assert_eq!(vec.try_reserve(1), Err(AllocError));
+    assert_eq!((vec.as_slice(), vec.capacity()), (&[7, 8][..], 2));
+    assert_eq!((heap.requests(), heap.was_refused()), (4, true));
+    assert!(Vec::from_slice(&heap, &[1u8]).is_err());
+    assert!((0..3).collect_using(&heap).is_err());
+    assert!(Vec::<u8, _>::with_capacity(&heap, 1).is_err());
+}
+
+#[test]
+fn a_vector_does_what_its_calls_say() {
+    let heap = Refusing::new();
+    let mut vec = full(&heap, &[1, 2, 3]);
+    vec.insert(1, 9).expect("granted");
+    vec.insert(4, 8).expect("granted");
+    assert_eq!(vec.as_slice(), [1, 9, 2, 3, 8]);
+    assert_eq!((vec.remove(1), vec.remove(3)), (9, 8));
+    vec.truncate(7);
+    assert_eq!(vec.as_slice(), [1, 2, 3]);
+    vec.truncate(1);
+    vec.as_mut_slice()[0] = 5;
+    assert_eq!((vec.len(), vec[0], vec.remove(0), vec.len()), (1, 5, 5, 0));
+    assert_eq!((0..3u8).collect_using(Global).expect("granted").as_slice(), [0, 1, 2]);
+    let owned: RustVec<u8> = Vec::from(vec![4, 5]).into();
+    assert_eq!(owned, [4, 5]);
+    assert!(Vec::from_slice(&heap, &[1]) == Vec::from_slice(&Refusing::new(), &[1]));
+    assert_eq!(Vec::from(vec![1, 2]).into_iter().rev().collect::<RustVec<_>>(), [2, 1]);
+}
+
+/// No machine has these: they are refused before the system is asked, and nothing ends the program.
+#[test]
+fn sizes_that_no_memory_has() {
+    assert!(Vec::<u8>::with_capacity(Global, usize::MAX).is_err());
+    assert!(Vec::<u64>::with_capacity(Global, usize::MAX / 8).is_err());
+    assert!(Vec::<u64>::with_capacity(Global, usize::MAX).is_err());
+    let mut vec = Vec::from(vec![1u8]);
+    assert_eq!(vec.try_reserve(usize::MAX), Err(AllocError));
+    assert_eq!(vec.try_reserve(isize::MAX as usize), Err(AllocError));
+    assert_eq!(vec.as_slice(), [1]);
+    assert!((0..usize::MAX).map(|n| n as u8).collect_using(Global).is_err());
+    assert!(Vec::<()>::with_capacity(Global, usize::MAX).is_ok());
+}
+
+#[test]
+fn room_that_is_given_back() {
+    let heap = Refusing::new();
+    let mut vec = Vec::with_capacity(&heap, 10).expect("granted");
+    vec.extend_from_slice(&[1, 2]).expect("room");
+    heap.refuse_all();
+    vec.shrink_to_fit();
+    assert_eq!((vec.as_slice(), vec.capacity()), (&[1, 2][..], 10), "it keeps what it has");
+    heap.refuse_none();
+    vec.shrink_to_fit();
+    assert_eq!((vec.as_slice(), vec.capacity()), (&[1, 2][..], 2));
+    heap.refuse_all();
+    vec.shrink_to_fit();
+    assert_eq!(heap.requests(), 0, "there is nothing to give back");
+    vec.truncate(0);
+    vec.shrink_to_fit();
+    assert_eq!(
+        (vec.capacity(), heap.requests()),
+        (0, 0),
+        "an empty one frees, and asks for nothing"
+    );
+}
+
+#[test]
+fn texts() {
+    let heap = Refusing::new();
+    let mut text = String::from_str(&heap, "ab").expect("granted");
+    heap.refuse_all();
+    assert_eq!(text.push('é'), Err(AllocError));
+    assert_eq!(text.push_str("c"), Err(AllocError));
+    assert_eq!(text.write_fmt(format_args!("{}", 1)), Err(AllocError));
+    assert_eq!((text.push_str(""), text.as_str()), (Ok(()), "ab"));
+    assert!(text.try_clone().is_err() && String::from_str(&heap, "a").is_err());
+    assert!(crate::shim::format!(in &heap; "{}", 1).is_err());
+    heap.refuse_none();
+    text.push('é').expect("granted");
+    write!(text, "{:03}!", 7).expect("granted");
+    assert_eq!((text.as_str(), text.to_string()), ("abé007!", "abé007!".into()));
+    assert_eq!(text.try_clone().map(|copy| copy == text), Ok(true));
+    assert_eq!(text.into_bytes().as_slice(), "abé007!".as_bytes());
+    let text = crate::shim::format!(in Global; "{}-{:x}", "a", 255).expect("granted");
+    assert_eq!(RustString::from(text), "a-ff");
+    assert_eq!(String::from(RustString::from("x")).as_str(), "x");
+}
+
+#[test]
+fn boxes() {
+    let heap = Refusing::new();
+    heap.refuse_nth(1);
+    let refused: Result<Box<u16, _>, AllocFailed<u16>> = Box::new(&heap, 3);
+    assert_eq!(refused.map_err(|failed| failed.value).err(), Some(3));
+    let mut boxed = Box::new(&heap, 3).expect("granted");
+    *boxed += 1;
+    assert_eq!((*boxed, heap.requests(), heap.was_refused()), (4, 2, true));
+    assert_eq!(Box::into_inner(boxed), 4);
+    assert_eq!(Box::<(), Global>::new(Global, ()).map(Box::into_inner).ok(), Some(()));
+}
+
+#[test]
+fn texts_that_are_lent_or_owned() {
+    let heap = Refusing::new();
+    let borrowed = CowStr::Borrowed("a");
+    let owned = CowStr::Owned(String::from_str(&heap, "a").expect("granted"));
+    assert_eq!(borrowed, owned);
+    heap.refuse_all();
+    assert!(borrowed.try_clone().is_ok() && owned.try_clone().is_err());
+    assert_eq!(CowStr::from(Cow::from("b")).as_str(), "b");
+    assert_eq!(CowStr::from(Cow::from(RustString::from("c"))).as_str(), "c");
+}
+
+#[test]
+fn copies_that_may_be_refused() {
+    let heap = Refusing::new();
+    heap.refuse_all();
+    assert_eq!(TryClone::try_clone(&Some(Global)), Ok(Some(Global)));
+    assert_eq!(TryClone::try_clone(&None::<String>).map(|none| none.is_none()), Ok(true));
+    let text = Some(String::from_str(Global, "a").expect("granted"));
+    assert_eq!(text.try_clone().map(|copy| copy == text), Ok(true));
+    assert_eq!(AllocError::from(AllocFailed { value: 1 }), AllocError);
+    assert_eq!(AllocError.to_string(), "memory allocation failed");
+}
+
+#[test]
+fn what_lends_a_slice() {
+    let vec = Vec::from(vec![1, 2]);
+    let lengths = [
+        AsSlice::<u8>::as_slice(&vec).len(),
+        AsSlice::as_slice(&&vec).len(),
+        AsSlice::as_slice(&[1, 2]).len(),
+        AsSlice::as_slice(&&[1, 2]).len(),
+        AsSlice::<u8>::as_slice(&vec![1, 2]).len(),
+        AsSlice::as_slice(&&[1, 2][..]).len(),
+    ];
+    assert_eq!(lengths, [2; 6]);
+}
+
+#[test]
+fn digits() {
+    assert_eq!(hex::decode(Global, "00fFA9").map(|bytes| bytes[..] == [0, 255, 0xa9]), Ok(true));
+    assert_eq!(hex::decode(Global, "0").err(), Some(FromHexError::OddLength));
+    assert_eq!(hex::decode(Global, "0g").err(), Some(FromHexError::InvalidHexCharacter));
+    let heap = Refusing::new();
+    heap.refuse_all();
+    assert_eq!(hex::decode(&heap, "00").err(), Some(FromHexError::OutOfMemory));
+}
+
+#[test]
+fn digits_are_written() {
+    let mut text = *b"....";
+    assert_eq!(hex::encode_to_slice([0x2a, 0xf0], &mut text), Ok(()));
+    assert_eq!(text, *b"2af0");
+    for byte in 0..=u8::MAX {
+        assert_eq!(hex::encode_to_slice([byte], &mut text[..2]), Ok(()));
+        assert_eq!(text[..2], *std::format!("{byte:02x}").as_bytes());
+    }
+    text = *b"....";
+    for len in [0, 1, 3, 4] {
+        let refused = hex::encode_to_slice([0x2a], &mut text[..len]);
+        assert_eq!(refused, Err(FromHexError::InvalidStringLength), "{len}");
+    }
+    assert_eq!(text, *b"....");
+    assert_eq!(hex::encode_to_slice([], &mut []), Ok(()));
+}

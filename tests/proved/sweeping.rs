@@ -1,0 +1,73 @@
+//! Calls that have each of their requests for memory refused in turn. A refused request has to be
+//! answered with want of memory and change nothing, and the same call has to succeed afterwards.
+
+pub mod members;
+
+use super::refusing::Refusing;
+use crate::proved::wenc_base::{Encode, Fault};
+use crate::proved::wenc_parts::ComponentSection;
+use crate::shim::alloc::AllocError;
+use crate::shim::vec::Vec;
+
+/// What a refused request is answered with.
+pub const REFUSED: Fault = Fault::Memory(AllocError);
+
+/// An index whose text has five bytes.
+pub const LARGE: u32 = 4294967295;
+
+/// More bytes than a first growth has room for.
+pub const TEXT: &[u8] = &[1, 2, 3, 4, 5, 6, 7, 8, 9, 10, 11, 12, 13, 14, 15, 16, 17, 18, 19, 20];
+
+const START: &[u8] = &[1, 2, 3];
+
+/// A sink that has no room left.
+fn started(heap: &Refusing) -> Vec<u8, &Refusing> {
+    let mut sink = Vec::new(heap);
+    sink.extend_from_slice(START).unwrap();
+    sink.shrink_to_fit();
+    sink
+}
+
+/// Has the requests of a call that appends to a sink refused in turn, of which there is at least
+/// one.
+fn sweep(append: impl Fn(&mut Vec<u8, &Refusing>) -> Result<(), Fault>) {
+    let ample = Refusing::new();
+    let mut wanted = started(&ample);
+    append(&mut wanted).unwrap();
+    for n in 1..20 {
+        let heap = Refusing::new();
+        let mut sink = started(&heap);
+        heap.refuse_nth(n);
+        let outcome = append(&mut sink);
+        if !heap.was_refused() {
+            assert!(n > 1 && outcome.is_ok(), "{n}: {outcome:?}");
+            assert_eq!(sink.as_slice(), wanted.as_slice());
+            return;
+        }
+        assert_eq!((outcome, heap.requests()), (Err(REFUSED), n));
+        assert_eq!(sink.as_slice(), START);
+        append(&mut sink).unwrap();
+        assert_eq!(sink.as_slice(), wanted.as_slice());
+    }
+    panic!("each of 19 requests was refused");
+}
+
+/// Has the requests of a value's `encode` refused in turn.
+pub fn sweep_encode<E: Encode>(value: &E) {
+    sweep(|sink| value.encode(sink));
+}
+
+/// A value without a text is encoded without memory.
+pub fn takes_no_memory<E: Encode>(value: &E) {
+    let heap = Refusing::new();
+    let mut sink = Vec::new(&heap);
+    heap.refuse_all();
+    value.encode(&mut sink).unwrap();
+    assert!(sink.is_empty() && heap.requests() == 0);
+}
+
+/// Has the requests of a section refused in turn, alone and after its id.
+pub fn sweep_section<S: ComponentSection>(section: &S) {
+    sweep_encode(section);
+    sweep(|sink| section.append_to_component(sink));
+}

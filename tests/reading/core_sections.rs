@@ -1,0 +1,166 @@
+//! Core modules section by section.
+
+use std::ops::Range;
+use std::path::Path;
+use wenc::tree::{CoreEntityType, CoreMemoryType, ItemTree};
+use wenc::{
+    CoreItem, CoreSection, CoreSections, ExportKind, Found, ModuleFault, SectionId, Unread, list,
+};
+
+fn all(module: &[u8]) -> Vec<Result<CoreSection<'_>, ModuleFault>> {
+    CoreSections::new(module).expect("it has a header").collect()
+}
+
+#[test]
+fn each_section_has_its_bytes() {
+    let module = b"\0asm\x01\0\0\0\x01\x04\x01\x60\0\0\x0c\x81\0\0\0\x03\x01x\x07\xff\0";
+    let sections = [
+        CoreSection { id: 1, name: None, data: &[1, 0x60, 0, 0], range: 8..14 },
+        CoreSection { id: 12, name: None, data: &[0], range: 14..18 },
+        CoreSection { id: 0, name: Some("x".into()), data: &[7], range: 18..23 },
+        CoreSection { id: 255, name: None, data: &[], range: 23..25 },
+    ];
+    let kinds = sections.each_ref().map(CoreSection::kind);
+    let known = [SectionId::Type, SectionId::DataCount, SectionId::Custom];
+    assert_eq!(kinds[..3], known.map(Some));
+    assert_eq!(kinds[3], None);
+    assert_eq!(all(module), sections.map(Ok));
+    assert_eq!(all(b"\0asm\x01\0\0\0"), []);
+}
+
+#[test]
+fn ids_ascend() {
+    let ids = SectionId::ALL.map(u8::from);
+    assert_eq!(ids, [0, 1, 2, 3, 4, 5, 6, 7, 8, 9, 10, 11, 12, 13]);
+}
+
+#[test]
+fn faults_have_their_places() {
+    for (bytes, found) in [
+        (&b""[..], Found::Nothing),
+        (b"\0asm\x01\0\0", Found::Other),
+        (b"\0asm\x0d\0\x01\0", Found::Component),
+        (b"\0asm\x02\0\0\0", Found::OtherVersion),
+        (b" (module)", Found::Text),
+    ] {
+        let fault = ModuleFault::NotAModule { found };
+        assert_eq!(CoreSections::new(bytes).err(), Some(fault), "{bytes:x?}");
+    }
+    let (empty, bad) = (b"\0asm\x01\0\0\0\x01\0", Err(ModuleFault::BadSection { place: 10 }));
+    // sizes: none, one that doesn't end, one past the end; names: none, one past the end, no text
+    for bytes in
+        [&b"\x01"[..], b"\x01\x80", b"\x01\x01", b"\0\0", b"\0\x02\x02x", b"\0\x02\x01\xff\x01\0"]
+    {
+        let module = [&empty[..], bytes].concat();
+        let told = all(&module);
+        assert_eq!(told.len(), 2, "{bytes:x?}");
+        assert_eq!(told[1], bad, "{bytes:x?}");
+    }
+    let texts = [
+        (ModuleFault::NoMemory, "no memory"),
+        (
+            ModuleFault::NotAModule { found: Found::Component },
+            "no core module's header: found a component",
+        ),
+        (ModuleFault::BadSection { place: 10 }, "bad core section at 0xa"),
+    ];
+    for (fault, text) in texts {
+        let fault: Box<dyn std::error::Error> = fault.into();
+        assert_eq!(fault.to_string(), text);
+    }
+}
+
+/// What is read of a section: its items, with their places.
+type Read = Vec<Result<(Range<usize>, CoreItem), ModuleFault>>;
+
+/// The items of the only section of a module, after that section's count.
+fn items(section: &[u8]) -> (Option<u32>, Read) {
+    let module = [b"\0asm\x01\0\0\0", section].concat();
+    let section = CoreSections::new(&module).expect("a header").next().expect("a section");
+    let section = section.expect("it is framed");
+    (section.count(), section.items().collect())
+}
+
+#[test]
+fn items_have_their_places() {
+    let memory = CoreMemoryType { minimum: 1, maximum: None, memory64: false, shared: false };
+    let import = |module: &str, name: &str, ty| CoreItem::Import {
+        module: module.into(),
+        name: name.into(),
+        ty,
+    };
+    assert_eq!(
+        items(b"\x02\x0f\x02\x03env\x01f\0\x05\0\x01m\x02\0\x01"),
+        (
+            Some(2),
+            vec![
+                Ok((11..19, import("env", "f", CoreEntityType::Function(5)))),
+                Ok((19..25, import("", "m", CoreEntityType::Memory(memory)))),
+            ],
+        ),
+    );
+    let export = CoreItem::Export { name: "g".into(), kind: ExportKind::Global, index: 128 };
+    assert_eq!(items(b"\x07\x06\x01\x01g\x03\x80\x01"), (Some(1), vec![Ok((11..16, export))]),);
+    let start = CoreItem::Start { function: 7 };
+    assert_eq!(items(b"\x08\x01\x07"), (Some(1), vec![Ok((10..11, start))]));
+}
+
+#[test]
+fn items_that_are_not_read_have_their_places() {
+    let bad = |unread| vec![Err(ModuleFault::BadItem { unread })];
+    // of a section whose items aren't read
+    assert_eq!(items(b"\x01\x04\x01\x60\0\0"), (Some(1), vec![]));
+    assert_eq!(items(b"\x01\0"), (None, bad(Unread::Count { place: 10 })));
+    assert_eq!(items(b"\x07\x01\x80"), (None, bad(Unread::Count { place: 10 })));
+    assert_eq!(items(b"\0\x02\x01x"), (None, vec![]));
+    assert_eq!(items(b"\x0e\x01\x01"), (None, vec![]));
+    let item = |number, place| bad(Unread::Item { number, place });
+    assert_eq!(items(b"\x08\0"), (Some(1), item(0, 10)));
+    assert_eq!(items(b"\x07\x05\x02\x01g\x05\0"), (Some(2), item(0, 11)));
+    let behind = bad(Unread::Behind { place: 11 });
+    assert_eq!(items(b"\x02\x02\0\0"), (Some(0), behind.clone()));
+    assert_eq!(items(b"\x08\x02\x07\0").1[1..], behind);
+    // of other items, without bytes for that many, or with bytes for none
+    assert_eq!(items(b"\x01\x01\x01"), (Some(1), item(0, 11)));
+    assert_eq!(items(b"\x03\x03\x03\0\0"), (Some(3), item(0, 11)));
+    assert_eq!(items(b"\x03\x03\x02\0\0"), (Some(2), vec![]));
+    assert_eq!(items(b"\x03\x02\0\0"), (Some(0), behind.clone()));
+    assert_eq!(items(b"\x0c\x01\x02"), (Some(2), vec![]));
+    assert_eq!(items(b"\x0c\x02\x02\0"), (Some(2), behind));
+    let texts = [
+        (Unread::Count { place: 10 }, "bad count at 0xa"),
+        (Unread::Item { number: 1, place: 17 }, "bad item 1 at 0x11"),
+        (Unread::Behind { place: 16 }, "bytes behind the last item at 0x10"),
+    ];
+    for (unread, text) in texts {
+        assert_eq!(ModuleFault::BadItem { unread }.to_string(), text);
+    }
+}
+
+/// The ranges of a module's sections follow one another, from its header to its end.
+#[test]
+fn sections_of_real_modules_follow_one_another() {
+    let folder = Path::new(env!("CARGO_MANIFEST_DIR")).join("tests/real/corpus/wasm");
+    let (mut modules, mut sections, mut customs) = (0, 0, 0);
+    for file in std::fs::read_dir(folder).expect("the corpus is there") {
+        let bytes = std::fs::read(file.expect("a file").path()).expect("its bytes");
+        let Ok(listing) = list(&bytes) else { continue };
+        for item in listing.items() {
+            let ItemTree::Module(module) = item else { continue };
+            let mut end = 8;
+            for section in CoreSections::new(module).expect("a module") {
+                let section = section.expect("a section");
+                assert_eq!(section.range.start, end);
+                assert_eq!(module[end], section.id);
+                assert!(module[section.range.clone()].ends_with(section.data));
+                assert!(section.kind().is_some());
+                end = section.range.end;
+                sections += 1;
+                customs += usize::from(section.name.is_some());
+            }
+            assert_eq!(end, module.len());
+            modules += 1;
+        }
+    }
+    assert!(modules > 50 && sections > 300 && customs > 50, "{modules} {sections} {customs}");
+}

@@ -1,0 +1,132 @@
+//! The same by a cursor.
+
+use crate::{component, corpus};
+use wenc::tree::{ItemTree, Space};
+use wenc::{ComponentSectionId, ListFault, Sections, Unread, list};
+
+fn sections(bytes: &[u8]) -> Sections<'_> {
+    Sections::new(bytes).expect("it is a component")
+}
+
+/// A cursor finds what a listing has.
+#[test]
+fn listings_and_cursors_find_the_same() {
+    let (mut items, mut imports, mut exports) = (0, 0, 0);
+    for (name, bytes) in corpus() {
+        let Ok(listing) = list(&bytes) else { continue };
+        let found = sections(&bytes).items().map(|item| item.expect("it is read"));
+        let (ranges, found): (Vec<_>, Vec<_>) = found.unzip();
+        assert!(found.iter().eq(listing.items()), "{name}");
+        assert!(ranges.is_sorted_by(|one, next| one.end <= next.start), "{name}");
+        items += found.len();
+
+        let found: Result<Vec<_>, _> = sections(&bytes).imports().collect();
+        let found = found.expect("they are read");
+        assert!(found.iter().map(|(name, ty)| (name, *ty)).eq(listing.imports()), "{name}");
+        imports += found.len();
+
+        let found: Result<Vec<_>, _> = sections(&bytes).exports().collect();
+        let found = found.expect("they are read");
+        let found: Vec<_> = found.iter().map(|(name, kind, index)| (name, *kind, *index)).collect();
+        assert!(listing.exports().eq(found.iter().copied()), "{name}");
+        exports += found.len();
+
+        assert_eq!(sections(&bytes).names(), listing.names(), "{name}");
+        for space in Space::ALL {
+            let count = sections(&bytes).index_count(space);
+            assert_eq!(count, Ok(listing.count(space)), "{name}");
+        }
+    }
+    assert!(items > 1500 && imports > 30 && exports > 40, "{items} {imports} {exports}");
+}
+
+/// Two imports of which the second isn't read, between sections that are.
+const BAD_IMPORT: &[u8] = b"\x07\x05\x01\x40\x00\x01\x00\
+    \x0b\x07\x01\x00\x01a\x01\x00\x00\
+    \x0a\x07\x02\x00\x01f\x01\x00\xff\
+    \x0b\x07\x01\x00\x01b\x01\x00\x00";
+
+#[test]
+fn the_first_fault_ends_what_is_found() {
+    let bytes = component(BAD_IMPORT);
+    let unread = Some(Unread::Item { number: 1, place: 32 });
+    let section = ComponentSectionId::Import;
+    let fault = ListFault::BadItem { place: 24, section, unread, byte: Some(0xff) };
+
+    let items: Vec<_> = sections(&bytes).items().collect();
+    assert_eq!(items.len(), 4);
+    assert_eq!(items.iter().filter(|item| item.is_ok()).count(), 3);
+    assert_eq!(items[3], Err(fault));
+
+    assert_eq!(sections(&bytes).index_count(Space::Types), Err(fault));
+
+    let imports: Vec<_> = sections(&bytes).imports().collect();
+    assert_eq!(imports.len(), 2);
+    assert_eq!(imports[1], Err(fault));
+
+    // only sections of exports are read
+    let exports: Result<Vec<_>, _> = sections(&bytes).exports().collect();
+    let exports = exports.expect("they are read");
+    assert_eq!(exports.iter().map(|(name, ..)| &*name.name).collect::<Vec<_>>(), ["a", "b"]);
+    let exports: Vec<_> = sections(&bytes[..bytes.len() - 1]).exports().collect();
+    assert_eq!((exports.len(), &exports[1]), (2, &Err(ListFault::BadSection { place: 33 })));
+}
+
+/// A fault comes once, and then nothing, from the sections and from the items of one.
+#[test]
+fn a_fault_comes_once() {
+    let bytes = component(BAD_IMPORT);
+    let mut rest = sections(&bytes[..bytes.len() - 1]);
+    let imports = rest.nth(2).expect("a section").expect("it is framed");
+    assert_eq!(rest.next().expect("a fault").err(), Some(ListFault::BadSection { place: 33 }));
+    assert_eq!(format!("{rest:?}"), "Sections { offset: None, .. }");
+    assert!(rest.next().is_none() && rest.next().is_none());
+    assert_eq!((rest.count(), rest.items().count()), (0, 0));
+
+    let mut items = imports.items();
+    assert!(items.next().expect("an item").is_ok());
+    assert!(items.next().expect("a fault").is_err());
+    assert_eq!(format!("{items:?}"), "Items { offset: None, .. }");
+    assert!(items.next().is_none() && items.next().is_none());
+}
+
+/// What follows is found by the methods of a cursor that has gone on.
+#[test]
+fn a_cursor_goes_on_from_where_it_is() {
+    let bytes = component(BAD_IMPORT);
+    let mut rest = sections(&bytes);
+    let ids: Vec<u8> = rest.by_ref().take(3).map(|section| section.expect("it is").id()).collect();
+    assert_eq!(ids, [7, 11, 10]);
+    let items: Result<Vec<_>, _> = rest.items().collect();
+    let [(range, ItemTree::Export { name, .. })] = &items.expect("it is read")[..] else {
+        panic!("one export");
+    };
+    assert_eq!((range.clone(), &*name.name), (36..42, "b"));
+    assert_eq!(rest.imports().count(), 0);
+    assert_eq!(rest.count(), 1);
+}
+
+#[test]
+fn names_are_found_without_what_is_bad() {
+    let names = b"\x00\x16\x0ecomponent-name\x01\x05\x01\x01\x00\x01g";
+    let bytes = component(&[BAD_IMPORT, names, b"\x0c\x00", names].concat());
+    let names = sections(&bytes).names();
+    assert_eq!(names.get(Space::Funcs, 0), Some("g"));
+}
+
+/// What is printed says how far it has come.
+#[test]
+fn readers_are_printed() {
+    // an alias section without an item, in a component in a component
+    let bytes = b"\0asm\x0d\0\x01\0\x04\x0b\0asm\x0d\0\x01\0\x06\x01\0";
+    let mut outer = sections(bytes);
+    assert_eq!(format!("{outer:?}"), "Sections { offset: Some(8), .. }");
+    let section = outer.next().unwrap().unwrap();
+    assert_eq!(format!("{section:?}"), "SectionReader { id: 4, range: 8..21, .. }");
+    assert_eq!(format!("{:?}", section.items()), "Items { offset: Some(10), .. }");
+    assert_eq!(format!("{outer:?}"), "Sections { offset: Some(21), .. }");
+    let inner = section.component().unwrap().unwrap();
+    assert_eq!(format!("{inner:?}"), "Sections { offset: Some(18), .. }");
+    let nested = format!("{:?}", sections(bytes).nested(1));
+    assert!(nested.starts_with("NestedSections { innermost: Sections { offset: Some(8), .. }"));
+}

@@ -1,0 +1,140 @@
+//! Debug names.
+
+use crate::component;
+use wenc::tree::{ItemTree, Space, String};
+use wenc::{
+    Component, ComponentNameSection, ComponentSection, DebugNames, NamesFault, Sections, list,
+};
+
+/// A custom section with this name and data.
+fn custom(name: &str, data: &[u8]) -> ItemTree {
+    ItemTree::Custom { name: String::from(name), data: data.to_vec().into() }
+}
+
+/// The section of names with this data.
+fn section(data: &[u8]) -> ItemTree {
+    custom("component-name", data)
+}
+
+/// A subsection with the name of the item 0 of each kind, in the order of their spaces.
+const OF_ALL_SORTS: [(&[u8], &str); 13] = [
+    (b"\x01\x06\x00\x11\x01\x00\x01", "a"),
+    (b"\x01\x06\x00\x00\x01\x00\x01", "b"),
+    (b"\x01\x06\x00\x10\x01\x00\x01", "c"),
+    (b"\x01\x06\x00\x02\x01\x00\x01", "d"),
+    (b"\x01\x06\x00\x01\x01\x00\x01", "e"),
+    (b"\x01\x06\x00\x12\x01\x00\x01", "f"),
+    (b"\x01\x06\x00\x04\x01\x00\x01", "g"),
+    (b"\x01\x06\x00\x03\x01\x00\x01", "h"),
+    (b"\x01\x05\x01\x01\x00\x01", "i"),
+    (b"\x01\x05\x05\x01\x00\x01", "j"),
+    (b"\x01\x05\x02\x01\x00\x01", "k"),
+    (b"\x01\x05\x04\x01\x00\x01", "l"),
+    (b"\x01\x05\x03\x01\x00\x01", "m"),
+];
+
+#[test]
+fn each_sort_is_read_and_written() {
+    let mut data = b"\x00\x02\x01z".to_vec();
+    for (subsection, name) in OF_ALL_SORTS {
+        data.extend([subsection, name.as_bytes()].concat());
+    }
+    let mut names = DebugNames::new();
+    assert_eq!(names.read(&section(&data)), Ok(()));
+    assert_eq!(names.component(), Some("z"));
+    let expected = Space::ALL.into_iter().zip(OF_ALL_SORTS);
+    let expected: Vec<_> = expected.map(|(space, (_, name))| (space, 0, name)).collect();
+    assert_eq!(names.iter().collect::<Vec<_>>(), expected);
+
+    let written = ComponentNameSection::from(&names);
+    let mut component = Component::new();
+    component.section(&written);
+    let bytes = component.finish();
+    assert!(bytes.ends_with(&[b"\x0ecomponent-name", &data[..]].concat()));
+    assert_eq!(written.id(), 0);
+    assert_eq!(list(&bytes).expect("it is listed").names(), names);
+    assert_eq!(Sections::new(&bytes).expect("it is a component").names(), names);
+    assert!(ComponentNameSection::from(&DebugNames::new()).is_empty());
+}
+
+#[test]
+fn the_first_name_is_kept() {
+    let twice =
+        b"\x00\x02\x01a\x01\x08\x01\x02\x00\x01b\x00\x01c\x00\x02\x01d\x01\x05\x01\x01\x00\x01e";
+    let mut names = DebugNames::new();
+    assert_eq!(names.read(&section(twice)), Ok(()));
+    assert_eq!((names.component(), names.get(Space::Funcs, 0)), (Some("a"), Some("b")));
+    assert_eq!(names.iter().count(), 1);
+    names.insert(Space::Funcs, 0, "f");
+    names.insert(Space::Funcs, u32::MAX, "g");
+    names.set_component("h");
+    assert_eq!(names.component(), Some("h"));
+    let items: Vec<_> = names.iter().collect();
+    assert_eq!(items, [(Space::Funcs, 0, "f"), (Space::Funcs, u32::MAX, "g")]);
+}
+
+#[test]
+fn what_is_not_read_is_told() {
+    // a name of the component, a subsection of another id, and then none
+    let front = b"\x00\x02\x01a\x09\x01\xff";
+    let bad: [&[u8]; 6] = [
+        b"\x00",
+        b"\x00\x01",
+        b"\x00\x01\x01",
+        b"\x00\x03\x01ab",
+        b"\x01\x02\x06\x00",
+        b"\x01\x00",
+    ];
+    for bad in bad {
+        let mut names = DebugNames::new();
+        let told = names.read(&section(&[front, bad].concat()));
+        assert_eq!(told, Err(NamesFault::BadSubsection { place: 7 }), "{bad:x?}");
+        assert_eq!(names.component(), Some("a"));
+    }
+    let mut names = DebugNames::new();
+    for other in [custom("name", b"\x00"), ItemTree::Component(b"\x00".to_vec().into())] {
+        assert_eq!(names.read(&other), Ok(()));
+    }
+    assert_eq!(names, DebugNames::default());
+    let fault: Box<dyn std::error::Error> = NamesFault::BadSubsection { place: 16 }.into();
+    assert_eq!(fault.to_string(), "bad subsection of names at 0x10");
+    assert_eq!(NamesFault::NoMemory.to_string(), "no memory");
+}
+
+/// Names in front of what isn't read, in two sections of names.
+#[test]
+fn a_component_has_the_names_that_are_read() {
+    let bytes = b"\0asm\x0d\0\x01\0\
+        \x00\x16\x0ecomponent-name\x01\x05\x01\x01\x00\x01a\
+        \x00\x15\x0ecomponent-name\x00\x02\x01b\x00\x00\
+        \x0a\x01";
+    let names = Sections::new(bytes).expect("it is a component").names();
+    assert_eq!((names.get(Space::Funcs, 0), names.component()), (Some("a"), Some("b")));
+    let listing = list(&bytes[..bytes.len() - 2]).expect("it is listed");
+    assert_eq!(listing.names(), names);
+}
+
+/// Names behind sections that are framed, though no items are read in them, and in front of one
+/// that isn't.
+#[test]
+fn names_behind_what_is_not_read_are_found() {
+    let framed: [&[u8]; 4] = [
+        b"\x06\x00",             // without a count
+        b"\x0a\x03\xff\xff\xff", // with a part of one
+        b"\x0c\x01\x00",         // with an id that is none
+        b"\x00\x01\x07",         // a custom one without a name
+    ];
+    let names = b"\x00\x16\x0ecomponent-name\x01\x05\x01\x01\x00\x01a";
+    let other = b"\x00\x16\x0ecomponent-name\x01\x05\x01\x01\x01\x01b";
+    for framed in framed {
+        for cut in [&b"\x06"[..], b"\x06\x01"] {
+            let bytes = component(&[framed, names, cut, other].concat());
+            let found = Sections::new(&bytes).expect("it is a component").names();
+            assert_eq!(found.iter().collect::<Vec<_>>(), [(Space::Funcs, 0, "a")], "{framed:x?}");
+            let bytes = component(&[framed, names, framed, other].concat());
+            let found = Sections::new(&bytes).expect("it is a component").names();
+            let both = [(Space::Funcs, 0, "a"), (Space::Funcs, 1, "b")];
+            assert_eq!(found.iter().collect::<Vec<_>>(), both, "{framed:x?}");
+        }
+    }
+}

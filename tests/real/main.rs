@@ -1,0 +1,23 @@
+//! Real components: what a linker that others wrote makes is read and made again, and what this
+//! crate makes is given to that linker, which decodes and validates it.
+//!
+//! `corpus/wasm` has components that `wasm-component-ld` of Rust's toolchain made, of the worlds in
+//! `corpus/wit` and the C in `corpus/c`; `corpus/make` makes them once more, with the objects in
+//! `corpus/o`. For what stands here no toolchain is needed. Where `rustc` has such a linker, the
+//! tests of worlds, features, random components, examples and documentation call it; where it has
+//! none they say that they were left out.
+#![cfg(feature = "reader")]
+
+mod again;
+mod by_hand;
+mod corpus;
+mod docs;
+mod examples;
+mod features;
+mod interfaces;
+mod names;
+mod random;
+mod renumbered;
+mod shown;
+mod toolchain;
+mod worlds;

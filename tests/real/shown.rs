@@ -1,0 +1,153 @@
+//! The components of the pages, of C and of the proved examples: each is valid to upstream's
+//! validator.
+//!
+//! Other tests compare what an example makes with the literal that is read here.
+
+use crate::docs::{examples, files, literal, told_but_of_starts};
+use crate::toolchain::linker;
+use std::fs::read_to_string;
+use std::path::{Path, PathBuf};
+use wenc::Component;
+
+fn path(of: &str) -> PathBuf {
+    Path::new(env!("CARGO_MANIFEST_DIR")).join(of)
+}
+
+fn text(of: &str) -> String {
+    read(&path(of))
+}
+
+fn read(file: &Path) -> String {
+    read_to_string(file).unwrap_or_else(|error| panic!("{}: {error}", file.display()))
+}
+
+/// The components in a text that are written in hexadecimal.
+fn hexadecimal(text: &str) -> Vec<Vec<u8>> {
+    let header: String = Component::HEADER.iter().map(|byte| format!("{byte:02x}")).collect();
+    let words = text.split(|letter: char| !letter.is_ascii_hexdigit());
+    let found = words.filter(|word| word.starts_with(&header));
+    found.map(|digits| digits.as_bytes().chunks(2).map(byte).collect()).collect()
+}
+
+fn byte(digits: &[u8]) -> u8 {
+    let digits = std::str::from_utf8(digits).expect("they are digits");
+    u8::from_str_radix(digits, 16).expect("two of them")
+}
+
+/// The constants of a source that are bytes, with their names.
+fn constants(source: &str) -> Vec<(&str, Vec<u8>)> {
+    let defined = source.split("\nconst ").skip(1);
+    let defined = defined.filter_map(|code| code.split_once(": &[u8] ="));
+    defined.map(|(name, code)| (name, literal(code))).collect()
+}
+
+/// A component of one section with this id, and bytes after that.
+fn behind(id: u8, bytes: &[u8]) -> Vec<u8> {
+    [&Component::HEADER[..], &[id], bytes].concat()
+}
+
+/// A component of one section with this id and this content, which is short.
+fn section(id: u8, content: &[&[u8]]) -> Vec<u8> {
+    let content = content.concat();
+    let size = u8::try_from(content.len()).expect("it is short");
+    assert!(size < 0x80, "its size is one byte");
+    behind(id, &[&[size], &content[..]].concat())
+}
+
+/// Sections of types without their ids.
+const SECTIONS: &[(&str, u8)] = &[
+    ("COMPONENT_TYPE", 7),
+    ("INSTANCE_TYPE", 7),
+    ("TWO_CORE_TYPES", 3),
+    ("TWO_TYPES", 7),
+    ("DEFINED_TYPES", 7),
+    ("FUNC_TYPE", 7),
+];
+
+/// Types, with the id of the section in which they stand.
+const TYPES: &[(&str, u8)] =
+    &[("DECLARATIONS", 7), ("MODULE_TYPE", 3), ("CORE_TYPE", 3), ("FLAGS", 7), ("TYPE", 7)];
+
+/// Numbers, names, items and maps of names, which are parts of a component.
+const PARTS: &[&str] =
+    &["ENCODE", "HOLDER", "NAME_MAP", "CANON", "ALIAS", "CORE_INSTANCE", "INSTANCE", "EXTERN_NAME"];
+
+/// The component that a constant is, or that has it; none of a part.
+fn component(name: &str, bytes: &[u8]) -> Option<Vec<u8>> {
+    let among = |table: &[(&str, u8)]| table.iter().find(|row| row.0 == name).map(|row| row.1);
+    if let Some(id) = among(SECTIONS) {
+        return Some(behind(id, bytes));
+    }
+    if let Some(id) = among(TYPES) {
+        return Some(section(id, &[&[1], bytes]));
+    }
+    if PARTS.contains(&name) {
+        return None;
+    }
+    match bytes {
+        [0, b'a', b's', b'm', 0x0d, ..] => Some(bytes.to_vec()),
+        [0, b'a', b's', b'm', 0x01, ..] => Some(section(1, &[bytes])),
+        _ => {
+            let printed = hexadecimal(std::str::from_utf8(bytes).expect("it is text"));
+            Some(printed.first().unwrap_or_else(|| panic!("{name} is no component")).clone())
+        }
+    }
+}
+
+#[test]
+fn components_of_proved_examples_are_valid() {
+    let source = text("tests/proved/examples.rs");
+    let constants = constants(&source);
+    let made = constants.iter().filter_map(|(name, bytes)| Some((name, component(name, bytes)?)));
+    let made: Vec<_> = made.collect();
+    assert_eq!(made.len(), 33, "components are found");
+    assert_eq!(made.len() + PARTS.len(), constants.len(), "each is used once");
+    let Some(linker) = linker("proved examples") else { return };
+    for (name, component) in made {
+        assert_eq!(told_but_of_starts(&linker, &component), None, "{name}");
+    }
+}
+
+/// Code without its layout.
+fn bare(code: &str) -> String {
+    let code: String = code.chars().filter(|letter| !letter.is_whitespace()).collect();
+    code.replace(",)", ")")
+}
+
+#[test]
+fn doc_comments_show_the_proved_examples() {
+    let proved = files(&path("crates/proved_tests/src/examples"), "rt");
+    let proved: String = proved.iter().map(|file| bare(&read(file))).collect();
+    let crates = std::fs::read_dir(path("crates")).expect("the crates are there");
+    let sources = crates.map(|folder| folder.expect("it is told").path().join("src"));
+    let sources = sources.filter(|sources| sources.exists());
+    let shown = sources.flat_map(|sources| files(&sources, "rt"));
+    let shown: Vec<_> = shown.flat_map(|file| examples(&file)).collect();
+    assert!(shown.len() >= 45, "{} examples are found", shown.len());
+    for example in shown {
+        let code = bare(&example.code);
+        assert!(!code.is_empty() && proved.contains(&code), "{}", example.place);
+    }
+}
+
+#[test]
+fn components_of_the_programs_for_c_are_valid() {
+    let linker = linker("programs for C");
+    for name in ["c/example.stdout", "c/first.stdout"] {
+        let components = hexadecimal(&text(name));
+        let [component] = &components[..] else { panic!("{name} has one component") };
+        if let Some(linker) = &linker {
+            assert_eq!(linker.refuses(component), None, "{name}");
+        }
+    }
+}
+
+/// The first command of README shows calls and bytes alone, and README says so.
+#[test]
+fn the_first_command_names_a_type_that_is_missing() {
+    let components = hexadecimal(&text("README.md"));
+    let [component] = &components[..] else { panic!("README has one component") };
+    let Some(linker) = linker("README") else { return };
+    let told = linker.refuses(component).expect("it is refused");
+    assert!(told.contains("unknown type 0"), "{told}");
+}
