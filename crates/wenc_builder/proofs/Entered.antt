@@ -16,7 +16,7 @@ use Rattle.wenc_builder.specs.Builder.{new_item, new_item_indices, item_begun, i
 use Rattle.wenc_builder.specs.Holds.{Holds}
 use Rattle.wenc_builder.specs.Cause.{CallCause, EnterCause}
 use Rattle.wenc_builder.specs.Enters.{IsCountAt, EntersWith, Enters, EntersWithoutIndex}
-use Rattle.wenc_builder.specs.inside.Adds.{AddsPiece, AddsItem, AddsWholeItem}
+use Rattle.wenc_builder.specs.Adds.{AddsPiece, AddsItem, AddsWholeItem}
 use Rattle.wenc_builder.specs.inside.Adds.{AddsSection, AddsUnindexedSection, content_with_section}
 use Rattle.wenc_builder.specs.laws.Caused.{adding_never_unfinished}
 use Rattle.wenc_builder.specs.laws.Fits.{HasRoom}

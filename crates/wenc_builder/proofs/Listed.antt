@@ -18,7 +18,7 @@ use Rattle.wenc_builder.specs.Entry.{Entry, canonical_entry}
 use Rattle.wenc_builder.specs.Builder.{BegunItem, State, builder_is_finished, content_of, new_item, item_begun, item_appended, item_ended, item_given_up}
 use Rattle.wenc_builder.specs.Cause.{SectionCause}
 use Rattle.wenc_builder.specs.Enters.{EntersListed}
-use Rattle.wenc_builder.specs.inside.Adds.{AddsItem, AddsWholeItem}
+use Rattle.wenc_builder.specs.Adds.{AddsItem, AddsWholeItem}
 use Rattle.wenc_builder.specs.inside.Adds.{AppendsListed, AddsListedItem}
 use Rattle.wenc_builder.specs.inside.Layout.{kind_id, new_item_of}
 use Rattle.wenc_builder.specs.ParentState.{no_room_in_section}

@@ -7,7 +7,7 @@ use Rattle.wenc_base.specs.declared.fault.Fault.TheVariants.{Unfinished}
 use Rattle.wenc_base.specs.laws.Serves.{still_warranted}
 use Rattle.wenc_builder.specs.Builder.{entered, State, namespace_at, NewItem, new_item, space_with, item_begun, item_appended, item_ended, item_given_up}
 use Rattle.wenc_builder.specs.Cause.{SectionCause, SpaceCause}
-use Rattle.wenc_builder.specs.inside.Adds.{AddsItem, AddsWholeItem}
+use Rattle.wenc_builder.specs.Adds.{AddsItem, AddsWholeItem}
 use Rattle.wenc_builder.specs.inside.Layout.{Buffered}
 use Rattle.wenc_builder.specs.ParentState.{no_room_in_section}
 use Rattle.wenc_sections.specs.declared.space.Space.{Space}

@@ -6,6 +6,7 @@ pub mod Builder
 pub mod Holds
 pub mod Cause
 pub mod Enters
+pub mod Adds
 pub mod ParentState
 pub mod Names
 pub mod Producers

@@ -18,6 +18,7 @@ pub use Rattle.wenc_builder.specs.Builder.{sections_text}
 pub use Rattle.wenc_builder.specs.Holds.{Holds}
 pub use Rattle.wenc_builder.specs.Cause.{NoRoom, SectionCause, SpaceCause}
 pub use Rattle.wenc_builder.specs.Enters.{BeginsItem, Enters, EntersListed, EntersWithoutIndex}
+pub use Rattle.wenc_builder.specs.Adds.{AddsItem, AddsWholeItem}
 pub use Rattle.wenc_builder.specs.ParentState.{builder_is_opened, is_whole, no_room_in_section}
 pub use Rattle.wenc_builder.specs.Names.{AddsNames, by_space, names_held, none_named, space_names}
 pub use Rattle.wenc_builder.specs.Producers.{producers_entry}
@@ -32,9 +33,8 @@ pub use Rattle.wenc_builder.specs.inside.Layout.{section_head}
 pub use Rattle.wenc_builder.specs.inside.Spaces.{CanUndo, NamesFit, Spaced, count_at, empty_spaces}
 pub use Rattle.wenc_builder.specs.inside.Spaces.{space_begun, space_view, spaced_view, spaces_begun}
 pub use Rattle.wenc_builder.specs.inside.Spaces.{spaces_ended, spaces_given_up}
-pub use Rattle.wenc_builder.specs.inside.Adds.{AddsItem, AddsListedItem, AddsSection}
-pub use Rattle.wenc_builder.specs.inside.Adds.{AddsUnindexedSection, AddsWholeItem, AppendsListed}
-pub use Rattle.wenc_builder.specs.inside.Adds.{IsItemPiece}
+pub use Rattle.wenc_builder.specs.inside.Adds.{AddsListedItem, AddsSection, AddsUnindexedSection}
+pub use Rattle.wenc_builder.specs.inside.Adds.{AppendsListed, IsItemPiece}
 pub use Rattle.wenc_builder.specs.inside.View.{IsBuilder, builder_view}
 pub use Rattle.wenc_builder.specs.laws.ParentState.{item_appended_twice, opened_is_begun}
 pub use Rattle.wenc_builder.specs.laws.ParentState.{still_begun}
