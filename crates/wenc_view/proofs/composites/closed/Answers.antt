@@ -1,0 +1,11 @@
+use Rattle.std.proofs.Common.{rules, ◌∙◌, true, Some}
+use Rattle.wenc_base.specs.reading.Composites.{read_composite, sub_of}
+use Rattle.wenc_base.specs.reading.Numbers.{read_u32}
+use Rattle.wenc_read.specs.laws.Tables.{at_first}
+use Rattle.wenc_view.proofs.Tables.{made_of_both}
+use Rattle.wenc_view.proofs.composites.closed.Goals as goal
+
+pub returns-in_ok-composite_type-in-1-default : goal.returns-in_ok-composite_type-in-1-default
+returns-in_ok-composite_type-in-1-default c =
+    at_first _ _ 0x01 _ _ _ c.in_ok-rest.ensures (search rules)
+    ∙ made_of_both (λ n d. sub_of true (Some n) d) read_u32 read_composite _ _ _ _ _ c.in_ok-supertype-in-1-default.ensures c.in_ok-composite_type-in-1-default.ensures

@@ -1,0 +1,11 @@
+use Rattle.std.proofs.lemmas.Iterator.Adapters.{option_map_id}
+use Rattle.std.proofs.Common.{false}
+use Rattle.wenc_base.specs.reading.Composites.{read_composite, sub_of}
+use Rattle.wenc_base.specs.reading.Forms.{read_option}
+use Rattle.wenc_base.specs.reading.Numbers.{read_u32}
+use Rattle.wenc_view.proofs.Tables.{made_of_both}
+use Rattle.wenc_view.proofs.composites.open.Goals as goal
+
+pub returns : goal.returns
+returns c =
+    made_of_both (λ n d. sub_of false n d) (read_option read_u32) read_composite _ _ _ _ _ (rw (option_map_id c.in_ok-supertype_idx.supertype_idx) at c.in_ok-supertype_idx.ensures) c.in_ok-composite_type.ensures

@@ -1,0 +1,21 @@
+use Rattle.std.proofs.Common.{sym, ◌∙◌, ◌++◌}
+use Rattle.std.proofs.lemmas.Result.{err_from_is_err_and}
+use Rattle.wenc_base.specs.Readers.{nowhere}
+use Rattle.wenc_parts.specs.Types.{primitive_byte}
+use Rattle.wenc_parts.specs.reading.Types.{primitive_rows}
+use Rattle.wenc_types.specs.DefinedTypes.{Primitive}
+use Rattle.wenc_types.specs.reading.DefinedTypes.{defined_rows}
+use Rattle.wenc_view.specs.inside.Types.{primitive_types}
+use Rattle.wenc_view.proofs.Tables.{begins, goes_past, bad_first}
+use Rattle.wenc_view.proofs.defined_types.DefinedViewView.view_of.Goals as goal
+
+pub returns-in_err-first : goal.returns-in_err-first
+returns-in_err-first c =
+    let p = err_from_is_err_and c.from_residual.result c.from_residual.ensures.1 in
+    rw (p.1, p.2) (c.in_err-first.ensures.0, bad_first (primitive_rows Primitive ++ defined_rows (λ t. t)) nowhere c.args.bytes.now c.in_err-first.ensures.1)
+
+pub returns-in-Some : goal.returns-in-Some
+returns-in-Some c = begins primitive_byte Primitive primitive_types (defined_rows (λ t. t)) nowhere _ _ _ _ c.in_ok-first.ensures (sym c.primitive_of.ensures ∙ c.in-Some.is)
+
+pub returns-in-None : goal.returns-in-None
+returns-in-None c = rw (goes_past primitive_byte Primitive primitive_types (defined_rows (λ t. t)) nowhere _ _ _ c.in_ok-first.ensures (sym c.primitive_of.ensures ∙ c.in-None.is)) c.defined.ensures

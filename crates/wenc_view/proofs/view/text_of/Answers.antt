@@ -1,0 +1,17 @@
+use Rattle.std.proofs.Common.{◌≡◌, false, true, take, rules}
+use Rattle.std.specs.Str.{is_utf8}
+use Rattle.wenc_base.specs.reading.Forms.{text_at}
+use Rattle.wenc_read.proofs.Texts.{is_text, is_no_text}
+use Rattle.wenc_view.proofs.view.text_of.Goals as goal
+
+pub returns-in-Ok : goal.returns-in-Ok
+unfolding text_at
+returns-in-Ok c =
+    let t : is_utf8 (take c.in_ok-len.len c.in_ok-len.rest.now) ≡ true = is_text _ _ c.split_at.ensures.front c.in-Ok.ensures.cases.1 in
+    search rules
+
+pub returns-in-Err : goal.returns-in-Err
+unfolding text_at
+returns-in-Err c =
+    let t : is_utf8 (take c.in_ok-len.len c.in_ok-len.rest.now) ≡ false = is_no_text _ _ c.split_at.ensures.front c.in-Err.ensures.cases.0 in
+    search rules

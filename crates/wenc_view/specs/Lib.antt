@@ -1,0 +1,12 @@
+pub mod Canonicals
+pub mod Instances
+pub mod Gives
+pub mod Types
+pub mod CoreTypes
+pub mod Copies
+pub mod DefinedTypes
+pub mod Members
+pub mod Names
+pub mod Prelude
+pub mod inside
+pub mod laws

@@ -1,0 +1,38 @@
+-- The names that clauses cite, re-exported from the files that define them.
+pub use Rattle.wenc_view.specs.Members.{members_of, list_view, GivesFirst}
+pub use Rattle.wenc_view.specs.Copies.{AreCopies, OptionCopies, GivesCopy}
+pub use Rattle.wenc_view.specs.Names.{name_seen, option_seen}
+pub use Rattle.wenc_view.specs.inside.Tables.{find}
+pub use Rattle.wenc_view.specs.inside.Types.{primitive_types}
+pub use Rattle.wenc_parts.specs.declared.imports.ComponentTypeRef.{ComponentTypeRef}
+pub use Rattle.wenc_parts.specs.declared.imports.TypeBounds.{TypeBounds}
+pub use Rattle.wenc_parts.specs.declared.types.ComponentValType.{ComponentValType}
+pub use Rattle.wenc_view.specs.DefinedTypes.{labelled_seen, case_seen, defined_seen}
+pub use Rattle.wenc_view.specs.inside.Types.{read_defined_row, handle_rows}
+pub use Rattle.wenc_view.specs.laws.DefinedTypes.{defined_sound}
+pub use Rattle.wenc_view.specs.CoreTypes.{composite_seen, sub_seen, rec_type_seen}
+pub use Rattle.wenc_view.specs.CoreTypes.{module_declaration_seen, core_type_seen}
+pub use Rattle.wenc_view.specs.inside.CoreTypes.{read_guarded, read_referred}
+pub use Rattle.wenc_view.specs.inside.Entities.{memory_so, read_bounds, read_maximum, table_so}
+pub use Rattle.wenc_base.specs.declared.exports.ExportKind.{ExportKind}
+pub use Rattle.wenc_base.specs.declared.globals.GlobalType.{GlobalType}
+pub use Rattle.wenc_base.specs.declared.imports.EntityType.{EntityType}
+pub use Rattle.wenc_base.specs.declared.memories.MemoryType.{MemoryType}
+pub use Rattle.wenc_base.specs.declared.tables.TableType.{TableType}
+pub use Rattle.wenc_base.specs.declared.tags.TagType.{TagType}
+pub use Rattle.wenc_base.specs.declared.types.HeapType.{HeapType}
+pub use Rattle.wenc_base.specs.declared.types.RefType.{RefType}
+pub use Rattle.wenc_base.specs.declared.types.ValType.{ValType}
+pub use Rattle.wenc_base.specs.declared.types.storage.FieldType.{FieldType}
+pub use Rattle.wenc_base.specs.declared.types.storage.StorageType.{StorageType}
+pub use Rattle.wenc_parts.specs.declared.exports.ComponentExportKind.{ComponentExportKind}
+pub use Rattle.wenc_parts.specs.declared.instances.ModuleArg.{ModuleArg}
+pub use Rattle.wenc_view.specs.Gives.{GivesNestedAlways}
+pub use Rattle.wenc_view.specs.Types.{type_seen, instance_declaration_seen, component_declaration_seen}
+pub use Rattle.wenc_view.specs.Types.{component_members, instance_members}
+pub use Rattle.wenc_view.specs.Canonicals.{canon_seen}
+pub use Rattle.wenc_view.specs.Instances.{core_instance_seen, instance_seen}
+pub use Rattle.wenc_view.specs.inside.Canonicals.{error_context_rows, forward_rows, future_rows}
+pub use Rattle.wenc_view.specs.inside.Canonicals.{read_ty_and_options, read_waited_memory}
+pub use Rattle.wenc_view.specs.inside.Canonicals.{read_zero, stream_rows, thread_rows}
+pub use Rattle.wenc_canon.specs.declared.canonicals.CanonicalOption.{CanonicalOption}

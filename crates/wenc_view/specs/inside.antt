@@ -1,0 +1,5 @@
+pub mod Canonicals
+pub mod CoreTypes
+pub mod Entities
+pub mod Tables
+pub mod Types

@@ -1,0 +1,4 @@
+pub mod Repeats
+pub mod Members
+pub mod Copies
+pub mod DefinedTypes

@@ -1,0 +1,519 @@
+//! Canonical functions, each by its opcode.
+ghost use Rattle.wenc_base.specs.Prelude.{pick, nowhere};
+ghost use Rattle.wenc_canon.specs.Prelude.{read_lifted, read_lowered, rows, read_canonical_option, canonical_option, canonical_option_sound, canonical_option_lawful, Canonical, canonical, read_canonical, canonical_sound, canonical_lawful};
+ghost use Rattle.wenc_view.specs.Prelude.{read_zero, stream_rows, future_rows, error_context_rows, thread_rows, forward_rows, read_ty_and_options, read_waited_memory, CanonicalOption as Value'};
+ghost use Rattle.wenc_read.specs.Prelude.{GivesAlways, exact_by};
+ghost use Rattle.wenc_view.specs.Prelude.{canon_seen, list_view};
+
+use crate::lists::ListOf;
+use crate::pairs::both;
+use crate::view::View;
+use wenc_base::ValType;
+use wenc_canon::CanonicalOption;
+use wenc_parts::{ComponentValType, ResultList};
+use wenc_read::{Refusal, byte};
+
+/// A canonical function, in place.
+#[derive(Clone, Copy)]
+pub enum CanonView<'a> {
+    /// `canon lift`: lifts a core function to a component function of this type.
+    Lift {
+        /// The index of the core function.
+        core_func: u32,
+        /// The index of the component function's type.
+        ty: u32,
+        /// The options, in order.
+        options: ListOf<'a, CanonicalOption>,
+    },
+    /// `canon lower`: lowers a component function to a core function.
+    Lower {
+        /// The index of the component function.
+        func: u32,
+        /// The options, in order.
+        options: ListOf<'a, CanonicalOption>,
+    },
+    /// `resource.new`: creates an owned handle to a resource of this type.
+    ResourceNew(u32),
+    /// `resource.drop`: drops a handle of this type.
+    ResourceDrop(u32),
+    /// `resource.rep`: returns the representation of a resource of this type.
+    ResourceRep(u32),
+    /// `task.cancel`: confirms that the current task was cancelled.
+    TaskCancel,
+    /// `subtask.cancel`: cancels a subtask. With `true` it may complete later.
+    SubtaskCancel(bool),
+    /// `task.return`: returns the result of a lifted function, or none, to its caller, while the
+    /// callee continues.
+    TaskReturn {
+        /// The type of the result, if there is one.
+        ty: Option<ComponentValType>,
+        /// The options, in order.
+        options: ListOf<'a, CanonicalOption>,
+    },
+    /// `context.get`: reads a slot of the current task, with this value type.
+    ContextGet {
+        /// The type of the slot.
+        ty: ValType,
+        /// The index of the slot.
+        slot: u32,
+    },
+    /// `context.set`: writes a slot of the current task, with this value type.
+    ContextSet {
+        /// The type of the slot.
+        ty: ValType,
+        /// The index of the slot.
+        slot: u32,
+    },
+    /// `thread.yield`: lets other threads run.
+    ThreadYield,
+    /// `subtask.drop`: drops a subtask that has ended.
+    SubtaskDrop,
+    /// `stream.new`: creates a stream of this type.
+    StreamNew(u32),
+    /// `stream.read`: reads from a stream of this type.
+    StreamRead {
+        /// The index of the type.
+        ty: u32,
+        /// The options, in order.
+        options: ListOf<'a, CanonicalOption>,
+    },
+    /// `stream.write`: writes to a stream of this type.
+    StreamWrite {
+        /// The index of the type.
+        ty: u32,
+        /// The options, in order.
+        options: ListOf<'a, CanonicalOption>,
+    },
+    /// `stream.cancel-read`: cancels a read from a stream of this type.
+    StreamCancelRead {
+        /// The index of the type.
+        ty: u32,
+        /// Whether the cancellation may complete later.
+        async_: bool,
+    },
+    /// `stream.cancel-write`: cancels a write to a stream of this type.
+    StreamCancelWrite {
+        /// The index of the type.
+        ty: u32,
+        /// Whether the cancellation may complete later.
+        async_: bool,
+    },
+    /// `stream.drop-readable`: drops the readable end of a stream of this type.
+    StreamDropReadable(u32),
+    /// `stream.drop-writable`: drops the writable end of a stream of this type.
+    StreamDropWritable(u32),
+    /// `future.new`: creates a future of this type.
+    FutureNew(u32),
+    /// `future.read`: reads from a future of this type.
+    FutureRead {
+        /// The index of the type.
+        ty: u32,
+        /// The options, in order.
+        options: ListOf<'a, CanonicalOption>,
+    },
+    /// `future.write`: writes to a future of this type.
+    FutureWrite {
+        /// The index of the type.
+        ty: u32,
+        /// The options, in order.
+        options: ListOf<'a, CanonicalOption>,
+    },
+    /// `future.cancel-read`: cancels a read from a future of this type.
+    FutureCancelRead {
+        /// The index of the type.
+        ty: u32,
+        /// Whether the cancellation may complete later.
+        async_: bool,
+    },
+    /// `future.cancel-write`: cancels a write to a future of this type.
+    FutureCancelWrite {
+        /// The index of the type.
+        ty: u32,
+        /// Whether the cancellation may complete later.
+        async_: bool,
+    },
+    /// `future.drop-readable`: drops the readable end of a future of this type.
+    FutureDropReadable(u32),
+    /// `future.drop-writable`: drops the writable end of a future of this type.
+    FutureDropWritable(u32),
+    /// `error-context.new`: creates an error context with a message.
+    ErrorContextNew(ListOf<'a, CanonicalOption>),
+    /// `error-context.debug-message`: returns the message of an error context.
+    ErrorContextDebugMessage(ListOf<'a, CanonicalOption>),
+    /// `error-context.drop`: drops an error context.
+    ErrorContextDrop,
+    /// `waitable-set.new`: creates a set of waitables.
+    WaitableSetNew,
+    /// `waitable-set.wait`: waits for an event in a waitable set, and stores it in this core
+    /// memory.
+    WaitableSetWait(u32),
+    /// `waitable-set.poll`: checks for an event in a waitable set, and stores it in this core
+    /// memory.
+    WaitableSetPoll(u32),
+    /// `waitable-set.drop`: drops a waitable set.
+    WaitableSetDrop,
+    /// `waitable.join`: adds a waitable to a set.
+    WaitableJoin,
+    /// `backpressure.inc`: increments the counter that holds new calls back.
+    BackpressureInc,
+    /// `backpressure.dec`: decrements the counter that holds new calls back.
+    BackpressureDec,
+    /// `thread.index`: returns the index of the current thread.
+    ThreadIndex,
+    /// `thread.new-indirect`: creates a thread for a function of this type, given by its index in a
+    /// table.
+    ThreadNewIndirect {
+        /// The index of the type.
+        ty: u32,
+        /// The index of the table.
+        table: u32,
+    },
+    /// `thread.resume-later`: lets a suspended thread continue later.
+    ThreadResumeLater,
+    /// `thread.suspend`: suspends the current thread.
+    ThreadSuspend,
+    /// `thread.suspend-then-resume`: suspends the current thread, and resumes another at once.
+    ThreadSuspendThenResume,
+    /// `thread.yield-then-resume`: resumes another thread at once, and the current one after it.
+    ThreadYieldThenResume,
+    /// `thread.suspend-then-promote`: suspends the current thread, and moves another to the front
+    /// of those that wait.
+    ThreadSuspendThenPromote,
+    /// `thread.yield-then-promote`: lets other threads run, first the one that it moves to the
+    /// front of those that wait.
+    ThreadYieldThenPromote,
+    /// `stream.forward`: forwards the rest of one stream of this type to another.
+    StreamForward(u32),
+    /// `future.forward`: forwards the value of one future of this type to another.
+    FutureForward(u32),
+    /// `thread.spawn-ref`: starts a thread in a shared function of this type, given by a reference.
+    ThreadSpawnRef(u32),
+    /// `thread.spawn-indirect`: starts a thread in a shared function of this type, given by its
+    /// index in a table.
+    ThreadSpawnIndirect {
+        /// The index of the type.
+        ty: u32,
+        /// The index of the table.
+        table: u32,
+    },
+    /// `thread.available-parallelism`: returns how many threads can run at once.
+    ThreadAvailableParallelism,
+}
+
+impl<'a> View<'a> for CanonicalOption {
+    ghost Value = { Value' };
+
+    ghost view = { λ o. o };
+
+    ghost read = { read_canonical_option };
+
+    ghost form = { canonical_option };
+
+    ghost exact = { exact_by canonical_option_sound canonical_option_lawful };
+
+    #[tactic(auto, unfolding(wenc_base::specs::Readers::choose))]
+    fn view_of(bytes: &'a [u8]) -> Result<(CanonicalOption, &'a [u8]), Refusal> {
+        match byte(bytes)? {
+            (0x00, rest) => Ok((CanonicalOption::UTF8, rest)),
+            (0x01, rest) => Ok((CanonicalOption::UTF16, rest)),
+            (0x02, rest) => Ok((CanonicalOption::CompactUTF16, rest)),
+            (0x03, rest) => {
+                let (memory, rest) = u32::view_of(rest)?;
+                Ok((CanonicalOption::Memory(memory), rest))
+            }
+            (0x04, rest) => {
+                let (func, rest) = u32::view_of(rest)?;
+                Ok((CanonicalOption::Realloc(func), rest))
+            }
+            (0x05, rest) => {
+                let (func, rest) = u32::view_of(rest)?;
+                Ok((CanonicalOption::PostReturn(func), rest))
+            }
+            (0x06, rest) => Ok((CanonicalOption::Async, rest)),
+            (0x07, rest) => {
+                let (func, rest) = u32::view_of(rest)?;
+                Ok((CanonicalOption::Callback(func), rest))
+            }
+            (0x08, rest) => {
+                let (ty, rest) = u32::view_of(rest)?;
+                Ok((CanonicalOption::CoreType(ty), rest))
+            }
+            (0x09, rest) => Ok((CanonicalOption::Gc, rest)),
+            _ => Err(Refusal::Malformed),
+        }
+    }
+}
+
+/// Reads the byte `00`.
+#[tactic(auto, unfolding(wenc_base::specs::Readers::choose))]
+fn zero(bytes: &[u8]) -> Result<((), &[u8]), Refusal>
+    ensures { GivesAlways (λ x. (tt, x.1.now)) result (read_zero bytes.now) }
+{
+    match byte(bytes)? {
+        (0x00, rest) => Ok(((), rest)),
+        _ => Err(Refusal::Malformed),
+    }
+}
+
+/// Reads a lifted core function, after its opcode.
+#[tactic(auto, unfolding(wenc_base::specs::Readers::choose))]
+fn lifted(bytes: &[u8]) -> Result<(CanonView<'_>, &[u8]), Refusal>
+    ensures { GivesAlways (λ x. (canon_seen x.0, x.1.now)) result (read_lifted bytes.now) }
+{
+    match byte(bytes)? {
+        (0x00, rest) => {
+            let (core_func, rest) = u32::view_of(rest)?;
+            let (options, rest) = ListOf::view_of(rest)?;
+            let (ty, rest) = u32::view_of(rest)?;
+            let function = CanonView::Lift {
+                core_func,
+                ty,
+                options,
+            };
+            Ok((function, rest))
+        }
+        _ => Err(Refusal::Malformed),
+    }
+}
+
+/// Reads a lowered component function, after its opcode.
+#[tactic(auto, unfolding(wenc_base::specs::Readers::choose))]
+fn lowered(bytes: &[u8]) -> Result<(CanonView<'_>, &[u8]), Refusal>
+    ensures { GivesAlways (λ x. (canon_seen x.0, x.1.now)) result (read_lowered bytes.now) }
+{
+    match byte(bytes)? {
+        (0x00, rest) => {
+            let (func, rest) = u32::view_of(rest)?;
+            let (options, rest) = ListOf::view_of(rest)?;
+            Ok((CanonView::Lower { func, options }, rest))
+        }
+        _ => Err(Refusal::Malformed),
+    }
+}
+
+/// Reads the index of a type, and options.
+#[inline(always)]
+fn ty_and_options(bytes: &[u8]) -> Result<(u32, ListOf<'_, CanonicalOption>, &[u8]), Refusal>
+    ensures { GivesAlways (λ x. ((x.0, list_view read_canonical_option x.1), x.2.now)) result (read_ty_and_options bytes.now) }
+{
+    let (ty, rest) = u32::view_of(bytes)?;
+    let (options, rest) = ListOf::view_of(rest)?;
+    Ok((ty, options, rest))
+}
+
+/// Reads the byte `00` and the index of a memory.
+#[inline(always)]
+fn waited_memory(bytes: &[u8]) -> Result<(u32, &[u8]), Refusal>
+    ensures { GivesAlways (λ x. ((tt, x.0), x.1.now)) result (read_waited_memory bytes.now) }
+{
+    let (_, rest) = zero(bytes)?;
+    u32::view_of(rest)
+}
+
+// The fields of a row, after its opcode.
+
+macro_rules! plain {
+    ($bytes:ident, $function:ident) => {
+        Ok((CanonView::$function, $bytes))
+    };
+}
+
+macro_rules! indexed {
+    ($bytes:ident, $function:ident) => {{
+        let (index, rest) = u32::view_of($bytes)?;
+        Ok((CanonView::$function(index), rest))
+    }};
+}
+
+macro_rules! flagged {
+    ($bytes:ident, $function:ident) => {{
+        let (async_, rest) = bool::view_of($bytes)?;
+        Ok((CanonView::$function(async_), rest))
+    }};
+}
+
+macro_rules! cancellable {
+    ($bytes:ident, $function:ident) => {{
+        let (_, rest) = zero($bytes)?;
+        Ok((CanonView::$function, rest))
+    }};
+}
+
+macro_rules! waiting {
+    ($bytes:ident, $function:ident) => {{
+        let (memory, rest) = waited_memory($bytes)?;
+        Ok((CanonView::$function(memory), rest))
+    }};
+}
+
+macro_rules! cancelled {
+    ($bytes:ident, $function:ident) => {{
+        let (ty, async_, rest) = both($bytes)?;
+        Ok((CanonView::$function { ty, async_ }, rest))
+    }};
+}
+
+macro_rules! in_table {
+    ($bytes:ident, $function:ident) => {{
+        let (ty, table, rest) = both($bytes)?;
+        Ok((CanonView::$function { ty, table }, rest))
+    }};
+}
+
+macro_rules! in_context {
+    ($bytes:ident, $function:ident) => {{
+        let (ty, slot, rest) = both($bytes)?;
+        Ok((CanonView::$function { ty, slot }, rest))
+    }};
+}
+
+macro_rules! of_options {
+    ($bytes:ident, $function:ident) => {{
+        let (options, rest) = ListOf::view_of($bytes)?;
+        Ok((CanonView::$function(options), rest))
+    }};
+}
+
+macro_rules! with_options {
+    ($bytes:ident, $function:ident) => {{
+        let (ty, options, rest) = ty_and_options($bytes)?;
+        Ok((CanonView::$function { ty, options }, rest))
+    }};
+}
+
+macro_rules! returning {
+    ($bytes:ident, $function:ident) => {{
+        let (ty, rest) = ResultList::view_of($bytes)?;
+        let (options, rest) = ListOf::view_of(rest)?;
+        Ok((CanonView::$function { ty: ty.0, options }, rest))
+    }};
+}
+
+/// Reads a canonical function, after its opcode: the fields of its row. The rows before those of
+/// streams are here.
+fn function(opcode: u8, bytes: &[u8]) -> Result<(CanonView<'_>, &[u8]), Refusal>
+    ensures { GivesAlways (λ x. (canon_seen x.0, x.1.now)) result
+        (pick rows nowhere opcode bytes.now) }
+{
+    match opcode {
+        0x00 => lifted(bytes),
+        0x01 => lowered(bytes),
+        0x02 => indexed!(bytes, ResourceNew),
+        0x03 => indexed!(bytes, ResourceDrop),
+        0x04 => indexed!(bytes, ResourceRep),
+        0x05 => plain!(bytes, TaskCancel),
+        0x06 => flagged!(bytes, SubtaskCancel),
+        0x09 => returning!(bytes, TaskReturn),
+        0x0a => in_context!(bytes, ContextGet),
+        0x0b => in_context!(bytes, ContextSet),
+        0x0c => cancellable!(bytes, ThreadYield),
+        0x0d => plain!(bytes, SubtaskDrop),
+        _ => of_stream(opcode, bytes),
+    }
+}
+
+/// Reads the fields of a row, from those of streams on.
+fn of_stream(opcode: u8, bytes: &[u8]) -> Result<(CanonView<'_>, &[u8]), Refusal>
+    ensures { GivesAlways (λ x. (canon_seen x.0, x.1.now)) result
+        (pick stream_rows nowhere opcode bytes.now) }
+{
+    match opcode {
+        0x0e => indexed!(bytes, StreamNew),
+        0x0f => with_options!(bytes, StreamRead),
+        0x10 => with_options!(bytes, StreamWrite),
+        0x11 => cancelled!(bytes, StreamCancelRead),
+        0x12 => cancelled!(bytes, StreamCancelWrite),
+        0x13 => indexed!(bytes, StreamDropReadable),
+        0x14 => indexed!(bytes, StreamDropWritable),
+        _ => of_future(opcode, bytes),
+    }
+}
+
+/// Reads the fields of a row, from those of futures on.
+fn of_future(opcode: u8, bytes: &[u8]) -> Result<(CanonView<'_>, &[u8]), Refusal>
+    ensures { GivesAlways (λ x. (canon_seen x.0, x.1.now)) result
+        (pick future_rows nowhere opcode bytes.now) }
+{
+    match opcode {
+        0x15 => indexed!(bytes, FutureNew),
+        0x16 => with_options!(bytes, FutureRead),
+        0x17 => with_options!(bytes, FutureWrite),
+        0x18 => cancelled!(bytes, FutureCancelRead),
+        0x19 => cancelled!(bytes, FutureCancelWrite),
+        0x1a => indexed!(bytes, FutureDropReadable),
+        0x1b => indexed!(bytes, FutureDropWritable),
+        _ => of_error_context(opcode, bytes),
+    }
+}
+
+/// Reads the fields of a row, from those of error contexts on: of these, waitable sets and
+/// backpressure.
+fn of_error_context(opcode: u8, bytes: &[u8]) -> Result<(CanonView<'_>, &[u8]), Refusal>
+    ensures { GivesAlways (λ x. (canon_seen x.0, x.1.now)) result
+        (pick error_context_rows nowhere opcode bytes.now) }
+{
+    match opcode {
+        0x1c => of_options!(bytes, ErrorContextNew),
+        0x1d => of_options!(bytes, ErrorContextDebugMessage),
+        0x1e => plain!(bytes, ErrorContextDrop),
+        0x1f => plain!(bytes, WaitableSetNew),
+        0x20 => waiting!(bytes, WaitableSetWait),
+        0x21 => waiting!(bytes, WaitableSetPoll),
+        0x22 => plain!(bytes, WaitableSetDrop),
+        0x23 => plain!(bytes, WaitableJoin),
+        0x24 => plain!(bytes, BackpressureInc),
+        0x25 => plain!(bytes, BackpressureDec),
+        _ => of_thread(opcode, bytes),
+    }
+}
+
+/// Reads the fields of a row, from those of threads on.
+fn of_thread(opcode: u8, bytes: &[u8]) -> Result<(CanonView<'_>, &[u8]), Refusal>
+    ensures { GivesAlways (λ x. (canon_seen x.0, x.1.now)) result
+        (pick thread_rows nowhere opcode bytes.now) }
+{
+    match opcode {
+        0x26 => plain!(bytes, ThreadIndex),
+        0x27 => in_table!(bytes, ThreadNewIndirect),
+        0x28 => plain!(bytes, ThreadResumeLater),
+        0x29 => cancellable!(bytes, ThreadSuspend),
+        0x2a => cancellable!(bytes, ThreadSuspendThenResume),
+        0x2b => cancellable!(bytes, ThreadYieldThenResume),
+        0x2c => cancellable!(bytes, ThreadSuspendThenPromote),
+        0x2d => cancellable!(bytes, ThreadYieldThenPromote),
+        _ => of_forward(opcode, bytes),
+    }
+}
+
+/// Reads the fields of one of the last rows: forwarding, and spawned threads.
+fn of_forward(opcode: u8, bytes: &[u8]) -> Result<(CanonView<'_>, &[u8]), Refusal>
+    ensures { GivesAlways (λ x. (canon_seen x.0, x.1.now)) result
+        (pick forward_rows nowhere opcode bytes.now) }
+{
+    match opcode {
+        0x2e => indexed!(bytes, StreamForward),
+        0x2f => indexed!(bytes, FutureForward),
+        0x40 => indexed!(bytes, ThreadSpawnRef),
+        0x41 => in_table!(bytes, ThreadSpawnIndirect),
+        0x42 => plain!(bytes, ThreadAvailableParallelism),
+        _ => Err(Refusal::Malformed),
+    }
+}
+
+impl<'a> View<'a> for CanonView<'a> {
+    ghost Value = { Canonical };
+
+    ghost view = { canon_seen };
+
+    ghost read = { read_canonical };
+
+    ghost form = { canonical };
+
+    ghost exact = { exact_by canonical_sound canonical_lawful };
+
+    #[tactic(auto, unfolding(wenc_base::specs::Readers::choose))]
+    fn view_of(bytes: &'a [u8]) -> Result<(CanonView<'a>, &'a [u8]), Refusal> {
+        let (opcode, rest) = byte(bytes)?;
+        function(opcode, rest)
+    }
+}

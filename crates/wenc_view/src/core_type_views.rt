@@ -1,0 +1,149 @@
+//! Core types in a component: recursion groups with guards, and module types.
+ghost use Rattle.wenc_view.specs.Prelude.{read_guarded};
+ghost use Rattle.wenc_read.specs.Prelude.{GivesAlways, exact_by};
+ghost use Rattle.wenc_view.specs.Prelude.{module_declaration_seen, core_type_seen};
+ghost use Rattle.wenc_types.specs.Prelude.{read_outer_type, ModuleDeclaration, module_declaration, read_module_declaration, module_declaration_sound, module_declaration_lawful, CoreType, core_type, read_core_type, core_type_sound, core_type_lawful};
+
+use crate::composites::{GroupView, SubView, open};
+use crate::lists::ListOf;
+use crate::view::{View, text_of};
+use wenc_base::EntityType;
+use wenc_read::{Refusal, byte};
+
+/// A declaration of a module type, in place.
+#[derive(Clone, Copy)]
+pub enum ModuleDeclView<'a> {
+    /// An import of the module.
+    Import {
+        /// The name of the module to import from.
+        module: &'a str,
+        /// The name of the import in that module.
+        name: &'a str,
+        /// The type of the import.
+        ty: EntityType,
+    },
+    /// A type, or a group of types.
+    Type(GroupView<'a>),
+    /// An alias of a core type of an enclosing scope.
+    Alias {
+        /// The number of scopes outwards.
+        count: u32,
+        /// The index of the core type in that scope.
+        index: u32,
+    },
+    /// An export of the module.
+    Export {
+        /// The name of the export.
+        name: &'a str,
+        /// The type of the export.
+        ty: EntityType,
+    },
+}
+
+/// A core type of a component, in place.
+#[derive(Clone, Copy)]
+pub enum CoreTypeView<'a> {
+    /// Core types.
+    Group(GroupView<'a>),
+    /// The type of a module, by its declarations.
+    Module(ListOf<'a, ModuleDeclView<'a>>),
+}
+
+/// Reads an alias of an enclosing component's type, after its first byte.
+#[tactic(auto, unfolding(wenc_base::specs::Readers::choose))]
+fn outer_type(bytes: &[u8]) -> Result<(ModuleDeclView<'_>, &[u8]), Refusal>
+    ensures { GivesAlways (λ x. (module_declaration_seen x.0, x.1.now)) result
+        (read_outer_type (λ d. d) bytes.now) }
+{
+    match byte(bytes)? {
+        (0x10, rest) => match byte(rest)? {
+            (0x01, rest) => {
+                let (count, rest) = u32::view_of(rest)?;
+                let (index, rest) = u32::view_of(rest)?;
+                Ok((ModuleDeclView::Alias { count, index }, rest))
+            }
+            _ => Err(Refusal::Malformed),
+        },
+        _ => Err(Refusal::Malformed),
+    }
+}
+
+impl<'a> View<'a> for ModuleDeclView<'a> {
+    ghost Value = { ModuleDeclaration };
+
+    ghost view = { module_declaration_seen };
+
+    ghost read = { read_module_declaration };
+
+    ghost form = { module_declaration };
+
+    ghost exact = { exact_by module_declaration_sound module_declaration_lawful };
+
+    #[tactic(auto, unfolding(wenc_base::specs::Readers::choose))]
+    fn view_of(bytes: &'a [u8]) -> Result<(ModuleDeclView<'a>, &'a [u8]), Refusal> {
+        match byte(bytes)? {
+            (0x00, rest) => {
+                let (module, rest) = text_of(rest)?;
+                let (name, rest) = text_of(rest)?;
+                let (ty, rest) = EntityType::view_of(rest)?;
+                Ok((ModuleDeclView::Import { module, name, ty }, rest))
+            }
+            (0x01, rest) => {
+                let (ty, rest) = GroupView::view_of(rest)?;
+                Ok((ModuleDeclView::Type(ty), rest))
+            }
+            (0x02, rest) => outer_type(rest),
+            (0x03, rest) => {
+                let (name, rest) = text_of(rest)?;
+                let (ty, rest) = EntityType::view_of(rest)?;
+                Ok((ModuleDeclView::Export { name, ty }, rest))
+            }
+            _ => Err(Refusal::Malformed),
+        }
+    }
+}
+
+/// Reads a type that isn't final, after its guard.
+#[tactic(auto, unfolding(wenc_base::specs::Readers::choose))]
+fn guarded(bytes: &[u8]) -> Result<(CoreTypeView<'_>, &[u8]), Refusal>
+    ensures { GivesAlways (λ x. (core_type_seen x.0, x.1.now)) result (read_guarded bytes.now) }
+{
+    match byte(bytes)? {
+        (0x50, rest) => {
+            let (ty, rest) = open(rest)?;
+            Ok((CoreTypeView::Group(GroupView::Sub(ty)), rest))
+        }
+        _ => Err(Refusal::Malformed),
+    }
+}
+
+impl<'a> View<'a> for CoreTypeView<'a> {
+    ghost Value = { CoreType };
+
+    ghost view = { core_type_seen };
+
+    ghost read = { read_core_type };
+
+    ghost form = { core_type };
+
+    ghost exact = { exact_by core_type_sound core_type_lawful };
+
+    #[tactic(auto, unfolding(wenc_base::specs::Readers::choose))]
+    fn view_of(bytes: &'a [u8]) -> Result<(CoreTypeView<'a>, &'a [u8]), Refusal> {
+        match byte(bytes)? {
+            (0x50, rest) => {
+                let (decls, rest) = ListOf::view_of(rest)?;
+                Ok((CoreTypeView::Module(decls), rest))
+            }
+            (0x4e, rest) => {
+                let (types, rest) = ListOf::view_of(rest)?;
+                Ok((CoreTypeView::Group(GroupView::Rec(types)), rest))
+            }
+            (0x00, rest) => guarded(rest),
+            _ => {
+                let (ty, rest) = SubView::view_of(bytes)?;
+                Ok((CoreTypeView::Group(GroupView::Sub(ty)), rest))
+            }
+        }
+    }
+}

@@ -1,0 +1,37 @@
+//! Sorts of items.
+ghost use Rattle.wenc_view.specs.Prelude.{ComponentExportKind as Value'};
+ghost use Rattle.wenc_parts.specs.Prelude.{read_component_export_kind, component_export_kind, component_export_kind_sound, component_export_kind_lawful};
+ghost use Rattle.wenc_read.specs.Prelude.{exact_by};
+
+use crate::view::View;
+use wenc_parts::ComponentExportKind;
+use wenc_read::{Refusal, byte};
+
+impl<'a> View<'a> for ComponentExportKind {
+    ghost Value = { Value' };
+
+    ghost view = { λ k. k };
+
+    ghost read = { read_component_export_kind };
+
+    ghost form = { component_export_kind };
+
+    ghost exact = { exact_by component_export_kind_sound component_export_kind_lawful };
+
+    #[tactic(auto, unfolding(wenc_base::specs::Readers::choose))]
+    #[inline(always)]
+    fn view_of(bytes: &'a [u8]) -> Result<(ComponentExportKind, &'a [u8]), Refusal> {
+        match byte(bytes)? {
+            (0x00, rest) => match byte(rest)? {
+                (0x11, rest) => Ok((ComponentExportKind::Module, rest)),
+                _ => Err(Refusal::Malformed),
+            },
+            (0x01, rest) => Ok((ComponentExportKind::Func, rest)),
+            (0x02, rest) => Ok((ComponentExportKind::Value, rest)),
+            (0x03, rest) => Ok((ComponentExportKind::Type, rest)),
+            (0x05, rest) => Ok((ComponentExportKind::Instance, rest)),
+            (0x04, rest) => Ok((ComponentExportKind::Component, rest)),
+            _ => Err(Refusal::Malformed),
+        }
+    }
+}

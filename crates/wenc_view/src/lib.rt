@@ -1,0 +1,32 @@
+//! Reads the forms of items in place: texts are borrowed, lists are read on demand.
+#![tactic(auto)]
+
+pub mod aliases;
+pub mod canonicals;
+pub mod composites;
+pub mod core_type_views;
+pub mod core_types;
+pub mod defined_types;
+pub mod entities;
+pub mod exports;
+pub mod imports;
+pub mod instances;
+pub mod lists;
+pub mod names;
+mod pairs;
+pub mod trees;
+pub mod type_views;
+pub mod types;
+pub mod view;
+
+pub use canonicals::CanonView;
+pub use core_type_views::CoreTypeView;
+pub use defined_types::{CaseView, DefinedView};
+pub use instances::{CoreInstanceView, InstanceView};
+pub use lists::ListOf;
+pub use names::NameView;
+pub use trees::TreeOf;
+pub use type_views::{
+    ComponentDeclView, ComponentDecls, InstanceDeclView, InstanceDecls, TypeView, type_at,
+};
+pub use view::{View, text_of};

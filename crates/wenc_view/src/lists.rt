@@ -1,0 +1,80 @@
+//! Lists that are read on demand.
+ghost use Rattle.std.specs.Prelude.{◌≡◌, List};
+ghost use Rattle.std.specs.Iterator.{at_most};
+ghost use Rattle.wenc_base.specs.Prelude.{times, read_list, list};
+ghost use Rattle.wenc_read.specs.Prelude.{GivesAlways, list_exact};
+ghost use Rattle.wenc_view.specs.Prelude.{members_of, list_view, GivesFirst};
+
+use crate::view::View;
+use std::marker::PhantomData;
+use wenc_read::{Refusal, u32_of};
+
+/// A list in place: its members are read each time that they are asked for.
+///
+/// A list that `view_of` returned was read over once, so that all of its `left` members are there.
+#[derive_where(Clone, Copy)]
+pub struct ListOf<'a, T> {
+    /// The number of members that are left.
+    pub left: u32,
+    /// The bytes from the next member on.
+    pub bytes: &'a [u8],
+    of: PhantomData<T>,
+}
+
+/// Reads over `count` values. Returns the bytes after them.
+fn passed<'a, T: View<'a>>(count: u32, bytes: &'a [u8]) -> Result<&'a [u8], Refusal>
+    ensures { GivesAlways (λ rest. (members_of T.read count bytes.now, rest.now)) result
+        (times T.read count bytes.now) }
+{
+    let mut rest = bytes;
+    for _ in 0..count {
+        let (_, after) = T::view_of(rest)?;
+        rest = after;
+    }
+    Ok(rest)
+}
+
+impl<'a, T: View<'a>> View<'a> for ListOf<'a, T> {
+    ghost Value = { List T.Value };
+
+    ghost view = { λ l. list_view T.read l };
+
+    ghost read = { read_list T.read };
+
+    ghost form = { list T.form };
+
+    ghost exact = { list_exact T.exact };
+
+    fn view_of(bytes: &'a [u8]) -> Result<(ListOf<'a, T>, &'a [u8]), Refusal> {
+        let (left, start) = u32_of(bytes)?;
+        let rest = passed::<T>(left, start)?;
+        let list = ListOf {
+            left,
+            bytes: start,
+            of: PhantomData,
+        };
+        Ok((list, rest))
+    }
+}
+
+impl<'a, T: View<'a>> Iterator for ListOf<'a, T> {
+    type Item = T;
+
+    ghost remaining = { λ l. at_most l.left };
+
+    ghost next_gives = { λ a r b. GivesFirst T.view (list_view T.read a) r (list_view T.read b) };
+
+    fn next(&mut self) -> Option<T> {
+        if self.left == 0 {
+            return None;
+        }
+        match T::view_of(self.bytes) {
+            Ok((value, rest)) => {
+                self.left -= 1;
+                self.bytes = rest;
+                Some(value)
+            }
+            Err(_) => None,
+        }
+    }
+}

@@ -1,0 +1,149 @@
+//! Names of imports and exports, in place.
+ghost use Rattle.std.specs.Prelude.{◌≡◌, ◌≤◌};
+ghost use Rattle.wenc_parts.specs.Prelude.{ExternName, extern_name, extern_name_sound, extern_name_lawful, option_number, with_option, read_name_option, read_extern_name};
+ghost use Rattle.wenc_read.specs.Prelude.{GivesAlways, read_options, exact_by};
+ghost use Rattle.wenc_view.specs.Prelude.{name_seen, option_seen};
+
+use crate::view::{View, text_of};
+use wenc_read::{Refusal, byte, u32_of};
+
+/// The name of an import or export, with its options, in place.
+#[derive(Clone, Copy)]
+pub struct NameView<'a> {
+    /// The name.
+    pub name: &'a str,
+    /// The name of the interface that the item implements.
+    pub implements: Option<&'a str>,
+    /// The rest of the version, following the part in the name.
+    pub version_suffix: Option<&'a str>,
+    /// The name of the item elsewhere.
+    pub external_id: Option<&'a str>,
+}
+
+/// An option of a name.
+#[derive(Clone, Copy)]
+enum NameOptionView<'a> {
+    Implements(&'a str),
+    VersionSuffix(&'a str),
+    ExternalId(&'a str),
+}
+
+/// Returns the option's first byte.
+fn number_of(option: &NameOptionView<'_>) -> u8
+    ensures { result ≡ option_number (option_seen option.now) }
+{
+    match option {
+        NameOptionView::Implements(_) => 0,
+        NameOptionView::VersionSuffix(_) => 1,
+        NameOptionView::ExternalId(_) => 2,
+    }
+}
+
+/// Returns the name with this option.
+fn with<'a>(option: NameOptionView<'a>, name: NameView<'a>) -> NameView<'a>
+    ensures { name_seen result ≡ with_option (option_seen option.entry) (name_seen name.entry) }
+{
+    match option {
+        NameOptionView::Implements(text) => NameView {
+            implements: Some(text),
+            ..name
+        },
+        NameOptionView::VersionSuffix(text) => NameView {
+            version_suffix: Some(text),
+            ..name
+        },
+        NameOptionView::ExternalId(text) => NameView {
+            external_id: Some(text),
+            ..name
+        },
+    }
+}
+
+/// Reads an option of a name.
+#[tactic(auto, unfolding(wenc_base::specs::Readers::choose))]
+fn option_of(bytes: &[u8]) -> Result<(NameOptionView<'_>, &[u8]), Refusal>
+    ensures { GivesAlways (λ x. (option_seen x.0, x.1.now)) result (read_name_option bytes.now) }
+{
+    match byte(bytes)? {
+        (0x00, rest) => {
+            let (text, rest) = text_of(rest)?;
+            Ok((NameOptionView::Implements(text), rest))
+        }
+        (0x01, rest) => {
+            let (text, rest) = text_of(rest)?;
+            Ok((NameOptionView::VersionSuffix(text), rest))
+        }
+        (0x02, rest) => {
+            let (text, rest) = text_of(rest)?;
+            Ok((NameOptionView::ExternalId(text), rest))
+        }
+        _ => Err(Refusal::Malformed),
+    }
+}
+
+/// Reads `count` options of a name, whose first bytes ascend from at least `least`: so there are at
+/// most three of them, whatever `count` is.
+fn options_from<'a>(
+    name: &'a str,
+    least: u8,
+    count: u32,
+    bytes: &'a [u8],
+) -> Result<(NameView<'a>, &'a [u8]), Refusal>
+    requires { least ≤ 3 }
+    ensures { GivesAlways (λ x. (name_seen x.0, x.1.now)) result
+        (read_options name.now least count bytes.now) }
+{
+    if count == 0 {
+        let name = NameView {
+            name,
+            implements: None,
+            version_suffix: None,
+            external_id: None,
+        };
+        return Ok((name, bytes));
+    }
+    let (option, rest) = option_of(bytes)?;
+    let number = number_of(&option);
+    if number < least {
+        return Err(Refusal::Malformed);
+    }
+    let (named, rest) = options_from(name, number + 1, count - 1, rest)?;
+    Ok((with(option, named), rest))
+}
+
+impl<'a> View<'a> for NameView<'a> {
+    ghost Value = { ExternName };
+
+    ghost view = { name_seen };
+
+    ghost read = { read_extern_name };
+
+    ghost form = { extern_name };
+
+    ghost exact = { exact_by extern_name_sound extern_name_lawful };
+
+    #[tactic(auto, unfolding(wenc_base::specs::Readers::choose))]
+    #[inline(always)]
+    fn view_of(bytes: &'a [u8]) -> Result<(NameView<'a>, &'a [u8]), Refusal> {
+        match byte(bytes)? {
+            (0x00 | 0x01, rest) => {
+                let (name, rest) = text_of(rest)?;
+                let name = NameView {
+                    name,
+                    implements: None,
+                    version_suffix: None,
+                    external_id: None,
+                };
+                Ok((name, rest))
+            }
+            (0x02, rest) => {
+                let (name, rest) = text_of(rest)?;
+                match u32_of(rest)? {
+                    (0, _) => Err(Refusal::Malformed),
+                    (count, rest) => options_from(name, 0, count, rest),
+                }
+            }
+            _ => Err(Refusal::Malformed),
+        }
+    }
+}

@@ -1,0 +1,224 @@
+//! Owned copies of what is read in place.
+ghost use Rattle.std.specs.Prelude.{◌≡◌, ◌≤◌, length, IfOk};
+ghost use Rattle.std.specs.String.{string_bytes};
+ghost use Rattle.wenc_view.specs.Prelude.{AreCopies, OptionCopies, GivesCopy, list_view, name_seen, labelled_seen, case_seen, defined_seen};
+ghost use Rattle.wenc_parts.specs.Prelude.{name_tree_view, alias_tree_view, alias_view};
+ghost use Rattle.wenc_types.specs.Prelude.{labelled_type_view, case_view, defined_view};
+
+use crate::defined_types::{CaseView, DefinedView};
+use crate::lists::ListOf;
+use crate::names::NameView;
+use crate::view::View;
+use std::alloc::{AllocError, Allocator};
+use wenc_parts::{Alias, AliasTree, ComponentValType, NameOptions, NameTree};
+use wenc_read::Refusal;
+use wenc_types::{CaseTree, DefinedTree};
+
+/// An owned value that is made of a view `V`, in `A`.
+pub trait TreeOf<'a, V: View<'a>, A: Allocator + Copy>: Sized + Drop {
+    /// Whether it equals a view.
+    ghost is_copy: { Self → V → Type 0 };
+
+    /// Returns an owned value that equals the view.
+    ///
+    /// # Errors
+    ///
+    /// Fails if an allocation does.
+    fn tree_of(alloc: A, view: V) -> Result<Self, AllocError>
+        ensures { IfOk result (λ t. is_copy t view) };
+}
+
+impl<'a, A: Allocator + Copy> TreeOf<'a, u32, A> for u32 {
+    ghost is_copy = { λ t v. t ≡ v };
+
+    fn tree_of(_alloc: A, view: u32) -> Result<u32, AllocError> {
+        Ok(view)
+    }
+}
+
+impl<'a, A: Allocator + Copy> TreeOf<'a, ComponentValType, A> for ComponentValType {
+    ghost is_copy = { λ t v. t ≡ v };
+
+    fn tree_of(_alloc: A, view: ComponentValType) -> Result<ComponentValType, AllocError> {
+        Ok(view)
+    }
+}
+
+impl<'a, A: Allocator + Copy> TreeOf<'a, &'a str, A> for String<A> {
+    ghost is_copy = { λ t v. string_bytes t ≡ v.now };
+
+    fn tree_of(alloc: A, view: &'a str) -> Result<String<A>, AllocError> {
+        String::from_str(alloc, view)
+    }
+}
+
+impl<'a, A: Allocator + Copy, V: View<'a>, T: TreeOf<'a, V, A>> TreeOf<'a, Option<V>, A>
+    for Option<T> {
+    ghost is_copy = { OptionCopies T.is_copy };
+
+    fn tree_of(alloc: A, view: Option<V>) -> Result<Option<T>, AllocError> {
+        match view {
+            Some(value) => Ok(Some(T::tree_of(alloc, value)?)),
+            None => Ok(None),
+        }
+    }
+}
+
+/// Returns the capacity to reserve for `count` values of these bytes: `count`, if each can take a
+/// byte, and otherwise 0. So it never exceeds the number of bytes.
+fn room_for(count: u32, bytes: &[u8]) -> usize
+    ensures { result ≤ length bytes.now }
+{
+    let count = count as usize;
+    if count <= bytes.len() { count } else { 0 }
+}
+
+impl<'a, A: Allocator + Copy, V: View<'a>, T: TreeOf<'a, V, A>> TreeOf<'a, ListOf<'a, V>, A>
+    for Vec<T, A> {
+    ghost is_copy = { λ ts l. AreCopies T.is_copy V.view ts.items (list_view V.read l) };
+
+    fn tree_of(alloc: A, view: ListOf<'a, V>) -> Result<Vec<T, A>, AllocError> {
+        let mut values = Vec::with_capacity(alloc, room_for(view.left, view.bytes))?;
+        for value in view {
+            let tree = T::tree_of(alloc, value)?;
+            values.push(tree)?;
+        }
+        Ok(values)
+    }
+}
+
+impl<'a, A: Allocator + Copy> TreeOf<'a, Alias<'a>, A> for AliasTree<A> {
+    ghost is_copy = { λ t v. alias_tree_view t ≡ alias_view v };
+
+    fn tree_of(alloc: A, view: Alias<'a>) -> Result<AliasTree<A>, AllocError> {
+        match view {
+            Alias::InstanceExport {
+                instance,
+                kind,
+                name,
+            } => {
+                let name = String::from_str(alloc, name)?;
+                Ok(AliasTree::InstanceExport {
+                    instance,
+                    kind,
+                    name,
+                })
+            }
+            Alias::CoreInstanceExport {
+                instance,
+                kind,
+                name,
+            } => {
+                let name = String::from_str(alloc, name)?;
+                Ok(AliasTree::CoreInstanceExport {
+                    instance,
+                    kind,
+                    name,
+                })
+            }
+            Alias::Outer { kind, count, index } => Ok(AliasTree::Outer { kind, count, index }),
+        }
+    }
+}
+
+impl<'a, A: Allocator + Copy> TreeOf<'a, NameView<'a>, A> for NameTree<A> {
+    ghost is_copy = { λ t v. name_tree_view t ≡ name_seen v };
+
+    fn tree_of(alloc: A, view: NameView<'a>) -> Result<NameTree<A>, AllocError> {
+        let name = String::from_str(alloc, view.name)?;
+        match (view.implements, view.version_suffix, view.external_id) {
+            (None, None, None) => Ok(NameTree {
+                name,
+                options: None,
+            }),
+            (implements, version_suffix, external_id) => {
+                let options = NameOptions {
+                    implements: Option::tree_of(alloc, implements)?,
+                    version_suffix: Option::tree_of(alloc, version_suffix)?,
+                    external_id: Option::tree_of(alloc, external_id)?,
+                };
+                let options = Some(Box::new(alloc, options)?);
+                Ok(NameTree { name, options })
+            }
+        }
+    }
+}
+
+impl<'a, A: Allocator + Copy> TreeOf<'a, (&'a str, ComponentValType), A>
+    for (String<A>, ComponentValType) {
+    ghost is_copy = { λ t v. labelled_type_view t ≡ labelled_seen v };
+
+    fn tree_of(
+        alloc: A,
+        view: (&'a str, ComponentValType),
+    ) -> Result<(String<A>, ComponentValType), AllocError> {
+        let name = String::from_str(alloc, view.0)?;
+        Ok((name, view.1))
+    }
+}
+
+impl<'a, A: Allocator + Copy> TreeOf<'a, CaseView<'a>, A> for CaseTree<A> {
+    ghost is_copy = { λ t v. case_view t ≡ case_seen v };
+
+    fn tree_of(alloc: A, view: CaseView<'a>) -> Result<CaseTree<A>, AllocError> {
+        let name = String::from_str(alloc, view.name)?;
+        Ok(CaseTree { name, ty: view.ty })
+    }
+}
+
+impl<'a, A: Allocator + Copy> TreeOf<'a, DefinedView<'a>, A> for DefinedTree<A> {
+    ghost is_copy = { λ t v. defined_view t ≡ defined_seen v };
+
+    fn tree_of(alloc: A, view: DefinedView<'a>) -> Result<DefinedTree<A>, AllocError> {
+        match view {
+            DefinedView::Primitive(ty) => Ok(DefinedTree::Primitive(ty)),
+            DefinedView::Record(fields) => {
+                let fields = Vec::tree_of(alloc, fields)?;
+                Ok(DefinedTree::Record(fields))
+            }
+            DefinedView::Variant(cases) => {
+                let cases = Vec::tree_of(alloc, cases)?;
+                Ok(DefinedTree::Variant(cases))
+            }
+            DefinedView::List(element) => Ok(DefinedTree::List(element)),
+            DefinedView::Map { key, value } => Ok(DefinedTree::Map { key, value }),
+            DefinedView::FixedLengthList { element, length } => {
+                Ok(DefinedTree::FixedLengthList { element, length })
+            }
+            DefinedView::Tuple(elements) => {
+                let elements = Vec::tree_of(alloc, elements)?;
+                Ok(DefinedTree::Tuple(elements))
+            }
+            DefinedView::Flags(names) => {
+                let names = Vec::tree_of(alloc, names)?;
+                Ok(DefinedTree::Flags(names))
+            }
+            DefinedView::Enum(names) => {
+                let names = Vec::tree_of(alloc, names)?;
+                Ok(DefinedTree::Enum(names))
+            }
+            DefinedView::Option(ty) => Ok(DefinedTree::Option(ty)),
+            DefinedView::Result { ok, err } => Ok(DefinedTree::Result { ok, err }),
+            DefinedView::Own(index) => Ok(DefinedTree::Own(index)),
+            DefinedView::Borrow(index) => Ok(DefinedTree::Borrow(index)),
+            DefinedView::Future(ty) => Ok(DefinedTree::Future(ty)),
+            DefinedView::Stream(ty) => Ok(DefinedTree::Stream(ty)),
+        }
+    }
+}
+
+/// Reads an owned value, by its view.
+///
+/// # Errors
+///
+/// Fails with `Malformed` if no value begins the bytes, and with `Memory` if an allocation fails.
+pub fn owned_of<'a, A: Allocator + Copy, V: View<'a>, T: TreeOf<'a, V, A>>(
+    alloc: A,
+    bytes: &'a [u8],
+) -> Result<(T, &'a [u8]), Refusal>
+    ensures { GivesCopy V.view T.is_copy result (V.read bytes.now) }
+{
+    let (view, rest) = V::view_of(bytes)?;
+    let tree = T::tree_of(alloc, view)?;
+    Ok((tree, rest))
+}

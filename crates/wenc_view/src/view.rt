@@ -1,0 +1,142 @@
+//! The trait `View`, and the parts of every form.
+ghost use Rattle.std.specs.Prelude.{◌≡◌};
+ghost use Rattle.wenc_base.specs.Prelude.{Form, Reader, read_u32, u32 as number, u32_sound, u32_lawful, read_name, name as name_form, name_sound, name_lawful};
+ghost use Rattle.wenc_read.specs.Prelude.{IsExact, GivesAlways, exact_by};
+
+use wenc_read::{Refusal, byte, flag_of, u32_of};
+
+/// A value that can be read in place from the front of bytes, and borrows from them. Nothing is
+/// allocated.
+pub trait View<'a>: Sized + Copy {
+    /// What a contract sees of a value.
+    ghost Value: { Type 0 };
+
+    ghost view: { Self → Value };
+
+    /// The reader that finds the value.
+    ghost read: { Reader Value };
+
+    /// The form that is read.
+    ghost form: { Form Value };
+
+    /// The reader finds what is read widely, and nothing else.
+    ghost exact: { IsExact form read };
+
+    /// Reads the value that begins the bytes, in any of its spellings. Returns it and the bytes
+    /// after it.
+    ///
+    /// # Errors
+    ///
+    /// Fails with `Malformed` if no value begins the bytes.
+    fn view_of(bytes: &'a [u8]) -> Result<(Self, &'a [u8]), Refusal>
+        ensures { GivesAlways (λ x. (view x.0, x.1.now)) result (read bytes.now) };
+}
+
+impl<'a> View<'a> for u32 {
+    ghost use Rattle.std.specs.Prelude.{ℕ};
+
+    ghost Value = { ℕ };
+
+    ghost view = { λ n. n };
+
+    ghost read = { read_u32 };
+
+    ghost form = { number };
+
+    ghost exact = { exact_by u32_sound u32_lawful };
+
+    #[inline(always)]
+    fn view_of(bytes: &'a [u8]) -> Result<(u32, &'a [u8]), Refusal> {
+        u32_of(bytes)
+    }
+}
+
+/// Reads a string after its length in bytes (WebAssembly 3.0, binary format, "Names"), in place.
+///
+/// # Errors
+///
+/// Fails with `Malformed` if there is no length, the length exceeds the bytes that are left, or the
+/// string isn't UTF-8.
+#[tactic(auto, unfolding(wenc_base::specs::reading::Forms::text_at))]
+#[inline(always)]
+pub fn text_of(bytes: &[u8]) -> Result<(&str, &[u8]), Refusal>
+    ensures { GivesAlways (λ x. (x.0.now, x.1.now)) result (read_name bytes.now) }
+{
+    let (len, rest) = u32_of(bytes)?;
+    let len = len as usize;
+    if rest.len() < len {
+        return Err(Refusal::Malformed);
+    }
+    let (front, rest) = rest.split_at(len);
+    match std::str::from_utf8(front) {
+        Ok(text) => Ok((text, rest)),
+        Err(_) => Err(Refusal::Malformed),
+    }
+}
+
+impl<'a> View<'a> for &'a str {
+    ghost use Rattle.std.specs.Prelude.{ℕ, List};
+
+    ghost Value = { List ℕ };
+
+    ghost view = { λ s. s.now };
+
+    ghost read = { read_name };
+
+    ghost form = { name_form };
+
+    ghost exact = { exact_by name_sound name_lawful };
+
+    #[inline(always)]
+    fn view_of(bytes: &'a [u8]) -> Result<(&'a str, &'a [u8]), Refusal> {
+        text_of(bytes)
+    }
+}
+
+/// An option: a byte `00`, or a byte `01` and a value.
+impl<'a, T: View<'a>> View<'a> for Option<T> {
+    ghost use Rattle.std.specs.Prelude.{Option as OptionOf, option_map};
+    ghost use Rattle.wenc_base.specs.Prelude.{read_option, option};
+    ghost use Rattle.wenc_read.specs.Prelude.{option_exact};
+
+    ghost Value = { OptionOf T.Value };
+
+    ghost view = { option_map T.view };
+
+    ghost read = { read_option T.read };
+
+    ghost form = { option T.form };
+
+    ghost exact = { option_exact T.exact };
+
+    #[tactic(auto, unfolding(wenc_base::specs::Readers::choose))]
+    fn view_of(bytes: &'a [u8]) -> Result<(Option<T>, &'a [u8]), Refusal> {
+        match byte(bytes)? {
+            (0x00, rest) => Ok((None, rest)),
+            (0x01, rest) => {
+                let (value, rest) = T::view_of(rest)?;
+                Ok((Some(value), rest))
+            }
+            _ => Err(Refusal::Malformed),
+        }
+    }
+}
+
+impl<'a> View<'a> for bool {
+    ghost use Rattle.std.specs.Prelude.{Bool};
+    ghost use Rattle.wenc_base.specs.Prelude.{read_flag, flag, flag_sound, flag_lawful};
+
+    ghost Value = { Bool };
+
+    ghost view = { λ b. b };
+
+    ghost read = { read_flag };
+
+    ghost form = { flag };
+
+    ghost exact = { exact_by flag_sound flag_lawful };
+
+    fn view_of(bytes: &'a [u8]) -> Result<(bool, &'a [u8]), Refusal> {
+        flag_of(bytes)
+    }
+}
