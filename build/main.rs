@@ -16,7 +16,7 @@ const WRITER: [&str; 6] =
     ["wenc_base", "wenc_parts", "wenc_types", "wenc_canon", "wenc_sections", "wenc_builder"];
 
 /// The crates of the feature `reader`.
-const READER: [&str; 4] = ["wenc_read", "wenc_decode", "wenc_list", "wasm_encoder"];
+const READER: [&str; 5] = ["wenc_read", "wenc_view", "wenc_decode", "wenc_list", "wasm_encoder"];
 
 /// The crates of the programs.
 const PROGRAMS: [&str; 2] = ["wenc", "command_fuzz"];

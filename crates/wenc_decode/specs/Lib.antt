@@ -1,4 +1,5 @@
 pub mod Depth
+pub mod Copies
 pub mod inside
 pub mod laws
 pub mod Prelude

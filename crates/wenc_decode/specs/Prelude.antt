@@ -1,5 +1,6 @@
 -- The names that clauses cite, re-exported from the files that define them.
 pub use Rattle.wenc_decode.specs.Depth.{OpensTypes}
+pub use Rattle.wenc_decode.specs.Copies.{AreCopies, OptionCopies, GivesCopy}
 pub use Rattle.wenc_decode.specs.inside.Canonicals.{error_context_rows, forward_rows, future_rows}
 pub use Rattle.wenc_decode.specs.inside.Canonicals.{read_ty_and_options, read_waited_memory}
 pub use Rattle.wenc_decode.specs.inside.Canonicals.{read_zero, stream_rows, thread_rows}

@@ -19,6 +19,7 @@ pub mod instances;
 pub mod laws;
 pub mod names;
 mod pairs;
+pub mod trees;
 pub mod type_tree;
 pub mod types;
 

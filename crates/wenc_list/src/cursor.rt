@@ -4,6 +4,7 @@ ghost use Rattle.std.specs.Prelude.{MatchOption};
 ghost use Rattle.wenc_base.specs.Prelude.{Wide};
 ghost use Rattle.wenc_builder.specs.Prelude.{preamble};
 ghost use Rattle.wenc_list.specs.Prelude.{Opens, HasTaken, IsSpent, IsFaultIn, item_view};
+ghost use Rattle.wenc_list.specs.Prelude.{item_seen};
 ghost use Rattle.wenc_list.specs.Prelude.{IsFaultHere, HasNoHeader, fault_of_content, read_count};
 ghost use Rattle.wenc_list.specs.declared.fault.ListFault.TheVariants.{Memory, NotAComponent};
 ghost use Rattle.wenc_read.specs.Prelude.{GivesAlways};
@@ -12,6 +13,7 @@ use crate::fault::ListFault;
 use crate::item::ItemTree;
 use crate::members::item_in;
 use crate::sections::{are_bytes, frame};
+use crate::views::{ItemView, view_in};
 use std::alloc::Allocator;
 use wenc_read::{NestedRefusal, Refusal, u32_of};
 
@@ -189,6 +191,43 @@ impl<'a> SectionItems<'a> {
             return Err(ListFault::BadItem { place: self.place });
         }
         match item_in(alloc, self.id, self.rest) {
+            Ok((item, rest)) => {
+                self.left -= 1;
+                self.rest = rest;
+                Ok(Some(item))
+            }
+            Err(refusal) => Err(content_fault(refusal, self.id, self.place)),
+        }
+    }
+
+    /// Returns the next item in place, or `None` at the end. Nothing is allocated.
+    ///
+    /// # Errors
+    ///
+    /// As `next`, but never with `Memory`.
+    #[inline(always)]
+    pub fn next_view(&mut self) -> Result<Option<ItemView<'a>>, ListFault>
+        // A returned item begins the remaining bytes, within depth 100, and all bytes after it
+        // remain.
+        ensures taken { IfOk result (λ o. MatchOption o (IsSpent self.old)
+            (λ x. HasTaken self.old (item_seen x ∷ []) self.new)) }
+        // Otherwise nothing changes.
+        ensures unchanged { IfOk result (λ o. MatchOption o (self.new ≡ self.old)
+            (λ _. Unit {0})) }
+        ensures refused { IfErr result (λ _. self.new ≡ self.old) }
+        // A fault has its cause in the remaining bytes.
+        ensures fault { IfErr result (IsFaultIn self.old) }
+        // It is never `Memory`.
+        ensures asks_nothing { IfErr result (λ e. e ≢ Memory) }
+    {
+        are_bytes(self.rest);
+        if self.left == 0 {
+            if self.rest.is_empty() {
+                return Ok(None);
+            }
+            return Err(ListFault::BadItem { place: self.place });
+        }
+        match view_in(self.id, self.rest) {
             Ok((item, rest)) => {
                 self.left -= 1;
                 self.rest = rest;

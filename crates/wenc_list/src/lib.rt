@@ -15,6 +15,7 @@ mod members;
 mod names;
 mod sections;
 mod unread;
+mod views;
 
 pub use cursor::{SectionItems, Sections};
 pub use fault::ListFault;
@@ -22,3 +23,4 @@ pub use item::ItemTree;
 pub use listing::{ListedSection, Listing, list};
 pub use names::{ItemName, Names, behind_module_header, names_of, part_of};
 pub use unread::{Unread, first_unread};
+pub use views::ItemView;

@@ -1,9 +1,12 @@
 -- Declarations after a count, one level deeper.
-use Rattle.std.proofs.Common.{◌≡◌, ◌≢◌, ℕ, zero, suc, ◌-◌, ◌+◌, ◌<◌, List, Result, Ok, refl, subst, arith}
+use Rattle.std.proofs.Common.{◌≡◌, ◌≢◌, ℕ, zero, suc, ◌-◌, ◌+◌, ◌<◌, List, Result, Ok, refl, subst}
+use Rattle.std.proofs.Common.{arith}
 use Rattle.wenc_base.specs.Readers.{Flaw, Reader, go_on, times}
 use Rattle.wenc_base.specs.reading.Numbers.{read_u32}
 use Rattle.wenc_read.specs.declared.refusal.NestedRefusal.{NestedRefusal}
-use Rattle.wenc_types.specs.ComponentTypes.{DefinedType, ComponentType, InstanceType, ComponentDeclaration, InstanceDeclaration, components_of, instances_of}
+use Rattle.wenc_types.specs.ComponentTypes.{DefinedType, ComponentType, InstanceType}
+use Rattle.wenc_types.specs.ComponentTypes.{ComponentDeclaration, InstanceDeclaration}
+use Rattle.wenc_types.specs.ComponentTypes.{components_of, instances_of}
 use Rattle.wenc_read.specs.declared.refusal.NestedRefusal.TheVariants.{Flat, TooDeep}
 use Rattle.wenc_read.specs.Gives.{FailsNested}
 use Rattle.wenc_read.specs.declared.refusal.Refusal.TheVariants.{Memory, Malformed}
@@ -11,7 +14,10 @@ use Rattle.wenc_view.specs.Gives.{FailsAlways}
 use Rattle.wenc_view.specs.laws.Repeats.{with_front}
 use Rattle.wenc_types.specs.DefinedTypes.{DefValType}
 use Rattle.wenc_types.specs.reading.DefinedTypes.{read_defined}
-use Rattle.wenc_types.specs.reading.ComponentTypes.{read_shallow, read_type, read_component_declaration, read_instance_declaration, read_component_type, read_instance_type}
+use Rattle.wenc_types.specs.reading.ComponentTypes.{read_shallow, read_type}
+use Rattle.wenc_types.specs.reading.ComponentTypes.{read_component_declaration}
+use Rattle.wenc_types.specs.reading.ComponentTypes.{read_instance_declaration, read_component_type}
+use Rattle.wenc_types.specs.reading.ComponentTypes.{read_instance_type}
 
 fails_deeper_on : {A B : Type 0} (e : NestedRefusal) (found : Result (A × List ℕ) Flaw) (next : A → List ℕ → Result B Flaw) → FailsAlways e found → FailsAlways e (go_on found next)
 fails_deeper_on (Flat e) found next h = (h.0, rw h.1 refl)

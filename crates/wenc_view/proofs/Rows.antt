@@ -1,7 +1,8 @@
 -- Tables of a form that stand in a larger one's, where something is made of what they find.
 use Rattle.std.proofs.Common.{◌≡◌, ℕ, List, [], ◌∷◌, ◌++◌, Result, Ok, Err, refl, subst, inl, inr}
 use Rattle.std.proofs.lemmas.List.{append-nil}
-use Rattle.wenc_base.specs.Readers.{Flaw, Bad, read_byte, Reader, ◌>>=◌, go_on, give, nowhere, pick, choose}
+use Rattle.wenc_base.specs.Readers.{Flaw, Bad, read_byte, Reader, ◌>>=◌, go_on, give, nowhere, pick}
+use Rattle.wenc_base.specs.Readers.{choose}
 use Rattle.wenc_base.specs.laws.Sound.{tested}
 
 -- one reader makes something of what another finds

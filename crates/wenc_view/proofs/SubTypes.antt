@@ -4,8 +4,11 @@ use Rattle.wenc_base.specs.Composites.{Composite, Func, Array, Struct, Sub, fina
 use Rattle.wenc_base.specs.reading.Forms.{read_list, read_option}
 use Rattle.wenc_base.specs.reading.Numbers.{read_u32}
 use Rattle.wenc_base.specs.reading.Types.{read_val_type}
-use Rattle.wenc_base.specs.reading.Composites.{read_field_type, composite_rows, read_composite, read_closed, read_extension, sub_of, final_rows, sub_rows}
-use Rattle.wenc_view.proofs.Rows.{Follows, RowsFollow, then_follows, last_follows, both_follow, choices_follow}
+use Rattle.wenc_base.specs.reading.Composites.{read_field_type, composite_rows, read_composite}
+use Rattle.wenc_base.specs.reading.Composites.{read_closed, read_extension, sub_of, final_rows}
+use Rattle.wenc_base.specs.reading.Composites.{sub_rows}
+use Rattle.wenc_view.proofs.Rows.{Follows, RowsFollow, then_follows, last_follows, both_follow}
+use Rattle.wenc_view.proofs.Rows.{choices_follow}
 
 pub composites_follow : {A B : Type 0} (make : A → B) (f : Composite → A) → RowsFollow make (composite_rows f) (composite_rows (λ c. make (f c)))
 composites_follow make f = (

@@ -3,7 +3,6 @@ pub mod Instances
 pub mod Gives
 pub mod Types
 pub mod CoreTypes
-pub mod Copies
 pub mod DefinedTypes
 pub mod Members
 pub mod Names

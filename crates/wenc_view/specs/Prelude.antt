@@ -1,6 +1,5 @@
 -- The names that clauses cite, re-exported from the files that define them.
 pub use Rattle.wenc_view.specs.Members.{members_of, list_view, GivesFirst}
-pub use Rattle.wenc_view.specs.Copies.{AreCopies, OptionCopies, GivesCopy}
 pub use Rattle.wenc_view.specs.Names.{name_seen, option_seen}
 pub use Rattle.wenc_view.specs.inside.Tables.{find}
 pub use Rattle.wenc_view.specs.inside.Types.{primitive_types}
@@ -28,7 +27,8 @@ pub use Rattle.wenc_base.specs.declared.types.storage.StorageType.{StorageType}
 pub use Rattle.wenc_parts.specs.declared.exports.ComponentExportKind.{ComponentExportKind}
 pub use Rattle.wenc_parts.specs.declared.instances.ModuleArg.{ModuleArg}
 pub use Rattle.wenc_view.specs.Gives.{GivesNestedAlways}
-pub use Rattle.wenc_view.specs.Types.{type_seen, instance_declaration_seen, component_declaration_seen}
+pub use Rattle.wenc_view.specs.Types.{type_seen, instance_declaration_seen}
+pub use Rattle.wenc_view.specs.Types.{component_declaration_seen}
 pub use Rattle.wenc_view.specs.Types.{component_members, instance_members}
 pub use Rattle.wenc_view.specs.Canonicals.{canon_seen}
 pub use Rattle.wenc_view.specs.Instances.{core_instance_seen, instance_seen}

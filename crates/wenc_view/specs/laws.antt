@@ -1,4 +1,3 @@
 pub mod Repeats
 pub mod Members
-pub mod Copies
 pub mod DefinedTypes

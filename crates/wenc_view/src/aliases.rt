@@ -1,5 +1,7 @@
 //! Aliases. Each begins with a sort, and refers to an instance's export or an outer item.
-ghost use Rattle.wenc_parts.specs.Prelude.{alias_view, read_alias, read_export, read_core_export, read_outer, read_export_or_outer, read_exported_alias, read_core_alias, AliasOf, alias_sound, alias_lawful};
+ghost use Rattle.wenc_parts.specs.Prelude.{alias_view, read_alias, read_export, read_core_export};
+ghost use Rattle.wenc_parts.specs.Prelude.{read_outer, read_export_or_outer, read_exported_alias};
+ghost use Rattle.wenc_parts.specs.Prelude.{read_core_alias, AliasOf, alias_sound, alias_lawful};
 ghost use Rattle.wenc_read.specs.Prelude.{GivesAlways, exact_by};
 
 use crate::view::View;

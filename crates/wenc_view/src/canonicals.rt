@@ -1,7 +1,12 @@
 //! Canonical functions, each by its opcode.
 ghost use Rattle.wenc_base.specs.Prelude.{pick, nowhere};
-ghost use Rattle.wenc_canon.specs.Prelude.{read_lifted, read_lowered, rows, read_canonical_option, canonical_option, canonical_option_sound, canonical_option_lawful, Canonical, canonical, read_canonical, canonical_sound, canonical_lawful};
-ghost use Rattle.wenc_view.specs.Prelude.{read_zero, stream_rows, future_rows, error_context_rows, thread_rows, forward_rows, read_ty_and_options, read_waited_memory, CanonicalOption as Value'};
+ghost use Rattle.wenc_canon.specs.Prelude.{read_lifted, read_lowered, rows, read_canonical_option};
+ghost use Rattle.wenc_canon.specs.Prelude.{canonical_option, canonical_option_sound};
+ghost use Rattle.wenc_canon.specs.Prelude.{canonical_option_lawful, Canonical, canonical};
+ghost use Rattle.wenc_canon.specs.Prelude.{read_canonical, canonical_sound, canonical_lawful};
+ghost use Rattle.wenc_view.specs.Prelude.{read_zero, stream_rows, future_rows, error_context_rows};
+ghost use Rattle.wenc_view.specs.Prelude.{thread_rows, forward_rows, read_ty_and_options};
+ghost use Rattle.wenc_view.specs.Prelude.{read_waited_memory, CanonicalOption as Value'};
 ghost use Rattle.wenc_read.specs.Prelude.{GivesAlways, exact_by};
 ghost use Rattle.wenc_view.specs.Prelude.{canon_seen, list_view};
 

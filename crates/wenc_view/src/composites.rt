@@ -1,7 +1,13 @@
 //! The types that core modules define, alone and in recursion groups.
 ghost use Rattle.std.specs.Prelude.{Some, false, true};
 ghost use Rattle.wenc_view.specs.Prelude.{composite_seen, sub_seen, rec_type_seen};
-ghost use Rattle.wenc_base.specs.Prelude.{read_composite, read_sub_type, read_group, read_closed, read_extension, sub_of, read_storage_type, storage_type, storage_type_sound, storage_type_lawful, read_field_type, field_type, field_type_sound, field_type_lawful, Composite, composite_type_sound, composite_type_lawful, sub_type, sub_type_sound, sub_type_lawful, RecType, rec_type, group_sound, group_lawful};
+ghost use Rattle.wenc_base.specs.Prelude.{read_composite, read_sub_type, read_group, read_closed};
+ghost use Rattle.wenc_base.specs.Prelude.{read_extension, sub_of, read_storage_type, storage_type};
+ghost use Rattle.wenc_base.specs.Prelude.{storage_type_sound, storage_type_lawful, read_field_type};
+ghost use Rattle.wenc_base.specs.Prelude.{field_type, field_type_sound, field_type_lawful};
+ghost use Rattle.wenc_base.specs.Prelude.{Composite, composite_type_sound, composite_type_lawful};
+ghost use Rattle.wenc_base.specs.Prelude.{sub_type, sub_type_sound, sub_type_lawful, RecType};
+ghost use Rattle.wenc_base.specs.Prelude.{rec_type, group_sound, group_lawful};
 ghost use Rattle.wenc_read.specs.Prelude.{GivesAlways, exact_by};
 
 use crate::lists::ListOf;

@@ -2,7 +2,10 @@
 ghost use Rattle.wenc_view.specs.Prelude.{read_guarded};
 ghost use Rattle.wenc_read.specs.Prelude.{GivesAlways, exact_by};
 ghost use Rattle.wenc_view.specs.Prelude.{module_declaration_seen, core_type_seen};
-ghost use Rattle.wenc_types.specs.Prelude.{read_outer_type, ModuleDeclaration, module_declaration, read_module_declaration, module_declaration_sound, module_declaration_lawful, CoreType, core_type, read_core_type, core_type_sound, core_type_lawful};
+ghost use Rattle.wenc_types.specs.Prelude.{read_outer_type, ModuleDeclaration, module_declaration};
+ghost use Rattle.wenc_types.specs.Prelude.{read_module_declaration, module_declaration_sound};
+ghost use Rattle.wenc_types.specs.Prelude.{module_declaration_lawful, CoreType, core_type};
+ghost use Rattle.wenc_types.specs.Prelude.{read_core_type, core_type_sound, core_type_lawful};
 
 use crate::composites::{GroupView, SubView, open};
 use crate::lists::ListOf;

@@ -1,6 +1,9 @@
 //! Value types of core modules.
 ghost use Rattle.std.specs.Prelude.{◌≡◌};
-ghost use Rattle.wenc_base.specs.Prelude.{abstract_byte, abstract_types, to as reference_to, read_heap_type, heap_type_sound, heap_type_lawful, read_reference, reference_sound, reference_lawful, read_val_type, val_type, val_type_sound, val_type_lawful};
+ghost use Rattle.wenc_base.specs.Prelude.{abstract_byte, abstract_types, to as reference_to};
+ghost use Rattle.wenc_base.specs.Prelude.{read_heap_type, heap_type_sound, heap_type_lawful};
+ghost use Rattle.wenc_base.specs.Prelude.{read_reference, reference_sound, reference_lawful};
+ghost use Rattle.wenc_base.specs.Prelude.{read_val_type, val_type, val_type_sound, val_type_lawful};
 ghost use Rattle.wenc_view.specs.Prelude.{read_referred, find};
 ghost use Rattle.wenc_read.specs.Prelude.{GivesAlways, exact_by};
 

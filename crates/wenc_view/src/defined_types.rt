@@ -1,8 +1,12 @@
 //! Defined value types, in place.
 ghost use Rattle.wenc_base.specs.Prelude.{pick, nowhere};
 ghost use Rattle.wenc_read.specs.Prelude.{GivesAlways, exact_by};
-ghost use Rattle.wenc_types.specs.Prelude.{LabelledType, labelled_type, read_labelled_type, named_sound, labelled_type_lawful, Case, case, read_case, case_sound, case_lawful, DefValType, def_val_type, read_defined, defined_type_lawful};
-ghost use Rattle.wenc_view.specs.Prelude.{labelled_seen, case_seen, defined_seen, read_defined_row, handle_rows, defined_sound};
+ghost use Rattle.wenc_types.specs.Prelude.{LabelledType, labelled_type, read_labelled_type};
+ghost use Rattle.wenc_types.specs.Prelude.{named_sound, labelled_type_lawful, Case, case};
+ghost use Rattle.wenc_types.specs.Prelude.{read_case, case_sound, case_lawful, DefValType};
+ghost use Rattle.wenc_types.specs.Prelude.{def_val_type, read_defined, defined_type_lawful};
+ghost use Rattle.wenc_view.specs.Prelude.{labelled_seen, case_seen, defined_seen, read_defined_row};
+ghost use Rattle.wenc_view.specs.Prelude.{handle_rows, defined_sound};
 
 use crate::lists::ListOf;
 use crate::types::primitive_of;

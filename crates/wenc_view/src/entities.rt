@@ -1,5 +1,13 @@
 //! Types of the imports and exports of core modules.
-ghost use Rattle.wenc_base.specs.Prelude.{read_memory_type, memory_type, memory_type_sound, memory_type_lawful, read_table_type, table_type, table_type_sound, table_type_lawful, read_global_type, global_type, global_type_sound, global_type_lawful, read_tag_type, tag_type, tag_type_sound, tag_type_lawful, read_entity_type, entity_type, entity_type_sound, entity_type_lawful, read_core_export_kind, core_export_kind, core_export_kind_sound, core_export_kind_lawful};
+ghost use Rattle.wenc_base.specs.Prelude.{read_memory_type, memory_type, memory_type_sound};
+ghost use Rattle.wenc_base.specs.Prelude.{memory_type_lawful, read_table_type, table_type};
+ghost use Rattle.wenc_base.specs.Prelude.{table_type_sound, table_type_lawful, read_global_type};
+ghost use Rattle.wenc_base.specs.Prelude.{global_type, global_type_sound, global_type_lawful};
+ghost use Rattle.wenc_base.specs.Prelude.{read_tag_type, tag_type, tag_type_sound, tag_type_lawful};
+ghost use Rattle.wenc_base.specs.Prelude.{read_entity_type, entity_type, entity_type_sound};
+ghost use Rattle.wenc_base.specs.Prelude.{entity_type_lawful, read_core_export_kind};
+ghost use Rattle.wenc_base.specs.Prelude.{core_export_kind, core_export_kind_sound};
+ghost use Rattle.wenc_base.specs.Prelude.{core_export_kind_lawful};
 ghost use Rattle.wenc_view.specs.Prelude.{read_maximum, read_bounds, memory_so, table_so};
 ghost use Rattle.wenc_read.specs.Prelude.{GivesAlways, exact_by};
 

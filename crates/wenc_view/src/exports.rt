@@ -1,6 +1,8 @@
 //! Sorts of items.
 ghost use Rattle.wenc_view.specs.Prelude.{ComponentExportKind as Value'};
-ghost use Rattle.wenc_parts.specs.Prelude.{read_component_export_kind, component_export_kind, component_export_kind_sound, component_export_kind_lawful};
+ghost use Rattle.wenc_parts.specs.Prelude.{read_component_export_kind, component_export_kind};
+ghost use Rattle.wenc_parts.specs.Prelude.{component_export_kind_sound};
+ghost use Rattle.wenc_parts.specs.Prelude.{component_export_kind_lawful};
 ghost use Rattle.wenc_read.specs.Prelude.{exact_by};
 
 use crate::view::View;

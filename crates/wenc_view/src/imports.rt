@@ -1,5 +1,7 @@
 //! The `externdesc` of imports and exports.
-ghost use Rattle.wenc_parts.specs.Prelude.{read_type_bounds, type_bounds, type_bounds_sound, type_bounds_lawful, read_type_reference, type_reference, type_reference_sound, type_reference_lawful};
+ghost use Rattle.wenc_parts.specs.Prelude.{read_type_bounds, type_bounds, type_bounds_sound};
+ghost use Rattle.wenc_parts.specs.Prelude.{type_bounds_lawful, read_type_reference, type_reference};
+ghost use Rattle.wenc_parts.specs.Prelude.{type_reference_sound, type_reference_lawful};
 ghost use Rattle.wenc_read.specs.Prelude.{exact_by};
 
 use crate::view::View;

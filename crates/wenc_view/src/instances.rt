@@ -1,10 +1,26 @@
 //! Instances of core modules and of components, by arguments or by inline exports.
 ghost use Rattle.std.specs.Prelude.{ℕ, List};
-ghost use Rattle.wenc_base.specs.Prelude.{read_name, pair, name as name_form, name_sound, name_lawful, read_core_export_kind, read_u32, core_export_kind, core_export_kind_sound, core_export_kind_lawful, u32 as number, u32_sound, u32_lawful};
-ghost use Rattle.wenc_view.specs.Prelude.{ModuleArg as Value', core_instance_seen, instance_seen, name_seen};
-ghost use Rattle.wenc_parts.specs.Prelude.{read_module_argument, module_argument, module_argument_sound, module_argument_lawful, read_component_export_kind, component_export_kind, component_export_kind_sound, component_export_kind_lawful, ExternName, read_extern_name, extern_name, extern_name_sound, extern_name_lawful};
+ghost use Rattle.wenc_base.specs.Prelude.{read_name, pair, name as name_form, name_sound};
+ghost use Rattle.wenc_base.specs.Prelude.{name_lawful, read_core_export_kind, read_u32};
+ghost use Rattle.wenc_base.specs.Prelude.{core_export_kind, core_export_kind_sound};
+ghost use Rattle.wenc_base.specs.Prelude.{core_export_kind_lawful, u32 as number, u32_sound};
+ghost use Rattle.wenc_base.specs.Prelude.{u32_lawful};
+ghost use Rattle.wenc_view.specs.Prelude.{ModuleArg as Value', core_instance_seen, instance_seen};
+ghost use Rattle.wenc_view.specs.Prelude.{name_seen};
+ghost use Rattle.wenc_parts.specs.Prelude.{read_module_argument, module_argument};
+ghost use Rattle.wenc_parts.specs.Prelude.{module_argument_sound, module_argument_lawful};
+ghost use Rattle.wenc_parts.specs.Prelude.{read_component_export_kind, component_export_kind};
+ghost use Rattle.wenc_parts.specs.Prelude.{component_export_kind_sound};
+ghost use Rattle.wenc_parts.specs.Prelude.{component_export_kind_lawful, ExternName};
+ghost use Rattle.wenc_parts.specs.Prelude.{read_extern_name, extern_name, extern_name_sound};
+ghost use Rattle.wenc_parts.specs.Prelude.{extern_name_lawful};
 ghost use Rattle.wenc_read.specs.Prelude.{exact_by};
-ghost use Rattle.wenc_sections.specs.Prelude.{named_pair, named_triple, read_pair, pair_sound, pair_lawful, read_triple, triple, triple_sound, triple_lawful, CoreInstance, core_instance, read_core_instance, core_instance_sound, core_instance_lawful, read_instance, instance_sound, instance_lawful};
+ghost use Rattle.wenc_sections.specs.Prelude.{named_pair, named_triple, read_pair, pair_sound};
+ghost use Rattle.wenc_sections.specs.Prelude.{pair_lawful, read_triple, triple, triple_sound};
+ghost use Rattle.wenc_sections.specs.Prelude.{triple_lawful, CoreInstance, core_instance};
+ghost use Rattle.wenc_sections.specs.Prelude.{read_core_instance, core_instance_sound};
+ghost use Rattle.wenc_sections.specs.Prelude.{core_instance_lawful, read_instance, instance_sound};
+ghost use Rattle.wenc_sections.specs.Prelude.{instance_lawful};
 
 use crate::lists::ListOf;
 use crate::names::NameView;

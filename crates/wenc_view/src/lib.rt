@@ -14,7 +14,6 @@ pub mod instances;
 pub mod lists;
 pub mod names;
 mod pairs;
-pub mod trees;
 pub mod type_views;
 pub mod types;
 pub mod view;
@@ -25,7 +24,6 @@ pub use defined_types::{CaseView, DefinedView};
 pub use instances::{CoreInstanceView, InstanceView};
 pub use lists::ListOf;
 pub use names::NameView;
-pub use trees::TreeOf;
 pub use type_views::{
     ComponentDeclView, ComponentDecls, InstanceDeclView, InstanceDecls, TypeView, type_at,
 };

@@ -1,6 +1,8 @@
 //! Names of imports and exports, in place.
 ghost use Rattle.std.specs.Prelude.{◌≡◌, ◌≤◌};
-ghost use Rattle.wenc_parts.specs.Prelude.{ExternName, extern_name, extern_name_sound, extern_name_lawful, option_number, with_option, read_name_option, read_extern_name};
+ghost use Rattle.wenc_parts.specs.Prelude.{ExternName, extern_name, extern_name_sound};
+ghost use Rattle.wenc_parts.specs.Prelude.{extern_name_lawful, option_number, with_option};
+ghost use Rattle.wenc_parts.specs.Prelude.{read_name_option, read_extern_name};
 ghost use Rattle.wenc_read.specs.Prelude.{GivesAlways, read_options, exact_by};
 ghost use Rattle.wenc_view.specs.Prelude.{name_seen, option_seen};
 

@@ -2,8 +2,13 @@
 ghost use Rattle.std.specs.Prelude.{◌≡◌};
 ghost use Rattle.wenc_base.specs.Prelude.{times};
 ghost use Rattle.wenc_read.specs.Prelude.{GivesAlways};
-ghost use Rattle.wenc_types.specs.Prelude.{read_imported, read_exported, read_component_declaration, read_instance_declaration, read_type, read_component_type, read_instance_type, read_resource_type, read_signature, FunctionType};
-ghost use Rattle.wenc_view.specs.Prelude.{GivesNestedAlways, GivesFirst, members_of, type_seen, instance_declaration_seen, component_declaration_seen, component_members, instance_members};
+ghost use Rattle.wenc_types.specs.Prelude.{read_imported, read_exported};
+ghost use Rattle.wenc_types.specs.Prelude.{read_component_declaration, read_instance_declaration};
+ghost use Rattle.wenc_types.specs.Prelude.{read_type, read_component_type, read_instance_type};
+ghost use Rattle.wenc_types.specs.Prelude.{read_resource_type, read_signature, FunctionType};
+ghost use Rattle.wenc_view.specs.Prelude.{GivesNestedAlways, GivesFirst, members_of, type_seen};
+ghost use Rattle.wenc_view.specs.Prelude.{instance_declaration_seen, component_declaration_seen};
+ghost use Rattle.wenc_view.specs.Prelude.{component_members, instance_members};
 
 use crate::core_type_views::CoreTypeView;
 use crate::defined_types::DefinedView;

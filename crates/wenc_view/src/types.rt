@@ -1,6 +1,9 @@
 //! Value types of components.
-ghost use Rattle.wenc_view.specs.Prelude.{ComponentValType as Value', ComponentValType as ValueType};
-ghost use Rattle.wenc_parts.specs.Prelude.{read_value_type, value_type, value_type_sound, value_type_lawful, read_result_list, result_list, result_list_sound, result_list_lawful};
+ghost use Rattle.wenc_view.specs.Prelude.{ComponentValType as Value'};
+ghost use Rattle.wenc_view.specs.Prelude.{ComponentValType as ValueType};
+ghost use Rattle.wenc_parts.specs.Prelude.{read_value_type, value_type, value_type_sound};
+ghost use Rattle.wenc_parts.specs.Prelude.{value_type_lawful, read_result_list, result_list};
+ghost use Rattle.wenc_parts.specs.Prelude.{result_list_sound, result_list_lawful};
 ghost use Rattle.wenc_read.specs.Prelude.{exact_by};
 ghost use Rattle.std.specs.Prelude.{◌≡◌};
 ghost use Rattle.wenc_view.specs.Prelude.{find, primitive_types};

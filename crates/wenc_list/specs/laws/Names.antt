@@ -20,7 +20,8 @@ use Rattle.wenc_base.specs.reading.Forms.{read_name}
 use Rattle.wenc_base.specs.reading.Numbers.{read_u32}
 use Rattle.wenc_read.specs.Exact.{IsExactAt}
 use Rattle.wenc_read.specs.laws.Exact.{found_and_read}
-use Rattle.wenc_sections.specs.Names.{Subsection, ComponentName, ItemNames, RawNames, item_sort, subsection}
+use Rattle.wenc_sections.specs.Names.{Subsection, ComponentName, ItemNames, RawNames, item_sort}
+use Rattle.wenc_sections.specs.Names.{subsection}
 use Rattle.wenc_sections.specs.declared.space.Space.{Space}
 use Rattle.wenc_sections.specs.declared.space.Space.TheVariants.{CoreModules, CoreFuncs, CoreTypes}
 use Rattle.wenc_sections.specs.declared.space.Space.TheVariants.{CoreMemories, CoreTables}

@@ -4,13 +4,17 @@ use Rattle.wenc_base.specs.Readers.{give, times}
 use Rattle.wenc_read.specs.laws.Tables.{past_rows}
 use Rattle.wenc_types.specs.ComponentTypes.{DefinedType}
 use Rattle.wenc_types.specs.reading.DefinedTypes.{read_defined}
-use Rattle.wenc_types.specs.reading.ComponentTypes.{read_type, read_instance_declaration, read_component_declaration, type_rows, read_component_type, read_instance_type, read_shallow}
+use Rattle.wenc_types.specs.reading.ComponentTypes.{read_type, read_instance_declaration}
+use Rattle.wenc_types.specs.reading.ComponentTypes.{read_component_declaration, type_rows}
+use Rattle.wenc_types.specs.reading.ComponentTypes.{read_component_type, read_instance_type}
+use Rattle.wenc_types.specs.reading.ComponentTypes.{read_shallow}
 use Rattle.wenc_types.specs.laws.ComponentTypes.{one_level}
 use Rattle.wenc_view.specs.Types.{component_declaration_seen, instance_declaration_seen}
 use Rattle.wenc_view.specs.laws.Members.{members_are}
 use Rattle.wenc_view.specs.laws.Repeats.{at_start, times_go_on, is_done}
 use Rattle.wenc_view.proofs.Always.{fails_always_on}
-use Rattle.wenc_view.proofs.Nested.{stops_always, component_found, component_fails, instance_found, instance_fails, shallow_ok}
+use Rattle.wenc_view.proofs.Nested.{stops_always, component_found, component_fails, instance_found}
+use Rattle.wenc_view.proofs.Nested.{instance_fails, shallow_ok}
 use Rattle.wenc_view.proofs.type_views.+types.Goals as goal
 
 pub instance_decls-loop-init : goal.instance_decls-loop-init

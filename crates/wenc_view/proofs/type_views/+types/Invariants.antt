@@ -1,7 +1,8 @@
 use Rattle.std.proofs.Common.{◌≡◌, ◌-◌, ◌+◌, ◌*◌, List}
 use Rattle.wenc_base.specs.Readers.{times}
 use Rattle.wenc_types.specs.ComponentTypes.{ComponentDeclaration, InstanceDeclaration}
-use Rattle.wenc_types.specs.reading.ComponentTypes.{read_type, read_instance_declaration, read_component_declaration}
+use Rattle.wenc_types.specs.reading.ComponentTypes.{read_type, read_instance_declaration}
+use Rattle.wenc_types.specs.reading.ComponentTypes.{read_component_declaration}
 use Rattle.wenc_view.specs.laws.Repeats.{with_front}
 use Rattle.wenc_view.proofs.type_views.+types.Given as goal
 

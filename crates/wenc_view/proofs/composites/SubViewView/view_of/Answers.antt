@@ -1,6 +1,7 @@
 use Rattle.std.proofs.Common.{rules, ◌∙◌, false, true, Some, [], ◌∷◌, refl}
 use Rattle.wenc_base.specs.Composites.{final}
-use Rattle.wenc_base.specs.reading.Composites.{composite_rows, read_closed, read_extension, sub_of, sub_rows}
+use Rattle.wenc_base.specs.reading.Composites.{composite_rows, read_closed, read_extension, sub_of}
+use Rattle.wenc_base.specs.reading.Composites.{sub_rows}
 use Rattle.wenc_base.specs.Readers.{nowhere}
 use Rattle.wenc_read.specs.laws.Tables.{at_first}
 use Rattle.wenc_view.proofs.Rows.{wraps}

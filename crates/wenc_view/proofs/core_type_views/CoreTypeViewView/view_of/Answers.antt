@@ -1,4 +1,5 @@
-use Rattle.std.proofs.Common.{◌≡◌, Err, rules, ◌∙◌, sym, subst, [], ◌∷◌, false, refl, Result, List, ℕ}
+use Rattle.std.proofs.Common.{◌≡◌, Err, rules, ◌∙◌, sym, subst, [], ◌∷◌, false, refl, Result, List}
+use Rattle.std.proofs.Common.{ℕ}
 use Rattle.std.proofs.lemmas.Result.{err_from_is_err_and}
 use Rattle.wenc_base.specs.Composites.{Sub, Single}
 use Rattle.wenc_base.specs.reading.Composites.{final_rows, read_extension, read_types, sub_of}
@@ -7,7 +8,8 @@ use Rattle.wenc_base.specs.Readers.{Flaw, Bad, give, choose, nowhere}
 use Rattle.wenc_read.specs.declared.refusal.Refusal.TheVariants.{Malformed}
 use Rattle.wenc_read.specs.laws.Tables.{at_first}
 use Rattle.wenc_types.specs.CoreTypes.{Grouped, Module}
-use Rattle.wenc_types.specs.reading.CoreTypes.{read_declarations, read_module_declaration, read_open}
+use Rattle.wenc_types.specs.reading.CoreTypes.{read_declarations, read_module_declaration}
+use Rattle.wenc_types.specs.reading.CoreTypes.{read_open}
 use Rattle.wenc_view.proofs.Rows.{found_alone, wraps}
 use Rattle.wenc_view.proofs.SubTypes.{finals_follow}
 use Rattle.wenc_view.proofs.Tables.{made_of}

@@ -8,8 +8,8 @@ use Rattle.wenc_types.specs.TypeTrees.{labelled_type_view, case_view}
 use Rattle.wenc_types.specs.reading.DefinedTypes.{read_labelled_type, read_case}
 use Rattle.wenc_view.specs.DefinedTypes.{labelled_seen, case_seen}
 use Rattle.wenc_view.specs.Members.{list_view}
-use Rattle.wenc_view.specs.laws.Copies.{copies_are}
-use Rattle.wenc_view.proofs.trees.DefinedTreeTreeOfDefinedView.tree_of.Goals as goal
+use Rattle.wenc_decode.specs.laws.Copies.{copies_are}
+use Rattle.wenc_decode.proofs.trees.DefinedTreeTreeOfDefinedView.tree_of.Goals as goal
 
 pub returns-in_ok-fields-in-Record : goal.returns-in_ok-fields-in-Record
 returns-in_ok-fields-in-Record g c = rw c.in-Record.is (ap pure.Record (copies_are (λ t v. labelled_type_view t ≡ labelled_seen v) labelled_seen labelled_type_view (λ t v h. h) c.in_ok-fields-in-Record.fields.items (list_view read_labelled_type c.in-Record.fields) c.in_ok-fields-in-Record.ensures))

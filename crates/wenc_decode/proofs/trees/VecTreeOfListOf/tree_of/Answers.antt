@@ -1,7 +1,7 @@
 use Rattle.std.proofs.Common.{[], refl}
 use Rattle.wenc_view.specs.Members.{list_view}
-use Rattle.wenc_view.specs.laws.Copies.{one_copied, all_copied}
-use Rattle.wenc_view.proofs.trees.VecTreeOfListOf.tree_of.Goals as goal
+use Rattle.wenc_decode.specs.laws.Copies.{one_copied, all_copied}
+use Rattle.wenc_decode.proofs.trees.VecTreeOfListOf.tree_of.Goals as goal
 
 pub loop-value-init : goal.loop-value-init
 loop-value-init g c = record {

@@ -1,7 +1,7 @@
 use Rattle.std.proofs.Common.{◌≡◌, ◌++◌, List}
-use Rattle.wenc_view.specs.Copies.{AreCopies}
+use Rattle.wenc_decode.specs.Copies.{AreCopies}
 use Rattle.wenc_view.specs.Members.{list_view}
-use Rattle.wenc_view.proofs.trees.VecTreeOfListOf.tree_of.Given as goal
+use Rattle.wenc_decode.proofs.trees.VecTreeOfListOf.tree_of.Given as goal
 
 abbrev pub invariant-loop-value : goal.invariant-loop-value
 invariant-loop-value g l = record {

@@ -1,8 +1,9 @@
 -- What copies are.
-use Rattle.std.proofs.Common.{◌≡◌, List, [], ◌∷◌, ◌++◌, map, Option, Some, None, refl, sym, ap, ◌∙◌, append_assoc}
+use Rattle.std.proofs.Common.{◌≡◌, List, [], ◌∷◌, ◌++◌, map, Option, Some, None, refl, sym, ap, ◌∙◌}
+use Rattle.std.proofs.Common.{append_assoc}
 use Rattle.std.proofs.lemmas.List.{append-nil}
 use Rattle.std.specs.Option.{option_map}
-use Rattle.wenc_view.specs.Copies.{AreCopies, OptionCopies}
+use Rattle.wenc_decode.specs.Copies.{AreCopies, OptionCopies}
 
 pub copies_push : {T V A : Type 0} (IsCopy : T → V → Type 0) (view : V → A) (ts : List T) (ms : List A) (t : T) (v : V) → AreCopies IsCopy view ts ms → IsCopy t v → AreCopies IsCopy view (ts ++ t ∷ []) (ms ++ view v ∷ [])
 copies_push IsCopy view [] [] t v h k = ((v, k, refl), tt)

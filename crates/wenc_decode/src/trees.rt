@@ -1,18 +1,17 @@
 //! Owned copies of what is read in place.
 ghost use Rattle.std.specs.Prelude.{◌≡◌, ◌≤◌, length, IfOk};
 ghost use Rattle.std.specs.String.{string_bytes};
-ghost use Rattle.wenc_view.specs.Prelude.{AreCopies, OptionCopies, GivesCopy, list_view, name_seen, labelled_seen, case_seen, defined_seen};
+ghost use Rattle.wenc_decode.specs.Prelude.{AreCopies, OptionCopies, GivesCopy};
+ghost use Rattle.wenc_view.specs.Prelude.{list_view, name_seen};
+ghost use Rattle.wenc_view.specs.Prelude.{labelled_seen, case_seen, defined_seen};
 ghost use Rattle.wenc_parts.specs.Prelude.{name_tree_view, alias_tree_view, alias_view};
 ghost use Rattle.wenc_types.specs.Prelude.{labelled_type_view, case_view, defined_view};
 
-use crate::defined_types::{CaseView, DefinedView};
-use crate::lists::ListOf;
-use crate::names::NameView;
-use crate::view::View;
 use std::alloc::{AllocError, Allocator};
 use wenc_parts::{Alias, AliasTree, ComponentValType, NameOptions, NameTree};
 use wenc_read::Refusal;
 use wenc_types::{CaseTree, DefinedTree};
+use wenc_view::{CaseView, DefinedView, ListOf, NameView, View};
 
 /// An owned value that is made of a view `V`, in `A`.
 pub trait TreeOf<'a, V: View<'a>, A: Allocator + Copy>: Sized + Drop {
