@@ -7,6 +7,11 @@ ghost use Rattle.wenc_view.specs.Prelude.{labelled_seen, case_seen, defined_seen
 ghost use Rattle.wenc_parts.specs.Prelude.{name_tree_view, alias_tree_view, alias_view};
 ghost use Rattle.wenc_types.specs.Prelude.{labelled_type_view, case_view, defined_view};
 
+pub mod canonicals;
+pub mod core_types;
+pub mod instances;
+pub mod types;
+
 use std::alloc::{AllocError, Allocator};
 use wenc_parts::{Alias, AliasTree, ComponentValType, NameOptions, NameTree};
 use wenc_read::Refusal;
@@ -14,7 +19,7 @@ use wenc_types::{CaseTree, DefinedTree};
 use wenc_view::{CaseView, DefinedView, ListOf, NameView, View};
 
 /// An owned value that is made of a view `V`, in `A`.
-pub trait TreeOf<'a, V: View<'a>, A: Allocator + Copy>: Sized + Drop {
+pub trait TreeOf<V, A: Allocator + Copy>: Sized + Drop {
     /// Whether it equals a view.
     ghost is_copy: { Self → V → Type 0 };
 
@@ -27,7 +32,7 @@ pub trait TreeOf<'a, V: View<'a>, A: Allocator + Copy>: Sized + Drop {
         ensures { IfOk result (λ t. is_copy t view) };
 }
 
-impl<'a, A: Allocator + Copy> TreeOf<'a, u32, A> for u32 {
+impl<A: Allocator + Copy> TreeOf<u32, A> for u32 {
     ghost is_copy = { λ t v. t ≡ v };
 
     fn tree_of(_alloc: A, view: u32) -> Result<u32, AllocError> {
@@ -35,7 +40,7 @@ impl<'a, A: Allocator + Copy> TreeOf<'a, u32, A> for u32 {
     }
 }
 
-impl<'a, A: Allocator + Copy> TreeOf<'a, ComponentValType, A> for ComponentValType {
+impl<A: Allocator + Copy> TreeOf<ComponentValType, A> for ComponentValType {
     ghost is_copy = { λ t v. t ≡ v };
 
     fn tree_of(_alloc: A, view: ComponentValType) -> Result<ComponentValType, AllocError> {
@@ -43,7 +48,7 @@ impl<'a, A: Allocator + Copy> TreeOf<'a, ComponentValType, A> for ComponentValTy
     }
 }
 
-impl<'a, A: Allocator + Copy> TreeOf<'a, &'a str, A> for String<A> {
+impl<'a, A: Allocator + Copy> TreeOf<&'a str, A> for String<A> {
     ghost is_copy = { λ t v. string_bytes t ≡ v.now };
 
     fn tree_of(alloc: A, view: &'a str) -> Result<String<A>, AllocError> {
@@ -51,8 +56,7 @@ impl<'a, A: Allocator + Copy> TreeOf<'a, &'a str, A> for String<A> {
     }
 }
 
-impl<'a, A: Allocator + Copy, V: View<'a>, T: TreeOf<'a, V, A>> TreeOf<'a, Option<V>, A>
-    for Option<T> {
+impl<A: Allocator + Copy, V, T: TreeOf<V, A>> TreeOf<Option<V>, A> for Option<T> {
     ghost is_copy = { OptionCopies T.is_copy };
 
     fn tree_of(alloc: A, view: Option<V>) -> Result<Option<T>, AllocError> {
@@ -72,8 +76,7 @@ fn room_for(count: u32, bytes: &[u8]) -> usize
     if count <= bytes.len() { count } else { 0 }
 }
 
-impl<'a, A: Allocator + Copy, V: View<'a>, T: TreeOf<'a, V, A>> TreeOf<'a, ListOf<'a, V>, A>
-    for Vec<T, A> {
+impl<'a, A: Allocator + Copy, V: View<'a>, T: TreeOf<V, A>> TreeOf<ListOf<'a, V>, A> for Vec<T, A> {
     ghost is_copy = { λ ts l. AreCopies T.is_copy V.view ts.items (list_view V.read l) };
 
     fn tree_of(alloc: A, view: ListOf<'a, V>) -> Result<Vec<T, A>, AllocError> {
@@ -86,7 +89,7 @@ impl<'a, A: Allocator + Copy, V: View<'a>, T: TreeOf<'a, V, A>> TreeOf<'a, ListO
     }
 }
 
-impl<'a, A: Allocator + Copy> TreeOf<'a, Alias<'a>, A> for AliasTree<A> {
+impl<'a, A: Allocator + Copy> TreeOf<Alias<'a>, A> for AliasTree<A> {
     ghost is_copy = { λ t v. alias_tree_view t ≡ alias_view v };
 
     fn tree_of(alloc: A, view: Alias<'a>) -> Result<AliasTree<A>, AllocError> {
@@ -120,7 +123,7 @@ impl<'a, A: Allocator + Copy> TreeOf<'a, Alias<'a>, A> for AliasTree<A> {
     }
 }
 
-impl<'a, A: Allocator + Copy> TreeOf<'a, NameView<'a>, A> for NameTree<A> {
+impl<'a, A: Allocator + Copy> TreeOf<NameView<'a>, A> for NameTree<A> {
     ghost is_copy = { λ t v. name_tree_view t ≡ name_seen v };
 
     fn tree_of(alloc: A, view: NameView<'a>) -> Result<NameTree<A>, AllocError> {
@@ -143,7 +146,7 @@ impl<'a, A: Allocator + Copy> TreeOf<'a, NameView<'a>, A> for NameTree<A> {
     }
 }
 
-impl<'a, A: Allocator + Copy> TreeOf<'a, (&'a str, ComponentValType), A>
+impl<'a, A: Allocator + Copy> TreeOf<(&'a str, ComponentValType), A>
     for (String<A>, ComponentValType) {
     ghost is_copy = { λ t v. labelled_type_view t ≡ labelled_seen v };
 
@@ -156,7 +159,7 @@ impl<'a, A: Allocator + Copy> TreeOf<'a, (&'a str, ComponentValType), A>
     }
 }
 
-impl<'a, A: Allocator + Copy> TreeOf<'a, CaseView<'a>, A> for CaseTree<A> {
+impl<'a, A: Allocator + Copy> TreeOf<CaseView<'a>, A> for CaseTree<A> {
     ghost is_copy = { λ t v. case_view t ≡ case_seen v };
 
     fn tree_of(alloc: A, view: CaseView<'a>) -> Result<CaseTree<A>, AllocError> {
@@ -165,7 +168,7 @@ impl<'a, A: Allocator + Copy> TreeOf<'a, CaseView<'a>, A> for CaseTree<A> {
     }
 }
 
-impl<'a, A: Allocator + Copy> TreeOf<'a, DefinedView<'a>, A> for DefinedTree<A> {
+impl<'a, A: Allocator + Copy> TreeOf<DefinedView<'a>, A> for DefinedTree<A> {
     ghost is_copy = { λ t v. defined_view t ≡ defined_seen v };
 
     fn tree_of(alloc: A, view: DefinedView<'a>) -> Result<DefinedTree<A>, AllocError> {
@@ -211,7 +214,7 @@ impl<'a, A: Allocator + Copy> TreeOf<'a, DefinedView<'a>, A> for DefinedTree<A> 
 /// # Errors
 ///
 /// Fails with `Malformed` if no value begins the bytes, and with `Memory` if an allocation fails.
-pub fn owned_of<'a, A: Allocator + Copy, V: View<'a>, T: TreeOf<'a, V, A>>(
+pub fn owned_of<'a, A: Allocator + Copy, V: View<'a>, T: TreeOf<V, A>>(
     alloc: A,
     bytes: &'a [u8],
 ) -> Result<(T, &'a [u8]), Refusal>

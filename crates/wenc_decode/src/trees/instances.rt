@@ -1,0 +1,1 @@
+//! Owned copies of instances.

@@ -1,0 +1,1 @@
+//! Owned copies of the types that components define.
