@@ -1,5 +1,5 @@
 //! Owned copies of what is read in place.
-ghost use Rattle.std.specs.Prelude.{◌≡◌, ◌≤◌, length, IfOk};
+ghost use Rattle.std.specs.Prelude.{◌≡◌, ◌≤◌, ◌<◌, length, IfOk};
 ghost use Rattle.std.specs.String.{string_bytes};
 ghost use Rattle.wenc_decode.specs.Prelude.{AreCopies, OptionCopies, GivesCopy};
 ghost use Rattle.wenc_view.specs.Prelude.{list_view, name_seen};
@@ -67,10 +67,11 @@ impl<A: Allocator + Copy, V, T: TreeOf<V, A>> TreeOf<Option<V>, A> for Option<T>
     }
 }
 
-/// Returns the capacity to reserve for `count` values of these bytes: `count`, if each can take a
-/// byte, and otherwise 0. So it never exceeds the number of bytes.
-fn room_for(count: u32, bytes: &[u8]) -> usize
-    ensures { result ≤ length bytes.now }
+/// Returns the capacity to reserve for `count` values in these bytes: `count` if there is at least
+/// a byte for each, otherwise 0. So it never exceeds the number of bytes.
+pub fn room_for(count: u32, bytes: &[u8]) -> usize
+    ensures fits { count ≤ length bytes.now → result ≡ count }
+    ensures unmet { length bytes.now < count → result ≡ 0 }
 {
     let count = count as usize;
     if count <= bytes.len() { count } else { 0 }

@@ -2,7 +2,7 @@
 use Rattle.std.proofs.Common.{◌≡◌, ℕ, ◌+◌, ◌-◌, ◌<◌, ◌≤◌, List, [], ◌∷◌, ◌++◌, length, drop, Option, Some, None, Result, Ok, Err, refl, sym}
 use Rattle.std.proofs.Common.{ap, ◌∙◌, subst, ◌⊎◌, inl, inr, arith}
 use Rattle.std.proofs.lemmas.List.{drop_all}
-use Rattle.std.specs.Prelude.{IsSome, IfOk, MatchOption}
+use Rattle.std.specs.Prelude.{IsSome, MatchOption}
 use Rattle.wenc_base.specs.Piece.{Wide, EndsWith, each}
 use Rattle.wenc_base.specs.Readers.{Bad}
 use Rattle.wenc_base.specs.laws.Lawful.{ends_on}
@@ -107,11 +107,6 @@ behind_stops first s xs place here t zero_left f e =
     behind (inl h) = absurd (omega (arith, h.0))
     behind (inr h) = h.1
 
-pub all_of_section : {E : Type 0} (all : ℕ) (bytes : List ℕ) (s : SectionItems) (rest : List ℕ) (result : Result (Option Unread) E)
-    → Opens all bytes s rest → IfOk result (IsUnreadOf s) → IfOk result (λ u. MatchOption u (IsReadHere bytes) (IsUnread all bytes))
-all_of_section all bytes s rest (Ok unread) o h = of_section all bytes s rest unread o h
-all_of_section all bytes s rest (Err error) o h = tt
-
 pub frame_known : (bytes : List ℕ) (id : ℕ) (content rest : List ℕ) → read_frame bytes ≡ Ok ((id, content), rest) → id ≤ 11
 frame_known bytes id content rest e = (is_framed bytes id content rest e).known
 
@@ -155,8 +150,3 @@ pub named_some : (bytes : List ℕ) (place : ℕ) (X : Unread → Type 0) (unrea
     → MatchOption unread (IsReadHere (drop place bytes)) X → IsNamed bytes place → IsSome unread
 named_some bytes place X None h n = absurd (named_none bytes place n h)
 named_some bytes place X (Some unread) h n = refl
-
-pub named_tells : {E : Type 0} (bytes : List ℕ) (place : ℕ) (X : Unread → Type 0) (result : Result (Option Unread) E)
-    → IfOk result (λ u. MatchOption u (IsReadHere (drop place bytes)) X) → IsNamed bytes place → IfOk result IsSome
-named_tells bytes place X (Ok unread) h n = named_some bytes place X unread h n
-named_tells bytes place X (Err error) h n = tt

@@ -1,18 +1,27 @@
 -- The code's items and sections as pure ones.
 use Rattle.std.specs.Prelude.{ℕ, List, [], ◌∷◌, map, if◌then◌else◌}
 use Rattle.std.specs.String.{string_bytes}
+use Rattle.wenc_base.specs.reading.Numbers.{read_u32}
 use Rattle.wenc_builder.specs.Item.{Item, ModuleItem, CoreInstanceItem, CoreTypeItem, ComponentItem}
 use Rattle.wenc_builder.specs.Item.{InstanceItem, AliasItem, TypeItem, CanonItem, StartItem}
 use Rattle.wenc_builder.specs.Item.{ImportItem, ExportItem, CustomItem}
 use Rattle.wenc_builder.specs.Sections.{Section, Run, Alone, collects}
 use Rattle.wenc_sections.specs.CanonTrees.{canon_view}
-use Rattle.wenc_parts.specs.Aliases.{alias_tree_view}
+use Rattle.wenc_parts.specs.Aliases.{alias_view, alias_tree_view}
 use Rattle.wenc_parts.specs.Imports.{name_tree_view}
 use Rattle.wenc_sections.specs.InstanceTrees.{core_instance_tree_view, instance_tree_view}
 use Rattle.wenc_types.specs.CoreTypeTrees.{core_type_view}
 use Rattle.wenc_types.specs.TypeTrees.{type_view}
+use Rattle.wenc_view.specs.Canonicals.{canon_seen}
+use Rattle.wenc_view.specs.CoreTypes.{core_type_seen}
+use Rattle.wenc_view.specs.Instances.{core_instance_seen, instance_seen}
+use Rattle.wenc_view.specs.Members.{list_view}
+use Rattle.wenc_view.specs.Names.{name_seen}
+use Rattle.wenc_view.specs.Types.{type_seen}
 use Rattle.wenc_list.specs.declared.item.ItemTree.{ItemTree}
 use Rattle.wenc_list.specs.declared.item.ItemTree.TheVariants as trees
+use Rattle.wenc_list.specs.declared.item_view.ItemView.{ItemView}
+use Rattle.wenc_list.specs.declared.item_view.ItemView.TheVariants as views
 use Rattle.wenc_list.specs.declared.listing.ListedSection.{ListedSection}
 
 abbrev pub item_view : {A : Type 0} → ItemTree A → Item
@@ -31,6 +40,25 @@ item_view (trees.Export name kind index ty) =
     ExportItem (record { name = name_tree_view name; kind = kind; index = index; ty = ty })
 item_view (trees.Custom name bytes) =
     CustomItem (record { label = string_bytes name; bytes = bytes.items })
+
+-- the same of an item that borrows
+abbrev pub item_seen : ItemView → Item
+item_seen (views.Module bytes) = ModuleItem bytes.now
+item_seen (views.CoreInstance instance) = CoreInstanceItem (core_instance_seen instance)
+item_seen (views.CoreType ty) = CoreTypeItem (core_type_seen ty)
+item_seen (views.Component bytes) = ComponentItem bytes.now
+item_seen (views.Instance instance) = InstanceItem (instance_seen instance)
+item_seen (views.Alias to) = AliasItem (alias_view to)
+item_seen (views.«Type» ty) = TypeItem (type_seen ty)
+item_seen (views.Canon canon) = CanonItem (canon_seen canon)
+item_seen (views.Start function args results) =
+    StartItem
+    (record { function = function; arguments = list_view read_u32 args; results = results })
+item_seen (views.Import name ty) = ImportItem (record { name = name_seen name; ty = ty })
+item_seen (views.Export name kind index ty) =
+    ExportItem (record { name = name_seen name; kind = kind; index = index; ty = ty })
+item_seen (views.Custom name bytes) =
+    CustomItem (record { label = name.now; bytes = bytes.now })
 
 -- an item that is a section of its own
 abbrev pub alone : ℕ → List Item → Section

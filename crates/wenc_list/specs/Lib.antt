@@ -1,6 +1,5 @@
 pub mod Cursor
 pub mod Items
-pub mod Views
 pub mod Listing
 pub mod Names
 pub mod Unread

@@ -1,8 +1,7 @@
 -- Content after an id and a size, in a section of names and in a core module (component model,
 -- binary format, "Name Section"; WebAssembly 3.0, binary format, "Sections").
-use Rattle.std.specs.Prelude.{ℕ, ◌≤◌, List, [], ◌∷◌, map, length, take, drop, Result, Ok, Err}
+use Rattle.std.specs.Prelude.{ℕ, ◌≤◌, List, [], ◌∷◌, length, take, drop, Result, Ok, Err}
 use Rattle.std.specs.Prelude.{nat_eq, nat_lt, if◌then◌else◌}
-use Rattle.std.specs.String.{string_bytes}
 use Rattle.wenc_base.specs.Forms.{byte_list}
 use Rattle.wenc_base.specs.Names.{NameAssociation}
 use Rattle.wenc_base.specs.Piece.{Form, ◌▸◌, only_where}
@@ -18,6 +17,7 @@ use Rattle.wenc_sections.specs.declared.space.Space.TheVariants.{CoreMemories, C
 use Rattle.wenc_sections.specs.declared.space.Space.TheVariants.{CoreInstances, CoreTags}
 use Rattle.wenc_sections.specs.declared.space.Space.TheVariants.{CoreGlobals, Funcs, Instances}
 use Rattle.wenc_sections.specs.declared.space.Space.TheVariants.{Values, Components, Types}
+use Rattle.wenc_view.specs.Members.{list_view}
 use Rattle.wenc_list.specs.declared.names.ItemName.{ItemName}
 use Rattle.wenc_list.specs.declared.names.Names.{Names}
 use Rattle.wenc_list.specs.declared.names.Names.TheVariants as names
@@ -47,17 +47,17 @@ IsById (RawNames id bytes) = 2 ≤ id
 abbrev pub subsection_by_id : Form Subsection
 subsection_by_id s = only_where (IsById s) (subsection s)
 
-abbrev pub item_name_view : {A : Type 0} → ItemName A → NameAssociation
-item_name_view n = record { index = n.index; name = string_bytes n.name }
-
-abbrev pub names_view : {A : Type 0} → Names A → Subsection
-names_view (names.Component name) = ComponentName (string_bytes name)
-names_view (names.Items space names) = ItemNames space (map item_name_view names.items)
-names_view (names.Raw id bytes) = RawNames id bytes.items
-
 abbrev pub read_item_name : Reader NameAssociation
 read_item_name = read_u32 >>= λ index. read_name >>= λ text.
     give (record { index = index; name = text })
+
+abbrev pub item_name_view : ItemName → NameAssociation
+item_name_view n = record { index = n.index; name = n.name.now }
+
+abbrev pub names_view : Names → Subsection
+names_view (names.Component name) = ComponentName name.now
+names_view (names.Items space names) = ItemNames space (list_view read_item_name names)
+names_view (names.Raw id bytes) = RawNames id bytes.now
 
 abbrev pub read_core_sort : Reader Space
 read_core_sort = choose ((0x00, give CoreFuncs) ∷ (0x01, give CoreTables) ∷

@@ -1,7 +1,7 @@
 -- The names that clauses cite, re-exported from the files that define them.
 pub use Rattle.wenc_list.specs.Cursor.{HasTaken, IsFaultIn, IsSpent, Opens}
 pub use Rattle.wenc_list.specs.Items.{item_section, item_view, section_view}
-pub use Rattle.wenc_list.specs.Views.{item_seen}
+pub use Rattle.wenc_list.specs.Items.{item_seen}
 pub use Rattle.wenc_list.specs.Listing.{AreFrom, ArePlaced, AreWithin, HasNoHeader, IsFaultBehind}
 pub use Rattle.wenc_list.specs.Listing.{IsFaultHere, IsFaultOf, IsMemoryOrTooDeep}
 pub use Rattle.wenc_list.specs.Listing.{count_of_sections}

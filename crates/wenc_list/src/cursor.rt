@@ -11,20 +11,21 @@ ghost use Rattle.wenc_read.specs.Prelude.{GivesAlways};
 
 use crate::fault::ListFault;
 use crate::item::ItemTree;
+use crate::item_view::ItemView;
 use crate::members::item_in;
 use crate::sections::{are_bytes, frame};
-use crate::views::{ItemView, view_in};
 use std::alloc::Allocator;
+use wenc_decode::trees::TreeOf;
 use wenc_read::{NestedRefusal, Refusal, u32_of};
 
 /// The remaining sections of a component.
 ///
-/// They are read as by `list`, one by one, with memory for one item at most.
+/// They are read as by `list`, one by one. Nothing is allocated.
 ///
 /// ```
 /// let mut sections = Sections::new(component)?;
 /// match sections.next()? {
-///     Some(mut items) => items.next(alloc),
+///     Some(mut items) => items.next(),
 ///     None => Ok(None),
 /// }
 /// ```
@@ -162,51 +163,17 @@ impl<'a> SectionItems<'a> {
         self.ends.saturating_sub(self.rest.len())
     }
 
-    /// Returns the next item, or `None` at the end.
+    /// Returns the next item, or `None` at the end. It borrows from the component: nothing is
+    /// allocated.
     ///
     /// # Errors
     ///
-    /// Fails with `Memory` if an allocation fails, with `BadItem` if no item begins the remaining
-    /// bytes or bytes follow the last item, with `TooDeep` at a type with others nested more than
-    /// 100 deep inside, and with `BadSection` in a custom section without a name. Nothing is taken
-    /// then, and the next call reads the same bytes again.
+    /// Fails with `BadItem` if no item begins the remaining bytes or bytes follow the last item,
+    /// with `TooDeep` at a type with others nested more than 100 deep inside, and with `BadSection`
+    /// in a custom section without a name. Nothing is taken then, and the next call reads the same
+    /// bytes again.
     #[inline(always)]
-    pub fn next<A: Allocator + Copy>(&mut self, alloc: A) -> Result<Option<ItemTree<A>>, ListFault>
-        // A returned item begins the remaining bytes, within depth 100, and all bytes after it
-        // remain.
-        ensures taken { IfOk result (λ o. MatchOption o (IsSpent self.old)
-            (λ x. HasTaken self.old (item_view x ∷ []) self.new)) }
-        // Otherwise nothing changes.
-        ensures unchanged { IfOk result (λ o. MatchOption o (self.new ≡ self.old)
-            (λ _. Unit {0})) }
-        ensures refused { IfErr result (λ _. self.new ≡ self.old) }
-        // A fault has its cause in the remaining bytes.
-        ensures fault { IfErr result (IsFaultIn self.old) }
-    {
-        are_bytes(self.rest);
-        if self.left == 0 {
-            if self.rest.is_empty() {
-                return Ok(None);
-            }
-            return Err(ListFault::BadItem { place: self.place });
-        }
-        match item_in(alloc, self.id, self.rest) {
-            Ok((item, rest)) => {
-                self.left -= 1;
-                self.rest = rest;
-                Ok(Some(item))
-            }
-            Err(refusal) => Err(content_fault(refusal, self.id, self.place)),
-        }
-    }
-
-    /// Returns the next item in place, or `None` at the end. Nothing is allocated.
-    ///
-    /// # Errors
-    ///
-    /// As `next`, but never with `Memory`.
-    #[inline(always)]
-    pub fn next_view(&mut self) -> Result<Option<ItemView<'a>>, ListFault>
+    pub fn next(&mut self) -> Result<Option<ItemView<'a>>, ListFault>
         // A returned item begins the remaining bytes, within depth 100, and all bytes after it
         // remain.
         ensures taken { IfOk result (λ o. MatchOption o (IsSpent self.old)
@@ -227,7 +194,7 @@ impl<'a> SectionItems<'a> {
             }
             return Err(ListFault::BadItem { place: self.place });
         }
-        match view_in(self.id, self.rest) {
+        match item_in(self.id, self.rest) {
             Ok((item, rest)) => {
                 self.left -= 1;
                 self.rest = rest;
@@ -235,5 +202,31 @@ impl<'a> SectionItems<'a> {
             }
             Err(refusal) => Err(content_fault(refusal, self.id, self.place)),
         }
+    }
+
+    /// Returns the next item as an owned value, or `None` at the end.
+    ///
+    /// # Errors
+    ///
+    /// Fails as `next`, and with `Memory` if an allocation fails. Nothing is taken then.
+    #[inline(always)]
+    pub fn next_tree<A: Allocator + Copy>(
+        &mut self,
+        alloc: A,
+    ) -> Result<Option<ItemTree<A>>, ListFault>
+        ensures taken { IfOk result (λ o. MatchOption o (IsSpent self.old)
+            (λ x. HasTaken self.old (item_view x ∷ []) self.new)) }
+        ensures unchanged { IfOk result (λ o. MatchOption o (self.new ≡ self.old)
+            (λ _. Unit {0})) }
+        ensures refused { IfErr result (λ _. self.new ≡ self.old) }
+        ensures fault { IfErr result (IsFaultIn self.old) }
+    {
+        let mut left = *self;
+        let Some(item) = left.next()? else {
+            return Ok(None);
+        };
+        let item = ItemTree::tree_of(alloc, item)?;
+        *self = left;
+        Ok(Some(item))
     }
 }

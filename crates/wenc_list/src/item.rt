@@ -1,11 +1,13 @@
 //! The items of sections: the trees that commands are made from.
 ghost use Rattle.std.specs.Prelude.{◌≡◌};
 ghost use Rattle.wenc_builder.specs.Prelude.{canonical_space, indices_in, defines};
-ghost use Rattle.wenc_list.specs.Prelude.{item_view};
+ghost use Rattle.wenc_list.specs.Prelude.{item_view, item_seen};
 ghost use Rattle.wenc_sections.specs.Prelude.{canon_view};
 
-use std::alloc::{Allocator, Global};
+use crate::item_view::ItemView;
+use std::alloc::{AllocError, Allocator, Global};
 use wenc_builder::Space;
+use wenc_decode::trees::TreeOf;
 use wenc_parts::{AliasTree, ComponentExportKind, ComponentTypeRef, NameTree};
 use wenc_sections::{CanonTree, CoreInstanceTree, InstanceTree};
 use wenc_types::{CoreTypeTree, TypeTree};
@@ -98,6 +100,67 @@ impl<A: Allocator> ItemTree<A> {
             ItemTree::Import { ty, .. } => Some((Space::from(ty.kind()), 1)),
             ItemTree::Export { kind, .. } => Some((Space::from(*kind), 1)),
             ItemTree::Custom { .. } => None,
+        }
+    }
+}
+
+impl<'a, A: Allocator + Copy> TreeOf<ItemView<'a>, A> for ItemTree<A> {
+    ghost is_copy = { λ t v. item_view t ≡ item_seen v };
+
+    fn tree_of(alloc: A, view: ItemView<'a>) -> Result<ItemTree<A>, AllocError> {
+        match view {
+            ItemView::Module(bytes) => Ok(ItemTree::Module(Vec::from_slice(alloc, bytes)?)),
+            ItemView::CoreInstance(instance) => {
+                let instance = CoreInstanceTree::tree_of(alloc, instance)?;
+                Ok(ItemTree::CoreInstance(instance))
+            }
+            ItemView::CoreType(ty) => {
+                let ty = CoreTypeTree::tree_of(alloc, ty)?;
+                Ok(ItemTree::CoreType(Box::new(alloc, ty)?))
+            }
+            ItemView::Component(bytes) => Ok(ItemTree::Component(Vec::from_slice(alloc, bytes)?)),
+            ItemView::Instance(instance) => {
+                let instance = InstanceTree::tree_of(alloc, instance)?;
+                Ok(ItemTree::Instance(instance))
+            }
+            ItemView::Alias(alias) => Ok(ItemTree::Alias(AliasTree::tree_of(alloc, alias)?)),
+            ItemView::Type(ty) => Ok(ItemTree::Type(TypeTree::tree_of(alloc, ty)?)),
+            ItemView::Canon(canon) => Ok(ItemTree::Canon(CanonTree::tree_of(alloc, canon)?)),
+            ItemView::Start {
+                function,
+                args,
+                results,
+            } => {
+                let args = Vec::tree_of(alloc, args)?;
+                Ok(ItemTree::Start {
+                    function,
+                    args,
+                    results,
+                })
+            }
+            ItemView::Import { name, ty } => {
+                let name = NameTree::tree_of(alloc, name)?;
+                Ok(ItemTree::Import { name, ty })
+            }
+            ItemView::Export {
+                name,
+                kind,
+                index,
+                ty,
+            } => {
+                let name = NameTree::tree_of(alloc, name)?;
+                Ok(ItemTree::Export {
+                    name,
+                    kind,
+                    index,
+                    ty,
+                })
+            }
+            ItemView::Custom { name, data } => {
+                let name = String::from_str(alloc, name)?;
+                let data = Vec::from_slice(alloc, data)?;
+                Ok(ItemTree::Custom { name, data })
+            }
         }
     }
 }

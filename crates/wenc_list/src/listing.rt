@@ -15,7 +15,7 @@ use crate::cursor::{SectionItems, Sections};
 use crate::fault::ListFault;
 use crate::item::ItemTree;
 use std::alloc::{Allocator, Global};
-use wenc_decode::room_for;
+use wenc_decode::trees::room_for;
 
 /// A section, as read (component model, binary format, "Component Definitions").
 #[derive(Drop)]
@@ -55,7 +55,7 @@ fn section<A: Allocator + Copy>(
 {
     let mut left = from;
     let mut items = Vec::with_capacity(alloc, room_for(left.left, left.rest))?;
-    while let Some(item) = left.next(alloc)? {
+    while let Some(item) = left.next_tree(alloc)? {
         items.push(item)?;
     }
     Ok(ListedSection {

@@ -1,28 +1,26 @@
 //! The subsections of a name section, and the sections of a core module.
 ghost use Rattle.std.specs.Prelude.{ℕ, List, MatchOption};
-ghost use Rattle.std.specs.String.{string_bytes};
 ghost use Rattle.wenc_base.specs.Prelude.{module_preamble, Wide, done, read_name, NameAssociation};
 ghost use Rattle.wenc_base.specs.Prelude.{name_association, name_association_lawful};
 ghost use Rattle.wenc_list.specs.Prelude.{names_view, read_part, read_core_sort, read_sort};
 ghost use Rattle.wenc_list.specs.Prelude.{read_item_names, read_names_in, read_names};
 ghost use Rattle.wenc_list.specs.Prelude.{item_name_view, read_item_name, item_name_sound};
-ghost use Rattle.wenc_read.specs.Prelude.{Gives, GivesAlways, exact_by};
+ghost use Rattle.wenc_read.specs.Prelude.{GivesAlways, exact_by};
 
-use std::alloc::{Allocator, Global};
-use wenc_decode::Decode;
-use wenc_read::{Refusal, byte, name_of, u32_of};
+use wenc_read::{Refusal, byte, u32_of};
 use wenc_sections::Space;
+use wenc_view::{ListOf, View, text_of};
 
 /// The name of an item.
-#[derive(Drop)]
-pub struct ItemName<A: Allocator = Global> {
+#[derive(Clone, Copy)]
+pub struct ItemName<'a> {
     /// The index of the item in its space.
     pub index: u32,
     /// Its name.
-    pub name: String<A>,
+    pub name: &'a str,
 }
 
-impl<A: Allocator + Copy> Decode<A> for ItemName<A> {
+impl<'a> View<'a> for ItemName<'a> {
     ghost Value = { NameAssociation };
 
     ghost view = { item_name_view };
@@ -33,22 +31,23 @@ impl<A: Allocator + Copy> Decode<A> for ItemName<A> {
 
     ghost exact = { exact_by item_name_sound name_association_lawful };
 
-    fn decode<'a>(alloc: A, bytes: &'a [u8]) -> Result<(ItemName<A>, &'a [u8]), Refusal> {
+    fn view_of(bytes: &'a [u8]) -> Result<(ItemName<'a>, &'a [u8]), Refusal> {
         let (index, rest) = u32_of(bytes)?;
-        let (name, rest) = name_of(alloc, rest)?;
+        let (name, rest) = text_of(rest)?;
         Ok((ItemName { index, name }, rest))
     }
 }
 
 /// The content of a subsection of a name section (component model, binary format, "Name Section").
-#[derive(Drop)]
-pub enum Names<A: Allocator = Global> {
+/// It borrows from the section.
+#[derive(Clone, Copy)]
+pub enum Names<'a> {
     /// The component's own name.
-    Component(String<A>),
+    Component(&'a str),
     /// Names of items in one index space.
-    Items(Space, Vec<ItemName<A>, A>),
+    Items(Space, ListOf<'a, ItemName<'a>>),
     /// A subsection with another id, as its bytes, which aren't read.
-    Raw(u8, Vec<u8, A>),
+    Raw(u8, &'a [u8]),
 }
 
 /// Returns the bytes after the header of a core module, where its sections begin (WebAssembly 3.0,
@@ -90,7 +89,7 @@ pub fn part_of(bytes: &[u8]) -> Result<((u8, &[u8]), &[u8]), Refusal>
 /// Reads the kind of a core item, after its first byte, as an index space.
 #[tactic(auto, unfolding(wenc_base::specs::Readers::choose))]
 fn core_space_of(bytes: &[u8]) -> Result<(Space, &[u8]), Refusal>
-    ensures { Gives (λ x. (x.0, x.1.now)) result (read_core_sort bytes.now) }
+    ensures { GivesAlways (λ x. (x.0, x.1.now)) result (read_core_sort bytes.now) }
 {
     match byte(bytes)? {
         (0x00, rest) => Ok((Space::CoreFuncs, rest)),
@@ -108,7 +107,7 @@ fn core_space_of(bytes: &[u8]) -> Result<(Space, &[u8]), Refusal>
 /// Reads a kind of items, as its index space.
 #[tactic(auto, unfolding(wenc_base::specs::Readers::choose))]
 fn space_of(bytes: &[u8]) -> Result<(Space, &[u8]), Refusal>
-    ensures { Gives (λ x. (x.0, x.1.now)) result (read_sort bytes.now) }
+    ensures { GivesAlways (λ x. (x.0, x.1.now)) result (read_sort bytes.now) }
 {
     match byte(bytes)? {
         (0x00, rest) => core_space_of(rest),
@@ -122,10 +121,10 @@ fn space_of(bytes: &[u8]) -> Result<(Space, &[u8]), Refusal>
 }
 
 /// Reads the component's own name, which takes all of the content.
-fn component_name<A: Allocator>(alloc: A, content: &[u8]) -> Result<String<A>, Refusal>
-    ensures { Gives string_bytes result (done read_name content.now) }
+fn component_name(content: &[u8]) -> Result<&str, Refusal>
+    ensures { GivesAlways (λ s. s.now) result (done read_name content.now) }
 {
-    let (name, rest) = name_of(alloc, content)?;
+    let (name, rest) = text_of(content)?;
     if rest.is_empty() {
         Ok(name)
     } else {
@@ -134,11 +133,11 @@ fn component_name<A: Allocator>(alloc: A, content: &[u8]) -> Result<String<A>, R
 }
 
 /// Reads names of items in one index space, which take all of the content.
-fn item_names<A: Allocator + Copy>(alloc: A, content: &[u8]) -> Result<Names<A>, Refusal>
-    ensures { Gives names_view result (done read_item_names content.now) }
+fn item_names(content: &[u8]) -> Result<Names<'_>, Refusal>
+    ensures { GivesAlways names_view result (done read_item_names content.now) }
 {
     let (space, rest) = space_of(content)?;
-    let (names, rest) = Vec::decode(alloc, rest)?;
+    let (names, rest) = ListOf::view_of(rest)?;
     if rest.is_empty() {
         Ok(Names::Items(space, names))
     } else {
@@ -147,32 +146,31 @@ fn item_names<A: Allocator + Copy>(alloc: A, content: &[u8]) -> Result<Names<A>,
 }
 
 /// Reads the content of a subsection with this id.
-fn names_in<A: Allocator + Copy>(alloc: A, id: u8, content: &[u8]) -> Result<Names<A>, Refusal>
-    ensures { Gives names_view result (read_names_in id content.now) }
+fn names_in(id: u8, content: &[u8]) -> Result<Names<'_>, Refusal>
+    ensures { GivesAlways names_view result (read_names_in id content.now) }
 {
     match id {
-        0 => Ok(Names::Component(component_name(alloc, content)?)),
-        1 => item_names(alloc, content),
-        _ => Ok(Names::Raw(id, Vec::from_slice(alloc, content)?)),
+        0 => Ok(Names::Component(component_name(content)?)),
+        1 => item_names(content),
+        _ => Ok(Names::Raw(id, content)),
     }
 }
 
 /// Reads the subsection of a name section that begins the bytes (component model, binary format,
 /// "Name Section"). Returns it and the bytes after it. The bytes are those after the name of a
-/// custom section `component-name`, or those after another subsection.
+/// custom section `component-name`, or those after another subsection. Nothing is allocated.
 ///
 /// # Errors
 ///
-/// Fails with `Malformed` if no subsection begins the bytes, and with `Memory` if an allocation
-/// fails.
+/// Fails with `Malformed` if no subsection begins the bytes.
 ///
 /// ```
-/// let (names, rest) = names_of(alloc, data)?;
+/// let (names, rest) = names_of(data)?;
 /// ```
-pub fn names_of<A: Allocator + Copy>(alloc: A, bytes: &[u8]) -> Result<(Names<A>, &[u8]), Refusal>
-    ensures { Gives (λ x. (names_view x.0, x.1.now)) result (read_names bytes.now) }
+pub fn names_of(bytes: &[u8]) -> Result<(Names<'_>, &[u8]), Refusal>
+    ensures { GivesAlways (λ x. (names_view x.0, x.1.now)) result (read_names bytes.now) }
 {
     let ((id, content), rest) = part_of(bytes)?;
-    let names = names_in(alloc, id, content)?;
+    let names = names_in(id, content)?;
     Ok((names, rest))
 }

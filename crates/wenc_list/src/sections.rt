@@ -1,23 +1,14 @@
 //! Sections, and the bytes in them.
-ghost use Rattle.wenc_base.specs.Prelude.{AreBytes, read_raw};
+ghost use Rattle.wenc_base.specs.Prelude.{AreBytes};
 ghost use Rattle.wenc_list.specs.Prelude.{read_frame};
-ghost use Rattle.wenc_read.specs.Prelude.{Gives, GivesAlways};
+ghost use Rattle.wenc_read.specs.Prelude.{GivesAlways};
 
-use std::alloc::Allocator;
 use wenc_read::{Refusal, byte, u32_of};
 
 /// Shows that a slice of bytes has only bytes. The call does nothing.
 pub(crate) fn are_bytes(bytes: &[u8])
     ensures { AreBytes bytes.now }
 {}
-
-/// Copies the bytes.
-pub(crate) fn copied<A: Allocator>(alloc: A, bytes: &[u8]) -> Result<Vec<u8, A>, Refusal>
-    ensures { Gives (λ v. v.items) result (read_raw bytes.now) }
-{
-    are_bytes(bytes);
-    Ok(Vec::from_slice(alloc, bytes)?)
-}
 
 /// Splits off the section that begins the bytes. Returns its id, at most 11, its content, and the
 /// bytes after it.

@@ -1,13 +1,13 @@
 //! The first item of a section that can't be read.
-ghost use Rattle.std.specs.Prelude.{List, drop, length, IsSome, IfOk, IfErr, MatchOption};
+ghost use Rattle.std.specs.Prelude.{◌≢◌, List, drop, length, IsSome, IfOk, IfErr, MatchOption};
 ghost use Rattle.wenc_builder.specs.Prelude.{Item};
 ghost use Rattle.wenc_list.specs.Prelude.{HasTaken, IsSpent, IsFaultIn, IsUnread, IsReadHere};
 ghost use Rattle.wenc_list.specs.Prelude.{IsNamed, IsUnreadOf};
+ghost use Rattle.wenc_list.specs.declared.fault.ListFault.TheVariants.{Memory};
 
 use crate::cursor::{SectionItems, counted};
 use crate::fault::ListFault;
 use crate::sections::frame;
-use std::alloc::{AllocError, Allocator};
 
 /// The first part of a section's content that can't be read. Each `place` is a byte offset in the
 /// component.
@@ -33,39 +33,35 @@ pub enum Unread {
 }
 
 /// Takes all items up to the first that can't be read.
-fn take_read<A: Allocator + Copy>(alloc: A, items: &mut SectionItems<'_>) -> Result<(), ListFault>
+fn take_read(items: &mut SectionItems<'_>) -> Result<(), ListFault>
     ensures taken { (xs : List Item) × HasTaken items.old xs items.new }
     ensures spent { IfOk result (λ _. IsSpent items.new) }
     ensures fault { IfErr result (IsFaultIn items.new) }
+    ensures asks_nothing { IfErr result (λ e. e ≢ Memory) }
 {
-    while let Some(item) = items.next(alloc)? {
-        drop(item);
-    }
+    while let Some(_item) = items.next()? {}
     Ok(())
 }
 
 /// Returns the first part of a section that can't be read, after its count.
-fn unread_item<A: Allocator + Copy>(
-    alloc: A,
-    items: SectionItems<'_>,
-) -> Result<Option<Unread>, AllocError>
-    ensures { IfOk result (IsUnreadOf items.entry) }
+fn unread_item(items: SectionItems<'_>) -> Option<Unread>
+    ensures { IsUnreadOf items.entry result }
 {
     let mut left = items;
-    match take_read(alloc, &mut left) {
-        Ok(()) => Ok(None),
-        Err(ListFault::Memory) => Err(AllocError),
+    match take_read(&mut left) {
+        Ok(()) => None,
+        Err(ListFault::Memory) => None,
         // a custom section without a name
-        Err(ListFault::NotAComponent { .. }) => Ok(None),
-        Err(ListFault::BadSection { .. }) => Ok(None),
+        Err(ListFault::NotAComponent { .. }) => None,
+        Err(ListFault::BadSection { .. }) => None,
         Err(ListFault::BadItem { .. }) if left.left == 0 => {
             let place = left.reached();
-            Ok(Some(Unread::Behind { place }))
+            Some(Unread::Behind { place })
         }
         Err(_) => {
             let place = left.reached();
             let number = items.left - left.left;
-            Ok(Some(Unread::Item { number, place }))
+            Some(Unread::Item { number, place })
         }
     }
 }
@@ -73,33 +69,25 @@ fn unread_item<A: Allocator + Copy>(
 /// Returns the first part that can't be read of the section at this byte offset (component model,
 /// binary format, "Component Definitions"). Returns `None` if the section can be read, if none
 /// begins there, and if it is a custom section without a name. If `list` fails with `BadItem` or
-/// `TooDeep`, this is the part of the section at `place`.
-///
-/// # Errors
-///
-/// Fails only if an allocation fails.
+/// `TooDeep`, this is the part of the section at `place`. Nothing is allocated.
 ///
 /// ```
 /// match list(alloc, component) {
-///     Err(ListFault::BadItem { place }) => first_unread(alloc, component, place),
-///     _ => Ok(None),
+///     Err(ListFault::BadItem { place }) => first_unread(component, place),
+///     _ => None,
 /// }
 /// ```
-pub fn first_unread<A: Allocator + Copy>(
-    alloc: A,
-    bytes: &[u8],
-    place: usize,
-) -> Result<Option<Unread>, AllocError>
+pub fn first_unread(bytes: &[u8], place: usize) -> Option<Unread>
     // The returned part is the first that can't be read: all items before it can. `None` says that
     // a section which begins there can be read, if it isn't a custom section without a name: of
     // such a section no part is returned.
     ensures unread { let here = drop place bytes.now in
-        IfOk result (λ u. MatchOption u (IsReadHere here) (IsUnread (length bytes.now) here)) }
+        MatchOption result (IsReadHere here) (IsUnread (length bytes.now) here) }
     // Where `list` may fail with `BadItem` or `TooDeep` at this byte offset, there is such a part.
-    ensures named { IsNamed bytes.now place → IfOk result IsSome }
+    ensures named { IsNamed bytes.now place → IsSome result }
 {
     if bytes.len() < place {
-        return Ok(None);
+        return None;
     }
     let (_, section) = bytes.split_at(place);
     match frame(section) {
@@ -114,14 +102,14 @@ pub fn first_unread<A: Allocator + Copy>(
                         left,
                         rest,
                     };
-                    unread_item(alloc, items)
+                    unread_item(items)
                 }
                 Err(_) => {
                     let place = ends.saturating_sub(content.len());
-                    Ok(Some(Unread::Count { place }))
+                    Some(Unread::Count { place })
                 }
             }
         }
-        Err(_) => Ok(None),
+        Err(_) => None,
     }
 }

@@ -2,7 +2,7 @@ use Rattle.std.proofs.Common.{inl, sym, length, length-drop, drop, arith}
 use Rattle.wenc_list.specs.Unread.{IsUnread}
 use Rattle.wenc_list.proofs.SectionLaws.{is_framed}
 use Rattle.wenc_list.proofs.Taken.{section_leaves, count_holds, no_count, collects_other, labelled_other, uncounted}
-use Rattle.wenc_list.proofs.Walked.{unframed, all_of_section, named_tells, named_none}
+use Rattle.wenc_list.proofs.Walked.{unframed, of_section, named_some, named_none}
 use Rattle.wenc_list.proofs.unread.first_unread.Goals as goal
 
 pub returns-in-Ok-counted-clause-unread : goal.returns-in-Ok-counted-clause-unread
@@ -12,7 +12,7 @@ returns-in-Ok-counted-clause-unread g c =
     let content = c.in-Ok.content.now in
     let framed = is_framed here id content c.in-Ok.rest.now c.in-Ok.ensures in
     let holds = count_holds id content c.in-Ok-counted.left c.in-Ok-counted.rest.now c.in-Ok-counted.ensures in
-    rw c.split_at.ensures.back at (all_of_section (length c.args.bytes.now) here
+    rw c.split_at.ensures.back at (of_section (length c.args.bytes.now) here
     (record {
       id = id;
       place = c.args.place;
@@ -31,7 +31,7 @@ returns-in-Ok-counted-clause-unread g c =
     }) c.unread_item.ensures)
 
 pub returns-in-Ok-counted-clause-named : goal.returns-in-Ok-counted-clause-named
-returns-in-Ok-counted-clause-named g c = named_tells c.args.bytes.now c.args.place
+returns-in-Ok-counted-clause-named g c = named_some c.args.bytes.now c.args.place
     (IsUnread (length c.args.bytes.now) (drop c.args.place c.args.bytes.now)) c.unread_item.result (returns-in-Ok-counted-clause-unread g c)
 
 pub returns-in-Err-counted-clause-unread : goal.returns-in-Err-counted-clause-unread

@@ -1,14 +1,16 @@
 use Rattle.std.proofs.Common.{refl, arith}
-use Rattle.wenc_list.specs.Items.{item_view}
+use Rattle.wenc_list.specs.Items.{item_seen}
 use Rattle.wenc_list.proofs.Taken.{item_found, item_leaves, item_fault}
+use Rattle.wenc_view.proofs.Nested.{fails_nested, asks_nothing}
+use Rattle.wenc_list.proofs.Asked.{no_memory}
 use Rattle.wenc_list.proofs.cursor.SectionItems.next.Goals as goal
 
 pub returns-in-Ok-clause-taken : goal.returns-in-Ok-clause-taken
-returns-in-Ok-clause-taken g c =
-    let f = item_found c.args.self.now.id c.args.self.now.rest.now (item_view c.in-Ok.item) c.in-Ok.rest.now c.in-Ok.ensures in
+returns-in-Ok-clause-taken c =
+    let f = item_found c.args.self.now.id c.args.self.now.rest.now (item_seen c.in-Ok.item) c.in-Ok.rest.now c.in-Ok.ensures in
     record {
       read = (c.in-Ok.rest.now, f.1, refl);
-      leaves = item_leaves c.args.self.now.id (item_view c.in-Ok.item) c.args.self.now.rest.now c.in-Ok.rest.now f.1;
+      leaves = item_leaves c.args.self.now.id (item_seen c.in-Ok.item) c.args.self.now.rest.now c.in-Ok.rest.now f.1;
       within = (f.0, tt);
       counted = omega arith;
       same_id = refl;
@@ -17,4 +19,7 @@ returns-in-Ok-clause-taken g c =
     }
 
 pub returns-in-Err-clause-fault : goal.returns-in-Err-clause-fault
-returns-in-Err-clause-fault g c = rw c.content_fault.ensures (item_fault c.args.self.now c.in-Err.refusal (omega arith) c.are_bytes.ensures c.in-Err.ensures)
+returns-in-Err-clause-fault c = rw c.content_fault.ensures (item_fault c.args.self.now c.in-Err.refusal (omega arith) c.are_bytes.ensures (fails_nested c.in-Err.refusal _ c.in-Err.ensures))
+
+pub returns-in-Err-clause-asks_nothing : goal.returns-in-Err-clause-asks_nothing
+returns-in-Err-clause-asks_nothing c = rw c.content_fault.ensures (no_memory c.in-Err.refusal c.args.self.now.id c.args.self.now.place (asks_nothing c.in-Err.refusal _ c.in-Err.ensures))

@@ -1,7 +1,7 @@
 use Rattle.std.proofs.Common.{◌≡◌, true, rules}
 use Rattle.wenc_base.specs.laws.Forms.{bytes_pass}
 use Rattle.wenc_base.specs.reading.Forms.{are_bytes}
-use Rattle.wenc_list.proofs.views.raw.Goals as goal
+use Rattle.wenc_list.proofs.members.raw.Goals as goal
 
 pub returns : goal.returns
 returns c = let t : are_bytes c.args.bytes.now ≡ true = bytes_pass c.args.bytes.now c.are_bytes.ensures in search rules

@@ -1,7 +1,0 @@
-use Rattle.std.proofs.Common.{◌≡◌, true, rules}
-use Rattle.wenc_base.specs.laws.Forms.{bytes_pass}
-use Rattle.wenc_base.specs.reading.Forms.{are_bytes}
-use Rattle.wenc_list.proofs.sections.copied.Goals as goal
-
-pub returns : goal.returns
-returns g c = let t : are_bytes c.args.bytes.now ≡ true = bytes_pass c.args.bytes.now c.are_bytes.ensures in search rules
