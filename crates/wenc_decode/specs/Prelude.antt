@@ -1,14 +1,5 @@
 -- The names that clauses cite, re-exported from the files that define them.
-pub use Rattle.wenc_decode.specs.Depth.{OpensTypes}
-pub use Rattle.wenc_decode.specs.Copies.{AreCopies, OptionCopies, GivesCopy}
-pub use Rattle.wenc_decode.specs.inside.Canonicals.{error_context_rows, forward_rows, future_rows}
-pub use Rattle.wenc_decode.specs.inside.Canonicals.{read_ty_and_options, read_waited_memory}
-pub use Rattle.wenc_decode.specs.inside.Canonicals.{read_zero, stream_rows, thread_rows}
-pub use Rattle.wenc_decode.specs.inside.CoreTypes.{read_guarded, read_referred}
-pub use Rattle.wenc_decode.specs.inside.Entities.{memory_so, read_bounds, read_maximum, table_so}
-pub use Rattle.wenc_decode.specs.inside.Tables.{find}
-pub use Rattle.wenc_decode.specs.inside.Types.{handle_rows, primitive_types, read_defined_row}
-pub use Rattle.wenc_decode.specs.laws.TypeTrees.{defined_sound}
+pub use Rattle.wenc_decode.specs.Copies.{AreCopies, OptionCopies}
 pub use Rattle.wenc_base.specs.declared.exports.ExportKind.{ExportKind}
 pub use Rattle.wenc_base.specs.declared.globals.GlobalType.{GlobalType}
 pub use Rattle.wenc_base.specs.declared.imports.EntityType.{EntityType}

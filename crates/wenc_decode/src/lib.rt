@@ -1,27 +1,9 @@
-//! Reads the forms of items from the beginning of bytes.
+//! Owned values of what is read in place.
 //!
-//! Each type that is read implements `Decode`; types of components and instances, which nest, are
-//! read by `type_of`. A function returns what the form's reader on lists finds, or fails if an
-//! allocation does.
+//! `TreeOf` copies a borrowed value of `wenc_view`, with its strings and its lists, and fails only
+//! if an allocation does.
 #![tactic(auto)]
 
-pub mod aliases;
-pub mod canonicals;
-pub mod composites;
-pub mod core_type_tree;
-pub mod core_types;
-pub mod decode;
-pub mod defined_types;
-pub mod entities;
-pub mod exports;
-pub mod imports;
-pub mod instances;
-pub mod laws;
-pub mod names;
-mod pairs;
 pub mod trees;
-pub mod type_tree;
-pub mod types;
 
-pub use decode::{Decode, room_for};
-pub use type_tree::type_of;
+pub use trees::{TreeOf, room_for};

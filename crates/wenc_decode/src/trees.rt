@@ -1,7 +1,7 @@
 //! Owned copies of what is read in place.
 ghost use Rattle.std.specs.Prelude.{◌≡◌, ◌≤◌, ◌<◌, length, IfOk};
 ghost use Rattle.std.specs.String.{string_bytes};
-ghost use Rattle.wenc_decode.specs.Prelude.{AreCopies, OptionCopies, GivesCopy};
+ghost use Rattle.wenc_decode.specs.Prelude.{AreCopies, OptionCopies};
 ghost use Rattle.wenc_view.specs.Prelude.{list_view, name_seen};
 ghost use Rattle.wenc_view.specs.Prelude.{labelled_seen, case_seen, defined_seen};
 ghost use Rattle.wenc_parts.specs.Prelude.{name_tree_view, alias_tree_view, alias_view};
@@ -14,7 +14,6 @@ pub mod types;
 
 use std::alloc::{AllocError, Allocator};
 use wenc_parts::{Alias, AliasTree, ComponentValType, NameOptions, NameTree};
-use wenc_read::Refusal;
 use wenc_types::{CaseTree, DefinedTree};
 use wenc_view::{CaseView, DefinedView, ListOf, NameView, View};
 
@@ -208,20 +207,4 @@ impl<'a, A: Allocator + Copy> TreeOf<DefinedView<'a>, A> for DefinedTree<A> {
             DefinedView::Stream(ty) => Ok(DefinedTree::Stream(ty)),
         }
     }
-}
-
-/// Reads an owned value, by its view.
-///
-/// # Errors
-///
-/// Fails with `Malformed` if no value begins the bytes, and with `Memory` if an allocation fails.
-pub fn owned_of<'a, A: Allocator + Copy, V: View<'a>, T: TreeOf<V, A>>(
-    alloc: A,
-    bytes: &'a [u8],
-) -> Result<(T, &'a [u8]), Refusal>
-    ensures { GivesCopy V.view T.is_copy result (V.read bytes.now) }
-{
-    let (view, rest) = V::view_of(bytes)?;
-    let tree = T::tree_of(alloc, view)?;
-    Ok((tree, rest))
 }

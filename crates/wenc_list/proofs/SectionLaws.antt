@@ -20,8 +20,8 @@ use Rattle.wenc_builder.specs.Item.{Item, ModuleItem, CoreInstanceItem, CoreType
 use Rattle.wenc_builder.specs.Item.{CanonItem, StartItem, ImportItem, ExportItem, CustomItem, RawItem, collected, item}
 use Rattle.wenc_builder.specs.Sections.{Section, Run, Alone, members, collects, item_of, section_piece}
 use Rattle.wenc_canon.specs.laws.Canonicals.{canonical_lawful, canonical_sound}
-use Rattle.wenc_decode.specs.Depth.{OpensTypes}
-use Rattle.wenc_decode.specs.laws.TypeTrees.{type_tells, type_finds}
+use Rattle.wenc_view.specs.Depth.{OpensTypes}
+use Rattle.wenc_view.specs.laws.TypeTrees.{type_tells, type_finds}
 use Rattle.wenc_parts.specs.laws.Aliases.{alias_lawful, alias_sound}
 use Rattle.wenc_sections.specs.Start.{start_content}
 use Rattle.wenc_sections.specs.laws.Items.{import_lawful, import_sound, inline_export_lawful, inline_export_sound, core_instance_lawful}

@@ -7,7 +7,7 @@ use Rattle.wenc_base.specs.Number.{u32}
 use Rattle.wenc_base.specs.Piece.{Piece, Form, Wide, EndsWith, only_where, raw, ◌⨾◌, each}
 use Rattle.wenc_builder.specs.Item.{Item, ModuleItem, ComponentItem, StartItem, CustomItem}
 use Rattle.wenc_builder.specs.Sections.{collects, item_of}
-use Rattle.wenc_decode.specs.Depth.{OpensTypes}
+use Rattle.wenc_view.specs.Depth.{OpensTypes}
 use Rattle.wenc_sections.specs.Start.{start_content}
 use Rattle.wenc_list.specs.Listing.{HasDepth, IsFramed, IsLabelled}
 use Rattle.wenc_list.specs.declared.cursor.SectionItems.{SectionItems}

@@ -9,7 +9,7 @@ use Rattle.wenc_builder.specs.Item.{Item, TypeItem}
 use Rattle.wenc_builder.specs.Sections.{Section, members, item_of, section_piece, preamble}
 use Rattle.wenc_builder.specs.Space.{next_index}
 use Rattle.wenc_sections.specs.declared.space.Space.{Space}
-use Rattle.wenc_decode.specs.Depth.{Front, OpensTypes}
+use Rattle.wenc_view.specs.Depth.{Front, OpensTypes}
 use Rattle.wenc_types.specs.ComponentTypes.{depth}
 use Rattle.wenc_list.specs.declared.fault.ListFault.{ListFault}
 use Rattle.wenc_list.specs.declared.fault.ListFault.TheVariants as faults

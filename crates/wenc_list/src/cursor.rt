@@ -15,7 +15,7 @@ use crate::item_view::ItemView;
 use crate::members::item_in;
 use crate::sections::{are_bytes, frame};
 use std::alloc::Allocator;
-use wenc_decode::trees::TreeOf;
+use wenc_decode::TreeOf;
 use wenc_read::{NestedRefusal, Refusal, u32_of};
 
 /// The remaining sections of a component.

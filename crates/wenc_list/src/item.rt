@@ -7,7 +7,7 @@ ghost use Rattle.wenc_sections.specs.Prelude.{canon_view};
 use crate::item_view::ItemView;
 use std::alloc::{AllocError, Allocator, Global};
 use wenc_builder::Space;
-use wenc_decode::trees::TreeOf;
+use wenc_decode::TreeOf;
 use wenc_parts::{AliasTree, ComponentExportKind, ComponentTypeRef, NameTree};
 use wenc_sections::{CanonTree, CoreInstanceTree, InstanceTree};
 use wenc_types::{CoreTypeTree, TypeTree};

@@ -69,7 +69,7 @@ pub enum ItemView<'a> {
 /// Returns the space of a canonical function: of component functions if it is lifted, otherwise of
 /// core functions.
 fn canon_space(canon: CanonView<'_>) -> Space
-    ensures { result ≡ canonical_space (canon_seen canon) }
+    ensures { result ≡ canonical_space (canon_seen canon.entry) }
 {
     match canon {
         CanonView::Lift { .. } => Space::Funcs,

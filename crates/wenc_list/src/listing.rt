@@ -15,7 +15,7 @@ use crate::cursor::{SectionItems, Sections};
 use crate::fault::ListFault;
 use crate::item::ItemTree;
 use std::alloc::{Allocator, Global};
-use wenc_decode::trees::room_for;
+use wenc_decode::room_for;
 
 /// A section, as read (component model, binary format, "Component Definitions").
 #[derive(Drop)]

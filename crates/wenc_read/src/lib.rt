@@ -1,4 +1,4 @@
-//! Reads numbers, flags, strings and names from the beginning of bytes.
+//! Reads numbers and flags from the beginning of bytes.
 //!
 //! Each function returns the value that it read and the bytes after it, or an error if it read
 //! none. Every spelling of the format is read, padded numbers among them: where several spell one
@@ -7,13 +7,9 @@
 
 pub mod flag;
 pub mod laws;
-pub mod names;
 pub mod number;
 pub mod refusal;
-pub mod text;
 
 pub use flag::flag_of;
-pub use names::extern_name_of;
 pub use number::{byte, index_of, u32_of, u64_of};
 pub use refusal::{NestedRefusal, Refusal};
-pub use text::name_of;

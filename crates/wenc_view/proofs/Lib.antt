@@ -1,5 +1,7 @@
 pub mod Always
 pub mod Nested
+pub mod Options
+pub mod Texts
 pub mod Rows
 pub mod SubTypes
 pub mod Tables

@@ -3,6 +3,7 @@ pub mod Instances
 pub mod Gives
 pub mod Types
 pub mod CoreTypes
+pub mod Depth
 pub mod DefinedTypes
 pub mod Members
 pub mod Names

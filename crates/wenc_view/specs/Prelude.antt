@@ -1,6 +1,8 @@
 -- The names that clauses cite, re-exported from the files that define them.
 pub use Rattle.wenc_view.specs.Members.{members_of, list_view, GivesFirst}
 pub use Rattle.wenc_view.specs.Names.{name_seen, option_seen}
+pub use Rattle.wenc_view.specs.inside.Names.{read_options}
+pub use Rattle.wenc_view.specs.Depth.{OpensTypes}
 pub use Rattle.wenc_view.specs.inside.Tables.{find}
 pub use Rattle.wenc_view.specs.inside.Types.{primitive_types}
 pub use Rattle.wenc_parts.specs.declared.imports.ComponentTypeRef.{ComponentTypeRef}
@@ -8,7 +10,7 @@ pub use Rattle.wenc_parts.specs.declared.imports.TypeBounds.{TypeBounds}
 pub use Rattle.wenc_parts.specs.declared.types.ComponentValType.{ComponentValType}
 pub use Rattle.wenc_view.specs.DefinedTypes.{labelled_seen, case_seen, defined_seen}
 pub use Rattle.wenc_view.specs.inside.Types.{read_defined_row, handle_rows}
-pub use Rattle.wenc_view.specs.laws.DefinedTypes.{defined_sound}
+pub use Rattle.wenc_view.specs.laws.TypeTrees.{defined_sound}
 pub use Rattle.wenc_view.specs.CoreTypes.{composite_seen, sub_seen, rec_type_seen}
 pub use Rattle.wenc_view.specs.CoreTypes.{module_declaration_seen, core_type_seen}
 pub use Rattle.wenc_view.specs.inside.CoreTypes.{read_guarded, read_referred}

@@ -3,3 +3,4 @@ pub mod CoreTypes
 pub mod Entities
 pub mod Tables
 pub mod Types
+pub mod Names

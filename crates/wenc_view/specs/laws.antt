@@ -1,3 +1,3 @@
 pub mod Repeats
 pub mod Members
-pub mod DefinedTypes
+pub mod TypeTrees

@@ -11,6 +11,7 @@ pub mod entities;
 pub mod exports;
 pub mod imports;
 pub mod instances;
+pub mod laws;
 pub mod lists;
 pub mod names;
 mod pairs;

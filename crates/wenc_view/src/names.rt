@@ -3,8 +3,8 @@ ghost use Rattle.std.specs.Prelude.{◌≡◌, ◌≤◌};
 ghost use Rattle.wenc_parts.specs.Prelude.{ExternName, extern_name, extern_name_sound};
 ghost use Rattle.wenc_parts.specs.Prelude.{extern_name_lawful, option_number, with_option};
 ghost use Rattle.wenc_parts.specs.Prelude.{read_name_option, read_extern_name};
-ghost use Rattle.wenc_read.specs.Prelude.{GivesAlways, read_options, exact_by};
-ghost use Rattle.wenc_view.specs.Prelude.{name_seen, option_seen};
+ghost use Rattle.wenc_read.specs.Prelude.{GivesAlways, exact_by};
+ghost use Rattle.wenc_view.specs.Prelude.{name_seen, option_seen, read_options};
 
 use crate::view::{View, text_of};
 use wenc_read::{Refusal, byte, u32_of};

@@ -1,6 +1,5 @@
-use Rattle.wenc_base.specs.laws.Forms.{flag_sound, flag_lawful, name_sound, name_lawful}
+use Rattle.wenc_base.specs.laws.Forms.{flag_sound, flag_lawful}
 use Rattle.wenc_base.specs.laws.Numbers.{u32_sound, u32_lawful, u64_sound, u64_lawful, index_sound, index_lawful}
-use Rattle.wenc_parts.specs.laws.Imports.{extern_name_sound, extern_name_lawful}
 use Rattle.wenc_read.specs.laws.Exact.{exact_by, byte_exact}
 use Rattle.wenc_read.proofs.laws.readers_are_exact.Goals as goal
 
@@ -18,9 +17,3 @@ returns-clause-index c = exact_by index_sound index_lawful
 
 pub returns-clause-flag : goal.returns-clause-flag
 returns-clause-flag c = exact_by flag_sound flag_lawful
-
-pub returns-clause-string : goal.returns-clause-string
-returns-clause-string c = exact_by name_sound name_lawful
-
-pub returns-clause-extern_name : goal.returns-clause-extern_name
-returns-clause-extern_name c = exact_by extern_name_sound extern_name_lawful

@@ -1,7 +1,7 @@
 use Rattle.std.proofs.Common.{◌≡◌, false, true, take, rules}
 use Rattle.std.specs.Str.{is_utf8}
 use Rattle.wenc_base.specs.reading.Forms.{text_at}
-use Rattle.wenc_read.proofs.Texts.{is_text, is_no_text}
+use Rattle.wenc_view.proofs.Texts.{is_text, is_no_text}
 use Rattle.wenc_view.proofs.view.text_of.Goals as goal
 
 pub returns-in-Ok : goal.returns-in-Ok

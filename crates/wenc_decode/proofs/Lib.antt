@@ -1,4 +1,0 @@
-pub mod Rows
-pub mod SubTypes
-pub mod Tables
-pub mod ValTypes

@@ -1,0 +1,14 @@
+-- How the options of a name are read, one after the other.
+use Rattle.std.specs.Prelude.{ℕ, List, Ok, Err, cond}
+use Rattle.wenc_base.specs.Readers.{Bad, Reader, ◌>>=◌, times}
+use Rattle.wenc_parts.specs.Imports.{ExternName, NameOption}
+use Rattle.wenc_parts.specs.reading.Imports.{read_name_option, with_options, ascend_from}
+
+-- where they ascend from this number on
+abbrev pub ascending : List ℕ → ℕ → List NameOption → Reader ExternName
+ascending text least options bytes =
+    cond (ascend_from least options) (Ok (with_options text options, bytes)) (Err Bad)
+
+-- this many options of a name
+abbrev pub read_options : List ℕ → ℕ → ℕ → Reader ExternName
+read_options text least count = times read_name_option count >>= ascending text least
