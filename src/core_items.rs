@@ -1,34 +1,31 @@
 //! The imports, the exports and the start of a core module.
 
-use crate::proved::wenc_decode::Decode;
 use crate::proved::wenc_list::Unread;
-use crate::proved::wenc_read::{Refusal, name_of, u32_of};
-use crate::shim::alloc::Global;
-use crate::shim::string::String as ProvedString;
+use crate::proved::wenc_read::{Refusal, u32_of};
+use crate::proved::wenc_view::{View, text_of};
 use crate::tree::CoreEntityType;
 use crate::{CoreSection, ExportKind, ModuleFault, SectionId};
-use alloc::string::String;
 use core::ops::Range;
 
-/// An item of a core module (WebAssembly 3.0, binary format, "Import Section", "Export Section" and
-/// "Start Section").
+/// An item of a core module, which borrows from the module (WebAssembly 3.0, binary format, "Import
+/// Section", "Export Section" and "Start Section").
 ///
 /// Needs the feature `reader`.
-#[derive(Clone, Debug, PartialEq, Eq)]
-pub enum CoreItem {
+#[derive(Clone, Copy, Debug, PartialEq, Eq)]
+pub enum CoreItem<'a> {
     /// An import.
     Import {
         /// The name of the module that it is imported from.
-        module: String,
+        module: &'a str,
         /// Its name in that module.
-        name: String,
+        name: &'a str,
         /// Its type.
         ty: CoreEntityType,
     },
     /// An export.
     Export {
         /// Its name.
-        name: String,
+        name: &'a str,
         /// What is exported.
         kind: ExportKind,
         /// The index of what is exported, among those of its kind.
@@ -41,21 +38,20 @@ pub enum CoreItem {
     },
 }
 
-impl CoreItem {
+impl<'a> CoreItem<'a> {
     /// Reads the first item of a section of this kind. Returns it and the bytes after it.
-    fn first(kind: SectionId, bytes: &[u8]) -> Result<(Self, &[u8]), Refusal> {
+    fn first(kind: SectionId, bytes: &'a [u8]) -> Result<(Self, &'a [u8]), Refusal> {
         Ok(match kind {
             SectionId::Import => {
-                let (module, rest) = name_of(Global, bytes)?;
-                let (name, rest) = name_of(Global, rest)?;
-                let (ty, rest) = CoreEntityType::decode(Global, rest)?;
-                (Self::Import { module: module.into(), name: name.into(), ty }, rest)
+                let (module, rest) = text_of(bytes)?;
+                let (name, rest) = text_of(rest)?;
+                let (ty, rest) = CoreEntityType::view_of(rest)?;
+                (Self::Import { module, name, ty }, rest)
             }
             SectionId::Export => {
                 // Exports are encoded as those of a core instance.
-                let (export, rest) = Decode::decode(Global, bytes)?;
-                let (name, kind, index): (ProvedString, _, _) = export;
-                (Self::Export { name: name.into(), kind, index }, rest)
+                let ((name, kind, index), rest) = View::view_of(bytes)?;
+                (Self::Export { name, kind, index }, rest)
             }
             SectionId::Start => {
                 let (function, rest) = u32_of(bytes)?;
@@ -91,9 +87,9 @@ impl<'a> CoreSection<'a> {
     ///
     /// let mut items = imports.items();
     /// let (range, item) = items.next().unwrap()?;
-    /// let (module, name) = ("m".into(), "f".into());
     /// assert_eq!(range, 11..17);
-    /// assert_eq!(item, CoreItem::Import { module, name, ty: CoreEntityType::Function(5) });
+    /// let ty = CoreEntityType::Function(5);
+    /// assert_eq!(item, CoreItem::Import { module: "m", name: "f", ty });
     ///
     /// let unread = Unread::Item { number: 1, place: 17 };
     /// assert_eq!(items.next(), Some(Err(ModuleFault::BadItem { unread })));
@@ -135,9 +131,9 @@ pub struct CoreItems<'a> {
     end: usize,
 }
 
-impl CoreItems<'_> {
+impl<'a> CoreItems<'a> {
     /// Returns the next item, with its byte offsets.
-    fn take(&mut self, kind: SectionId) -> Option<Result<(Range<usize>, CoreItem), ModuleFault>> {
+    fn take(&mut self, kind: SectionId) -> Option<<Self as Iterator>::Item> {
         let place = self.end - self.rest.len();
         let unread = match self.left {
             Some(0) if self.rest.is_empty() => return None,
@@ -148,8 +144,7 @@ impl CoreItems<'_> {
                     (self.left, self.number, self.rest) = (Some(left - 1), self.number + 1, rest);
                     return Some(Ok((place..self.end - rest.len(), item)));
                 }
-                Err(Refusal::Memory) => return Some(Err(ModuleFault::NoMemory)),
-                Err(Refusal::Malformed) => Unread::Item { number: self.number, place },
+                Err(_) => Unread::Item { number: self.number, place },
             },
         };
         Some(Err(ModuleFault::BadItem { unread }))
@@ -159,9 +154,9 @@ impl CoreItems<'_> {
 /// # Errors
 ///
 /// [`ModuleFault::BadItem`] if the count or an item can't be read, or if bytes follow the last
-/// item; or [`ModuleFault::NoMemory`].
-impl Iterator for CoreItems<'_> {
-    type Item = Result<(Range<usize>, CoreItem), ModuleFault>;
+/// item.
+impl<'a> Iterator for CoreItems<'a> {
+    type Item = Result<(Range<usize>, CoreItem<'a>), ModuleFault>;
 
     fn next(&mut self) -> Option<Self::Item> {
         let kind = self.kind?;

@@ -2,10 +2,9 @@
 
 use crate::list::{Found, Unread, write_part};
 use crate::proved::wenc_list::{behind_module_header, part_of};
-use crate::proved::wenc_read::{Refusal, name_of};
-use crate::shim::alloc::Global;
+use crate::proved::wenc_read::Refusal;
+use crate::proved::wenc_view::text_of;
 use crate::{RawSection, SectionId};
-use alloc::string::String;
 use core::fmt;
 use core::ops::Range;
 
@@ -17,7 +16,7 @@ pub struct CoreSection<'a> {
     /// Its id, from 0 to 255.
     pub id: u8,
     /// The name of a custom section; `None` for every other section.
-    pub name: Option<String>,
+    pub name: Option<&'a str>,
     /// Its content after the size; for a custom section, the bytes after the name.
     pub data: &'a [u8],
     /// Its bytes in the module, from its id to the end of its content.
@@ -47,7 +46,7 @@ impl CoreSection<'_> {
 /// let types = sections.next().unwrap()?;
 /// assert_eq!((types.kind(), types.range), (Some(SectionId::Type), 8..14));
 /// let custom = sections.next().unwrap()?;
-/// assert_eq!((custom.name.as_deref(), custom.data), (Some("x"), &[7][..]));
+/// assert_eq!((custom.name, custom.data), (Some("x"), &[7][..]));
 ///
 /// assert_eq!(sections.next(), Some(Err(ModuleFault::BadSection { place: 19 })));
 /// assert_eq!(sections.next(), None);
@@ -101,8 +100,8 @@ impl<'a> CoreSections<'a> {
     fn first(&self) -> Result<(CoreSection<'a>, &'a [u8]), Refusal> {
         let ((id, content), rest) = part_of(self.rest)?;
         let (name, data) = if id == SectionId::Custom.into() {
-            let (name, data) = name_of(Global, content)?;
-            (Some(name.into()), data)
+            let (name, data) = text_of(content)?;
+            (Some(name), data)
         } else {
             (None, content)
         };
@@ -121,10 +120,7 @@ impl<'a> Iterator for CoreSections<'a> {
         let place = self.len - self.rest.len();
         let first = self.first();
         self.rest = first.as_ref().map_or(&[], |(_, rest)| rest);
-        Some(first.map(|(section, _)| section).map_err(|refusal| match refusal {
-            Refusal::Memory => ModuleFault::NoMemory,
-            Refusal::Malformed => ModuleFault::BadSection { place },
-        }))
+        Some(first.map(|(section, _)| section).map_err(|_| ModuleFault::BadSection { place }))
     }
 }
 
@@ -134,8 +130,6 @@ impl<'a> Iterator for CoreSections<'a> {
 #[derive(Clone, Copy, Debug, PartialEq, Eq, Hash)]
 #[non_exhaustive]
 pub enum ModuleFault {
-    /// An allocation failed.
-    NoMemory,
     /// The bytes don't begin with the header of a core module.
     NotAModule {
         /// What they are instead.
@@ -156,7 +150,6 @@ pub enum ModuleFault {
 impl fmt::Display for ModuleFault {
     fn fmt(&self, f: &mut fmt::Formatter<'_>) -> fmt::Result {
         match self {
-            Self::NoMemory => f.write_str("no memory"),
             Self::NotAModule { found } => write!(f, "no core module's header: found {found}"),
             Self::BadSection { place } => write!(f, "bad core section at {place:#x}"),
             Self::BadItem { unread } => write_part(f, "bad item", *unread),

@@ -58,7 +58,7 @@ pub enum ListFault {
         place: usize,
         /// The section's id.
         section: ComponentSectionId,
-        /// The first part of it that can't be read; `None` if finding it ran out of memory.
+        /// The first part of it that can't be read.
         unread: Option<Unread>,
         /// The first byte of that part; `None` where the section ends.
         byte: Option<u8>,
@@ -69,8 +69,7 @@ pub enum ListFault {
     TooDeep {
         /// The byte offset of the first section that can't be read.
         place: usize,
-        /// The item with these types; `None` for a nested component, or if finding it ran out of
-        /// memory.
+        /// The item with these types; `None` for a nested component.
         unread: Option<Unread>,
     },
 }
@@ -79,7 +78,7 @@ impl ListFault {
     /// Converts the proved fault of these bytes, and finds the part of the section that can't be
     /// read.
     pub(crate) fn new(bytes: &[u8], fault: proved::ListFault) -> Self {
-        let unread = |place| proved::first_unread(Global, bytes, place).unwrap_or(None);
+        let unread = |place| proved::first_unread(bytes, place);
         match fault {
             proved::ListFault::Memory => Self::NoMemory,
             proved::ListFault::NotAComponent { place } => {

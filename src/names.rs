@@ -1,9 +1,8 @@
 //! The debug names of a component.
 
 use crate::proved::wenc_list::{Names, names_of, part_of};
-use crate::proved::wenc_read::{Refusal, name_of};
 use crate::proved::wenc_sections::names::NAMES_LABEL;
-use crate::shim::alloc::Global;
+use crate::proved::wenc_view::text_of;
 use crate::tree::{ItemTree, Space};
 use crate::twins::twins;
 use crate::{ComponentNameSection, ComponentSectionId, Error, NameMap};
@@ -85,9 +84,8 @@ impl DebugNames {
 
     /// Adds the names of a custom section with this content, if it is a section of debug names.
     fn read_section(&mut self, content: &[u8]) -> Result<(), NamesFault> {
-        match name_of(Global, content) {
-            Ok((name, data)) if *name == *NAMES_LABEL => self.read_data(data),
-            Err(Refusal::Memory) => Err(NamesFault::NoMemory),
+        match text_of(content) {
+            Ok((NAMES_LABEL, data)) => self.read_data(data),
             _ => Ok(()),
         }
     }
@@ -110,10 +108,9 @@ impl DebugNames {
     fn read_data(&mut self, data: &[u8]) -> Result<(), NamesFault> {
         let mut rest = data;
         while !rest.is_empty() {
-            let (names, behind) = names_of(Global, rest).map_err(|refusal| match refusal {
-                Refusal::Memory => NamesFault::NoMemory,
-                Refusal::Malformed => NamesFault::BadSubsection { place: data.len() - rest.len() },
-            })?;
+            let place = data.len() - rest.len();
+            let (names, behind) =
+                names_of(rest).map_err(|_| NamesFault::BadSubsection { place })?;
             self.add(names).map_err(|_| NamesFault::NoMemory)?;
             rest = behind;
         }
@@ -121,15 +118,17 @@ impl DebugNames {
     }
 
     /// Adds the names of a subsection to those that were read before it.
-    fn add(&mut self, names: Names) -> Result<(), TryReserveError> {
+    fn add(&mut self, names: Names<'_>) -> Result<(), TryReserveError> {
         match names {
             Names::Component(name) => {
-                self.component.get_or_insert(name.into());
+                if self.component.is_none() {
+                    self.component = Some(owned(name)?);
+                }
                 Ok(())
             }
-            Names::Items(space, names) => {
+            Names::Items(space, mut names) => {
                 let items = &mut self.items[space.number()];
-                names.into_iter().try_for_each(|item| items.add(item.index, item.name.into()))
+                names.try_for_each(|item| items.add(item.index, item.name))
             }
             Names::Raw(..) => Ok(()),
         }
@@ -202,6 +201,14 @@ impl From<&DebugNames> for ComponentNameSection {
         }
         section
     }
+}
+
+/// Copies a text. Fails if the allocation fails.
+fn owned(text: &str) -> Result<String, TryReserveError> {
+    let mut copy = String::new();
+    copy.try_reserve_exact(text.len())?;
+    copy.push_str(text);
+    Ok(copy)
 }
 
 /// Why debug names can't be read.

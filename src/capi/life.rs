@@ -152,7 +152,7 @@ fn unread_part(bytes: &[u8], fault: ListFault) -> (Status, UnreadPart) {
     };
     let unread = match fault {
         ListFault::BadItem { place } | ListFault::TooDeep { place } => {
-            first_unread(Global, bytes, place).unwrap_or(None)
+            first_unread(bytes, place)
         }
         _ => None,
     };

@@ -3,18 +3,12 @@
 use super::session::{Session, settled};
 use super::{Handle, Result, Status, calls, numbers, other, put};
 use crate::proved::wasm_encoder::{
-    AliasTree, ComponentBuilder, ComponentExportKind, ComponentSectionId, CustomSection, ItemTree,
-    ListFault, ListedSection, NameTree, Space, list,
+    AliasTree, ComponentBuilder, ComponentSectionId, CustomSection, ItemTree,
+    ListFault, ListedSection, SectionItems, Space, list,
 };
-use crate::proved::wenc_decode::{Decode, type_of};
-use crate::proved::wenc_read::{name_of, u32_of};
 use crate::shim::alloc::Global;
-use crate::shim::boxed::Box;
 use crate::shim::vec::Vec;
 use core::ptr;
-
-/// The maximum nesting depth of component and instance types, as for a component that is read.
-const DEPTH: u32 = 100;
 
 /// A component that was read.
 pub struct Listed {
@@ -204,50 +198,14 @@ fn add(builder: &mut ComponentBuilder, name: Option<&str>, item: &ItemTree) -> R
     })
 }
 
-/// Reads a value that must take all bytes.
-fn all<T: Decode<Global>>(bytes: &[u8]) -> Result<T> {
-    let (value, rest) = T::decode(Global, bytes)?;
-    ended(value, rest)
-}
-
-/// Returns a value if no bytes follow it.
-fn ended<T>(value: T, rest: &[u8]) -> Result<T> {
-    if rest.is_empty() { Ok(value) } else { Err(Status::Malformed) }
-}
-
 /// Reads an item of a section, which must take all bytes.
 fn read(section: ComponentSectionId, bytes: &[u8]) -> Result<ItemTree> {
-    Ok(match section {
-        ComponentSectionId::CoreCustom => {
-            let (name, data) = name_of(Global, bytes)?;
-            ItemTree::Custom { name, data: Vec::from_slice(Global, data)? }
-        }
-        ComponentSectionId::CoreModule => ItemTree::Module(Vec::from_slice(Global, bytes)?),
-        ComponentSectionId::CoreInstance => ItemTree::CoreInstance(all(bytes)?),
-        ComponentSectionId::CoreType => ItemTree::CoreType(Box::new(Global, all(bytes)?)?),
-        ComponentSectionId::Component => ItemTree::Component(Vec::from_slice(Global, bytes)?),
-        ComponentSectionId::Instance => ItemTree::Instance(all(bytes)?),
-        ComponentSectionId::Alias => ItemTree::Alias(all(bytes)?),
-        ComponentSectionId::Type => {
-            let (ty, rest) = type_of(Global, DEPTH, bytes)?;
-            ItemTree::Type(ended(ty, rest)?)
-        }
-        ComponentSectionId::CanonicalFunction => ItemTree::Canon(all(bytes)?),
-        ComponentSectionId::Start => {
-            let (function, rest) = u32_of(bytes)?;
-            let (args, rest) = Decode::decode(Global, rest)?;
-            let (results, rest) = u32_of(rest)?;
-            ended(ItemTree::Start { function, args, results }, rest)?
-        }
-        ComponentSectionId::Import => {
-            let (name, rest) = NameTree::decode(Global, bytes)?;
-            ItemTree::Import { name, ty: all(rest)? }
-        }
-        ComponentSectionId::Export => {
-            let (name, rest) = NameTree::decode(Global, bytes)?;
-            let (kind, rest) = ComponentExportKind::decode(Global, rest)?;
-            let (index, rest) = u32_of(rest)?;
-            ItemTree::Export { name, kind, index, ty: all(rest)? }
-        }
-    })
+    let (id, ends) = (section.into(), bytes.len());
+    let mut items = SectionItems { id, place: 0, ends, left: 1, rest: bytes };
+    match items.next_tree(Global) {
+        Ok(Some(item)) if items.rest.is_empty() => Ok(item),
+        Err(ListFault::Memory) => Err(Status::NoMemory),
+        Err(ListFault::TooDeep { .. }) => Err(Status::TooDeep),
+        _ => Err(Status::Malformed),
+    }
 }

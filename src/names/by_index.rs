@@ -1,5 +1,6 @@
 //! Names by the indices of their items.
 
+use super::owned;
 use alloc::collections::TryReserveError;
 use alloc::string::String;
 use alloc::vec::Vec;
@@ -38,10 +39,10 @@ impl ByIndex {
     /// # Errors
     ///
     /// Fails if an allocation fails.
-    pub fn add(&mut self, index: u32, name: String) -> Result<(), TryReserveError> {
+    pub fn add(&mut self, index: u32, name: &str) -> Result<(), TryReserveError> {
         match self.find(index) {
             (_, Ok(_)) => Ok(()),
-            (page, Err(place)) => self.insert(page, place, (index, name)),
+            (page, Err(place)) => self.insert(page, place, (index, owned(name)?)),
         }
     }
 

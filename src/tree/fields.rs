@@ -208,7 +208,7 @@ enums! {
 
     CoreInstanceTree { Instantiate { module: CoreModules, args }, Exports(exports) }
 
-    CoreItem {
+    CoreItem<'_> {
         Import { module, name, ty },
         Export { name, kind, index: (0, (*kind).into()) },
         Start { function: CoreFuncs },

@@ -167,7 +167,7 @@ impl ItemTree {
     }
 }
 
-impl CoreItem {
+impl CoreItem<'_> {
     /// Returns the item as a [`Node`]: the variant of this type that it is. Its indices are those
     /// of the core module: their scope is [`Scope::Component`] 0.
     ///

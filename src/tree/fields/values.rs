@@ -20,7 +20,7 @@ leaves! {
     bool, flag => Node::Flag(*flag);
     u64, number => Node::Number(*number);
     String, text => Node::Text(text);
-    alloc::string::String, text => Node::Text(text);
+    &str, text => Node::Text(text);
     Vec<u8>, bytes => Node::Bytes(bytes);
 }
 
