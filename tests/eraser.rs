@@ -166,7 +166,7 @@ fn what_a_user_prints_or_does_not_call() {
         "pub struct ListOf<'a, T> { pub left: u32, bytes: &'a [u8], pub other: T }\n",
         "pub struct ListOf<'a, T> { pub(crate) left: u32, bytes: &'a [u8], pub other: T }\n",
     );
-    stays("pub struct Other { pub left: u32 } impl ListOf { pub fn left() {} }\n");
+    stays("pub struct Other { pub left: u32 } impl Other { pub fn left() {} }\n");
 }
 
 #[test]

@@ -7,6 +7,8 @@ mod large;
 mod listing;
 mod names;
 mod nested;
+#[path = "../common/seen.rs"]
+mod seen;
 
 use std::path::Path;
 use wenc::Component;
