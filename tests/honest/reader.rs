@@ -35,7 +35,7 @@ pub const WAYS: [&str; 27] = [
     "method that is inlined",
 ];
 
-const CRATES: [&str; 14] = [
+const CRATES: [&str; 15] = [
     "wenc_base",
     "wenc_parts",
     "wenc_types",
@@ -43,6 +43,7 @@ const CRATES: [&str; 14] = [
     "wenc_sections",
     "wenc_builder",
     "wenc_read",
+    "wenc_view",
     "wenc_decode",
     "wenc_list",
     "wasm_encoder",

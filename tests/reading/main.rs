@@ -9,6 +9,7 @@ mod names;
 mod nested;
 #[path = "../common/seen.rs"]
 mod seen;
+mod views;
 
 use std::path::Path;
 use wenc::Component;
