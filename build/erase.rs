@@ -11,7 +11,7 @@
 //!   `crate::proved`, and `std::` is `crate::shim`, which has what the sources use of Rattle's
 //!   library; `Clone` and `clone`, which can fail in Rattle, to `TryClone` and `try_clone`; the
 //!   methods in [`ALLOCATING`], by appending `_using`; `derive_where` to `derive`; `pub` of the
-//!   methods that aren't for users ([`NARROWED`]) to `pub(crate)`;
+//!   methods and fields that aren't for users ([`NARROWED`]) to `pub(crate)`;
 //! - *adds*: the names that are in scope by default, before a file's first item; the derives that
 //!   users of Rust expect of a type ([`known::TREES`], [`known::DERIVED_TOO`]); `Display` and
 //!   `Error` after an enum that derives `Error`; `pub` to `main`; `#[inline]` to the methods
@@ -199,15 +199,16 @@ impl<'a> Eraser<'a> {
         self.before(i, 1) == ":" && self.before(i, 2) == ":"
     }
 
-    /// Returns whether a method begins here that stays in this crate.
+    /// Returns whether a method or a field begins here that stays in this crate.
     fn is_narrowed(&self, i: usize) -> bool {
-        let is_item = |j: &usize| matches!(self.before(*j, 1), "" | ";" | "]" | "}");
-        let mut impls = (0..i).rev().filter(|j| self.at(*j) == "impl").filter(is_item);
-        NARROWED.iter().any(|(owner, method)| {
-            self.stands(i + 1, "fn")
-                && self.at(i + 2) == *method
-                && impls.next().is_some_and(|j| self.owner(j) == *owner)
-        })
+        let (keyword, name) = match (self.at(i + 1), self.at(i + 2)) {
+            ("fn", method) => ("impl", method),
+            (field, ":") => ("struct", field),
+            _ => return false,
+        };
+        let is_item = |j: &usize| matches!(self.before(*j, 1), "" | ";" | "]" | "}" | "pub");
+        let mut owners = (0..i).rev().filter(|j| self.at(*j) == keyword).filter(is_item);
+        owners.next().is_some_and(|j| NARROWED.contains(&(self.owner(j), name)))
     }
 
     /// Returns whether a method begins here that encodes a type, and that has no attribute in Rust.
@@ -219,7 +220,7 @@ impl<'a> Eraser<'a> {
         is_method && words.find(|word| ["impl", "trait"].contains(word)) == Some("impl")
     }
 
-    /// Returns the name of the type whose methods are in an `impl`, or of the trait.
+    /// Returns the name of the type whose members are in an `impl` or a `struct`, or of the trait.
     fn owner(&self, i: usize) -> &'a str {
         let mut depth = 0;
         for j in i + 1..self.code.len() {

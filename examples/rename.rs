@@ -23,7 +23,7 @@ fn with_renamed(
     }
     let mut imports = ItemSection::new(section.id());
     let mut is_renamed = false;
-    for item in section.items() {
+    for item in section.trees() {
         match item? {
             (_, ItemTree::Import { mut name, ty }) if &*name.name == old => {
                 name.name = new.into();

@@ -1,34 +1,39 @@
 //! Reading a component section by section, and a section item by item.
 
+mod items;
+mod nested;
+
 use crate::proved::wenc_list as proved;
-use crate::shim::alloc::Global;
-use crate::tree::{ItemTree, NameTree, Space};
+use crate::tree::{ItemTree, Space};
 use crate::twins::twins;
+use crate::view::{ItemView, NameView};
 use crate::{
     ComponentExportKind, ComponentSectionId, ComponentTypeRef, DebugNames, Found, ListFault,
     RawSection,
 };
-use alloc::vec::Vec;
 use core::fmt;
 use core::iter;
-use core::mem;
 use core::ops::Range;
+
+pub use items::{Items, Trees};
+pub use nested::NestedSections;
 
 /// An iterator over the sections of a component.
 ///
 /// Needs the feature `reader`.
 ///
-/// Sections and items are read as [`list`](crate::list) reads them, but one at a time, so that only
-/// one item takes memory. Each comes with its range of byte offsets in the component. The iterator
-/// ends after an error. Methods that take `self` by value work on a copy, from the current section
-/// on.
+/// Sections and items are read as [`list`](crate::list) reads them, but one at a time. Each comes
+/// with its range of byte offsets in the component. [`items`](Self::items) borrow from the
+/// component's bytes, and nothing is allocated; [`trees`](Self::trees) are the same items, owned. The
+/// iterator ends after an error. Methods that take `self` by value work on a copy, from the current
+/// section on.
 ///
 /// The opcodes of some canonical functions, such as `thread.suspend-to`, have moved between
 /// releases: in components of older and newer tools these may be read as other functions, without
 /// an error (`docs/FORMAT.md`, "Where the public standard differs").
 ///
 /// ```
-/// use wenc::tree::ItemTree;
+/// use wenc::view::ItemView;
 /// use wenc::{ComponentTypeRef, ListFault, Sections};
 ///
 /// let bytes = b"\0asm\x0d\0\x01\0\x07\x05\x01\x40\0\x01\0\x0a\x06\x01\0\x01f\x01\0";
@@ -41,9 +46,8 @@ use core::ops::Range;
 ///         imports.extend(section.items().collect::<Result<Vec<_>, _>>()?);
 ///     }
 /// }
-/// let name = wenc::tree::String::from("f").into();
-/// let import = ItemTree::Import { name, ty: ComponentTypeRef::Func(0) };
-/// assert_eq!(imports, [(18..23, import)]);
+/// let [(range, ItemView::Import { name, ty })] = &imports[..] else { panic!("one import") };
+/// assert_eq!((range.clone(), name.name, *ty), (18..23, "f", ComponentTypeRef::Func(0)));
 /// # Ok::<(), ListFault>(())
 /// ```
 #[derive(Clone, Copy)]
@@ -95,16 +99,24 @@ impl<'a> Sections<'a> {
 
     /// Returns the items of all sections, each with its byte offsets, up to the first that can't be
     /// read.
-    pub fn items(self) -> impl Iterator<Item = Result<(Range<usize>, ItemTree), ListFault>> + 'a {
-        self.items_of(|_| true)
+    pub fn items(
+        self,
+    ) -> impl Iterator<Item = Result<(Range<usize>, ItemView<'a>), ListFault>> + 'a {
+        self.each_of(|_| true, |section| section.items())
+    }
+
+    /// Returns the items as [`items`](Self::items) does, but owned.
+    pub fn trees(self) -> impl Iterator<Item = Result<(Range<usize>, ItemTree), ListFault>> + 'a {
+        self.each_of(|_| true, |section| section.trees())
     }
 
     /// Returns the imports, each by its name and its type. The items of other sections aren't read.
     pub fn imports(
         self,
-    ) -> impl Iterator<Item = Result<(NameTree, ComponentTypeRef), ListFault>> + 'a {
-        self.items_of(|id| id == ComponentSectionId::Import.into()).filter_map(|item| match item {
-            Ok((_, ItemTree::Import { name, ty })) => Some(Ok((name, ty))),
+    ) -> impl Iterator<Item = Result<(NameView<'a>, ComponentTypeRef), ListFault>> + 'a {
+        let is_kept = |id| id == ComponentSectionId::Import.into();
+        self.each_of(is_kept, |section| section.items()).filter_map(|item| match item {
+            Ok((_, ItemView::Import { name, ty })) => Some(Ok((name, ty))),
             Ok(_) => None,
             Err(fault) => Some(Err(fault)),
         })
@@ -114,9 +126,11 @@ impl<'a> Sections<'a> {
     /// Ascribed types are left out. The items of other sections aren't read.
     pub fn exports(
         self,
-    ) -> impl Iterator<Item = Result<(NameTree, ComponentExportKind, u32), ListFault>> + 'a {
-        self.items_of(|id| id == ComponentSectionId::Export.into()).filter_map(|item| match item {
-            Ok((_, ItemTree::Export { name, kind, index, ty: _ })) => Some(Ok((name, kind, index))),
+    ) -> impl Iterator<Item = Result<(NameView<'a>, ComponentExportKind, u32), ListFault>> + 'a
+    {
+        let is_kept = |id| id == ComponentSectionId::Export.into();
+        self.each_of(is_kept, |section| section.items()).filter_map(|item| match item {
+            Ok((_, ItemView::Export { name, kind, index, ty: _ })) => Some(Ok((name, kind, index))),
             Ok(_) => None,
             Err(fault) => Some(Err(fault)),
         })
@@ -148,19 +162,20 @@ impl<'a> Sections<'a> {
     /// Returns the sections of the component and of all components that are nested in it, up to
     /// `limit` deep.
     pub fn nested(self, limit: usize) -> NestedSections<'a> {
-        NestedSections { innermost: self, around: Vec::new(), limit, last: None }
+        NestedSections::new(self, limit)
     }
 
-    /// Returns the items of the sections whose ids are kept, up to the first that can't be read.
-    fn items_of(
+    /// Returns what is in the sections whose ids are kept, up to the first fault.
+    fn each_of<T: 'a, I: Iterator<Item = Result<T, ListFault>> + 'a>(
         self,
         is_kept: impl Fn(u8) -> bool + 'a,
-    ) -> impl Iterator<Item = Result<(Range<usize>, ItemTree), ListFault>> + 'a {
+        items_of: impl Fn(SectionReader<'a>) -> I + 'a,
+    ) -> impl Iterator<Item = Result<T, ListFault>> + 'a {
         let sections =
             self.filter(move |section| section.as_ref().map_or(true, |of| is_kept(of.id())));
-        up_to_fault(sections.flat_map(|section| {
+        up_to_fault(sections.flat_map(move |section| {
             let (items, fault) = match section {
-                Ok(section) => (Some(section.items()), None),
+                Ok(section) => (Some(items_of(section)), None),
                 Err(fault) => (None, Some(Err(fault))),
             };
             items.into_iter().flatten().chain(fault)
@@ -272,9 +287,14 @@ impl<'a> SectionReader<'a> {
         self.left.left
     }
 
-    /// Returns the section's items.
+    /// Returns the section's items, which borrow from the component's bytes.
     pub fn items(&self) -> Items<'a> {
-        Items { bytes: self.bytes, left: Some(self.left) }
+        Items::new(self.bytes, self.left)
+    }
+
+    /// Returns the section's items, owned.
+    pub fn trees(&self) -> Trees<'a> {
+        Trees(self.items())
     }
 
     /// Returns the sections of the nested component that this section is, or `None` for another
@@ -308,129 +328,9 @@ impl<'a> SectionReader<'a> {
     }
 }
 
-impl fmt::Debug for Items<'_> {
-    fn fmt(&self, f: &mut fmt::Formatter<'_>) -> fmt::Result {
-        let offset = self.left.map(|left| left.reached());
-        f.debug_struct("Items").field("offset", &offset).finish_non_exhaustive()
-    }
-}
-
 impl fmt::Debug for SectionReader<'_> {
     fn fmt(&self, f: &mut fmt::Formatter<'_>) -> fmt::Result {
         let mut shown = f.debug_struct("SectionReader");
         shown.field("id", &self.id()).field("range", &self.range()).finish_non_exhaustive()
-    }
-}
-
-/// The sections of a component and of all components nested in it, one by one, up to the first that
-/// lacks a size within bounds or a count, or [`ListFault::NoMemory`]. The sections of a nested
-/// component follow the section that contains it. All byte offsets are counted from the start of
-/// the outermost component.
-///
-/// Needs the feature `reader`.
-///
-/// Each section comes with the depth of its component: 0 is the outermost, 1 one that is nested in
-/// that, and so on. A component that is nested deeper than the limit is a fault,
-/// [`ListFault::TooDeep`] with the byte offset of its section, and follows that section.
-///
-/// ```
-/// use wenc::{ListFault, Sections};
-///
-/// // a component in a component in a component
-/// let component = b"\0asm\x0d\0\x01\0\x04\x12\0asm\x0d\0\x01\0\x04\x08\0asm\x0d\0\x01\0";
-/// let sections = Sections::new(component)?;
-///
-/// let all: Result<Vec<_>, ListFault> = sections.nested(2).collect();
-/// let places = all?.iter().map(|(depth, section)| (*depth, section.range())).collect::<Vec<_>>();
-/// assert_eq!(places, [(0, 8..28), (1, 18..28)]);
-///
-/// let fault = sections.nested(1).last().unwrap().err();
-/// assert_eq!(fault, Some(ListFault::TooDeep { place: 18, unread: None }));
-/// # Ok::<(), ListFault>(())
-/// ```
-#[derive(Clone, Debug)]
-pub struct NestedSections<'a> {
-    /// The innermost component that may have the next section.
-    innermost: Sections<'a>,
-    /// The components around it, the outermost first.
-    around: Vec<Sections<'a>>,
-    limit: usize,
-    /// The section that was last returned.
-    last: Option<SectionReader<'a>>,
-}
-
-impl<'a> NestedSections<'a> {
-    /// Enters the component that the section contains.
-    fn enter(&mut self, section: SectionReader<'a>) -> Result<(), ListFault> {
-        let Some(component) = section.component()? else { return Ok(()) };
-        if self.around.len() >= self.limit {
-            return Err(ListFault::TooDeep { place: section.range().start, unread: None });
-        }
-        self.around.try_reserve(1).map_err(|_| ListFault::NoMemory)?;
-        self.around.push(mem::replace(&mut self.innermost, component));
-        Ok(())
-    }
-
-    /// Returns the next section, with the depth of its component.
-    fn take(&mut self) -> Result<Option<(usize, SectionReader<'a>)>, ListFault> {
-        if let Some(section) = self.last.take() {
-            self.enter(section)?;
-        }
-        loop {
-            if let Some(section) = self.innermost.next() {
-                self.last = Some(section?);
-                return Ok(self.last.map(|section| (self.around.len(), section)));
-            }
-            match self.around.pop() {
-                Some(around) => self.innermost = around,
-                None => return Ok(None),
-            }
-        }
-    }
-}
-
-impl<'a> Iterator for NestedSections<'a> {
-    type Item = Result<(usize, SectionReader<'a>), ListFault>;
-
-    fn next(&mut self) -> Option<Self::Item> {
-        let next = self.take();
-        if next.is_err() {
-            self.innermost.left = None;
-            self.around.clear();
-        }
-        next.transpose()
-    }
-}
-
-/// An iterator over the items of a section, each with its byte offsets in the component. It ends
-/// after an error.
-///
-/// Needs the feature `reader`.
-#[derive(Clone, Copy)]
-pub struct Items<'a> {
-    bytes: &'a [u8],
-    /// The items that are left; `None` after an error.
-    left: Option<proved::SectionItems<'a>>,
-}
-
-/// # Errors
-///
-/// [`ListFault::BadItem`] if an item can't be read or bytes follow the last one, and
-/// [`ListFault::TooDeep`], both with the byte offsets of the section and of the item;
-/// [`ListFault::BadSection`] for a custom section without a name; or [`ListFault::NoMemory`].
-impl Iterator for Items<'_> {
-    type Item = Result<(Range<usize>, ItemTree), ListFault>;
-
-    #[inline(always)]
-    fn next(&mut self) -> Option<Self::Item> {
-        let left = self.left.as_mut()?;
-        let place = left.reached();
-        match left.next(Global).transpose()? {
-            Ok(item) => Some(Ok((place..left.reached(), item))),
-            Err(fault) => {
-                self.left = None;
-                Some(Err(ListFault::new(self.bytes, fault)))
-            }
-        }
     }
 }

@@ -30,9 +30,10 @@
 //! ```
 //!
 //! With the feature `reader`, [`list`] reads a component into values of [`tree`], from which
-//! `tree::build` builds it again. [`Sections`] reads it section by section, and each section can be
-//! written again byte for byte ([`SectionReader`]) or item by item ([`ItemSection`]). To renumber
-//! what was read, `ItemTree::indices_mut` visits each index that an item contains.
+//! `tree::build` builds it again. [`Sections`] reads it section by section, and item by item into
+//! values of [`view`], without allocating. Each section can be written again byte for byte
+//! ([`SectionReader`]) or item by item ([`ItemSection`]). To renumber what was read,
+//! `ItemTree::indices_mut` visits each index that an item contains.
 //!
 //! # What is proved
 //!
@@ -80,8 +81,8 @@
 //! The crate is `no_std` and needs `alloc`. None of its features is on by default:
 //!
 //! - `reader` adds the reading of components, and items as values: [`list`], [`Sections`],
-//!   [`CoreSections`], [`DebugNames`], [`ItemSection`] and [`tree`]. The crate then takes longer to
-//!   compile.
+//!   [`CoreSections`], [`DebugNames`], [`ItemSection`], [`tree`] and [`view`]. The crate then takes
+//!   longer to compile.
 //! - `capi` adds the functions of `c/wenc.h`, for C. In a profile that aborts on panic, the library
 //!   allocates by C's `malloc` alone; any other profile needs `std` too.
 //! - `std` links Rust's `std`, which nothing else here needs.
@@ -94,6 +95,7 @@
 #![cfg_attr(not(feature = "reader"), doc = "[`CoreSections`]: #features")]
 #![cfg_attr(not(feature = "reader"), doc = "[`DebugNames`]: #features")]
 #![cfg_attr(not(feature = "reader"), doc = "[`tree`]: #features")]
+#![cfg_attr(not(feature = "reader"), doc = "[`view`]: #features")]
 #![no_std]
 #![cfg_attr(not(feature = "capi"), forbid(unsafe_code))]
 #![deny(missing_docs)]
@@ -133,6 +135,8 @@ mod shim;
 #[cfg(feature = "reader")]
 pub mod tree;
 mod twins;
+#[cfg(feature = "reader")]
+pub mod view;
 
 pub use self::core::*;
 pub use component::*;
@@ -141,7 +145,7 @@ pub use core_items::{CoreItem, CoreItems};
 #[cfg(feature = "reader")]
 pub use core_sections::{CoreSection, CoreSections, ModuleFault};
 #[cfg(feature = "reader")]
-pub use cursor::{Items, NestedSections, SectionReader, Sections};
+pub use cursor::{Items, NestedSections, SectionReader, Sections, Trees};
 pub use encode::{Encode, encoding_size};
 pub use error::{Error, Unsupported};
 #[cfg(feature = "reader")]

@@ -63,6 +63,7 @@ impl ComponentSection for ListedSection {
 ///
 /// ```
 /// use wenc::tree::{ItemTree, String};
+/// use wenc::view::ItemView;
 /// use wenc::{Component, ItemSection, Sections};
 ///
 /// // The component imports a resource `a`, and a `b` that is equal to it, whose index is padded.
@@ -71,7 +72,7 @@ impl ComponentSection for ListedSection {
 /// let mut imports = ItemSection::new(section.id());
 /// for item in section.items() {
 ///     match item? {
-///         (_, ItemTree::Import { name, ty }) if &*name.name == "a" => {
+///         (_, ItemView::Import { name, ty }) if name.name == "a" => {
 ///             imports.item(&ItemTree::Import { name: String::from("file").into(), ty })?
 ///         }
 ///         (place, _) => imports.raw(&bytes[place])?,

@@ -162,6 +162,11 @@ fn what_a_user_prints_or_does_not_call() {
         "impl<A: Copy> FuncType<A> {\n    pub(crate) fn new() {}\n    pub fn other() {}\n}\n",
     );
     stays("impl<A> Other<A> { pub fn new() {} } impl FuncType { fn new(x: impl B) {} }\n");
+    becomes(
+        "pub struct ListOf<'a, T> { pub left: u32, bytes: &'a [u8], pub other: T }\n",
+        "pub struct ListOf<'a, T> { pub(crate) left: u32, bytes: &'a [u8], pub other: T }\n",
+    );
+    stays("pub struct Other { pub left: u32 } impl Other { pub fn left() {} }\n");
 }
 
 #[test]

@@ -72,7 +72,7 @@ fn erased_sources_are_the_sources() {
     assert!(unused.is_empty(), "nothing differs in these ways any more: {unused:?}");
     assert_eq!(counts["derive of a tree"], TREES.len());
     assert_eq!(counts["derive of more"], DERIVED_TOO.len());
-    assert_eq!(counts["method that stays in this crate"], NARROWED.len());
+    assert_eq!(counts["member that stays in this crate"], NARROWED.len());
 }
 
 /// A source with most of the ways in which the two may part.

@@ -8,6 +8,9 @@
 
 #[path = "refused/builder.rs"]
 mod builder;
+#[allow(dead_code, reason = "some are for others")]
+#[path = "real/corpus.rs"]
+mod corpus;
 #[path = "common/counts.rs"]
 mod counts;
 #[path = "refused/cursors.rs"]
@@ -21,10 +24,17 @@ mod names;
 #[path = "refused/reading.rs"]
 mod reading;
 #[allow(dead_code, reason = "some are for others")]
+#[path = "common/seen.rs"]
+mod seen;
+#[allow(dead_code, reason = "some are for others")]
 #[path = "core_types/shapes.rs"]
 mod shapes;
+#[path = "proved/listing/spellings.rs"]
+mod spellings;
 #[path = "refused/types.rs"]
 mod types;
+#[path = "refused/views.rs"]
+mod views;
 
 use std::alloc::{GlobalAlloc, Layout, System};
 use std::cell::Cell;

@@ -45,7 +45,7 @@ fn by_items(
     add: impl Fn(&mut ItemSection, Range<usize>, ItemTree) -> Result<(), Error>,
 ) -> ItemSection {
     let mut made = ItemSection::new(section.id());
-    for item in section.items() {
+    for item in section.trees() {
         let (place, item) = item.expect("an item");
         add(&mut made, place, item).expect("it is added");
     }
@@ -302,7 +302,7 @@ fn items_stand_in_their_sections_alone() {
     let components = EACH.map(component);
     for (id, bytes) in (0..).zip(&components) {
         let [section] = sections(bytes).collect::<Vec<_>>().try_into().expect("there is one");
-        let (_, item) = section.items().next().expect("there is one").expect("it is read");
+        let (_, item) = section.trees().next().expect("there is one").expect("it is read");
         for other in 0..=12 {
             let mut section = ItemSection::new(other);
             let answer = section.item(&item).map(|_| ());
@@ -339,7 +339,7 @@ fn what_is_one_item_has_just_one_tree() {
     for (id, bytes) in (0..).zip(EACH.map(component)) {
         let is_one = [0, 1, 4, 9].contains(&id);
         let [section] = sections(&bytes).collect::<Vec<_>>().try_into().expect("there is one");
-        let (_, item) = section.items().next().expect("there is one").expect("it is read");
+        let (_, item) = section.trees().next().expect("there is one").expect("it is read");
         let mut section = ItemSection::new(id);
         section.item(&item).expect("there is room");
         assert_eq!(section.item(&item).err(), is_one.then_some(Error::TooMany), "{item:?}");

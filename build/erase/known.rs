@@ -66,31 +66,57 @@ pub const TREES: [&str; 23] = [
 ];
 
 /// Types that derive more for users of Rust than their sources say, with the additional derives.
-pub const DERIVED_TOO: [(&str, &str); 22] = [
+pub const DERIVED_TOO: [(&str, &str); 37] = [
     ("AbstractHeapType", "Hash"),
     ("Alias", "Debug, Hash, PartialEq, Eq"),
     ("ArrayType", "Hash"),
+    ("CanonView", "Debug, PartialEq, Eq, Hash"),
     ("CanonicalOption", "Hash"),
+    ("CaseView", "Debug, PartialEq, Eq, Hash"),
+    ("ComponentDeclView", "Debug, PartialEq, Eq, Hash"),
     ("ComponentExportKind", "Hash"),
     ("ComponentOuterAliasKind", "Hash"),
     ("ComponentSectionId", "Hash"),
+    ("CompositeView", "Debug, PartialEq, Eq, Hash"),
+    ("CoreInstanceView", "Debug, PartialEq, Eq, Hash"),
+    ("CoreTypeView", "Debug, PartialEq, Eq, Hash"),
+    ("DefinedView", "Debug, PartialEq, Eq, Hash"),
     ("EntityType", "Hash"),
     ("ExportKind", "Hash"),
     ("Fault", "Hash"),
     ("FieldType", "Hash"),
     ("GlobalType", "Hash"),
+    ("GroupView", "Debug, PartialEq, Eq, Hash"),
     ("HeapType", "Hash"),
+    ("InstanceDeclView", "Debug, PartialEq, Eq, Hash"),
+    ("InstanceView", "Debug, PartialEq, Eq, Hash"),
+    ("ItemView", "Debug, PartialEq, Eq, Hash"),
     ("MemoryType", "Hash"),
     ("ModuleArg", "Hash"),
+    ("ModuleDeclView", "Debug, PartialEq, Eq, Hash"),
+    ("NameView", "Debug, PartialEq, Eq, Hash"),
     ("RefType", "Hash"),
     ("Space", "Hash, PartialOrd, Ord"),
     ("StorageType", "Hash"),
+    ("SubView", "Debug, PartialEq, Eq, Hash"),
     ("TableType", "Hash"),
     ("TagType", "Hash"),
+    ("TypeView", "Debug, PartialEq, Eq, Hash"),
     ("Unread", "Hash"),
     ("ValType", "Hash"),
 ];
 
-/// Methods of trees that stay in this crate: their contracts require what nothing tests, or they
-/// return what the facade has in another form.
-pub const NARROWED: [(&str, &str); 2] = [("FuncType", "new"), ("NameTree", "as_name")];
+/// Methods and fields that stay in this crate: contracts require of them what nothing tests, or
+/// they are what the facade has in another form.
+pub const NARROWED: [(&str, &str); 10] = [
+    ("ComponentDecls", "bytes"),
+    ("ComponentDecls", "depth_left"),
+    ("ComponentDecls", "left"),
+    ("FuncType", "new"),
+    ("InstanceDecls", "bytes"),
+    ("InstanceDecls", "depth_left"),
+    ("InstanceDecls", "left"),
+    ("ListOf", "bytes"),
+    ("ListOf", "left"),
+    ("NameTree", "as_name"),
+];

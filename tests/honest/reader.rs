@@ -16,7 +16,7 @@ pub const WAYS: [&str; 27] = [
     "derive of a tree",
     "derive kept",
     "derive of more",
-    "method that stays in this crate",
+    "member that stays in this crate",
     "derive of an error",
     "derive_where is derive",
     "text of an error left out",
@@ -35,7 +35,7 @@ pub const WAYS: [&str; 27] = [
     "method that is inlined",
 ];
 
-const CRATES: [&str; 14] = [
+const CRATES: [&str; 15] = [
     "wenc_base",
     "wenc_parts",
     "wenc_types",
@@ -43,6 +43,7 @@ const CRATES: [&str; 14] = [
     "wenc_sections",
     "wenc_builder",
     "wenc_read",
+    "wenc_view",
     "wenc_decode",
     "wenc_list",
     "wasm_encoder",
@@ -80,33 +81,59 @@ pub const TREES: [&str; 23] = [
 ];
 
 /// Types that derive more than their sources say, and what.
-pub const DERIVED_TOO: [(&str, &str); 22] = [
+pub const DERIVED_TOO: [(&str, &str); 37] = [
     ("AbstractHeapType", "Hash"),
     ("Alias", "Debug, Hash, PartialEq, Eq"),
     ("ArrayType", "Hash"),
+    ("CanonView", "Debug, PartialEq, Eq, Hash"),
     ("CanonicalOption", "Hash"),
+    ("CaseView", "Debug, PartialEq, Eq, Hash"),
+    ("ComponentDeclView", "Debug, PartialEq, Eq, Hash"),
     ("ComponentExportKind", "Hash"),
     ("ComponentOuterAliasKind", "Hash"),
     ("ComponentSectionId", "Hash"),
+    ("CompositeView", "Debug, PartialEq, Eq, Hash"),
+    ("CoreInstanceView", "Debug, PartialEq, Eq, Hash"),
+    ("CoreTypeView", "Debug, PartialEq, Eq, Hash"),
+    ("DefinedView", "Debug, PartialEq, Eq, Hash"),
     ("EntityType", "Hash"),
     ("ExportKind", "Hash"),
     ("Fault", "Hash"),
     ("FieldType", "Hash"),
     ("GlobalType", "Hash"),
+    ("GroupView", "Debug, PartialEq, Eq, Hash"),
     ("HeapType", "Hash"),
+    ("InstanceDeclView", "Debug, PartialEq, Eq, Hash"),
+    ("InstanceView", "Debug, PartialEq, Eq, Hash"),
+    ("ItemView", "Debug, PartialEq, Eq, Hash"),
     ("MemoryType", "Hash"),
     ("ModuleArg", "Hash"),
+    ("ModuleDeclView", "Debug, PartialEq, Eq, Hash"),
+    ("NameView", "Debug, PartialEq, Eq, Hash"),
     ("RefType", "Hash"),
     ("Space", "Hash, PartialOrd, Ord"),
     ("StorageType", "Hash"),
+    ("SubView", "Debug, PartialEq, Eq, Hash"),
     ("TableType", "Hash"),
     ("TagType", "Hash"),
+    ("TypeView", "Debug, PartialEq, Eq, Hash"),
     ("Unread", "Hash"),
     ("ValType", "Hash"),
 ];
 
-/// Methods of trees that only this crate calls.
-pub const NARROWED: [(&str, &str); 2] = [("FuncType", "new"), ("NameTree", "as_name")];
+/// Methods that only this crate calls, and fields that only it reads.
+pub const NARROWED: [(&str, &str); 10] = [
+    ("ComponentDecls", "bytes"),
+    ("ComponentDecls", "depth_left"),
+    ("ComponentDecls", "left"),
+    ("FuncType", "new"),
+    ("InstanceDecls", "bytes"),
+    ("InstanceDecls", "depth_left"),
+    ("InstanceDecls", "left"),
+    ("ListOf", "bytes"),
+    ("ListOf", "left"),
+    ("NameTree", "as_name"),
+];
 
 /// What both have next: the way, how many tokens of the source, and the tokens of the Rust.
 struct Step {
@@ -407,8 +434,11 @@ impl<'a> Source<'a> {
             "(" if self.stands("( crate )") => {
                 Some(step("pub(crate)", 3, format!("(in crate::proved::{})", self.crate_name)))
             }
-            "pub" if NARROWED.contains(&(self.owner(), self.text(2))) => {
-                Some(step("method that stays in this crate", 1, "pub(crate)"))
+            "pub" if NARROWED.contains(&(self.owner("impl"), self.text(2))) => {
+                Some(step("member that stays in this crate", 1, "pub(crate)"))
+            }
+            "pub" if NARROWED.contains(&(self.owner("struct"), next)) => {
+                Some(step("member that stays in this crate", 1, "pub(crate)"))
             }
             "fn" if next == "main" => Some(step("main is pub", 2, "pub fn main")),
             "fn" if next == "encode" && self.is_bare_method() => {
@@ -443,14 +473,14 @@ impl<'a> Source<'a> {
         !is_shown && last.is_some_and(|token| token.text == "impl")
     }
 
-    /// The type of the `impl` that this stands in, which has no trait.
-    fn owner(&self) -> &'a str {
-        let is_impl = |at: &usize| {
+    /// The type of the `impl` without a trait, or of the `struct`, that this stands in.
+    fn owner(&self, keyword: &str) -> &'a str {
+        let begins = |at: &usize| {
             let (before, _) = self.tokens.split_at(*at);
-            let is_first = before.last().is_none_or(|b| [";", "}", "]"].contains(&&*b.text));
-            self.tokens[*at].text == "impl" && is_first
+            let is_first = |b: &Token| [";", "}", "]", "pub"].contains(&&*b.text);
+            self.tokens[*at].text == keyword && before.last().is_none_or(is_first)
         };
-        let Some(at) = (0..self.at).rev().find(is_impl) else { return "" };
+        let Some(at) = (0..self.at).rev().find(begins) else { return "" };
         let mut depth = 0;
         for token in &self.tokens[at + 1..] {
             match &*token.text {

@@ -1,7 +1,9 @@
 //! The same by a cursor.
 
+use crate::seen::{is_name, is_same};
 use crate::{component, corpus};
-use wenc::tree::{ItemTree, Space};
+use wenc::tree::Space;
+use wenc::view::ItemView;
 use wenc::{ComponentSectionId, ListFault, Sections, Unread, list};
 
 fn sections(bytes: &[u8]) -> Sections<'_> {
@@ -14,22 +16,31 @@ fn listings_and_cursors_find_the_same() {
     let (mut items, mut imports, mut exports) = (0, 0, 0);
     for (name, bytes) in corpus() {
         let Ok(listing) = list(&bytes) else { continue };
-        let found = sections(&bytes).items().map(|item| item.expect("it is read"));
+        let found = sections(&bytes).trees().map(|item| item.expect("it is read"));
         let (ranges, found): (Vec<_>, Vec<_>) = found.unzip();
         assert!(found.iter().eq(listing.items()), "{name}");
         assert!(ranges.is_sorted_by(|one, next| one.end <= next.start), "{name}");
+        let views = sections(&bytes).items().map(|item| item.expect("it is read"));
+        let (places, views): (Vec<_>, Vec<_>) = views.unzip();
+        assert!(views.len() == found.len() && places == ranges, "{name}");
+        assert!(views.into_iter().zip(&found).all(|(view, tree)| is_same(view, tree)), "{name}");
         items += found.len();
 
         let found: Result<Vec<_>, _> = sections(&bytes).imports().collect();
         let found = found.expect("they are read");
-        assert!(found.iter().map(|(name, ty)| (name, *ty)).eq(listing.imports()), "{name}");
+        assert_eq!(found.len(), listing.imports().count(), "{name}");
         imports += found.len();
+        for ((view, ty), (tree, of)) in found.into_iter().zip(listing.imports()) {
+            assert!(is_name(view, tree) && ty == of, "{name}");
+        }
 
         let found: Result<Vec<_>, _> = sections(&bytes).exports().collect();
         let found = found.expect("they are read");
-        let found: Vec<_> = found.iter().map(|(name, kind, index)| (name, *kind, *index)).collect();
-        assert!(listing.exports().eq(found.iter().copied()), "{name}");
+        assert_eq!(found.len(), listing.exports().count(), "{name}");
         exports += found.len();
+        for ((view, kind, index), (tree, of, at)) in found.into_iter().zip(listing.exports()) {
+            assert!(is_name(view, tree) && (kind, index) == (of, at), "{name}");
+        }
 
         assert_eq!(sections(&bytes).names(), listing.names(), "{name}");
         for space in Space::ALL {
@@ -57,6 +68,8 @@ fn the_first_fault_ends_what_is_found() {
     assert_eq!(items.len(), 4);
     assert_eq!(items.iter().filter(|item| item.is_ok()).count(), 3);
     assert_eq!(items[3], Err(fault));
+    let trees: Vec<_> = sections(&bytes).trees().map(Result::err).collect();
+    assert_eq!(trees, [None, None, None, Some(fault)]);
 
     assert_eq!(sections(&bytes).index_count(Space::Types), Err(fault));
 
@@ -67,7 +80,7 @@ fn the_first_fault_ends_what_is_found() {
     // only sections of exports are read
     let exports: Result<Vec<_>, _> = sections(&bytes).exports().collect();
     let exports = exports.expect("they are read");
-    assert_eq!(exports.iter().map(|(name, ..)| &*name.name).collect::<Vec<_>>(), ["a", "b"]);
+    assert_eq!(exports.iter().map(|(name, ..)| name.name).collect::<Vec<_>>(), ["a", "b"]);
     let exports: Vec<_> = sections(&bytes[..bytes.len() - 1]).exports().collect();
     assert_eq!((exports.len(), &exports[1]), (2, &Err(ListFault::BadSection { place: 33 })));
 }
@@ -98,10 +111,10 @@ fn a_cursor_goes_on_from_where_it_is() {
     let ids: Vec<u8> = rest.by_ref().take(3).map(|section| section.expect("it is").id()).collect();
     assert_eq!(ids, [7, 11, 10]);
     let items: Result<Vec<_>, _> = rest.items().collect();
-    let [(range, ItemTree::Export { name, .. })] = &items.expect("it is read")[..] else {
+    let [(range, ItemView::Export { name, .. })] = &items.expect("it is read")[..] else {
         panic!("one export");
     };
-    assert_eq!((range.clone(), &*name.name), (36..42, "b"));
+    assert_eq!((range.clone(), name.name), (36..42, "b"));
     assert_eq!(rest.imports().count(), 0);
     assert_eq!(rest.count(), 1);
 }
@@ -124,6 +137,7 @@ fn readers_are_printed() {
     let section = outer.next().unwrap().unwrap();
     assert_eq!(format!("{section:?}"), "SectionReader { id: 4, range: 8..21, .. }");
     assert_eq!(format!("{:?}", section.items()), "Items { offset: Some(10), .. }");
+    assert_eq!(format!("{:?}", section.trees()), "Trees(Items { offset: Some(10), .. })");
     assert_eq!(format!("{outer:?}"), "Sections { offset: Some(21), .. }");
     let inner = section.component().unwrap().unwrap();
     assert_eq!(format!("{inner:?}"), "Sections { offset: Some(18), .. }");

@@ -7,6 +7,9 @@ mod large;
 mod listing;
 mod names;
 mod nested;
+#[path = "../common/seen.rs"]
+mod seen;
+mod views;
 
 use std::path::Path;
 use wenc::Component;

@@ -109,7 +109,7 @@ fn the_corpus_has_nested_components() {
         let cursor = Sections::new(&bytes).expect("it is a component").nested(8);
         let cursor: Result<Vec<_>, ListFault> = cursor.collect();
         let read = |(depth, section): (usize, SectionReader<'_>)| {
-            let items: Result<Vec<_>, ListFault> = section.items().collect();
+            let items: Result<Vec<_>, ListFault> = section.trees().collect();
             let items = items?.into_iter().map(|(_, item)| item).collect::<List<_>>();
             Ok((depth, section.range().start, items))
         };

@@ -108,7 +108,7 @@ fn by_items(bytes: &[u8], is_anew: impl Fn(usize) -> bool) -> Vec<u8> {
     let mut component = Component::new();
     for section in sections(bytes) {
         let mut made = ItemSection::new(section.id());
-        for (number, item) in section.items().enumerate() {
+        for (number, item) in section.trees().enumerate() {
             let (place, item) = item.expect("an item");
             let added = if is_anew(number) { made.item(&item) } else { made.raw(&bytes[place]) };
             added.expect("it is added");
@@ -170,7 +170,7 @@ fn encoded(item: &ItemTree) -> Option<Vec<u8>> {
 fn trees_of_all_others_have_their_bytes() {
     let mut trees = 0;
     for (name, bytes) in all().into_iter().filter(|(_, bytes)| list(bytes).is_ok()) {
-        for item in sections(&bytes).flat_map(|section| section.items()) {
+        for item in sections(&bytes).flat_map(|section| section.trees()) {
             let (place, item) = item.expect("an item");
             let Some(encoded) = encoded(&item) else { continue };
             assert!(encoded == bytes[place], "{name}: {item:?}");

@@ -41,14 +41,22 @@ fn core_modules() {
     }
 }
 
-/// Three components in one another.
-const NESTED: &[u8] = b"\0asm\x0d\0\x01\0\x04\x12\0asm\x0d\0\x01\0\x04\x08\0asm\x0d\0\x01\0";
+/// So many components in one another.
+fn nested(count: usize) -> Vec<u8> {
+    let inner = (count > 1).then(|| nested(count - 1));
+    let section = inner.map(|inner| [&[4, inner.len() as u8], &inner[..]].concat());
+    [&Component::HEADER[..], &section.unwrap_or_default()].concat()
+}
 
 #[test]
 fn nested_components() {
-    let sections = || Sections::new(NESTED).expect("a component").nested(9);
-    assert_eq!(sections().count(), 2);
-    each_is_refused(sections, ListFault::NoMemory, 1);
+    for (count, requests) in [(3, 0), (9, 0), (10, 1), (11, 1)] {
+        let component = nested(count);
+        let sections = || Sections::new(&component).expect("a component").nested(count);
+        assert_eq!(sections().count(), count - 1);
+        assert_eq!(sections().map(|section| section.expect("a section").0).max(), Some(count - 2));
+        each_is_refused(sections, ListFault::NoMemory, requests);
+    }
 }
 
 /// What is printed, and not kept.

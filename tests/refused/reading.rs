@@ -79,7 +79,7 @@ fn names_are_read() {
 fn nested_sections_are_found() {
     let component = component(0);
     let sections = Sections::new(&component).expect("it is a component");
-    let found = each_is_refused(1, |refusals| {
+    let found = each_is_refused(0, |refusals| {
         refusals.call(|| {
             let mut found = calmly(|| Vec::with_capacity(100));
             for section in sections.nested(2) {
@@ -103,7 +103,7 @@ fn items_are_found() {
     let items = each_is_refused(10, |refusals| {
         refusals.call(|| {
             let mut items = calmly(|| Vec::with_capacity(100));
-            for item in read.iter().flat_map(SectionReader::items) {
+            for item in read.iter().flat_map(SectionReader::trees) {
                 items.push(item.map_err(refused(ListFault::NoMemory))?.1);
             }
             Ok(items)

@@ -1,10 +1,11 @@
 //! Commands by their parts, and what they build.
 
 use crate::hex::{behind, behind_header};
+use crate::seen::is_same;
 use wenc::tree::{AliasTree, CanonTree, Command, CoreTypeTree, DefinedTree, TypeTree, build};
 use wenc::{
     Component, ComponentBuilder, ComponentExportKind, ComponentOuterAliasKind, ComponentTypeRef,
-    Error, ExportKind, ListFault, list,
+    Error, ExportKind, ListFault, Sections, list,
 };
 
 /// A command, and its answer.
@@ -30,6 +31,12 @@ pub fn builds_listed<const N: usize>(calls: [Call; N], wanted: &str, fault: Opti
 
     let listed = list(&built.bytes);
     assert_eq!(listed.as_ref().err(), fault.as_ref());
+    let mut views = Sections::new(&built.bytes).expect("a component").items();
+    for item in listed.iter().flat_map(|listing| listing.items()) {
+        let (_, view) = views.next().expect("an item").expect("it is read");
+        assert!(is_same(view, item), "{view:?} is not {item:?}");
+    }
+    assert_eq!(views.next().map(Result::err), fault.map(Some));
     let mut again = Component::new();
     for section in listed.iter().flat_map(|listing| &listing.sections) {
         again.section(section);

@@ -14,6 +14,9 @@ mod instances;
 mod items;
 mod modules_and_custom;
 mod names;
+#[allow(dead_code, reason = "some are for others")]
+#[path = "../common/seen.rs"]
+mod seen;
 mod sizes;
 mod trees;
 mod types;

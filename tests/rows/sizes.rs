@@ -16,6 +16,7 @@ mod type_declarations;
 mod types;
 mod upstream;
 
+use crate::seen;
 use wenc::tree::{self, Command, build};
 use wenc::{Component, ComponentBuilder, ComponentSection, Encode, ItemSection, Sections, list};
 
@@ -220,8 +221,10 @@ fn is_read(kind: Kind, command: &Command, item: &[u8]) {
     assert!(Command::from(tree.clone()) == *command, "another item of {size} bytes");
     let mut sections = Sections::new(&bytes).expect("a component");
     let reader = sections.next().expect("a section").expect("it is read");
-    let (_, read) = reader.items().next().expect("an item").expect("it is read");
+    let (_, read) = reader.trees().next().expect("an item").expect("it is read");
     assert!(read == *tree, "another item of {size} bytes");
+    let (_, view) = reader.items().next().expect("an item").expect("it is read");
+    assert!(seen::is_same(view, tree), "another item of {size} bytes");
     let (mut anew, mut kept) = (ItemSection::new(kind.0), ItemSection::new(kind.0));
     anew.item(tree).expect("it is added");
     kept.raw(item).expect("it is added");

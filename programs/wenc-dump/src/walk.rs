@@ -170,7 +170,7 @@ impl<'f, R: Report> Walk<'f, '_, R> {
     fn section(&mut self, section: SectionReader<'f>, next: &mut Indices) -> Result<(), Failure> {
         let (range, id, count) = (section.range(), section.id(), Some(section.count()));
         self.report.open(&Part::Section { range, id, count })?;
-        for item in section.items() {
+        for item in section.trees() {
             let fault = match item {
                 Ok((range, ItemTree::Component(bytes))) => {
                     // frees the bytes while the component's sections are reported

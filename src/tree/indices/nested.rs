@@ -121,7 +121,7 @@ impl<'a> Visited<'a> {
         section: SectionReader<'a>,
         visit: &mut dyn FnMut(IndexUse<'_>),
     ) -> Result<(), OuterFault> {
-        for item in section.items() {
+        for item in section.trees() {
             let (_, mut item) = item?;
             item.try_indices_mut(|IndexUse { space, scope, index }| {
                 let Scope::Component(out) = scope else { return };

@@ -1,0 +1,84 @@
+//! Values that borrow from the bytes of a component.
+//!
+//! Needs the feature `reader`.
+//!
+//! A type `..View<'a>` borrows its strings and its lists from the bytes that were read, and is
+//! `Copy`. The type of [`tree`](crate::tree) with the same name owns them, and can be changed and
+//! written: [`ItemView`] and [`ItemTree`](crate::tree::ItemTree), [`DefinedView`] and
+//! [`DefinedTree`](crate::tree::DefinedTree). The view of an
+//! [`AliasTree`](crate::tree::AliasTree) is an [`Alias`](crate::Alias), as in upstream's API. Types
+//! without strings and lists are the same in both.
+//!
+//! The iterators over items, [`Items`](crate::Items), return views. The whole item was then read
+//! once, and its errors found, but of each list only the number of members and the place of the
+//! first were kept. A list is an iterator, which reads its members when they are asked for. So
+//! nothing here takes memory. A member that is asked for twice is read twice; so are the
+//! declarations of a type in a type, once more for each type around them.
+//!
+//! Equality and hashes are those of the values: lists are equal if their members are, however
+//! their numbers are padded.
+//!
+//! ```
+//! use wenc::view::{ItemView, TypeView};
+//! use wenc::{ListFault, PrimitiveValType, Sections};
+//!
+//! // the type of a function with a parameter
+//! let component = b"\0asm\x0d\0\x01\0\x07\x08\x01\x40\x01\x01n\x79\x01\0";
+//! let (range, item) = Sections::new(component)?.items().next().expect("an item")?;
+//! let ItemView::Type(TypeView::Func { params, result: None, .. }) = item else {
+//!     panic!("it is the type of a function")
+//! };
+//! assert_eq!((range, params.len()), (11..18, 1));
+//! for (name, ty) in params {
+//!     assert_eq!((name, ty), ("n", PrimitiveValType::U32.into()));
+//! }
+//! # Ok::<(), ListFault>(())
+//! ```
+
+mod lists;
+
+use crate::ComponentExternName;
+use crate::tree::Space;
+use alloc::borrow::Cow;
+
+pub use crate::proved::wenc_list::ItemView;
+pub use crate::proved::wenc_view::composites::{
+    CompositeView as CoreCompositeView, GroupView, SubView as CoreSubView,
+};
+pub use crate::proved::wenc_view::core_type_views::ModuleDeclView;
+pub use crate::proved::wenc_view::{
+    CanonView, CaseView, ComponentDeclView, ComponentDecls, CoreInstanceView, CoreTypeView,
+    DefinedView, InstanceDeclView, InstanceDecls, InstanceView, ListOf, NameView, TypeView,
+};
+
+impl ItemView<'_> {
+    /// Returns the index space in which the item defines indices, and their number; `None` for a
+    /// custom section.
+    pub fn indices(&self) -> Option<(Space, u32)> {
+        let space = match self {
+            Self::Module(_) => Space::CoreModules,
+            Self::CoreInstance(_) => Space::CoreInstances,
+            Self::CoreType(_) => Space::CoreTypes,
+            Self::Component(_) => Space::Components,
+            Self::Instance(_) => Space::Instances,
+            Self::Alias(alias) => Space::of_alias(alias),
+            Self::Type(_) => Space::Types,
+            Self::Canon(CanonView::Lift { .. }) => Space::Funcs,
+            Self::Canon(_) => Space::CoreFuncs,
+            Self::Start { results, .. } => return Some((Space::Values, *results)),
+            Self::Import { ty, .. } => ty.kind().into(),
+            Self::Export { kind, .. } => (*kind).into(),
+            Self::Custom { .. } => return None,
+        };
+        Some((space, 1))
+    }
+}
+
+impl<'a> From<NameView<'a>> for ComponentExternName<'a> {
+    fn from(name: NameView<'a>) -> Self {
+        let NameView { name, implements, version_suffix, external_id } = name;
+        let [implements, version_suffix, external_id] =
+            [implements, version_suffix, external_id].map(|option| option.map(Cow::Borrowed));
+        Self { name: Cow::Borrowed(name), implements, version_suffix, external_id }
+    }
+}
