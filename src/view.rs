@@ -38,7 +38,6 @@
 mod lists;
 
 use crate::ComponentExternName;
-use crate::tree::Space;
 use alloc::borrow::Cow;
 
 pub use crate::proved::wenc_list::ItemView;
@@ -50,29 +49,6 @@ pub use crate::proved::wenc_view::{
     CanonView, CaseView, ComponentDeclView, ComponentDecls, CoreInstanceView, CoreTypeView,
     DefinedView, InstanceDeclView, InstanceDecls, InstanceView, ListOf, NameView, TypeView,
 };
-
-impl ItemView<'_> {
-    /// Returns the index space in which the item defines indices, and their number; `None` for a
-    /// custom section.
-    pub fn indices(&self) -> Option<(Space, u32)> {
-        let space = match self {
-            Self::Module(_) => Space::CoreModules,
-            Self::CoreInstance(_) => Space::CoreInstances,
-            Self::CoreType(_) => Space::CoreTypes,
-            Self::Component(_) => Space::Components,
-            Self::Instance(_) => Space::Instances,
-            Self::Alias(alias) => Space::of_alias(alias),
-            Self::Type(_) => Space::Types,
-            Self::Canon(CanonView::Lift { .. }) => Space::Funcs,
-            Self::Canon(_) => Space::CoreFuncs,
-            Self::Start { results, .. } => return Some((Space::Values, *results)),
-            Self::Import { ty, .. } => ty.kind().into(),
-            Self::Export { kind, .. } => (*kind).into(),
-            Self::Custom { .. } => return None,
-        };
-        Some((space, 1))
-    }
-}
 
 impl<'a> From<NameView<'a>> for ComponentExternName<'a> {
     fn from(name: NameView<'a>) -> Self {

@@ -52,7 +52,7 @@ impl<'a> Iterator for Items<'a> {
 
     #[inline(always)]
     fn next(&mut self) -> Option<Self::Item> {
-        self.advance(proved::SectionItems::next_view)
+        self.advance(proved::SectionItems::next)
     }
 }
 
@@ -77,6 +77,6 @@ impl Iterator for Trees<'_> {
 
     #[inline(always)]
     fn next(&mut self) -> Option<Self::Item> {
-        self.0.advance(|left| left.next(Global))
+        self.0.advance(|left| left.next_tree(Global))
     }
 }

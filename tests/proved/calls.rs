@@ -16,9 +16,11 @@ mod types;
 mod values;
 
 use crate::proved::tests::hex::{bytes, digits};
+use crate::proved::tests::trees::tree;
 use crate::proved::wenc_base::{Encode, Section};
-use crate::proved::wenc_decode::Decode;
+use crate::proved::wenc_decode::TreeOf;
 use crate::proved::wenc_parts::ComponentSection;
+use crate::proved::wenc_view::View;
 use crate::shim::alloc::Global;
 use crate::shim::vec::Vec;
 
@@ -30,12 +32,23 @@ fn is<T: Encode>(value: &T, wanted: &str) {
 }
 
 /// A value is read from these bytes, with nothing left, and written as them again.
-fn again<T: Decode<Global> + Encode>(text: &str) {
+fn again<V: for<'a> View<'a> + Encode>(text: &str) {
     let bytes = bytes(text);
-    let (value, rest) = T::decode(Global, &bytes).unwrap();
+    let (value, rest) = V::view_of(&bytes).unwrap();
     assert!(rest.is_empty());
     is(&value, text);
 }
+
+/// The same of an owned value.
+macro_rules! tree_again {
+    ($view:ty => $tree:ty, $text:expr) => {{
+        let bytes = bytes($text);
+        let (value, rest) = tree::<$view, $tree>(&bytes).unwrap();
+        assert!(rest.is_empty());
+        is(&value, $text);
+    }};
+}
+use tree_again;
 
 /// The section has this id and these bytes in a component.
 fn section_is<S: ComponentSection>(section: &S, id: u8, wanted: &str) {

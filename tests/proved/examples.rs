@@ -11,7 +11,7 @@ use crate::proved::wasm_encoder::{
     Component, ComponentImportSection, ComponentTypeRef, ComponentTypeSection, ComponentValType,
     Encode, Fault, PrimitiveValType, Unread,
 };
-use crate::proved::wenc_list::{ItemTree, Names};
+use crate::proved::wenc_list::{ItemTree, ItemView, Names};
 use crate::shim::alloc::Global;
 use crate::shim::vec::Vec;
 
@@ -233,15 +233,18 @@ fn runs() {
     assert!(!refused && bytes.as_slice() == RUN);
     assert!(list::imports(Global, RUN).unwrap());
     let unread = list::unread(Global, b"\0asm\x0d\0\x01\0\x06\x02\x01\x09");
-    assert_eq!(unread, Ok(Some(Unread::Item { number: 0, place: 11 })));
-    assert_eq!(list::unread(Global, RUN), Ok(None));
-    let item = list::first_item(Global, RUN).unwrap();
+    assert_eq!(unread, Some(Unread::Item { number: 0, place: 11 }));
+    assert_eq!(list::unread(Global, RUN), None);
+    let item = list::first_item(RUN).unwrap();
+    assert!(matches!(item, Some(ItemView::Import { name, .. }) if name.name == "file"));
+    let item = list::first_tree(Global, RUN).unwrap();
     assert!(matches!(item, Some(ItemTree::Import { name, .. }) if name.name.as_str() == "file"));
     let part = list::first_section(b"\0asm\x01\0\0\0\x01\x01\0\x0c");
     assert_eq!(part, Ok(((1, &b"\0"[..]), &b"\x0c"[..])));
-    let (names, rest) = list::first_names(Global, b"\0\x02\x01c\x09").unwrap();
-    assert!(matches!(names, Names::Component(name) if name.as_str() == "c") && rest == b"\x09");
-    let (tree, rest) = list::decoded(Global, b"\x03\x02\x01\x02\x2a").unwrap();
+    let (names, rest) = list::first_names(b"\0\x02\x01c\x09").unwrap();
+    assert!(matches!(names, Names::Component("c")) && rest == b"\x09");
+    assert_eq!(list::sum_of(b"\x02\x80\x01\x07\x2a"), Ok((135, &b"\x2a"[..])));
+    let (tree, rest) = list::alias_tree(Global, b"\x03\x02\x01\x02\x2a").unwrap();
     makes(Ok(tree.as_alias()), ALIAS);
     assert_eq!(rest, b"\x2a".as_slice());
     let (status, out) = program::script(Global);

@@ -15,3 +15,4 @@ mod refusing;
 mod sections;
 mod shim;
 mod sweeping;
+mod trees;

@@ -2,26 +2,25 @@
 ghost use Rattle.std.specs.Prelude.{◌≡◌, ◌≤◌, ◌<◌, [], ◌∷◌, ℕ, List, IfOk, IfErr};
 ghost use Rattle.wenc_base.specs.Prelude.{u32 as number, Wide, times, read_u32};
 ghost use Rattle.wenc_list.specs.Prelude.{names_view, subsection_by_id};
-ghost use Rattle.wenc_parts.specs.Prelude.{AliasOf, alias, alias_tree_view};
-ghost use Rattle.wenc_read.specs.Prelude.{Gives};
+ghost use Rattle.wenc_parts.specs.Prelude.{AliasOf, alias, alias_view};
+ghost use Rattle.wenc_read.specs.Prelude.{GivesAlways};
 ghost use Rattle.wenc_read.specs.declared.refusal.NestedRefusal.TheVariants.{Flat, TooDeep};
 ghost use Rattle.wenc_read.specs.declared.refusal.Refusal.TheVariants.{Malformed};
 ghost use Rattle.wenc_sections.specs.Prelude.{Subsection};
-ghost use Rattle.wenc_types.specs.Prelude.{DefType, def_type, depth, type_view};
+ghost use Rattle.wenc_types.specs.Prelude.{DefType, def_type, depth};
+ghost use Rattle.wenc_view.specs.Prelude.{type_seen};
 
-use std::alloc::Allocator;
-use wenc_decode::laws::{decoding_is_exact, types_are_exact};
-use wenc_decode::{Decode, type_of};
 use wenc_list::laws::names_are_exact;
 use wenc_list::{Names, names_of};
-use wenc_parts::AliasTree;
+use wenc_parts::Alias;
 use wenc_read::laws::readers_are_exact;
 use wenc_read::{NestedRefusal, Refusal, u32_of};
-use wenc_types::TypeTree;
+use wenc_view::laws::{types_are_exact, views_are_exact};
+use wenc_view::{TypeView, View, type_at};
 
 /// Reads two numbers, one after the other. Returns them and the bytes after them.
 pub fn two_numbers(bytes: &[u8]) -> Result<((u32, u32), &[u8]), Refusal>
-    ensures { Gives (λ x. (x.0.0 ∷ x.0.1 ∷ [], x.1.now)) result (times read_u32 2 bytes.now) }
+    ensures { GivesAlways (λ x. (x.0.0 ∷ x.0.1 ∷ [], x.1.now)) result (times read_u32 2 bytes.now) }
 {
     let (first, rest) = u32_of(bytes)?;
     let (second, rest) = u32_of(rest)?;
@@ -39,47 +38,42 @@ pub fn number_of(bytes: &[u8]) -> Result<(u32, &[u8]), Refusal>
     u32_of(bytes)
 }
 
-/// Reads an alias that the bytes spell. Returns it and the bytes after it. If that fails with
-/// `Malformed`, the bytes spell none.
-pub fn alias_of<A: Allocator + Copy>(
-    alloc: A,
-    bytes: &[u8],
-) -> Result<(AliasTree<A>, &[u8]), Refusal>
-    ensures read { IfOk result
-        (λ x. (alias (alias_tree_view x.0)).Reads Wide bytes.now x.1.now) }
-    ensures none { IfErr result (λ e. e ≡ Malformed → (to : AliasOf) (rest : List ℕ)
+/// Reads an alias that the bytes spell. Returns it and the bytes after it. If that fails, the bytes
+/// spell none.
+pub fn alias_of(bytes: &[u8]) -> Result<(Alias<'_>, &[u8]), Refusal>
+    ensures read { IfOk result (λ x. (alias (alias_view x.0)).Reads Wide bytes.now x.1.now) }
+    ensures none { IfErr result (λ _. (to : AliasOf) (rest : List ℕ)
         → (alias to).Reads Wide bytes.now rest → ⊥) }
 {
-    decoding_is_exact::<A, AliasTree<A>>();
-    AliasTree::decode(alloc, bytes)
+    views_are_exact::<Alias<'_>>();
+    Alias::view_of(bytes)
 }
 
 /// Reads a type, which the bytes spell, no deeper than that. Returns it and the bytes after it. If
 /// it fails with `Malformed` they spell none, and with `TooDeep` none but a deeper one.
-pub fn type_within<A: Allocator + Copy>(
-    alloc: A,
+pub fn type_within(
     depth_left: u32,
     bytes: &[u8],
-) -> Result<(TypeTree<A>, &[u8]), NestedRefusal>
-    ensures read { IfOk result (λ x. (depth (type_view x.0) ≤ depth_left)
-        × (def_type (type_view x.0)).Reads Wide bytes.now x.1.now) }
+) -> Result<(TypeView<'_>, &[u8]), NestedRefusal>
+    ensures read { IfOk result (λ x. (depth (type_seen x.0) ≤ depth_left)
+        × (def_type (type_seen x.0)).Reads Wide bytes.now x.1.now) }
     ensures none { IfErr result (λ e. e ≡ Flat Malformed → (t : DefType) (rest : List ℕ)
         → (def_type t).Reads Wide bytes.now rest → ⊥) }
     ensures deeper { IfErr result (λ e. e ≡ TooDeep → (t : DefType) (rest : List ℕ)
         → (def_type t).Reads Wide bytes.now rest → depth_left < depth t) }
 {
     types_are_exact();
-    type_of(alloc, depth_left, bytes)
+    type_at(depth_left, bytes)
 }
 
 /// Reads a subsection of names that the bytes spell. Returns it and the bytes after it. If that
-/// fails with `Malformed`, the bytes spell none.
-pub fn names_read<A: Allocator + Copy>(alloc: A, bytes: &[u8]) -> Result<(Names<A>, &[u8]), Refusal>
+/// fails, the bytes spell none.
+pub fn names_read(bytes: &[u8]) -> Result<(Names<'_>, &[u8]), Refusal>
     ensures read { IfOk result
         (λ x. (subsection_by_id (names_view x.0)).Reads Wide bytes.now x.1.now) }
-    ensures none { IfErr result (λ e. e ≡ Malformed → (names : Subsection) (rest : List ℕ)
+    ensures none { IfErr result (λ _. (names : Subsection) (rest : List ℕ)
         → (subsection_by_id names).Reads Wide bytes.now rest → ⊥) }
 {
     names_are_exact(bytes);
-    names_of(alloc, bytes)
+    names_of(bytes)
 }

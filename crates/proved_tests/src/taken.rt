@@ -4,12 +4,11 @@ ghost use Rattle.wenc_base.specs.Prelude.{Wide};
 ghost use Rattle.wenc_builder.specs.Prelude.{Section, section_piece};
 ghost use Rattle.wenc_list.specs.Prelude.{Opens, AreWithin, IsFaultHere};
 
-use std::alloc::Allocator;
 use wenc_list::laws::{what_was_taken, where_it_stands};
 use wenc_list::{ListFault, SectionItems, Sections};
 
 /// Takes all items of a section: they are its contents, or the fault is that of the section.
-pub fn all_items<A: Allocator + Copy>(alloc: A, items: SectionItems<'_>) -> Result<(), ListFault>
+pub fn all_items(items: SectionItems<'_>) -> Result<(), ListFault>
     ensures read { (ends : ℕ) (bytes rest : List ℕ) → Opens ends bytes items.entry rest
         → IfOk result (λ _. (s : Section) × (section_piece s).Reads Wide bytes rest
         × AreWithin 100 (s ∷ [])) }
@@ -18,9 +17,7 @@ pub fn all_items<A: Allocator + Copy>(alloc: A, items: SectionItems<'_>) -> Resu
 {
     what_was_taken();
     let mut left = items;
-    while let Some(item) = left.next(alloc)? {
-        drop(item);
-    }
+    while let Some(_item) = left.next()? {}
     Ok(())
 }
 

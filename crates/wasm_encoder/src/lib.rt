@@ -26,7 +26,8 @@ pub use wenc_base::{
 pub use wenc_builder::{ComponentBuilder, Space};
 pub use wenc_canon::{AddsBuiltin, AddsSlot, CanonicalFunctionSection, CanonicalOption};
 pub use wenc_list::{
-    ItemTree, ListFault, ListedSection, Listing, SectionItems, Sections, Unread, first_unread, list,
+    ItemTree, ItemView, ListFault, ListedSection, Listing, SectionItems, Sections, Unread,
+    first_unread, list,
 };
 pub use wenc_parts::{
     Alias, AliasTree, Component, ComponentExportKind, ComponentExternName, ComponentOuterAliasKind,

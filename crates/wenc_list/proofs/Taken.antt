@@ -24,7 +24,7 @@ use Rattle.wenc_builder.specs.Item.{CanonItem, StartItem, ImportItem, ExportItem
 use Rattle.wenc_builder.specs.Sections.{Section, members, collects, item_of, section_piece}
 use Rattle.wenc_builder.specs.laws.Reading.{item_of_lawful}
 use Rattle.wenc_view.specs.Depth.{Front, OpensTypes}
-use Rattle.wenc_read.specs.Gives.{FailsNested}
+use Rattle.wenc_read.specs.inside.Fails.{FailsNested}
 use Rattle.wenc_read.specs.declared.refusal.NestedRefusal.{NestedRefusal}
 use Rattle.wenc_read.specs.declared.refusal.NestedRefusal.TheVariants.{Flat, TooDeep}
 use Rattle.wenc_read.specs.declared.refusal.Refusal.TheVariants as refusals

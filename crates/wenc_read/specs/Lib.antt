@@ -1,4 +1,5 @@
 pub mod Gives
 pub mod Exact
+pub mod inside
 pub mod laws
 pub mod Prelude

@@ -4,7 +4,7 @@ use Rattle.std.proofs.Common.{inl, inr, ap}
 use Rattle.std.proofs.lemmas.Option.{same_Some}
 use Rattle.wenc_base.specs.laws.Sound.{tested}
 use Rattle.wenc_base.specs.Readers.{Flaw, Bad, read_byte, Reader, ◌>>=◌, give, pick, choose}
-use Rattle.wenc_read.specs.Gives.{Fails}
+use Rattle.wenc_read.specs.inside.Fails.{Fails}
 use Rattle.wenc_read.specs.laws.Tables.{first_there, fails_on}
 use Rattle.wenc_read.specs.declared.refusal.Refusal.{Refusal}
 use Rattle.wenc_read.specs.declared.refusal.Refusal.TheVariants.{Malformed}

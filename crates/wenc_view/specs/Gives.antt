@@ -1,7 +1,6 @@
 -- What a function returns that reads types that may nest, and asks for no memory.
 use Rattle.std.specs.Prelude.{◌≡◌, Result, Ok, Err}
 use Rattle.wenc_base.specs.Readers.{Flaw, Bad, Deep}
-use Rattle.wenc_read.specs.Gives.{FailsNested}
 use Rattle.wenc_read.specs.declared.refusal.NestedRefusal.{NestedRefusal}
 use Rattle.wenc_read.specs.declared.refusal.NestedRefusal.TheVariants.{Flat, TooDeep}
 use Rattle.wenc_read.specs.declared.refusal.Refusal.{Refusal}

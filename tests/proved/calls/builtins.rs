@@ -127,7 +127,7 @@ fn rows_are_added() {
 
 #[test]
 fn trees_and_options() {
-    again::<CanonTree>("0100800102000300");
+    tree_again!(CanonView => CanonTree, "0100800102000300");
     again::<CanonicalOption>("0301");
     is(&NotCancellable, "00");
     let cancel: CanonTree = CanonTree::TaskCancel;

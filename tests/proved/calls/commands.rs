@@ -7,7 +7,7 @@ use crate::proved::wasm_encoder::{
     NameTree, Running, Space, TypeTree, ValType, build, list, producers_command,
 };
 use crate::proved::wenc_base::ProducersSection;
-use crate::proved::wenc_decode::Decode;
+use crate::proved::wenc_view::View;
 use crate::proved::wenc_list::ItemName;
 use crate::shim::alloc::{AllocError, Global};
 use crate::shim::boxed::Box;
@@ -141,8 +141,8 @@ fn listed() {
 
 #[test]
 fn names_are_read() {
-    let (item, rest) = ItemName::decode(Global, b"\x02\x01g\x00").unwrap();
-    assert_eq!((item.index, item.name.as_str(), rest), (2, "g", b"\x00".as_slice()));
+    let (item, rest) = ItemName::view_of(b"\x02\x01g\x00").unwrap();
+    assert_eq!((item.index, item.name, rest), (2, "g", b"\x00".as_slice()));
 }
 
 #[test]

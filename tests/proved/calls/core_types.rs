@@ -17,9 +17,9 @@ fn read_and_written() {
     again::<HeapType>("6e");
     again::<StorageType>("77");
     again::<FieldType>("7801");
-    again::<CompositeType>("60027f7e017d");
-    again::<SubType>("5001005f017801");
-    again::<GroupTree>("4e02600000500180015e7700");
+    tree_again!(CompositeView => CompositeType, "60027f7e017d");
+    tree_again!(SubView => SubType, "5001005f017801");
+    tree_again!(GroupView => GroupTree, "4e02600000500180015e7700");
 }
 
 #[test]

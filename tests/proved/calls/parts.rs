@@ -3,13 +3,14 @@
 use super::{again, is};
 use crate::proved::tests::hex::digits;
 use crate::proved::wenc_base::{ExportKind, Fault, SectionId, encode_list, extend_in_room};
-use crate::proved::wenc_decode::{Decode, type_of};
+use crate::proved::tests::trees::{tree, type_tree};
 use crate::proved::wenc_parts::{
     Alias, AliasTree, ComponentExportKind, ComponentExternName, ComponentOuterAliasKind,
     ComponentSectionId, ComponentTypeRef, ComponentValType, ModuleArg, NameOptions, NameTree,
     PrimitiveValType, ResultList, TypeBounds,
 };
-use crate::proved::wenc_read::{NestedRefusal, Refusal, extern_name_of};
+use crate::proved::wenc_read::{NestedRefusal, Refusal};
+use crate::proved::wenc_view::NameView;
 use crate::shim::alloc::{AllocError, Global};
 use crate::shim::borrow::CowStr;
 use crate::shim::boxed::Box;
@@ -31,7 +32,7 @@ fn read_and_written() {
     again::<ResultList>("0073");
     again::<u32>("8001");
     again::<bool>("01");
-    again::<String>("0166");
+    tree_again!(&str => String, "0166");
     again::<Option<u32>>("0105");
 }
 
@@ -53,7 +54,7 @@ fn aliases() {
     let tree: AliasTree =
         AliasTree::CoreInstanceExport { instance: 0, kind: ExportKind::Tag, name: owned("m") };
     is(&tree.as_alias(), "00040100016d");
-    let (tree, rest) = AliasTree::decode(Global, b"\x03\x02\x00\x01\x2a").unwrap();
+    let (tree, rest) = tree::<Alias, AliasTree>(b"\x03\x02\x00\x01\x2a").unwrap();
     is(&tree.as_alias(), "03020001");
     assert_eq!(rest, b"\x2a");
 }
@@ -83,10 +84,10 @@ fn names() {
 
 #[test]
 fn names_are_read() {
-    let (name, rest) = NameTree::decode(Global, b"\x01\x01f").unwrap();
+    let (name, rest) = tree::<NameView, NameTree>(b"\x01\x01f").unwrap();
     is(&name.as_name(), "000166");
     assert!(rest.is_empty());
-    let (name, rest) = extern_name_of(Global, b"\x02\x01a\x02\x00\x01i\x02\x00").unwrap();
+    let (name, rest) = tree::<NameView, NameTree>(b"\x02\x01a\x02\x00\x01i\x02\x00").unwrap();
     is(&name.as_name(), "020161020001690200");
     assert!(rest.is_empty());
 }
@@ -94,7 +95,7 @@ fn names_are_read() {
 #[test]
 fn types_are_read() {
     let text = b"\x42\x01\x04\x00\x01t\x03\x00\x00\xee";
-    let (ty, rest) = type_of(Global, 1, text).unwrap();
+    let (ty, rest) = type_tree(1, text);
     is(&ty, "420104000174030000");
     assert_eq!(rest, b"\xee");
 }

@@ -4,9 +4,9 @@ use crate::proved::wenc_decode::room_for;
 use crate::proved::wenc_list::{
     Names, Unread, behind_module_header, first_unread, names_of, part_of,
 };
-use crate::proved::wenc_read::{byte, flag_of, index_of, name_of, u32_of, u64_of};
+use crate::proved::wenc_read::{byte, flag_of, index_of, u32_of, u64_of};
 use crate::proved::wenc_sections::Space;
-use crate::shim::alloc::Global;
+use crate::proved::wenc_view::text_of;
 
 #[test]
 fn numbers() {
@@ -20,21 +20,23 @@ fn numbers() {
 
 #[test]
 fn names() {
-    let (name, rest) = name_of(Global, b"\x04test\x0b").unwrap();
-    assert_eq!((name.as_str(), rest), ("test", b"\x0b".as_slice()));
-    let (names, rest) = names_of(Global, b"\x01\x05\x01\x01\x02\x01g\x00").unwrap();
+    let (name, rest) = text_of(b"\x04test\x0b").unwrap();
+    assert_eq!((name, rest), ("test", b"\x0b".as_slice()));
+    let (names, rest) = names_of(b"\x01\x05\x01\x01\x02\x01g\x00").unwrap();
     assert_eq!(rest, b"\x00");
-    let Names::Items(Space::Funcs, names) = names else {
+    let Names::Items(Space::Funcs, mut names) = names else {
         panic!("they are of functions");
     };
-    assert_eq!((names[0].index, names[0].name.as_str()), (2, "g"));
+    let name = names.next().expect("it is there");
+    assert_eq!((name.index, name.name), (2, "g"));
+    assert!(names.next().is_none());
 }
 
 #[test]
 fn what_is_not_read() {
     let bytes = b"\x00asm\x0d\x00\x01\x00\x0a\x06\x02\x00\x01f\x01\x00";
-    let told = first_unread(Global, bytes, 8);
-    assert_eq!(told, Ok(Some(Unread::Item { number: 1, place: 16 })));
+    let told = first_unread(bytes, 8);
+    assert_eq!(told, Some(Unread::Item { number: 1, place: 16 }));
 }
 
 #[test]

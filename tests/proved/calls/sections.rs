@@ -49,7 +49,7 @@ fn core_instances() {
     section.export_items([("foo", ExportKind::Func, 0)].into_iter()).unwrap();
     section.instantiate(1, [("foo", ModuleArg::Instance(0))].into_iter()).unwrap();
     section_is(&section, 2, "021202010103666f6f000000010103666f6f1200");
-    again::<CoreInstanceTree>("00010103666f6f1200");
+    tree_again!(CoreInstanceView => CoreInstanceTree, "00010103666f6f1200");
 }
 
 #[test]
@@ -60,7 +60,7 @@ fn instances() {
     let arg = ("foo", ComponentExportKind::Instance, 0);
     section.instantiate(1, [arg].into_iter()).unwrap();
     section_is(&section, 5, "05130201010003666f6f010000010103666f6f0500");
-    again::<InstanceTree>("01010003666f6f0100");
+    tree_again!(InstanceView => InstanceTree, "01010003666f6f0100");
 }
 
 /// Names of items of each kind.

@@ -70,8 +70,8 @@ fn core_section() {
     assert!(section.is_finished());
     assert_eq!(section.len(), 3);
     is(&section, "0d035000500000500060017f017c");
-    again::<CoreTypeTree>("50010210010100");
-    again::<ModuleDecl>("0210010100");
+    tree_again!(CoreTypeView => CoreTypeTree, "50010210010100");
+    tree_again!(ModuleDeclView => ModuleDecl, "0210010100");
 }
 
 const STRING: ComponentValType = ComponentValType::Primitive(PrimitiveValType::String);
@@ -118,8 +118,8 @@ fn types_of_values() {
     add_several(&mut section).unwrap();
     add_short(&mut section).unwrap();
     is(&section, VALUES);
-    again::<DefinedTree>("7201016173");
-    again::<CaseTree>("0162017300");
+    tree_again!(DefinedView => DefinedTree, "7201016173");
+    tree_again!(CaseView => CaseTree, "0162017300");
 }
 
 const FUNCTION: Alias<'static> =

@@ -14,7 +14,7 @@ type Walked = (u8, usize, usize, Vec<usize>);
 /// The byte offsets of a section's items, each of which is read.
 fn offsets(mut items: SectionItems<'_>) -> Vec<usize> {
     let mut offsets = vec![items.reached()];
-    while items.next(Global).unwrap().is_some() {
+    while items.next_tree(Global).unwrap().is_some() {
         offsets.push(items.reached());
     }
     offsets
@@ -95,7 +95,7 @@ fn what_is_taken_is_the_item() {
     assert_eq!((sections.ends, sections.rest), (17, &bytes[8..]));
     let mut items = sections.next().unwrap().unwrap();
     assert_eq!((items.id, items.left, items.rest), (10, 2, &bytes[11..]));
-    let Ok(Some(ItemTree::Import { name, .. })) = items.next(Global) else {
+    let Ok(Some(ItemTree::Import { name, .. })) = items.next_tree(Global) else {
         panic!("there is an import");
     };
     assert!(name.name.as_str() == "f" && items.left == 1 && items.rest == b"\x0b");
@@ -152,13 +152,13 @@ fn an_item_that_is_not_read_stays() {
         let bytes = component(section);
         let mut items = Sections::new(&bytes).unwrap().next().unwrap().unwrap();
         let found = loop {
-            if let Err(found) = items.next(Global) {
+            if let Err(found) = items.next_tree(Global) {
                 break found;
             }
         };
         assert_eq!((found, items.reached()), (*fault, *reached), "{section}");
         let left = items.left;
-        assert_eq!(items.next(Global).err().as_ref(), Some(fault));
+        assert_eq!(items.next_tree(Global).err().as_ref(), Some(fault));
         assert_eq!((items.left, items.reached()), (left, *reached));
     }
 }

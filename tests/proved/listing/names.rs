@@ -1,11 +1,9 @@
 //! Subsections of names, and where sections of a core module stand.
 
 use crate::proved::tests::hex;
-use crate::proved::tests::refusing::Refusing;
 use crate::proved::wenc_list::{Names, behind_module_header, names_of, part_of};
 use crate::proved::wenc_read::Refusal;
 use crate::proved::wenc_sections::Space;
-use crate::shim::alloc::{Allocator, Global};
 use std::{format, string::String};
 
 const SORTS: [(&str, Space); 13] = [
@@ -25,15 +23,15 @@ const SORTS: [(&str, Space); 13] = [
 ];
 
 /// The names as text, and the bytes after them.
-fn told<A: Allocator + Copy>(alloc: A, bytes: &[u8]) -> Result<(String, &[u8]), Refusal> {
-    let (names, rest) = names_of(alloc, bytes)?;
+fn told(bytes: &[u8]) -> Result<(String, &[u8]), Refusal> {
+    let (names, rest) = names_of(bytes)?;
     let text = match names {
-        Names::Component(name) => format!("component {}", name.as_str()),
+        Names::Component(name) => format!("component {name}"),
         Names::Items(kind, names) => {
-            let items = names.iter().map(|item| format!(" {} {}", item.index, item.name.as_str()));
+            let items = names.map(|item| format!(" {} {}", item.index, item.name));
             format!("{kind:?}{}", items.collect::<String>())
         }
-        Names::Raw(id, bytes) => format!("{id} {:?}", bytes.as_slice()),
+        Names::Raw(id, bytes) => format!("{id} {bytes:?}"),
     };
     Ok((text, rest))
 }
@@ -46,7 +44,7 @@ fn subsections_of_names() {
         let size = content.len() / 2 - 1;
         let bytes = hex::bytes(&format!("01{size:02x}{content}"));
         let wanted = (format!("{kind:?} 0 a 128 "), &b"\0"[..]);
-        assert_eq!(told(Global, &bytes), Ok(wanted), "{kind:?}");
+        assert_eq!(told(&bytes), Ok(wanted), "{kind:?}");
     }
     let rows = [
         ("0004036e6f77", "component now", ""),
@@ -57,7 +55,7 @@ fn subsections_of_names() {
     ];
     for (bytes, text, rest) in rows {
         let (bytes, rest) = (hex::bytes(bytes), hex::bytes(rest));
-        assert_eq!(told(Global, &bytes), Ok((String::from(text), &rest[..])));
+        assert_eq!(told(&bytes), Ok((String::from(text), &rest[..])));
     }
 }
 
@@ -88,25 +86,7 @@ fn what_is_no_subsection() {
         "0906ffffffff",
     ];
     for row in rows {
-        assert_eq!(told(Global, &hex::bytes(row)), Err(Refusal::Malformed), "{row}");
-    }
-}
-
-#[test]
-fn memory_for_names() {
-    for bytes in ["01080102000161010162", "0002016e", "09020102"] {
-        let (heap, bytes) = (Refusing::new(), hex::bytes(bytes));
-        let mut refused = 0;
-        loop {
-            heap.refuse_nth(refused + 1);
-            let found = told(&heap, &bytes).map(|(_, rest)| rest);
-            if !heap.was_refused() {
-                assert!(found == Ok(&[][..]) && refused > 0);
-                break;
-            }
-            assert_eq!(found, Err(Refusal::Memory));
-            refused += 1;
-        }
+        assert_eq!(told(&hex::bytes(row)), Err(Refusal::Malformed), "{row}");
     }
 }
 

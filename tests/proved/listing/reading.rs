@@ -1,12 +1,13 @@
 //! What the front of bytes is read as, and what follows it. What is read is encoded again.
 
 use crate::proved::wasm_encoder::{
-    AbstractHeapType, AliasTree, ComponentExportKind, ComponentOuterAliasKind, ComponentTypeRef,
-    ComponentValType, DefinedTree, Encode, HeapType, InstanceDecl, NameOptions, PrimitiveValType,
+    AbstractHeapType, Alias, AliasTree, ComponentExportKind, ComponentOuterAliasKind, ComponentTypeRef,
+    ComponentValType, DefinedTree, Encode, HeapType, InstanceDecl, NameOptions, NameTree, PrimitiveValType,
     RefType, TypeBounds, TypeTree, ValType,
 };
-use crate::proved::wenc_decode::{Decode, type_of};
-use crate::proved::wenc_read::{NestedRefusal, Refusal, extern_name_of, name_of};
+use crate::proved::tests::trees::{tree, type_tree};
+use crate::proved::wenc_read::{NestedRefusal, Refusal};
+use crate::proved::wenc_view::{NameView, View, text_of, type_at};
 use crate::shim::alloc::Global;
 use crate::shim::string::String;
 use crate::shim::vec::Vec;
@@ -45,12 +46,12 @@ const NAMES: &[(&[u8], &[u8], &[u8], Parts)] = &[
 
 #[test]
 fn names_and_numbers() {
-    let (name, rest) = name_of(Global, NAMED).unwrap();
-    assert!(name.as_str() == "test" && rest == [11, 22, 33, 44].as_slice());
-    let (number, rest) = u32::decode(Global, b"\x82\x80\x80\x80\x00\x01").unwrap();
+    let (name, rest) = text_of(NAMED).unwrap();
+    assert!(name == "test" && rest == [11, 22, 33, 44].as_slice());
+    let (number, rest) = u32::view_of(b"\x82\x80\x80\x80\x00\x01").unwrap();
     assert!(number == 2 && rest == [1].as_slice());
     for (bytes, text, after, parts) in NAMES {
-        let (name, rest) = extern_name_of(Global, bytes).unwrap();
+        let (name, rest) = tree::<NameView, NameTree>(bytes).unwrap();
         assert_eq!(rest, *after);
         let options = name.options.as_ref();
         let option = |part: fn(&NameOptions) -> &Option<String>| {
@@ -74,12 +75,12 @@ const WIDE_REFERENCES: &[(&[u8], AbstractHeapType)] =
 #[test]
 fn other_spellings() {
     for bytes in NO_NUMBERS {
-        assert_eq!(u32::decode(Global, bytes).err(), Some(Refusal::Malformed));
+        assert_eq!(u32::view_of(bytes).err(), Some(Refusal::Malformed));
     }
-    let (ty, rest) = ComponentValType::decode(Global, b"\xc0\x80\x80\x80\x00").unwrap();
+    let (ty, rest) = ComponentValType::view_of(b"\xc0\x80\x80\x80\x00").unwrap();
     assert!(ty == ComponentValType::Type(64) && rest.is_empty());
     for (bytes, heap_type) in WIDE_REFERENCES {
-        let (ty, rest) = ValType::decode(Global, bytes).unwrap();
+        let (ty, rest) = ValType::view_of(bytes).unwrap();
         let heap_type = HeapType::Abstract(*heap_type);
         assert_eq!(ty, ValType::Ref(RefType { nullable: true, heap_type }));
         assert!(rest.is_empty());
@@ -94,9 +95,9 @@ const ALIASES: &[u8] = b"\x01\x00\x00\x01\x66\x03\x02\x00\x01";
 
 #[test]
 fn types_and_aliases() {
-    let shallow = type_of(Global, 0, INSTANCE).err();
+    let shallow = type_at(0, INSTANCE).err();
     assert_eq!(shallow, Some(NestedRefusal::TooDeep));
-    let (ty, rest) = type_of(Global, 1, INSTANCE).unwrap();
+    let (ty, rest) = type_tree(1, INSTANCE);
     assert_eq!(rest, [0xee].as_slice());
     let TypeTree::Instance(declarations) = &ty else { panic!("a type of instances") };
     let [option, export] = declarations.as_slice() else { panic!("two declarations") };
@@ -108,17 +109,17 @@ fn types_and_aliases() {
     let first_type = ComponentTypeRef::Type(TypeBounds::Eq(0));
     assert_eq!((name.name.as_str(), name.options.is_none(), *exported), ("t", true, first_type));
     is_text(&ty, b"\x42\x02\x01\x6b\x73\x04\x00\x01\x74\x03\x00\x00");
-    let (ty, rest) = type_of(Global, 0, b"\x3f\x7f\x01\x03").unwrap();
+    let (ty, rest) = type_tree(0, b"\x3f\x7f\x01\x03");
     assert!(rest.is_empty());
     assert!(matches!(ty, TypeTree::Resource { rep: ValType::I32, dtor: Some(3) }));
     is_text(&ty, b"\x3f\x7f\x01\x03");
-    let (function, rest) = AliasTree::decode(Global, ALIASES).unwrap();
+    let (function, rest) = tree::<Alias, AliasTree>(ALIASES).unwrap();
     let AliasTree::InstanceExport { instance, kind, name } = &function else {
         panic!("an export of an instance");
     };
     assert_eq!((*instance, *kind, name.as_str()), (0, ComponentExportKind::Func, "f"));
     is_text(&function.as_alias(), b"\x01\x00\x00\x01\x66");
-    let (outer, rest) = AliasTree::decode(Global, rest).unwrap();
+    let (outer, rest) = tree::<Alias, AliasTree>(rest).unwrap();
     let AliasTree::Outer { kind, count, index } = &outer else { panic!("an outer alias") };
     assert_eq!((*kind, *count, *index), (ComponentOuterAliasKind::Type, 0, 1));
     is_text(&outer.as_alias(), b"\x03\x02\x00\x01");

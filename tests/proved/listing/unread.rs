@@ -5,7 +5,7 @@ use super::faults::BAD_ITEMS;
 use super::rows::ROWS;
 use crate::proved::tests::refusing::Refusing;
 use crate::proved::wenc_list::{Unread, first_unread};
-use crate::shim::alloc::{AllocError, Global};
+use crate::shim::alloc::AllocError;
 use std::format;
 
 /// Sections, the place of one, and what of that isn't read.
@@ -65,12 +65,12 @@ const READ: &[(&str, usize)] = &[
 #[test]
 fn the_first_item_that_is_not_read() {
     for (sections, place, unread) in UNREAD {
-        let told = first_unread(Global, &component(sections), *place);
-        assert_eq!(told, Ok(Some(*unread)), "{sections}");
+        let told = first_unread(&component(sections), *place);
+        assert_eq!(told, Some(*unread), "{sections}");
     }
     for (sections, place) in READ {
-        let told = first_unread(Global, &component(sections), *place);
-        assert_eq!(told, Ok(None), "{sections}");
+        let told = first_unread(&component(sections), *place);
+        assert_eq!(told, None, "{sections}");
     }
 }
 
@@ -79,7 +79,7 @@ fn what_is_listed_is_read() {
     for row in ROWS {
         let bytes = component(row.sections);
         for (_, place, _) in row.listed {
-            assert_eq!(first_unread(Global, &bytes, *place), Ok(None), "{}", row.sections);
+            assert_eq!(first_unread(&bytes, *place), None, "{}", row.sections);
         }
     }
 }
@@ -88,7 +88,7 @@ fn what_is_listed_is_read() {
 fn a_bad_item_is_told() {
     for sections in BAD_ITEMS {
         let bytes = component(sections);
-        let told = first_unread(Global, &bytes, 8).unwrap();
+        let told = first_unread(&bytes, 8);
         let (Unread::Count { place } | Unread::Item { place, .. } | Unread::Behind { place }) =
             told.expect("some of it isn't read");
         assert!((10..=bytes.len()).contains(&place), "{sections}: {place}");
@@ -100,9 +100,9 @@ fn types_that_are_too_deep() {
     // 101 of them inside one another, alone and after another type.
     let deep = format!("{}4200", "420101".repeat(100));
     let alone = component(&format!("07af0201{deep}"));
-    assert_eq!(first_unread(Global, &alone, 8), Ok(Some(item(0, 12))));
+    assert_eq!(first_unread(&alone, 8), Ok(Some(item(0, 12))));
     let second = component(&format!("07b0020273{deep}"));
-    assert_eq!(first_unread(Global, &second, 8), Ok(Some(item(1, 13))));
+    assert_eq!(first_unread(&second, 8), Ok(Some(item(1, 13))));
 }
 
 #[test]

@@ -1,10 +1,12 @@
-//! Examples of `wenc_list` and `wenc_decode`.
+//! Examples of `wenc_list`, `wenc_view` and `wenc_decode`.
 
-use std::alloc::{AllocError, Allocator};
+use std::alloc::Allocator;
 use wasm_encoder::{AliasTree, ItemTree, ListFault, Unread, first_unread, list};
-use wenc_decode::Decode;
-use wenc_list::{Names, Sections, behind_module_header, names_of, part_of};
+use wenc_decode::TreeOf;
+use wenc_list::{ItemView, Names, Sections, behind_module_header, names_of, part_of};
+use wenc_parts::Alias;
 use wenc_read::Refusal;
+use wenc_view::{ListOf, View};
 
 /// `list`: whether a component has imports.
 pub fn imports<A: Allocator + Copy>(alloc: A, component: &[u8]) -> Result<bool, ListFault> {
@@ -17,24 +19,30 @@ pub fn imports<A: Allocator + Copy>(alloc: A, component: &[u8]) -> Result<bool, 
 }
 
 /// `first_unread`: which item of a component can't be read.
-pub fn unread<A: Allocator + Copy>(
-    alloc: A,
-    component: &[u8],
-) -> Result<Option<Unread>, AllocError> {
+pub fn unread<A: Allocator + Copy>(alloc: A, component: &[u8]) -> Option<Unread> {
     match list(alloc, component) {
-        Err(ListFault::BadItem { place }) => first_unread(alloc, component, place),
-        _ => Ok(None),
+        Err(ListFault::BadItem { place }) => first_unread(component, place),
+        _ => None,
     }
 }
 
 /// `Sections`: the first item of a component.
-pub fn first_item<A: Allocator + Copy>(
+pub fn first_item(component: &[u8]) -> Result<Option<ItemView<'_>>, ListFault> {
+    let mut sections = Sections::new(component)?;
+    match sections.next()? {
+        Some(mut items) => items.next(),
+        None => Ok(None),
+    }
+}
+
+/// `SectionItems::next_tree`: the first item of a component as an owned value.
+pub fn first_tree<A: Allocator + Copy>(
     alloc: A,
     component: &[u8],
 ) -> Result<Option<ItemTree<A>>, ListFault> {
     let mut sections = Sections::new(component)?;
     match sections.next()? {
-        Some(mut items) => items.next(alloc),
+        Some(mut items) => items.next_tree(alloc),
         None => Ok(None),
     }
 }
@@ -48,19 +56,27 @@ pub fn first_section(module: &[u8]) -> Result<((u8, &[u8]), &[u8]), Refusal> {
 }
 
 /// `names_of`.
-pub fn first_names<A: Allocator + Copy>(
-    alloc: A,
-    data: &[u8],
-) -> Result<(Names<A>, &[u8]), Refusal> {
-    let (names, rest) = names_of(alloc, data)?;
+pub fn first_names(data: &[u8]) -> Result<(Names<'_>, &[u8]), Refusal> {
+    let (names, rest) = names_of(data)?;
     Ok((names, rest))
 }
 
-/// `Decode`.
-pub fn decoded<A: Allocator + Copy>(
+/// `View`: the sum of a list of numbers, which are read one by one.
+pub fn sum_of(bytes: &[u8]) -> Result<(u64, &[u8]), Refusal> {
+    let (numbers, rest) = ListOf::view_of(bytes)?;
+    let mut sum: u64 = 0;
+    for number in numbers {
+        let number: u32 = number;
+        sum = sum.saturating_add(u64::from(number));
+    }
+    Ok((sum, rest))
+}
+
+/// `TreeOf`: an alias as an owned value.
+pub fn alias_tree<A: Allocator + Copy>(
     alloc: A,
     bytes: &[u8],
 ) -> Result<(AliasTree<A>, &[u8]), Refusal> {
-    let (alias, rest) = AliasTree::decode(alloc, bytes)?;
-    Ok((alias, rest))
+    let (alias, rest) = Alias::view_of(bytes)?;
+    Ok((AliasTree::tree_of(alloc, alias)?, rest))
 }

@@ -6,7 +6,7 @@ use Rattle.wenc_read.specs.declared.refusal.NestedRefusal.{NestedRefusal}
 use Rattle.wenc_read.specs.declared.refusal.NestedRefusal.TheVariants.{Flat, TooDeep}
 use Rattle.wenc_read.specs.declared.refusal.Refusal.{Refusal}
 use Rattle.wenc_read.specs.declared.refusal.Refusal.TheVariants.{Memory, Malformed}
-use Rattle.wenc_read.specs.Gives.{Fails, FailsNested}
+use Rattle.wenc_read.specs.inside.Fails.{Fails, FailsNested}
 
 -- what stands after a first byte, by the row of that byte
 pub at_first : {A : Type 0} (table : List (ℕ × Reader A)) (other : Reader A) (b first : ℕ)

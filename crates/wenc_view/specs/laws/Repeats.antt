@@ -4,7 +4,7 @@ use Rattle.std.proofs.Common.{refl, sym, ap, subst, ◌∙◌, append_assoc, ari
 use Rattle.std.proofs.lemmas.List.{append-nil}
 use Rattle.wenc_base.specs.Readers.{Flaw, Reader, go_on, times}
 use Rattle.wenc_read.specs.declared.refusal.NestedRefusal.{NestedRefusal}
-use Rattle.wenc_read.specs.Gives.{FailsNested}
+use Rattle.wenc_read.specs.inside.Fails.{FailsNested}
 use Rattle.wenc_read.specs.laws.Tables.{fails_nested_on}
 
 -- what was read before, and what is still read

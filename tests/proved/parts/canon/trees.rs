@@ -5,7 +5,8 @@ use crate::proved::tests::parts::checks::check;
 use crate::proved::wasm_encoder::{Command, build};
 use crate::proved::wenc_base::{HeapType, RefType, ValType};
 use crate::proved::wenc_canon::CanonicalOption;
-use crate::proved::wenc_decode::Decode;
+use crate::proved::tests::trees::tree as read_tree;
+use crate::proved::wenc_view::CanonView;
 use crate::proved::wenc_parts::{ComponentValType, PrimitiveValType};
 use crate::proved::wenc_sections::CanonTree;
 use crate::shim::alloc::Global;
@@ -158,7 +159,7 @@ fn is_tree(tree: CanonTree, name: &str, bytes: &[u8]) {
     assert_eq!(tree.name(), name);
     check(&tree, bytes);
     let behind = [bytes, &[0x42]].concat();
-    let (read, rest) = CanonTree::decode(Global, &behind).unwrap();
+    let (read, rest) = read_tree::<CanonView, CanonTree>(&behind).unwrap();
     assert_eq!((&read, rest), (&tree, &[0x42][..]));
     let size = u8::try_from(bytes.len() + 1).unwrap();
     let wanted = [b"\x00asm\x0d\x00\x01\x00\x08", &[size, 1][..], bytes].concat();

@@ -1,9 +1,9 @@
-use Rattle.wenc_parts.specs.Aliases.{alias_tree_view}
-use Rattle.proved_tests.proofs.ReadSo.{given_read, none_read}
+use Rattle.wenc_parts.specs.Aliases.{alias_view}
+use Rattle.proved_tests.proofs.ReadSo.{always_read, none_at_all}
 use Rattle.proved_tests.proofs.read.alias_of.Goals as goal
 
 pub returns-clause-read : goal.returns-clause-read
-returns-clause-read g c = given_read (c.decoding_is_exact.ensures c.args.bytes.now) (λ x. (alias_tree_view x.0, x.1.now)) c.decode.result c.decode.ensures
+returns-clause-read c = always_read (c.views_are_exact.ensures c.args.bytes.now) (λ x. (alias_view x.0, x.1.now)) c.view_of.result c.view_of.ensures
 
 pub returns-clause-none : goal.returns-clause-none
-returns-clause-none g c = none_read (c.decoding_is_exact.ensures c.args.bytes.now) (λ x. (alias_tree_view x.0, x.1.now)) c.decode.result c.decode.ensures
+returns-clause-none c = none_at_all (c.views_are_exact.ensures c.args.bytes.now) (λ x. (alias_view x.0, x.1.now)) c.view_of.result c.view_of.ensures

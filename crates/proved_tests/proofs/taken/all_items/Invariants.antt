@@ -4,7 +4,7 @@ use Rattle.wenc_list.specs.Cursor.{HasTaken}
 use Rattle.proved_tests.proofs.taken.all_items.Given as goal
 
 abbrev pub decreases-loop-item : goal.decreases-loop-item
-decreases-loop-item g l = l.left.left
+decreases-loop-item l = l.left.left
 
 abbrev pub invariant-loop-item : goal.invariant-loop-item
-invariant-loop-item g l = (xs : List Item) × HasTaken l.items xs l.left
+invariant-loop-item l = (xs : List Item) × HasTaken l.items xs l.left

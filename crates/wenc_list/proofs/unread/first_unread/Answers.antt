@@ -6,7 +6,7 @@ use Rattle.wenc_list.proofs.Walked.{unframed, of_section, named_some, named_none
 use Rattle.wenc_list.proofs.unread.first_unread.Goals as goal
 
 pub returns-in-Ok-counted-clause-unread : goal.returns-in-Ok-counted-clause-unread
-returns-in-Ok-counted-clause-unread g c =
+returns-in-Ok-counted-clause-unread c =
     let here = c.split_at.result.1.now in
     let id = c.in-Ok.id in
     let content = c.in-Ok.content.now in
@@ -31,11 +31,11 @@ returns-in-Ok-counted-clause-unread g c =
     }) c.unread_item.ensures)
 
 pub returns-in-Ok-counted-clause-named : goal.returns-in-Ok-counted-clause-named
-returns-in-Ok-counted-clause-named g c = named_some c.args.bytes.now c.args.place
+returns-in-Ok-counted-clause-named c = named_some c.args.bytes.now c.args.place
     (IsUnread (length c.args.bytes.now) (drop c.args.place c.args.bytes.now)) c.unread_item.result (returns-in-Ok-counted-clause-unread g c)
 
 pub returns-in-Err-counted-clause-unread : goal.returns-in-Err-counted-clause-unread
-returns-in-Err-counted-clause-unread g c =
+returns-in-Err-counted-clause-unread c =
     let id = c.in-Ok.id in
     let content = c.in-Ok.content.now in
     let bad = c.in-Err-counted.ensures.1 in
@@ -54,7 +54,7 @@ returns-in-Err-counted-clause-unread g c =
     }
 
 pub returns-in-Err-clause-unread : goal.returns-in-Err-clause-unread
-returns-in-Err-clause-unread g c = unframed (drop c.args.place c.args.bytes.now) (rw c.split_at.ensures.back at c.in-Err.ensures.1)
+returns-in-Err-clause-unread c = unframed (drop c.args.place c.args.bytes.now) (rw c.split_at.ensures.back at c.in-Err.ensures.1)
 
 pub returns-in-Err-clause-named : goal.returns-in-Err-clause-named
-returns-in-Err-clause-named g c n = absurd (named_none c.args.bytes.now c.args.place n (returns-in-Err-clause-unread g c))
+returns-in-Err-clause-named c n = absurd (named_none c.args.bytes.now c.args.place n (returns-in-Err-clause-unread g c))

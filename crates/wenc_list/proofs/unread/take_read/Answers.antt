@@ -4,7 +4,7 @@ use Rattle.wenc_list.proofs.Taken.{one_more_taken}
 use Rattle.wenc_list.proofs.unread.take_read.Goals as goal
 
 pub loop-item-preserved : goal.loop-item-preserved
-loop-item-preserved g c =
+loop-item-preserved c =
     let before = c.loop-item.invariant in
     let x = c.in-Some._item in (
       before.0 ++ item_seen x ∷ [],

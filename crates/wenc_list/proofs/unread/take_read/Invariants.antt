@@ -4,7 +4,7 @@ use Rattle.wenc_list.specs.Cursor.{HasTaken}
 use Rattle.wenc_list.proofs.unread.take_read.Given as goal
 
 abbrev pub decreases-loop-item : goal.decreases-loop-item
-decreases-loop-item g l = l.items.left
+decreases-loop-item l = l.items.left
 
 abbrev pub invariant-loop-item : goal.invariant-loop-item
-invariant-loop-item g l = (xs : List Item) × HasTaken l.fn.items xs l.items
+invariant-loop-item l = (xs : List Item) × HasTaken l.fn.items xs l.items
