@@ -151,9 +151,7 @@ fn unread_part(bytes: &[u8], fault: ListFault) -> (Status, UnreadPart) {
         ListFault::TooDeep { place } => (Status::TooDeep, place),
     };
     let unread = match fault {
-        ListFault::BadItem { place } | ListFault::TooDeep { place } => {
-            first_unread(bytes, place)
-        }
+        ListFault::BadItem { place } | ListFault::TooDeep { place } => first_unread(bytes, place),
         _ => None,
     };
     let (part, item, place) = match unread {

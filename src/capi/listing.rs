@@ -3,8 +3,8 @@
 use super::session::{Session, settled};
 use super::{Handle, Result, Status, calls, numbers, other, put};
 use crate::proved::wasm_encoder::{
-    AliasTree, ComponentBuilder, ComponentSectionId, CustomSection, ItemTree,
-    ListFault, ListedSection, SectionItems, Space, list,
+    AliasTree, ComponentBuilder, ComponentSectionId, CustomSection, ItemTree, ListFault,
+    ListedSection, SectionItems, Space, list,
 };
 use crate::shim::alloc::Global;
 use crate::shim::vec::Vec;

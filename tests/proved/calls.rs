@@ -16,10 +16,9 @@ mod types;
 mod values;
 
 use crate::proved::tests::hex::{bytes, digits};
-use crate::proved::tests::trees::tree;
 use crate::proved::wenc_base::{Encode, Section};
-use crate::proved::wenc_decode::TreeOf;
 use crate::proved::wenc_parts::ComponentSection;
+use crate::proved::wenc_read::Refusal;
 use crate::proved::wenc_view::View;
 use crate::shim::alloc::Global;
 use crate::shim::vec::Vec;
@@ -39,16 +38,16 @@ fn again<V: for<'a> View<'a> + Encode>(text: &str) {
     is(&value, text);
 }
 
-/// The same of an owned value.
-macro_rules! tree_again {
-    ($view:ty => $tree:ty, $text:expr) => {{
-        let bytes = bytes($text);
-        let (value, rest) = tree::<$view, $tree>(&bytes).unwrap();
-        assert!(rest.is_empty());
-        is(&value, $text);
-    }};
+/// The same of an owned value, which is read by this function.
+fn tree_again<T: Encode>(
+    text: &str,
+    read: impl for<'a> Fn(&'a [u8]) -> Result<(T, &'a [u8]), Refusal>,
+) {
+    let bytes = bytes(text);
+    let (value, rest) = read(&bytes).unwrap();
+    assert!(rest.is_empty());
+    is(&value, text);
 }
-use tree_again;
 
 /// The section has this id and these bytes in a component.
 fn section_is<S: ComponentSection>(section: &S, id: u8, wanted: &str) {

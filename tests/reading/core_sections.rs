@@ -57,7 +57,6 @@ fn faults_have_their_places() {
         assert_eq!(told[1], bad, "{bytes:x?}");
     }
     let texts = [
-        (ModuleFault::NoMemory, "no memory"),
         (
             ModuleFault::NotAModule { found: Found::Component },
             "no core module's header: found a component",
@@ -71,12 +70,12 @@ fn faults_have_their_places() {
 }
 
 /// What is read of a section: its items, with their places.
-type Read = Vec<Result<(Range<usize>, CoreItem), ModuleFault>>;
+type Read = Vec<Result<(Range<usize>, CoreItem<'static>), ModuleFault>>;
 
 /// The items of the only section of a module, after that section's count.
 fn items(section: &[u8]) -> (Option<u32>, Read) {
-    let module = [b"\0asm\x01\0\0\0", section].concat();
-    let section = CoreSections::new(&module).expect("a header").next().expect("a section");
+    let module = [b"\0asm\x01\0\0\0", section].concat().leak();
+    let section = CoreSections::new(module).expect("a header").next().expect("a section");
     let section = section.expect("it is framed");
     (section.count(), section.items().collect())
 }
@@ -84,11 +83,7 @@ fn items(section: &[u8]) -> (Option<u32>, Read) {
 #[test]
 fn items_have_their_places() {
     let memory = CoreMemoryType { minimum: 1, maximum: None, memory64: false, shared: false };
-    let import = |module: &str, name: &str, ty| CoreItem::Import {
-        module: module.into(),
-        name: name.into(),
-        ty,
-    };
+    let import = |module, name, ty| CoreItem::Import { module, name, ty };
     assert_eq!(
         items(b"\x02\x0f\x02\x03env\x01f\0\x05\0\x01m\x02\0\x01"),
         (
@@ -99,7 +94,7 @@ fn items_have_their_places() {
             ],
         ),
     );
-    let export = CoreItem::Export { name: "g".into(), kind: ExportKind::Global, index: 128 };
+    let export = CoreItem::Export { name: "g", kind: ExportKind::Global, index: 128 };
     assert_eq!(items(b"\x07\x06\x01\x01g\x03\x80\x01"), (Some(1), vec![Ok((11..16, export))]),);
     let start = CoreItem::Start { function: 7 };
     assert_eq!(items(b"\x08\x01\x07"), (Some(1), vec![Ok((10..11, start))]));

@@ -110,21 +110,6 @@ fn items_are_found() {
         })
     });
     assert_eq!(items.len(), read.len());
-
-    let module = b"\0asm\x01\0\0\0\0\x02\x01x\x02\x07\x01\x01m\x01f\0\0\x07\x05\x01\x01g\0\0";
-    let module = CoreSections::new(module).expect("it is a module");
-    let items = each_is_refused(4, |refusals| {
-        refusals.call(|| {
-            let mut items = calmly(|| Vec::with_capacity(100));
-            for section in module.clone() {
-                for item in section.map_err(refused(ModuleFault::NoMemory))?.items() {
-                    items.push(item.map_err(refused(ModuleFault::NoMemory))?.1);
-                }
-            }
-            Ok(items)
-        })
-    });
-    assert_eq!(items.len(), 2);
 }
 
 #[test]

@@ -6,7 +6,7 @@ use super::report::{Content, Part, Report};
 use super::walk::{Indices, Walk};
 use std::ops::Range;
 use wenc::tree::{CoreEntityType, Space};
-use wenc::{CoreItem, CoreSection, CoreSections, ModuleFault, RawSection, SectionId};
+use wenc::{CoreItem, CoreSection, CoreSections, RawSection, SectionId};
 
 /// Returns the space in which an item has an index, if any.
 fn space(item: &CoreItem) -> Option<Space> {
@@ -42,7 +42,6 @@ impl<R: Report> Walk<'_, '_, R> {
             let frame = here.next_raw();
             match (section, frame) {
                 (Ok(section), _) => self.core_section(at, &section, &mut next)?,
-                (Err(ModuleFault::NoMemory), _) => return Err(Failure::NoMemory),
                 (Err(_), Some((range, raw))) => {
                     self.without_name(at, range, raw)?;
                     sections = here.clone();
@@ -81,7 +80,7 @@ impl<R: Report> Walk<'_, '_, R> {
         self.report.open(&Part::CoreSection {
             range: range.clone(),
             id: section.id,
-            name: section.name.as_deref(),
+            name: section.name,
             count: section.count(),
             bytes: if are_shown { &[] } else { section.data },
         })?;
@@ -91,7 +90,6 @@ impl<R: Report> Walk<'_, '_, R> {
         for item in section.items() {
             match item {
                 Ok((range, item)) => self.core_item(at, section, range, &item, next)?,
-                Err(ModuleFault::NoMemory) => return Err(Failure::NoMemory),
                 Err(fault) => {
                     let fault = Fault::Module(at, fault);
                     next.note(&fault);

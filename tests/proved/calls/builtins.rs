@@ -1,7 +1,8 @@
 //! Each canonical function, of a builder and of a section.
 
-use super::{again, is, section_is};
+use super::{again, is, section_is, tree_again};
 use crate::proved::tests::hex::digits;
+use crate::proved::tests::trees::tree;
 use crate::proved::wenc_base::{Fault, ValType};
 use crate::proved::wenc_builder::ComponentBuilder;
 use crate::proved::wenc_canon::{
@@ -10,6 +11,7 @@ use crate::proved::wenc_canon::{
 };
 use crate::proved::wenc_parts::{ComponentValType, PrimitiveValType};
 use crate::proved::wenc_sections::CanonTree;
+use crate::proved::wenc_view::CanonView;
 use crate::shim::alloc::Global;
 
 const OPTIONS: [CanonicalOption; 2] = [CanonicalOption::UTF8, CanonicalOption::Memory(0)];
@@ -127,7 +129,7 @@ fn rows_are_added() {
 
 #[test]
 fn trees_and_options() {
-    tree_again!(CanonView => CanonTree, "0100800102000300");
+    tree_again("0100800102000300", |bytes| tree::<CanonView, CanonTree>(bytes));
     again::<CanonicalOption>("0301");
     is(&NotCancellable, "00");
     let cancel: CanonTree = CanonTree::TaskCancel;

@@ -7,8 +7,8 @@ use crate::proved::wasm_encoder::{
     NameTree, Running, Space, TypeTree, ValType, build, list, producers_command,
 };
 use crate::proved::wenc_base::ProducersSection;
-use crate::proved::wenc_view::View;
 use crate::proved::wenc_list::ItemName;
+use crate::proved::wenc_view::View;
 use crate::shim::alloc::{AllocError, Global};
 use crate::shim::boxed::Box;
 use crate::shim::string::String;

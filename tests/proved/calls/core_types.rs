@@ -1,11 +1,13 @@
 //! Types of the core: each is read and written, and those that are made by calls.
 
-use super::{again, is};
+use super::{again, is, tree_again};
+use crate::proved::tests::trees::tree;
 use crate::proved::wenc_base::{
     AbstractHeapType, ArrayType, CompositeType, EntityType, ExportKind, FieldType, FuncType,
     GlobalType, GroupTree, Guarded, HeapType, MemoryType, RefType, StorageType, StructType,
     SubType, TableType, TagType, ValType,
 };
+use crate::proved::wenc_view::composites::{CompositeView, GroupView, SubView};
 use crate::shim::alloc::Global;
 use crate::shim::vec::Vec;
 use std::vec;
@@ -17,9 +19,9 @@ fn read_and_written() {
     again::<HeapType>("6e");
     again::<StorageType>("77");
     again::<FieldType>("7801");
-    tree_again!(CompositeView => CompositeType, "60027f7e017d");
-    tree_again!(SubView => SubType, "5001005f017801");
-    tree_again!(GroupView => GroupTree, "4e02600000500180015e7700");
+    tree_again("60027f7e017d", |bytes| tree::<CompositeView, CompositeType>(bytes));
+    tree_again("5001005f017801", |bytes| tree::<SubView, SubType>(bytes));
+    tree_again("4e02600000500180015e7700", |bytes| tree::<GroupView, GroupTree>(bytes));
 }
 
 #[test]

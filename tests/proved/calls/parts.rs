@@ -1,9 +1,9 @@
 //! Kinds, references, types of values, aliases, names of imports and exports, and numbers.
 
-use super::{again, is};
+use super::{again, is, tree_again};
 use crate::proved::tests::hex::digits;
-use crate::proved::wenc_base::{ExportKind, Fault, SectionId, encode_list, extend_in_room};
 use crate::proved::tests::trees::{tree, type_tree};
+use crate::proved::wenc_base::{ExportKind, Fault, SectionId, encode_list, extend_in_room};
 use crate::proved::wenc_parts::{
     Alias, AliasTree, ComponentExportKind, ComponentExternName, ComponentOuterAliasKind,
     ComponentSectionId, ComponentTypeRef, ComponentValType, ModuleArg, NameOptions, NameTree,
@@ -32,7 +32,7 @@ fn read_and_written() {
     again::<ResultList>("0073");
     again::<u32>("8001");
     again::<bool>("01");
-    tree_again!(&str => String, "0166");
+    tree_again("0166", |bytes| tree::<&str, String>(bytes));
     again::<Option<u32>>("0105");
 }
 
@@ -51,11 +51,11 @@ fn kinds_and_ids() {
 fn aliases() {
     let alias = Alias::InstanceExport { instance: 5, kind: ComponentExportKind::Module, name: "m" };
     is(&alias, "00110005016d");
-    let tree: AliasTree =
+    let made: AliasTree =
         AliasTree::CoreInstanceExport { instance: 0, kind: ExportKind::Tag, name: owned("m") };
-    is(&tree.as_alias(), "00040100016d");
-    let (tree, rest) = tree::<Alias, AliasTree>(b"\x03\x02\x00\x01\x2a").unwrap();
-    is(&tree.as_alias(), "03020001");
+    is(&made.as_alias(), "00040100016d");
+    let (read, rest) = tree::<Alias, AliasTree>(b"\x03\x02\x00\x01\x2a").unwrap();
+    is(&read.as_alias(), "03020001");
     assert_eq!(rest, b"\x2a");
 }
 

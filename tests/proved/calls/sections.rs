@@ -1,8 +1,9 @@
 //! Components by hand, section by section, and trees of their items.
 
-use super::{again, is, section_is};
+use super::{is, section_is, tree_again};
 use crate::proved::proved_tests::strangers::own::Own;
 use crate::proved::tests::hex::digits;
+use crate::proved::tests::trees::tree;
 use crate::proved::wenc_base::{ExportKind, Fault, Module, NameMap};
 use crate::proved::wenc_parts::{
     Alias, Component, ComponentExportKind, ComponentExternName, ComponentOuterAliasKind,
@@ -13,6 +14,7 @@ use crate::proved::wenc_sections::{
     ComponentInstanceSection, ComponentNameSection, ComponentStartSection, CoreInstanceTree,
     InstanceSection, InstanceTree, ModuleSection, NamesOf, NestedComponentSection, Space,
 };
+use crate::proved::wenc_view::{CoreInstanceView, InstanceView};
 use crate::shim::alloc::Global;
 
 const OUTER: Alias<'static> =
@@ -49,7 +51,7 @@ fn core_instances() {
     section.export_items([("foo", ExportKind::Func, 0)].into_iter()).unwrap();
     section.instantiate(1, [("foo", ModuleArg::Instance(0))].into_iter()).unwrap();
     section_is(&section, 2, "021202010103666f6f000000010103666f6f1200");
-    tree_again!(CoreInstanceView => CoreInstanceTree, "00010103666f6f1200");
+    tree_again("00010103666f6f1200", |bytes| tree::<CoreInstanceView, CoreInstanceTree>(bytes));
 }
 
 #[test]
@@ -60,7 +62,7 @@ fn instances() {
     let arg = ("foo", ComponentExportKind::Instance, 0);
     section.instantiate(1, [arg].into_iter()).unwrap();
     section_is(&section, 5, "05130201010003666f6f010000010103666f6f0500");
-    tree_again!(InstanceView => InstanceTree, "01010003666f6f0100");
+    tree_again("01010003666f6f0100", |bytes| tree::<InstanceView, InstanceTree>(bytes));
 }
 
 /// Names of items of each kind.

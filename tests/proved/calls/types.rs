@@ -1,7 +1,8 @@
 //! Module, component and instance types, each encoder of a type, and what is counted.
 
 use super::core_types::{function, open_type};
-use super::{again, is};
+use super::{is, tree_again};
+use crate::proved::tests::trees::tree;
 use crate::proved::wenc_base::{
     EntityType, Fault, FieldType, GroupTree, StorageType, TagType, ValType,
 };
@@ -15,6 +16,8 @@ use crate::proved::wenc_types::{
     CaseTree, ComponentDecl, ComponentType, CoreTypeTree, DefinedTree, FuncStage, InstanceDecl,
     InstanceType, ModuleDecl, ModuleType, TypeTree,
 };
+use crate::proved::wenc_view::core_type_views::ModuleDeclView;
+use crate::proved::wenc_view::{CaseView, CoreTypeView, DefinedView};
 use crate::shim::alloc::Global;
 use crate::shim::vec::Vec;
 
@@ -70,8 +73,8 @@ fn core_section() {
     assert!(section.is_finished());
     assert_eq!(section.len(), 3);
     is(&section, "0d035000500000500060017f017c");
-    tree_again!(CoreTypeView => CoreTypeTree, "50010210010100");
-    tree_again!(ModuleDeclView => ModuleDecl, "0210010100");
+    tree_again("50010210010100", |bytes| tree::<CoreTypeView, CoreTypeTree>(bytes));
+    tree_again("0210010100", |bytes| tree::<ModuleDeclView, ModuleDecl>(bytes));
 }
 
 const STRING: ComponentValType = ComponentValType::Primitive(PrimitiveValType::String);
@@ -118,8 +121,8 @@ fn types_of_values() {
     add_several(&mut section).unwrap();
     add_short(&mut section).unwrap();
     is(&section, VALUES);
-    tree_again!(DefinedView => DefinedTree, "7201016173");
-    tree_again!(CaseView => CaseTree, "0162017300");
+    tree_again("7201016173", |bytes| tree::<DefinedView, DefinedTree>(bytes));
+    tree_again("0162017300", |bytes| tree::<CaseView, CaseTree>(bytes));
 }
 
 const FUNCTION: Alias<'static> =

@@ -169,10 +169,10 @@ fn an_item_is_taken_after_memory_was_refused() {
     let bytes = component("0a06010001660100");
     let mut items = Sections::new(&bytes).unwrap().next().unwrap().unwrap();
     heap.refuse_all();
-    assert_eq!(items.next(&heap).err(), Some(ListFault::Memory));
+    assert_eq!(items.next_tree(&heap).err(), Some(ListFault::Memory));
     assert_eq!((items.left, items.reached()), (1, 11));
     heap.refuse_none();
-    assert!(items.next(&heap).unwrap().is_some());
+    assert!(items.next_tree(&heap).unwrap().is_some());
     assert_eq!((items.left, items.reached()), (0, 16));
-    assert!(items.next(&heap).unwrap().is_none());
+    assert!(items.next_tree(&heap).unwrap().is_none());
 }

@@ -1,11 +1,11 @@
 //! What the front of bytes is read as, and what follows it. What is read is encoded again.
 
-use crate::proved::wasm_encoder::{
-    AbstractHeapType, Alias, AliasTree, ComponentExportKind, ComponentOuterAliasKind, ComponentTypeRef,
-    ComponentValType, DefinedTree, Encode, HeapType, InstanceDecl, NameOptions, NameTree, PrimitiveValType,
-    RefType, TypeBounds, TypeTree, ValType,
-};
 use crate::proved::tests::trees::{tree, type_tree};
+use crate::proved::wasm_encoder::{
+    AbstractHeapType, Alias, AliasTree, ComponentExportKind, ComponentOuterAliasKind,
+    ComponentTypeRef, ComponentValType, DefinedTree, Encode, HeapType, InstanceDecl, NameOptions,
+    NameTree, PrimitiveValType, RefType, TypeBounds, TypeTree, ValType,
+};
 use crate::proved::wenc_read::{NestedRefusal, Refusal};
 use crate::proved::wenc_view::{NameView, View, text_of, type_at};
 use crate::shim::alloc::Global;

@@ -3,9 +3,7 @@
 use super::checks::component;
 use super::faults::BAD_ITEMS;
 use super::rows::ROWS;
-use crate::proved::tests::refusing::Refusing;
 use crate::proved::wenc_list::{Unread, first_unread};
-use crate::shim::alloc::AllocError;
 use std::format;
 
 /// Sections, the place of one, and what of that isn't read.
@@ -100,23 +98,7 @@ fn types_that_are_too_deep() {
     // 101 of them inside one another, alone and after another type.
     let deep = format!("{}4200", "420101".repeat(100));
     let alone = component(&format!("07af0201{deep}"));
-    assert_eq!(first_unread(&alone, 8), Ok(Some(item(0, 12))));
+    assert_eq!(first_unread(&alone, 8), Some(item(0, 12)));
     let second = component(&format!("07b0020273{deep}"));
-    assert_eq!(first_unread(&second, 8), Ok(Some(item(1, 13))));
-}
-
-#[test]
-fn memory_that_is_refused() {
-    let heap = Refusing::new();
-    let bytes = component("0a0b0200016601000301660100");
-    for n in 1..100 {
-        heap.refuse_nth(n);
-        let told = first_unread(&heap, &bytes, 8);
-        if !heap.was_refused() {
-            assert!(told == Ok(Some(item(1, 16))) && n > 1);
-            return;
-        }
-        assert_eq!(told, Err(AllocError));
-    }
-    panic!("there is no end")
+    assert_eq!(first_unread(&second, 8), Some(item(1, 13)));
 }

@@ -2,13 +2,13 @@
 //! made a component by `build`.
 
 use crate::proved::tests::parts::checks::check;
+use crate::proved::tests::trees::tree as read_tree;
 use crate::proved::wasm_encoder::{Command, build};
 use crate::proved::wenc_base::{HeapType, RefType, ValType};
 use crate::proved::wenc_canon::CanonicalOption;
-use crate::proved::tests::trees::tree as read_tree;
-use crate::proved::wenc_view::CanonView;
 use crate::proved::wenc_parts::{ComponentValType, PrimitiveValType};
 use crate::proved::wenc_sections::CanonTree;
+use crate::proved::wenc_view::CanonView;
 use crate::shim::alloc::Global;
 use crate::shim::vec::Vec;
 use std::collections::BTreeSet;
