@@ -1,0 +1,27 @@
+use Rattle.std.proofs.Common.{◌≡◌, ap}
+use Rattle.std.specs.String.{string_bytes}
+use Rattle.wenc_base.specs.reading.Forms.{read_name}
+use Rattle.wenc_base.specs.reading.Numbers.{read_u32}
+use Rattle.wenc_parts.specs.Imports.{name_tree_view}
+use Rattle.wenc_parts.specs.reading.Exports.{read_component_export_kind}
+use Rattle.wenc_parts.specs.reading.Imports.{read_extern_name}
+use Rattle.wenc_sections.specs.Instances.{Instantiate, Exports, named_triple}
+use Rattle.wenc_sections.specs.reading.Pairs.{read_triple}
+use Rattle.wenc_view.specs.Members.{list_view}
+use Rattle.wenc_view.specs.Names.{name_seen}
+use Rattle.wenc_decode.specs.laws.Copies.{copies_are}
+use Rattle.wenc_decode.proofs.trees.instances.InstanceTreeTreeOfInstanceView.tree_of.Goals as goal
+
+pub returns-in_ok-args-in-Instantiate : goal.returns-in_ok-args-in-Instantiate
+returns-in_ok-args-in-Instantiate g c =
+    rw c.in-Instantiate.is (ap (Instantiate c.in-Instantiate.component)
+    (copies_are (λ t v. named_triple string_bytes t ≡ named_triple (λ s. s.now) v) (named_triple (λ s. s.now)) (named_triple string_bytes) (λ t v h. h)
+    c.in_ok-args-in-Instantiate.args.items (list_view (read_triple read_name read_component_export_kind read_u32) c.in-Instantiate.args)
+    c.in_ok-args-in-Instantiate.ensures))
+
+pub returns-in_ok-exports-in-Exports : goal.returns-in_ok-exports-in-Exports
+returns-in_ok-exports-in-Exports g c =
+    rw c.in-Exports.is (ap Exports
+    (copies_are (λ t v. named_triple name_tree_view t ≡ named_triple name_seen v) (named_triple name_seen) (named_triple name_tree_view) (λ t v h. h)
+    c.in_ok-exports-in-Exports.exports.items (list_view (read_triple read_extern_name read_component_export_kind read_u32) c.in-Exports.exports)
+    c.in_ok-exports-in-Exports.ensures))
