@@ -24,9 +24,9 @@ pub use nested::NestedSections;
 ///
 /// Sections and items are read as [`list`](crate::list) reads them, but one at a time. Each comes
 /// with its range of byte offsets in the component. [`items`](Self::items) borrow from the
-/// component's bytes, and nothing is allocated; [`trees`](Self::trees) are the same items, owned. The
-/// iterator ends after an error. Methods that take `self` by value work on a copy, from the current
-/// section on.
+/// component's bytes, and nothing is allocated; [`trees`](Self::trees) are the same items, owned.
+/// The iterator ends after an error. Methods that take `self` by value work on a copy, from the
+/// current section on.
 ///
 /// The opcodes of some canonical functions, such as `thread.suspend-to`, have moved between
 /// releases: in components of older and newer tools these may be read as other functions, without
@@ -217,7 +217,7 @@ fn up_to_fault<T, E>(
 impl<'a> Iterator for Sections<'a> {
     type Item = Result<SectionReader<'a>, ListFault>;
 
-    #[inline]
+    #[inline(always)]
     fn next(&mut self) -> Option<Self::Item> {
         match self.left.as_mut()?.next() {
             Ok(Some(left)) => Some(Ok(SectionReader { bytes: self.bytes, left })),
