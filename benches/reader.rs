@@ -1,8 +1,10 @@
 //! What reading costs: the component of the builder's bench is listed, or walked item by item with
 //! the byte offsets of each. What is printed is how many items came and how long it took.
 //!
-//!     cargo bench --offline --bench reader -- N list [grouped]
-//!     cargo bench --offline --bench reader -- N walk [grouped]
+//!     cargo bench --offline --bench reader -- N HOW [grouped]
+//!
+//! HOW is `list`; `walk`, where items are borrowed; `members`, where each member of their lists is
+//! asked for, too; or `trees`, where items are owned.
 //!
 //! `count` counts the instructions that `work` takes.
 
@@ -10,6 +12,7 @@
 #[allow(dead_code)]
 mod builder;
 
+use std::hash::{Hash, Hasher};
 use std::hint::black_box;
 use std::time::Instant;
 use wenc::{ListFault, Sections, list};
@@ -20,6 +23,8 @@ fn work(component: &[u8], how: &str) -> Result<usize, ListFault> {
     match how {
         "list" => Ok(black_box(list(component)?).sections.iter().map(|one| one.items.len()).sum()),
         "walk" => walk(component),
+        "members" => members(component),
+        "trees" => trees(component),
         other => panic!("no work is {other}"),
     }
 }
@@ -32,6 +37,54 @@ fn walk(component: &[u8]) -> Result<usize, ListFault> {
             count += 1;
         }
     }
+    Ok(count)
+}
+
+fn trees(component: &[u8]) -> Result<usize, ListFault> {
+    let mut count = 0;
+    for section in Sections::new(component)? {
+        for item in section?.trees() {
+            black_box(item?);
+            count += 1;
+        }
+    }
+    Ok(count)
+}
+
+/// Takes each part of a value, and keeps little of it.
+struct Taken(u64);
+
+impl Hasher for Taken {
+    fn write(&mut self, bytes: &[u8]) {
+        self.0 = self.0.wrapping_add(bytes.len() as u64);
+    }
+
+    fn write_u8(&mut self, number: u8) {
+        self.0 = self.0.wrapping_add(number.into());
+    }
+
+    fn write_u32(&mut self, number: u32) {
+        self.0 = self.0.wrapping_add(number.into());
+    }
+
+    fn write_isize(&mut self, number: isize) {
+        self.0 = self.0.wrapping_add(number as u64);
+    }
+
+    fn finish(&self) -> u64 {
+        self.0
+    }
+}
+
+fn members(component: &[u8]) -> Result<usize, ListFault> {
+    let (mut count, mut taken) = (0, Taken(0));
+    for section in Sections::new(component)? {
+        for item in section?.items() {
+            black_box(item?.1).hash(&mut taken);
+            count += 1;
+        }
+    }
+    black_box(taken.finish());
     Ok(count)
 }
 

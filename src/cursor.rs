@@ -24,9 +24,9 @@ pub use nested::NestedSections;
 ///
 /// Sections and items are read as [`list`](crate::list) reads them, but one at a time. Each comes
 /// with its range of byte offsets in the component. [`items`](Self::items) borrow from the
-/// component's bytes, and nothing is allocated; [`trees`](Self::trees) are the same items, owned. The
-/// iterator ends after an error. Methods that take `self` by value work on a copy, from the current
-/// section on.
+/// component's bytes, and nothing is allocated; [`trees`](Self::trees) are the same items, owned.
+/// The iterator ends after an error. Methods that take `self` by value work on a copy, from the
+/// current section on.
 ///
 /// The opcodes of some canonical functions, such as `thread.suspend-to`, have moved between
 /// releases: in components of older and newer tools these may be read as other functions, without
@@ -165,6 +165,14 @@ impl<'a> Sections<'a> {
         NestedSections::new(self, limit)
     }
 
+    /// Returns the fault, after which there are no sections.
+    #[cold]
+    #[inline(never)]
+    fn refused(&mut self, fault: proved::ListFault) -> ListFault {
+        self.left = None;
+        ListFault::new(self.bytes, fault)
+    }
+
     /// Returns what is in the sections whose ids are kept, up to the first fault.
     fn each_of<T: 'a, I: Iterator<Item = Result<T, ListFault>> + 'a>(
         self,
@@ -209,13 +217,13 @@ fn up_to_fault<T, E>(
 impl<'a> Iterator for Sections<'a> {
     type Item = Result<SectionReader<'a>, ListFault>;
 
+    #[inline(always)]
     fn next(&mut self) -> Option<Self::Item> {
-        let next = self.left.as_mut()?.next().transpose()?;
-        if next.is_err() {
-            self.left = None;
+        match self.left.as_mut()?.next() {
+            Ok(Some(left)) => Some(Ok(SectionReader { bytes: self.bytes, left })),
+            Ok(None) => None,
+            Err(fault) => Some(Err(self.refused(fault))),
         }
-        let to_fault = |fault| ListFault::new(self.bytes, fault);
-        Some(next.map(|left| SectionReader { bytes: self.bytes, left }).map_err(to_fault))
     }
 }
 

@@ -183,8 +183,8 @@ impl core::error::Error for ListFault {}
 /// an error (`docs/FORMAT.md`, "Where the public standard differs").
 ///
 /// A listing takes up to 184 bytes of memory for each byte of the component on a 64-bit machine:
-/// the most if each section has one empty item. [`Sections`](crate::Sections) takes memory for one
-/// item at a time.
+/// the most if each section has one empty item. A walk over [`Sections`](crate::Sections) takes
+/// none.
 ///
 /// # Errors
 ///

@@ -24,21 +24,12 @@ impl<'a> Items<'a> {
         Self { bytes, left: Some(left) }
     }
 
-    /// Returns the next item, taken by this call, with its byte offsets.
-    #[inline(always)]
-    fn advance<T>(
-        &mut self,
-        next: impl FnOnce(&mut proved::SectionItems<'a>) -> Result<Option<T>, proved::ListFault>,
-    ) -> Option<Result<(Range<usize>, T), ListFault>> {
-        let left = self.left.as_mut()?;
-        let place = left.reached();
-        match next(left).transpose()? {
-            Ok(item) => Some(Ok((place..left.reached(), item))),
-            Err(fault) => {
-                self.left = None;
-                Some(Err(ListFault::new(self.bytes, fault)))
-            }
-        }
+    /// Returns the fault, after which there are no items.
+    #[cold]
+    #[inline(never)]
+    fn refused(&mut self, fault: proved::ListFault) -> ListFault {
+        self.left = None;
+        ListFault::new(self.bytes, fault)
     }
 }
 
@@ -52,7 +43,13 @@ impl<'a> Iterator for Items<'a> {
 
     #[inline(always)]
     fn next(&mut self) -> Option<Self::Item> {
-        self.advance(proved::SectionItems::next)
+        let left = self.left.as_mut()?;
+        let place = left.reached();
+        match left.next() {
+            Ok(Some(item)) => Some(Ok((place..left.reached(), item))),
+            Ok(None) => None,
+            Err(fault) => Some(Err(self.refused(fault))),
+        }
     }
 }
 
@@ -77,6 +74,12 @@ impl Iterator for Trees<'_> {
 
     #[inline(always)]
     fn next(&mut self) -> Option<Self::Item> {
-        self.0.advance(|left| left.next_tree(Global))
+        let left = self.0.left.as_mut()?;
+        let place = left.reached();
+        match left.next_tree(Global) {
+            Ok(Some(item)) => Some(Ok((place..left.reached(), item))),
+            Ok(None) => None,
+            Err(fault) => Some(Err(self.0.refused(fault))),
+        }
     }
 }
