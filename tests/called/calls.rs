@@ -60,9 +60,10 @@ impl Calls {
 }
 
 /// Generic functions of the tests that call a trait's method for the type that they are given.
-const HELPERS: [(&str, &[&str]); 5] = [
+const HELPERS: [(&str, &[&str]); 6] = [
     ("encode", &["again", "check", "check_all", "is", "sweep_encode"]),
-    ("decode", &["again"]),
+    ("tree_of", &["tree", "type_tree"]),
+    ("view_of", &["again", "tree"]),
     ("append_to", &["check_section", "module_section_is"]),
     ("append_to_component", &["check_section", "section_is"]),
     ("id", &["check_section", "module_section_is", "section_is"]),

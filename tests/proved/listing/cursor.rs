@@ -3,6 +3,7 @@
 use super::checks::component;
 use super::rows::ROWS;
 use crate::proved::tests::refusing::Refusing;
+use crate::proved::wenc_decode::TreeOf;
 use crate::proved::wenc_list::{ItemTree, ListFault, SectionItems, Sections};
 use crate::shim::alloc::Global;
 use std::{format, vec, vec::Vec};
@@ -32,6 +33,27 @@ fn walked(bytes: &[u8]) -> Vec<Walked> {
     }
     assert_eq!((sections.place(), sections.rest.len()), (bytes.len(), 0));
     walked
+}
+
+/// A borrowed item is the owned one, and defines the same indices.
+#[test]
+fn borrowed_and_owned_items() {
+    let mut number = 0;
+    for row in ROWS {
+        let bytes = component(row.sections);
+        let mut sections = Sections::new(&bytes).unwrap();
+        while let Ok(Some(items)) = sections.next() {
+            let (mut borrowed, mut owned) = (items, items);
+            while let Ok(Some(view)) = borrowed.next() {
+                let tree = owned.next_tree(Global).unwrap().expect("it is there, too");
+                assert_eq!(view.indices(), tree.indices(), "{}", row.sections);
+                assert_eq!(ItemTree::tree_of(Global, view).unwrap(), tree, "{}", row.sections);
+                number += 1;
+            }
+            assert_eq!(owned.next_tree(Global).err(), borrowed.next().err(), "{}", row.sections);
+        }
+    }
+    assert!(number > 100, "{number}");
 }
 
 #[test]
