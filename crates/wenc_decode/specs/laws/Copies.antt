@@ -18,9 +18,10 @@ copies_are IsCopy view f same [] (m ∷ ms) h = absurd h
 copies_are IsCopy view f same (t ∷ ts) [] h = absurd h
 copies_are IsCopy view f same (t ∷ ts) (m ∷ ms) h = rw (same t h.0.0 h.0.1 ∙ h.0.2, copies_are IsCopy view f same ts ms h.1) refl
 
--- where a copy is what it is a copy of, so are the copies
+-- where a copy equals what it is a copy of, the copies are the members
 pub same_are : {A : Type 0} (ts ms : List A) → AreCopies (λ t v. t ≡ v) (λ v. v) ts ms → ts ≡ ms
-same_are ts ms h = sym (map-id ts) ∙ copies_are (λ t v. t ≡ v) (λ v. v) (λ t. t) (λ t v h. h) ts ms h
+same_are ts ms h =
+    sym (map-id ts) ∙ copies_are (λ t v. t ≡ v) (λ v. v) (λ t. t) (λ t v h. h) ts ms h
 
 pub option_is : {T V A : Type 0} (IsCopy : T → V → Type 0) (view : V → A) (f : T → A) → ((t : T) (v : V) → IsCopy t v → f t ≡ view v) → (o : Option T) (p : Option V) → OptionCopies IsCopy o p → option_map f o ≡ option_map view p
 option_is IsCopy view f same None None h = refl

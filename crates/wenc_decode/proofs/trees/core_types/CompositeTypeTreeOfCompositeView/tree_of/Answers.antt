@@ -17,4 +17,5 @@ returns-in_ok-results-in-Func g c = rw (
 
 pub returns-in_ok-fields-in-Struct : goal.returns-in_ok-fields-in-Struct
 returns-in_ok-fields-in-Struct g c =
-    rw c.in-Struct.is (ap Struct (same_are c.in_ok-fields-in-Struct.fields.items (list_view read_field_type c.in-Struct.fields) c.in_ok-fields-in-Struct.ensures))
+    rw c.in-Struct.is (ap Struct
+    (same_are c.in_ok-fields-in-Struct.fields.items (list_view read_field_type c.in-Struct.fields) c.in_ok-fields-in-Struct.ensures))
