@@ -1,7 +1,7 @@
 -- What copies are.
 use Rattle.std.proofs.Common.{◌≡◌, List, [], ◌∷◌, ◌++◌, map, Option, Some, None, refl, sym, ap, ◌∙◌}
 use Rattle.std.proofs.Common.{append_assoc}
-use Rattle.std.proofs.lemmas.List.{append-nil}
+use Rattle.std.proofs.lemmas.List.{append-nil, map-id}
 use Rattle.std.specs.Option.{option_map}
 use Rattle.wenc_decode.specs.Copies.{AreCopies, OptionCopies}
 
@@ -17,6 +17,11 @@ copies_are IsCopy view f same [] [] h = refl
 copies_are IsCopy view f same [] (m ∷ ms) h = absurd h
 copies_are IsCopy view f same (t ∷ ts) [] h = absurd h
 copies_are IsCopy view f same (t ∷ ts) (m ∷ ms) h = rw (same t h.0.0 h.0.1 ∙ h.0.2, copies_are IsCopy view f same ts ms h.1) refl
+
+-- where a copy equals what it is a copy of, the copies are the members
+pub same_are : {A : Type 0} (ts ms : List A) → AreCopies (λ t v. t ≡ v) (λ v. v) ts ms → ts ≡ ms
+same_are ts ms h =
+    sym (map-id ts) ∙ copies_are (λ t v. t ≡ v) (λ v. v) (λ t. t) (λ t v h. h) ts ms h
 
 pub option_is : {T V A : Type 0} (IsCopy : T → V → Type 0) (view : V → A) (f : T → A) → ((t : T) (v : V) → IsCopy t v → f t ≡ view v) → (o : Option T) (p : Option V) → OptionCopies IsCopy o p → option_map f o ≡ option_map view p
 option_is IsCopy view f same None None h = refl
