@@ -8,21 +8,12 @@ ghost use Rattle.wenc_view.specs.Prelude.{module_declaration_seen, core_type_see
 use super::TreeOf;
 use std::alloc::{AllocError, Allocator};
 use wenc_base::{
-    ArrayType, CompositeType, EntityType, FieldType, FuncType, GroupTree, RefType, StructType,
-    SubType, ValType,
+    ArrayType, CompositeType, FieldType, FuncType, GroupTree, StructType, SubType, ValType,
 };
 use wenc_types::{CoreTypeTree, ModuleDecl};
 use wenc_view::CoreTypeView;
 use wenc_view::composites::{CompositeView, GroupView, SubView};
 use wenc_view::core_type_views::ModuleDeclView;
-
-impl<A: Allocator + Copy> TreeOf<RefType, A> for RefType {
-    ghost is_copy = { λ t v. t ≡ v };
-
-    fn tree_of(_alloc: A, view: RefType) -> Result<RefType, AllocError> {
-        Ok(view)
-    }
-}
 
 impl<A: Allocator + Copy> TreeOf<ValType, A> for ValType {
     ghost is_copy = { λ t v. t ≡ v };
@@ -36,14 +27,6 @@ impl<A: Allocator + Copy> TreeOf<FieldType, A> for FieldType {
     ghost is_copy = { λ t v. t ≡ v };
 
     fn tree_of(_alloc: A, view: FieldType) -> Result<FieldType, AllocError> {
-        Ok(view)
-    }
-}
-
-impl<A: Allocator + Copy> TreeOf<EntityType, A> for EntityType {
-    ghost is_copy = { λ t v. t ≡ v };
-
-    fn tree_of(_alloc: A, view: EntityType) -> Result<EntityType, AllocError> {
         Ok(view)
     }
 }
