@@ -31,7 +31,8 @@ pub use Rattle.wenc_parts.specs.declared.instances.ModuleArg.{ModuleArg}
 pub use Rattle.wenc_view.specs.Gives.{GivesNestedAlways}
 pub use Rattle.wenc_view.specs.Types.{type_seen, instance_declaration_seen}
 pub use Rattle.wenc_view.specs.Types.{component_declaration_seen}
-pub use Rattle.wenc_view.specs.Types.{component_members, instance_members}
+pub use Rattle.wenc_view.specs.Types.{component_members, instance_members, type_nests}
+pub use Rattle.wenc_view.specs.Types.{instance_declaration_nests, component_declaration_nests}
 pub use Rattle.wenc_view.specs.Canonicals.{canon_seen}
 pub use Rattle.wenc_view.specs.Instances.{core_instance_seen, instance_seen}
 pub use Rattle.wenc_view.specs.inside.Canonicals.{error_context_rows, forward_rows, future_rows}

@@ -1,5 +1,5 @@
 -- Borrowed types as pure ones.
-use Rattle.std.specs.Prelude.{ℕ, List}
+use Rattle.std.specs.Prelude.{ℕ, ◌+◌, List}
 use Rattle.wenc_parts.specs.Aliases.{alias_view}
 use Rattle.wenc_types.specs.ComponentTypes.{DefType, DefinedType, FunctionType, ComponentType}
 use Rattle.wenc_types.specs.ComponentTypes.{InstanceType, ResourceType, InstanceDeclaration}
@@ -48,3 +48,17 @@ instance_declaration_seen (instances.Export name ty) = Exported (name_seen name)
 abbrev pub component_declaration_seen : ComponentDeclView → ComponentDeclaration
 component_declaration_seen (components.Import name ty) = Imported (name_seen name) ty
 component_declaration_seen (components.Decl d) = Declared (instance_declaration_seen d)
+
+-- how deep types may nest in a type, and in a declaration
+abbrev pub type_nests : TypeView → ℕ
+type_nests (types.Component ds) = ds.depth_left + 1
+type_nests (types.Instance ds) = ds.depth_left + 1
+type_nests other = 0
+
+abbrev pub instance_declaration_nests : InstanceDeclView → ℕ
+instance_declaration_nests (instances.«Type» ty) = type_nests ty
+instance_declaration_nests other = 0
+
+abbrev pub component_declaration_nests : ComponentDeclView → ℕ
+component_declaration_nests (components.Decl d) = instance_declaration_nests d
+component_declaration_nests other = 0

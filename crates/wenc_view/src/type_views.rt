@@ -1,5 +1,5 @@
 //! Types that components define, in place. Component types and instance types nest, down to a depth.
-ghost use Rattle.std.specs.Prelude.{◌≡◌};
+ghost use Rattle.std.specs.Prelude.{◌≡◌, ◌≤◌, IfOk, IfSome};
 ghost use Rattle.wenc_base.specs.Prelude.{times};
 ghost use Rattle.wenc_read.specs.Prelude.{GivesAlways};
 ghost use Rattle.wenc_types.specs.Prelude.{read_imported, read_exported};
@@ -8,7 +8,8 @@ ghost use Rattle.wenc_types.specs.Prelude.{read_type, read_component_type, read_
 ghost use Rattle.wenc_types.specs.Prelude.{read_resource_type, read_signature, FunctionType};
 ghost use Rattle.wenc_view.specs.Prelude.{GivesNestedAlways, GivesFirst, members_of, type_seen};
 ghost use Rattle.wenc_view.specs.Prelude.{instance_declaration_seen, component_declaration_seen};
-ghost use Rattle.wenc_view.specs.Prelude.{component_members, instance_members};
+ghost use Rattle.wenc_view.specs.Prelude.{component_members, instance_members, type_nests};
+ghost use Rattle.wenc_view.specs.Prelude.{instance_declaration_nests, component_declaration_nests};
 
 use crate::core_type_views::CoreTypeView;
 use crate::defined_types::DefinedView;
@@ -103,8 +104,9 @@ pub enum ComponentDeclView<'a> {
 /// Reads a function type, after its first byte.
 #[inline(always)]
 fn function_type(is_async: bool, bytes: &[u8]) -> Result<(TypeView<'_>, &[u8]), Refusal>
-    ensures { GivesAlways (λ x. (type_seen x.0, x.1.now)) result
+    ensures found { GivesAlways (λ x. (type_seen x.0, x.1.now)) result
         (read_signature is_async FunctionType bytes.now) }
+    ensures flat { IfOk result (λ x. type_nests x.0 ≡ 0) }
 {
     let (params, rest) = ListOf::view_of(bytes)?;
     let (answer, rest) = ResultList::view_of(rest)?;
@@ -118,7 +120,9 @@ fn function_type(is_async: bool, bytes: &[u8]) -> Result<(TypeView<'_>, &[u8]), 
 
 /// Reads a resource type, after its first byte.
 fn resource_type(bytes: &[u8]) -> Result<(TypeView<'_>, &[u8]), Refusal>
-    ensures { GivesAlways (λ x. (type_seen x.0, x.1.now)) result (read_resource_type bytes.now) }
+    ensures found { GivesAlways (λ x. (type_seen x.0, x.1.now)) result
+        (read_resource_type bytes.now) }
+    ensures flat { IfOk result (λ x. type_nests x.0 ≡ 0) }
 {
     let (rep, rest) = ValType::view_of(bytes)?;
     let (dtor, rest) = Option::view_of(rest)?;
@@ -137,8 +141,9 @@ pub fn type_at<'a>(
     depth_left: u32,
     bytes: &'a [u8],
 ) -> Result<(TypeView<'a>, &'a [u8]), NestedRefusal>
-    ensures { GivesNestedAlways (λ x. (type_seen x.0, x.1.now)) result
+    ensures found { GivesNestedAlways (λ x. (type_seen x.0, x.1.now)) result
         (read_type depth_left bytes.now) }
+    ensures within { IfOk result (λ x. type_nests x.0 ≤ depth_left) }
 {
     match byte(bytes)? {
         (0x41, rest) => component_type(depth_left, rest),
@@ -159,8 +164,9 @@ fn component_type<'a>(
     depth_left: u32,
     bytes: &'a [u8],
 ) -> Result<(TypeView<'a>, &'a [u8]), NestedRefusal>
-    ensures { GivesNestedAlways (λ x. (type_seen x.0, x.1.now)) result
+    ensures found { GivesNestedAlways (λ x. (type_seen x.0, x.1.now)) result
         (read_component_type depth_left bytes.now) }
+    ensures within { IfOk result (λ x. type_nests x.0 ≤ depth_left) }
 {
     if depth_left == 0 {
         return Err(NestedRefusal::TooDeep);
@@ -182,8 +188,9 @@ fn instance_type<'a>(
     depth_left: u32,
     bytes: &'a [u8],
 ) -> Result<(TypeView<'a>, &'a [u8]), NestedRefusal>
-    ensures { GivesNestedAlways (λ x. (type_seen x.0, x.1.now)) result
+    ensures found { GivesNestedAlways (λ x. (type_seen x.0, x.1.now)) result
         (read_instance_type depth_left bytes.now) }
+    ensures within { IfOk result (λ x. type_nests x.0 ≤ depth_left) }
 {
     if depth_left == 0 {
         return Err(NestedRefusal::TooDeep);
@@ -244,8 +251,9 @@ fn component_decl<'a>(
     depth_left: u32,
     bytes: &'a [u8],
 ) -> Result<(ComponentDeclView<'a>, &'a [u8]), NestedRefusal>
-    ensures { GivesNestedAlways (λ x. (component_declaration_seen x.0, x.1.now)) result
+    ensures found { GivesNestedAlways (λ x. (component_declaration_seen x.0, x.1.now)) result
         (read_component_declaration (read_type depth_left) bytes.now) }
+    ensures within { IfOk result (λ x. component_declaration_nests x.0 ≤ depth_left) }
 {
     match byte(bytes)? {
         (0x03, rest) => Ok(imported(rest)?),
@@ -263,8 +271,9 @@ fn instance_decl<'a>(
     depth_left: u32,
     bytes: &'a [u8],
 ) -> Result<(InstanceDeclView<'a>, &'a [u8]), NestedRefusal>
-    ensures { GivesNestedAlways (λ x. (instance_declaration_seen x.0, x.1.now)) result
+    ensures found { GivesNestedAlways (λ x. (instance_declaration_seen x.0, x.1.now)) result
         (read_instance_declaration (read_type depth_left) bytes.now) }
+    ensures within { IfOk result (λ x. instance_declaration_nests x.0 ≤ depth_left) }
 {
     match byte(bytes)? {
         (0x00, rest) => {
@@ -286,8 +295,9 @@ fn instance_decl<'a>(
 
 /// Reads an import declaration, after its first byte.
 fn imported(bytes: &[u8]) -> Result<(ComponentDeclView<'_>, &[u8]), Refusal>
-    ensures { GivesAlways (λ x. (component_declaration_seen x.0, x.1.now)) result
+    ensures found { GivesAlways (λ x. (component_declaration_seen x.0, x.1.now)) result
         (read_imported bytes.now) }
+    ensures flat { IfOk result (λ x. component_declaration_nests x.0 ≡ 0) }
 {
     let (name, rest) = NameView::view_of(bytes)?;
     let (ty, rest) = ComponentTypeRef::view_of(rest)?;
@@ -296,8 +306,9 @@ fn imported(bytes: &[u8]) -> Result<(ComponentDeclView<'_>, &[u8]), Refusal>
 
 /// Reads an export declaration, after its first byte.
 fn exported(bytes: &[u8]) -> Result<(InstanceDeclView<'_>, &[u8]), Refusal>
-    ensures { GivesAlways (λ x. (instance_declaration_seen x.0, x.1.now)) result
+    ensures found { GivesAlways (λ x. (instance_declaration_seen x.0, x.1.now)) result
         (read_exported bytes.now) }
+    ensures flat { IfOk result (λ x. instance_declaration_nests x.0 ≡ 0) }
 {
     let (name, rest) = NameView::view_of(bytes)?;
     let (ty, rest) = ComponentTypeRef::view_of(rest)?;
@@ -312,7 +323,8 @@ impl<'a> Iterator for ComponentDecls<'a> {
     ghost remaining = { λ l. at_most l.left };
 
     ghost next_gives = { λ a r b. GivesFirst component_declaration_seen (component_members a) r
-        (component_members b) };
+        (component_members b) × IfSome r (λ d. component_declaration_nests d ≤ a.depth_left)
+        × (b.depth_left ≡ a.depth_left) };
 
     fn next(&mut self) -> Option<ComponentDeclView<'a>> {
         if self.left == 0 {
@@ -337,7 +349,8 @@ impl<'a> Iterator for InstanceDecls<'a> {
     ghost remaining = { λ l. at_most l.left };
 
     ghost next_gives = { λ a r b. GivesFirst instance_declaration_seen (instance_members a) r
-        (instance_members b) };
+        (instance_members b) × IfSome r (λ d. instance_declaration_nests d ≤ a.depth_left)
+        × (b.depth_left ≡ a.depth_left) };
 
     fn next(&mut self) -> Option<InstanceDeclView<'a>> {
         if self.left == 0 {

@@ -37,13 +37,13 @@ fn type_tree<A: Allocator + Copy>(alloc: A, view: TypeView<'_>) -> Result<TypeTr
         TypeView::Func {
             is_async,
             params,
-            result,
+            result: answer,
         } => {
             let params = Vec::tree_of(alloc, params)?;
             Ok(TypeTree::Func {
                 is_async,
                 params,
-                result,
+                result: answer,
             })
         }
         TypeView::Component(decls) => {
