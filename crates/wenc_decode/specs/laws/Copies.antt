@@ -1,7 +1,7 @@
 -- What copies are.
 use Rattle.std.proofs.Common.{◌≡◌, List, [], ◌∷◌, ◌++◌, map, Option, Some, None, refl, sym, ap, ◌∙◌}
 use Rattle.std.proofs.Common.{append_assoc}
-use Rattle.std.proofs.lemmas.List.{append-nil, map-id}
+use Rattle.std.proofs.lemmas.List.{append-nil, map-id, map_push}
 use Rattle.std.specs.Option.{option_map}
 use Rattle.wenc_decode.specs.Copies.{AreCopies, OptionCopies}
 
@@ -40,3 +40,12 @@ pub all_copied : {T V A : Type 0} (IsCopy : T → V → Type 0) (view : V → A)
 all_copied IsCopy view ts before whole e so =
     let all : so.0 ≡ whole = sym (append-nil so.0) ∙ rw e at so.2 in
     rw all at so.1
+
+-- the same of owned values that are seen as the members themselves
+pub one_seen : {T A : Type 0} (view : T → A) (ts items : List T) (t : T) (m : A) (before after whole : List A) → items ≡ ts ++ t ∷ [] → view t ≡ m → before ≡ m ∷ after → map view ts ++ before ≡ whole → map view items ++ after ≡ whole
+one_seen view ts items t m before after whole e k b so =
+    let next : (map view ts ++ m ∷ []) ++ after ≡ map view ts ++ m ∷ after = simp append_assoc in
+    rw (e, map_push view ts t, k) (next ∙ rw b at so)
+
+pub all_seen : {T A : Type 0} (view : T → A) (ts : List T) (before whole : List A) → before ≡ [] → map view ts ++ before ≡ whole → map view ts ≡ whole
+all_seen view ts before whole e so = sym (append-nil (map view ts)) ∙ rw e at so

@@ -27,7 +27,7 @@ impl<'a, A: Allocator + Copy> TreeOf<TypeView<'a>, A> for TypeTree<A> {
 /// Fails if an allocation does.
 #[cycle(type_trees)]
 fn type_tree<A: Allocator + Copy>(alloc: A, view: TypeView<'_>) -> Result<TypeTree<A>, AllocError>
-    ensures { IfOk result (λ t. type_view t ≡ type_seen view) }
+    ensures { IfOk result (λ t. type_view t ≡ type_seen view.entry) }
 {
     match view {
         TypeView::Defined(ty) => {
@@ -64,7 +64,8 @@ fn component_decls<A: Allocator + Copy>(
     alloc: A,
     view: ComponentDecls<'_>,
 ) -> Result<Vec<ComponentDecl<A>, A>, AllocError>
-    ensures { IfOk result (λ ds. map component_declaration_view ds.items ≡ component_members view) }
+    ensures { IfOk result
+        (λ ds. map component_declaration_view ds.items ≡ component_members view.entry) }
 {
     let mut decls = Vec::with_capacity(alloc, room_for(view.left, view.bytes))?;
     for decl in view {
@@ -80,7 +81,8 @@ fn instance_decls<A: Allocator + Copy>(
     alloc: A,
     view: InstanceDecls<'_>,
 ) -> Result<Vec<InstanceDecl<A>, A>, AllocError>
-    ensures { IfOk result (λ ds. map instance_declaration_view ds.items ≡ instance_members view) }
+    ensures { IfOk result
+        (λ ds. map instance_declaration_view ds.items ≡ instance_members view.entry) }
 {
     let mut decls = Vec::with_capacity(alloc, room_for(view.left, view.bytes))?;
     for decl in view {
@@ -96,7 +98,8 @@ fn component_decl<A: Allocator + Copy>(
     alloc: A,
     view: ComponentDeclView<'_>,
 ) -> Result<ComponentDecl<A>, AllocError>
-    ensures { IfOk result (λ d. component_declaration_view d ≡ component_declaration_seen view) }
+    ensures { IfOk result
+        (λ d. component_declaration_view d ≡ component_declaration_seen view.entry) }
 {
     match view {
         ComponentDeclView::Import { name, ty } => {
@@ -116,7 +119,8 @@ fn instance_decl<A: Allocator + Copy>(
     alloc: A,
     view: InstanceDeclView<'_>,
 ) -> Result<InstanceDecl<A>, AllocError>
-    ensures { IfOk result (λ d. instance_declaration_view d ≡ instance_declaration_seen view) }
+    ensures { IfOk result
+        (λ d. instance_declaration_view d ≡ instance_declaration_seen view.entry) }
 {
     match view {
         InstanceDeclView::CoreType(ty) => {
