@@ -17,16 +17,21 @@ use wenc_parts::{Alias, AliasTree, ComponentValType, NameOptions, NameTree};
 use wenc_types::{CaseTree, DefinedTree};
 use wenc_view::{CaseView, DefinedView, ListOf, NameView, View};
 
-/// An owned value that is made of a view `V`, in `A`.
+/// An owned value that can be made of a borrowed one, `V`. It is allocated in `A`.
+///
+/// ```
+/// let (alias, rest) = Alias::view_of(bytes)?;
+/// Ok((AliasTree::tree_of(alloc, alias)?, rest))
+/// ```
 pub trait TreeOf<V, A: Allocator + Copy>: Sized + Drop {
-    /// Whether it equals a view.
+    /// Whether the value equals a borrowed one.
     ghost is_copy: { Self → V → Type 0 };
 
-    /// Returns an owned value that equals the view.
+    /// Returns an owned value that equals the borrowed one.
     ///
     /// # Errors
     ///
-    /// Fails if an allocation does.
+    /// Fails if an allocation fails.
     fn tree_of(alloc: A, view: V) -> Result<Self, AllocError>
         ensures { IfOk result (λ t. is_copy t view) };
 }

@@ -1,11 +1,13 @@
 -- The options of a name, read one after the other.
-use Rattle.std.proofs.Common.{◌≡◌, ◌≢◌, ◌≤◌, ◌<◌, ◌+◌, ◌-◌, ℕ, zero, suc, Bool, true, false, cond, nat_lt, List, ◌∷◌, Result, Ok, Err, refl}
+use Rattle.std.proofs.Common.{◌≡◌, ◌≢◌, ◌≤◌, ◌<◌, ◌+◌, ◌-◌, ℕ, zero, suc, Bool, true, false, cond}
+use Rattle.std.proofs.Common.{nat_lt, List, ◌∷◌, Result, Ok, Err, refl}
 use Rattle.std.proofs.Common.{subst, ◌∙◌, arith, le-ltb, lt-ltb}
 use Rattle.wenc_base.specs.Readers.{Flaw, Bad, Deep, ◌>>=◌, go_on, give, times}
 use Rattle.wenc_base.specs.laws.Sound.{Told, Fewer, Several, times_told}
 use Rattle.wenc_parts.specs.Imports.{ExternName, NameOption, name_option}
 use Rattle.wenc_parts.specs.laws.Imports.{name_option_sound}
-use Rattle.wenc_parts.specs.reading.Imports.{read_name_option, with_option, with_options, option_number, ascend_from, given_options}
+use Rattle.wenc_parts.specs.reading.Imports.{read_name_option, with_option, with_options}
+use Rattle.wenc_parts.specs.reading.Imports.{option_number, ascend_from, given_options}
 use Rattle.wenc_view.specs.inside.Names.{ascending, read_options}
 
 abbrev Found : Type 0

@@ -18,7 +18,8 @@ RowsFollow make (r ∷ rows) (m ∷ made) = (r.0 ≡ m.0) × (Follows make r.1 m
 pub gives_follow : {A B : Type 0} (make : A → B) (v : A) → Follows make (give v) (give (make v))
 gives_follow make v bytes = refl
 
-pub then_follows : {V A B : Type 0} (make : A → B) (read : Reader V) (next : V → Reader A) (made : V → Reader B) → ((v : V) → Follows make (next v) (made v)) → Follows make (read >>= next) (read >>= made)
+pub then_follows : {V A B : Type 0} (make : A → B) (read : Reader V) (next : V → Reader A) (made : V → Reader B) → ((v : V) → Follows make (next v) (made v))
+    → Follows make (read >>= next) (read >>= made)
 then_follows {V} make read next made h bytes = found (read bytes)
   where
     found : (some : Result (V × List ℕ) Flaw) → go_on some made ≡ go_on (go_on some next) (λ v. give (make v))
@@ -29,14 +30,16 @@ then_follows {V} make read next made h bytes = found (read bytes)
 pub last_follows : {V A B : Type 0} (make : A → B) (read : Reader V) (f : V → A) → Follows make (read >>= λ v. give (f v)) (read >>= λ v. give (make (f v)))
 last_follows make read f = then_follows make read (λ v. give (f v)) (λ v. give (make (f v))) (λ v. gives_follow make (f v))
 
-pub both_follow : {A B : Type 0} (make : A → B) (rows more : List (ℕ × Reader A)) (made others : List (ℕ × Reader B)) → RowsFollow make rows made → RowsFollow make more others → RowsFollow make (rows ++ more) (made ++ others)
+pub both_follow : {A B : Type 0} (make : A → B) (rows more : List (ℕ × Reader A)) (made others : List (ℕ × Reader B)) → RowsFollow make rows made
+    → RowsFollow make more others → RowsFollow make (rows ++ more) (made ++ others)
 both_follow make [] more [] others h k = k
 both_follow make [] more (m ∷ made) others h k = absurd h
 both_follow make (r ∷ rows) more [] others h k = absurd h
 both_follow make (r ∷ rows) more (m ∷ made) others h k = (h.0, (h.1.0, both_follow make rows more made others h.1.1 k))
 
 -- a first byte that has no row among those that follow the table
-pub picks : {A B : Type 0} (make : A → B) (rows : List (ℕ × Reader A)) (made more : List (ℕ × Reader B)) → RowsFollow make rows made → (b : ℕ) (bytes : List ℕ) → pick more nowhere b bytes ≡ Err Bad
+pub picks : {A B : Type 0} (make : A → B) (rows : List (ℕ × Reader A)) (made more : List (ℕ × Reader B)) → RowsFollow make rows made → (b : ℕ) (bytes : List ℕ)
+    → pick more nowhere b bytes ≡ Err Bad
     → pick (made ++ more) nowhere b bytes ≡ go_on (pick rows nowhere b bytes) (λ v. give (make v))
 picks make [] [] more h b bytes e = e
 picks make [] (m ∷ made) more h b bytes e = absurd h
@@ -47,16 +50,19 @@ picks make (r ∷ rows) (m ∷ made) more h b bytes e =
       | inr s ↦ rw (h.0, s, pick) (picks make rows made more h.1.1 b bytes e)
     ]
 
-pub choices_follow : {A B : Type 0} (make : A → B) (rows : List (ℕ × Reader A)) (made : List (ℕ × Reader B)) → RowsFollow make rows made → Follows make (choose rows nowhere) (choose made nowhere)
+pub choices_follow : {A B : Type 0} (make : A → B) (rows : List (ℕ × Reader A)) (made : List (ℕ × Reader B)) → RowsFollow make rows made
+    → Follows make (choose rows nowhere) (choose made nowhere)
 unfolding choose
 choices_follow make rows made h [] = refl
 choices_follow make rows made h (b ∷ bytes) = nil (picks make rows made [] h b bytes refl)
   where
-    nil : pick (made ++ []) nowhere b bytes ≡ go_on (pick rows nowhere b bytes) (λ v. give (make v)) → pick made nowhere b bytes ≡ go_on (pick rows nowhere b bytes) (λ v. give (make v))
+    nil : pick (made ++ []) nowhere b bytes ≡ go_on (pick rows nowhere b bytes) (λ v. give (make v))
+        → pick made nowhere b bytes ≡ go_on (pick rows nowhere b bytes) (λ v. give (make v))
     nil e = subst (λ (ms : _). pick ms nowhere b bytes ≡ go_on (pick rows nowhere b bytes) (λ v. give (make v))) (append-nil made) e
 
 -- where the other rows have none of the first byte, what the table finds is found
-pub wraps : {A B : Type 0} (make : A → B) (rows : List (ℕ × Reader A)) (made more : List (ℕ × Reader B)) → RowsFollow make rows made → (b : ℕ) (bytes rest : List ℕ) → read_byte bytes ≡ Ok (b, rest) → pick more nowhere b rest ≡ Err Bad
+pub wraps : {A B : Type 0} (make : A → B) (rows : List (ℕ × Reader A)) (made more : List (ℕ × Reader B)) → RowsFollow make rows made
+    → (b : ℕ) (bytes rest : List ℕ) → read_byte bytes ≡ Ok (b, rest) → pick more nowhere b rest ≡ Err Bad
     → choose (made ++ more) nowhere bytes ≡ go_on (choose rows nowhere bytes) (λ v. give (make v))
 unfolding choose
 wraps make rows made more h b bytes rest first e = rw first (picks make rows made more h b rest e)

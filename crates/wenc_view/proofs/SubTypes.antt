@@ -26,9 +26,11 @@ pub extension_follows : {A B : Type 0} (make : A → B) (f : Option ℕ → Comp
 extension_follows make f = then_follows make (read_option read_u32) _ _ (λ n. last_follows make read_composite (f n))
 
 pub finals_follow : {A B : Type 0} (make : A → B) (f : Sub → A) → RowsFollow make (final_rows f) (final_rows (λ s. make (f s)))
-finals_follow make f = both_follow make (composite_rows (λ c. f (final c))) ((0x4f, read_closed (λ n c. f (sub_of true (Some n) c))) ∷ []) (composite_rows (λ c. make (f (final c)))) ((0x4f, read_closed (λ n c. make (f (sub_of true (Some n) c)))) ∷ [])
+finals_follow make f = both_follow make (composite_rows (λ c. f (final c))) ((0x4f, read_closed (λ n c. f (sub_of true (Some n) c))) ∷ [])
+    (composite_rows (λ c. make (f (final c)))) ((0x4f, read_closed (λ n c. make (f (sub_of true (Some n) c)))) ∷ [])
     (composites_follow make (λ c. f (final c))) (refl, (closed_follows make (λ n c. f (sub_of true (Some n) c)), tt))
 
 pub subs_follow : {A B : Type 0} (make : A → B) (f : Sub → A) → RowsFollow make (sub_rows f) (sub_rows (λ s. make (f s)))
-subs_follow make f = both_follow make (final_rows f) ((0x50, read_extension (λ n c. f (sub_of false n c))) ∷ []) (final_rows (λ s. make (f s))) ((0x50, read_extension (λ n c. make (f (sub_of false n c)))) ∷ [])
+subs_follow make f = both_follow make (final_rows f) ((0x50, read_extension (λ n c. f (sub_of false n c))) ∷ []) (final_rows (λ s. make (f s)))
+    ((0x50, read_extension (λ n c. make (f (sub_of false n c)))) ∷ [])
     (finals_follow make f) (refl, (extension_follows make (λ n c. f (sub_of false n c)), tt))

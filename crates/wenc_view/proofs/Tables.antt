@@ -11,7 +11,8 @@ use Rattle.wenc_read.specs.declared.refusal.Refusal.TheVariants.{Malformed}
 use Rattle.wenc_view.specs.inside.Tables.{find}
 
 -- a value that is in the table is read
-pub found : {A T : Type 0} (byte_of : T → ℕ) (make : T → A) (ts : List T) (rows : List (ℕ × Reader A)) (other : Reader A) (b : ℕ) (t : T) (bytes : List ℕ) → find byte_of ts b ≡ Some t
+pub found : {A T : Type 0} (byte_of : T → ℕ) (make : T → A) (ts : List T) (rows : List (ℕ × Reader A)) (other : Reader A) (b : ℕ) (t : T) (bytes : List ℕ)
+    → find byte_of ts b ≡ Some t
     → pick (map (λ u. (byte_of u, give (make u))) ts ++ rows) other b bytes ≡ Ok (make t, bytes)
 found byte_of make [] rows other b t bytes e = absurd cc
 found byte_of make (u ∷ ts) rows other b t bytes e =
@@ -21,7 +22,8 @@ found byte_of make (u ∷ ts) rows other b t bytes e =
     ]
 
 -- where there is none, the other rows are tried
-pub passed : {A T : Type 0} (byte_of : T → ℕ) (make : T → A) (ts : List T) (rows : List (ℕ × Reader A)) (other : Reader A) (b : ℕ) (bytes : List ℕ) → find byte_of ts b ≡ None
+pub passed : {A T : Type 0} (byte_of : T → ℕ) (make : T → A) (ts : List T) (rows : List (ℕ × Reader A)) (other : Reader A) (b : ℕ) (bytes : List ℕ)
+    → find byte_of ts b ≡ None
     → pick (map (λ u. (byte_of u, give (make u))) ts ++ rows) other b bytes ≡ pick rows other b bytes
 passed byte_of make [] rows other b bytes e = refl
 passed byte_of make (u ∷ ts) rows other b bytes e =
@@ -34,18 +36,21 @@ passed byte_of make (u ∷ ts) rows other b bytes e =
     nothing e = absurd cc
 
 -- a table that begins with such rows, by the first byte
-pub begins : {A T : Type 0} (byte_of : T → ℕ) (make : T → A) (ts : List T) (rows : List (ℕ × Reader A)) (other : Reader A) (b : ℕ) (t : T) (bytes rest : List ℕ) → read_byte bytes ≡ Ok (b, rest) → find byte_of ts b ≡ Some t
+pub begins : {A T : Type 0} (byte_of : T → ℕ) (make : T → A) (ts : List T) (rows : List (ℕ × Reader A)) (other : Reader A) (b : ℕ) (t : T) (bytes rest : List ℕ)
+    → read_byte bytes ≡ Ok (b, rest) → find byte_of ts b ≡ Some t
     → choose (map (λ u. (byte_of u, give (make u))) ts ++ rows) other bytes ≡ Ok (make t, rest)
 unfolding choose
 begins byte_of make ts rows other b t bytes rest first e = rw first (found byte_of make ts rows other b t rest e)
 
-pub goes_past : {A T : Type 0} (byte_of : T → ℕ) (make : T → A) (ts : List T) (rows : List (ℕ × Reader A)) (other : Reader A) (b : ℕ) (bytes rest : List ℕ) → read_byte bytes ≡ Ok (b, rest) → find byte_of ts b ≡ None
+pub goes_past : {A T : Type 0} (byte_of : T → ℕ) (make : T → A) (ts : List T) (rows : List (ℕ × Reader A)) (other : Reader A) (b : ℕ) (bytes rest : List ℕ)
+    → read_byte bytes ≡ Ok (b, rest) → find byte_of ts b ≡ None
     → choose (map (λ u. (byte_of u, give (make u))) ts ++ rows) other bytes ≡ pick rows other b rest
 unfolding choose
 goes_past byte_of make ts rows other b bytes rest first e = rw first (passed byte_of make ts rows other b rest e)
 
 -- where no other rows follow, the other reader has all of the bytes
-pub falls_through : {A T : Type 0} (byte_of : T → ℕ) (make : T → A) (ts : List T) (other : Reader A) (b : ℕ) (bytes rest : List ℕ) → read_byte bytes ≡ Ok (b, rest) → find byte_of ts b ≡ None
+pub falls_through : {A T : Type 0} (byte_of : T → ℕ) (make : T → A) (ts : List T) (other : Reader A) (b : ℕ) (bytes rest : List ℕ)
+    → read_byte bytes ≡ Ok (b, rest) → find byte_of ts b ≡ None
     → choose (map (λ u. (byte_of u, give (make u))) ts ++ []) other bytes ≡ other bytes
 unfolding choose
 falls_through byte_of make ts other b bytes rest first e = rw (first_there bytes rest b first) (passed byte_of make ts [] other b rest e)
@@ -54,19 +59,23 @@ falls_through byte_of make ts other b bytes rest first e = rw (first_there bytes
 pub malformed : {A : Type 0} (e : Refusal) (found : Result A Flaw) → (e ≡ Malformed) × (found ≡ Err Bad) → Fails e found
 malformed e found h = rw h.0 h.1
 
-pub fails_first : {A : Type 0} (e : Refusal) (table : List (ℕ × Reader A)) (other : Reader A) (bytes : List ℕ) → (e ≡ Malformed) × (read_byte bytes ≡ Err Bad) → Fails e (choose table other bytes)
+pub fails_first : {A : Type 0} (e : Refusal) (table : List (ℕ × Reader A)) (other : Reader A) (bytes : List ℕ) → (e ≡ Malformed) × (read_byte bytes ≡ Err Bad)
+    → Fails e (choose table other bytes)
 unfolding choose
 fails_first e table other bytes h = fails_on e (read_byte bytes) (pick table other) (malformed e (read_byte bytes) h)
 
 -- what is made of what is read
-pub made_of : {A B : Type 0} (make : A → B) (read : Reader A) (v : A) (bytes rest : List ℕ) → read bytes ≡ Ok (v, rest) → (read >>= λ w. give (make w)) bytes ≡ Ok (make v, rest)
+pub made_of : {A B : Type 0} (make : A → B) (read : Reader A) (v : A) (bytes rest : List ℕ) → read bytes ≡ Ok (v, rest)
+    → (read >>= λ w. give (make w)) bytes ≡ Ok (make v, rest)
 made_of make read v bytes rest e = rw e refl
 
-pub made_of_both : {A B C : Type 0} (make : A → B → C) (read : Reader A) (other : Reader B) (v : A) (w : B) (bytes middle rest : List ℕ) → read bytes ≡ Ok (v, middle) → other middle ≡ Ok (w, rest)
+pub made_of_both : {A B C : Type 0} (make : A → B → C) (read : Reader A) (other : Reader B) (v : A) (w : B) (bytes middle rest : List ℕ)
+    → read bytes ≡ Ok (v, middle) → other middle ≡ Ok (w, rest)
     → (read >>= λ x. other >>= λ y. give (make x y)) bytes ≡ Ok (make v w, rest)
 made_of_both make read other v w bytes middle rest e d = rw (e, d) refl
 
-pub made_of_three : {A B C D : Type 0} (make : A → B → C → D) (read : Reader A) (other : Reader B) (third : Reader C) (v : A) (w : B) (x : C) (bytes middle behind rest : List ℕ) → read bytes ≡ Ok (v, middle) → other middle ≡ Ok (w, behind) → third behind ≡ Ok (x, rest)
+pub made_of_three : {A B C D : Type 0} (make : A → B → C → D) (read : Reader A) (other : Reader B) (third : Reader C) (v : A) (w : B) (x : C)
+    (bytes middle behind rest : List ℕ) → read bytes ≡ Ok (v, middle) → other middle ≡ Ok (w, behind) → third behind ≡ Ok (x, rest)
     → (read >>= λ a. other >>= λ b. third >>= λ c. give (make a b c)) bytes ≡ Ok (make v w x, rest)
 made_of_three make read other third v w x bytes middle behind rest e d f = rw (e, d, f) refl
 

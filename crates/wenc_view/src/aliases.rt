@@ -36,7 +36,8 @@ fn outer(kind: ComponentOuterAliasKind, bytes: &[u8]) -> Result<(Alias<'_>, &[u8
 /// Reads an alias of a core instance's export, after the sort.
 #[tactic(auto, unfolding(wenc_base::specs::Readers::choose))]
 fn core_export(kind: ExportKind, bytes: &[u8]) -> Result<(Alias<'_>, &[u8]), Refusal>
-    ensures { GivesAlways (λ x. (alias_view x.0, x.1.now)) result (read_core_export kind bytes.now) }
+    ensures { GivesAlways (λ x. (alias_view x.0, x.1.now)) result
+        (read_core_export kind bytes.now) }
 {
     match byte(bytes)? {
         (0x01, rest) => {

@@ -299,7 +299,8 @@ fn lowered(bytes: &[u8]) -> Result<(CanonView<'_>, &[u8]), Refusal>
 /// Reads the index of a type, and options.
 #[inline(always)]
 fn ty_and_options(bytes: &[u8]) -> Result<(u32, ListOf<'_, CanonicalOption>, &[u8]), Refusal>
-    ensures { GivesAlways (λ x. ((x.0, list_view read_canonical_option x.1), x.2.now)) result (read_ty_and_options bytes.now) }
+    ensures { GivesAlways (λ x. ((x.0, list_view read_canonical_option x.1), x.2.now)) result
+        (read_ty_and_options bytes.now) }
 {
     let (ty, rest) = u32::view_of(bytes)?;
     let (options, rest) = ListOf::view_of(rest)?;

@@ -117,7 +117,8 @@ impl<'a> View<'a> for CaseView<'a> {
 
 /// Reads a defined value type that isn't primitive, after its first byte.
 fn defined(first: u8, bytes: &[u8]) -> Result<(DefinedView<'_>, &[u8]), Refusal>
-    ensures { GivesAlways (λ x. (defined_seen x.0, x.1.now)) result (read_defined_row first bytes.now) }
+    ensures { GivesAlways (λ x. (defined_seen x.0, x.1.now)) result
+        (read_defined_row first bytes.now) }
 {
     match first {
         0x72 => {

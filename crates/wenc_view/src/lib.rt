@@ -1,4 +1,8 @@
-//! Reads the forms of items in place: texts are borrowed, lists are read on demand.
+//! Reads the forms of items from the beginning of bytes, in place.
+//!
+//! Each type that is read implements `View`; types of components and instances, which nest, are
+//! read by `type_at`. A value borrows its strings from the bytes, and its lists are iterators,
+//! which read their members when they are asked for. Nothing is allocated.
 #![tactic(auto)]
 
 pub mod aliases;

@@ -9,14 +9,21 @@ use crate::view::View;
 use std::marker::PhantomData;
 use wenc_read::{Refusal, u32_of};
 
-/// A list in place: its members are read each time that they are asked for.
+/// A list, as an iterator over its members, which are read when they are asked for.
 ///
-/// A list that `view_of` returned was read over once, so that all of its `left` members are there.
+/// A list that `view_of` returned was read over once, so that it has all of its `left` members.
+///
+/// ```
+/// let (numbers, rest) = ListOf::view_of(bytes)?;
+/// for number in numbers {
+///     let number: u32 = number;
+/// }
+/// ```
 #[derive_where(Clone, Copy)]
 pub struct ListOf<'a, T> {
-    /// The number of members that are left.
+    /// The number of remaining members.
     pub left: u32,
-    /// The bytes from the next member on.
+    /// The bytes from the next member on, to the end of the section.
     pub bytes: &'a [u8],
     of: PhantomData<T>,
 }

@@ -1,4 +1,5 @@
-//! Types that components define, in place. Component types and instance types nest, down to a depth.
+//! Types that components define, in place. Component types and instance types nest, down to a
+//! depth.
 ghost use Rattle.std.specs.Prelude.{◌≡◌, ◌≤◌, IfOk, IfSome};
 ghost use Rattle.wenc_base.specs.Prelude.{times};
 ghost use Rattle.wenc_read.specs.Prelude.{GivesAlways};
@@ -20,23 +21,23 @@ use wenc_base::ValType;
 use wenc_parts::{Alias, ComponentTypeRef, ComponentValType, ResultList};
 use wenc_read::{NestedRefusal, Refusal, byte, u32_of};
 
-/// The declarations of a component type, which are read on demand.
+/// The declarations of a component type, as an iterator, which reads them when they are asked for.
 #[derive(Clone, Copy)]
 pub struct ComponentDecls<'a> {
-    /// How deep types may nest in a declaration.
+    /// The maximum nesting depth of types in a declaration.
     pub depth_left: u32,
-    /// The number of declarations that are left.
+    /// The number of remaining declarations.
     pub left: u32,
     /// The bytes from the next declaration on.
     pub bytes: &'a [u8],
 }
 
-/// The declarations of an instance type, which are read on demand.
+/// The declarations of an instance type, as an iterator, which reads them when they are asked for.
 #[derive(Clone, Copy)]
 pub struct InstanceDecls<'a> {
-    /// How deep types may nest in a declaration.
+    /// The maximum nesting depth of types in a declaration.
     pub depth_left: u32,
-    /// The number of declarations that are left.
+    /// The number of remaining declarations.
     pub left: u32,
     /// The bytes from the next declaration on.
     pub bytes: &'a [u8],
@@ -129,8 +130,9 @@ fn resource_type(bytes: &[u8]) -> Result<(TypeView<'_>, &[u8]), Refusal>
     Ok((TypeView::Resource { rep, dtor }, rest))
 }
 
-/// Reads a type in which component types and instance types nest at most `depth_left` deep. Its
-/// declarations are read over, and are read again on demand.
+/// Reads a type (component model, binary format, "Type Definitions") in which component types and
+/// instance types nest at most `depth_left` deep. Returns it and the bytes after it. Its
+/// declarations are read over, and again when they are asked for.
 ///
 /// # Errors
 ///
@@ -214,7 +216,10 @@ fn component_decls<'a>(
     bytes: &'a [u8],
 ) -> Result<&'a [u8], NestedRefusal>
     ensures { GivesNestedAlways
-        (λ rest. (members_of (read_component_declaration (read_type depth_left)) count bytes.now, rest.now))
+        (λ rest. (
+          members_of (read_component_declaration (read_type depth_left)) count bytes.now,
+          rest.now,
+        ))
         result (times (read_component_declaration (read_type depth_left)) count bytes.now) }
 {
     let mut rest = bytes;
@@ -233,7 +238,10 @@ fn instance_decls<'a>(
     bytes: &'a [u8],
 ) -> Result<&'a [u8], NestedRefusal>
     ensures { GivesNestedAlways
-        (λ rest. (members_of (read_instance_declaration (read_type depth_left)) count bytes.now, rest.now))
+        (λ rest. (
+          members_of (read_instance_declaration (read_type depth_left)) count bytes.now,
+          rest.now,
+        ))
         result (times (read_instance_declaration (read_type depth_left)) count bytes.now) }
 {
     let mut rest = bytes;

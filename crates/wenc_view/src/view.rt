@@ -7,10 +7,14 @@ ghost use Rattle.wenc_read.specs.Prelude.{IsExact, GivesAlways, exact_by};
 
 use wenc_read::{Refusal, byte, flag_of, u32_of};
 
-/// A value that can be read in place from the front of bytes, and borrows from them. Nothing is
-/// allocated.
+/// A value that can be read from the beginning of bytes, and borrows from them (component model,
+/// binary format, from "Component Definitions" on). Nothing is allocated.
+///
+/// ```
+/// let (alias, rest) = Alias::view_of(bytes)?;
+/// ```
 pub trait View<'a>: Sized + Copy {
-    /// What a contract sees of a value.
+    /// The value in contracts.
     ghost Value: { Type 0 };
 
     ghost view: { Self → Value };

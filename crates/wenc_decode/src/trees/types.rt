@@ -21,10 +21,6 @@ impl<'a, A: Allocator + Copy> TreeOf<TypeView<'a>, A> for TypeTree<A> {
 }
 
 /// Returns an owned type that equals the view.
-///
-/// # Errors
-///
-/// Fails if an allocation does.
 #[cycle(type_trees)]
 fn type_tree<A: Allocator + Copy>(alloc: A, view: TypeView<'_>) -> Result<TypeTree<A>, AllocError>
     ensures { IfOk result (λ t. type_view t ≡ type_seen view.entry) }

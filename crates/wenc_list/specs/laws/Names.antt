@@ -106,14 +106,16 @@ first_bytes zero bytes h = tt
 first_bytes (suc n) [] h = tt
 first_bytes (suc n) (b ∷ bytes) h = (h.0, first_bytes n bytes h.1)
 
-part_told : (bytes : List ℕ) → AreBytes bytes → Told (λ x. (part x.0).Reads Wide bytes x.1) ⊥ (read_part bytes)
+part_told : (bytes : List ℕ) → AreBytes bytes → Told (λ x. (part x.0).Reads Wide bytes x.1) ⊥
+    (read_part bytes)
 part_told [] h = tt
 part_told (id ∷ bytes) h =
     told_on (λ x. (u32 x.0).Reads Wide bytes x.1) ⊥ (λ x. (part x.0).Reads Wide (id ∷ bytes) x.1) ⊥
     cut (read_u32 bytes) (u32_sound.tells bytes) (λ e. e) (λ x r. inside x.0 x.1 r)
   where
     cut : ℕ → List ℕ → Result ((ℕ × List ℕ) × List ℕ) Flaw
-    cut size rest = cond (ltb (length rest) size) (Err Bad) (Ok ((id, take size rest), drop size rest))
+    cut size rest = cond (ltb (length rest) size) (Err Bad)
+        (Ok ((id, take size rest), drop size rest))
 
     inside : (size : ℕ) (rest : List ℕ) → (u32 size).Reads Wide bytes rest
         → Told (λ x. (part x.0).Reads Wide (id ∷ bytes) x.1) ⊥ (cut size rest)
@@ -172,7 +174,8 @@ made_told P Q make (Err Deep) k h = h
 listed_reads : (s : Subsection) (bytes middle content rest : List ℕ) → bytes ≡ 1 ∷ middle
     → (u32 (length content)).Reads Wide middle (content ++ rest) → (listed s).Reads Wide content []
     → (subsection_by_id s).Reads Wide bytes rest
-listed_reads (ItemNames sort names) bytes middle content rest e sized r = (tt, (middle, e, (content, sized, r)))
+listed_reads (ItemNames sort names) bytes middle content rest e sized r =
+    (tt, (middle, e, (content, sized, r)))
 listed_reads other bytes middle content rest e sized r = absurd r.0
 
 content_told : (id : ℕ) (bytes middle content rest : List ℕ) → bytes ≡ id ∷ middle

@@ -25,7 +25,8 @@ found_and_read told found = record {
 
 pub exact_by : {A : Type 0} {form : Form A} {read : Reader A} → Sound form read
     → LawfulForm form (λ fuel. read) → IsExact form read
-exact_by s laws bytes = found_and_read (s.tells bytes) (λ v. (laws v).finds (laws v).depth (omega arith) Wide bytes)
+exact_by s laws bytes = found_and_read (s.tells bytes) (λ v. (laws v).finds (laws v).depth
+    (omega arith) Wide bytes)
 
 pub byte_exact : IsExact byte read_byte
 byte_exact [] = record {
@@ -55,7 +56,8 @@ each_found : {A : Type 0} {form : Form A} {read : Reader A} → IsExact form rea
     → (vs : List A) (bytes rest : List ℕ) → (each form vs).Reads Wide bytes rest
     → times read (length vs) bytes ≡ Ok (vs, rest)
 each_found x [] bytes rest r = rw r refl
-each_found x (v ∷ vs) bytes rest r = rw ((x bytes).read_is_given v r.0 r.1, each_found x vs r.0 rest r.2) refl
+each_found x (v ∷ vs) bytes rest r = rw ((x bytes).read_is_given v r.0 r.1, each_found x vs r.0 rest
+    r.2) refl
 
 pub list_exact : {A : Type 0} {form : Form A} {read : Reader A} → IsExact form read
     → IsExact (list form) (read_list read)
@@ -66,7 +68,8 @@ list_exact x bytes = found_and_read ((list_sound (sound_of x)).tells bytes) (λ 
 pub option_exact : {A : Type 0} {form : Form A} {read : Reader A} → IsExact form read
     → IsExact (option form) (read_option read)
 unfolding choose
-option_exact {form = form} {read = read} x bytes = found_and_read ((option_sound (sound_of x)).tells bytes) found
+option_exact {form = form} {read = read} x bytes = found_and_read
+    ((option_sound (sound_of x)).tells bytes) found
   where
     found : (o : Option _) (rest : List ℕ) → (option form o).Reads Wide bytes rest
         → read_option read bytes ≡ Ok (o, rest)

@@ -18,14 +18,16 @@ at_first table other b first bytes rest e d = rw (e, d) refl
 -- where there is a first byte, it begins the bytes
 pub first_there : (bytes rest : List ℕ) (b : ℕ) → read_byte bytes ≡ Ok (b, rest) → bytes ≡ b ∷ rest
 first_there [] rest b e = absurd cc
-first_there (c ∷ bytes) rest b e = let same = same_Ok_pair c b bytes rest e in rw (same.0, same.1) refl
+first_there (c ∷ bytes) rest b e = let same = same_Ok_pair c b bytes rest e in rw (same.0, same.1)
+    refl
 
 -- where the first byte is in no row, the other reader has all of the bytes
 pub past_rows : {A : Type 0} (table : List (ℕ × Reader A)) (other : Reader A) (b : ℕ)
     (bytes rest : List ℕ) → read_byte bytes ≡ Ok (b, rest) → IsPast table b
     → choose table other bytes ≡ other bytes
 unfolding choose
-past_rows table other b bytes rest e h = rw (first_there bytes rest b e) (pick_past table other b rest h)
+past_rows table other b bytes rest e h = rw (first_there bytes rest b e)
+    (pick_past table other b rest h)
 
 -- what fails fails whatever is made of it
 pub fails_on : {A B : Type 0} (e : Refusal) (found : Result (A × List ℕ) Flaw)

@@ -101,12 +101,14 @@ ComponentWithin d x = only_where (opened x ≤ d) (component_declaration x)
 instance_tells : (d : ℕ) {read : Reader DefType} → Tells (Shallow d) (OpensTypes d) read
     → Tells (DeclaredWithin d) (ByteThen 0x01 (OpensTypes d)) (read_instance_declaration read)
 instance_tells d t = choose_tells _ _ (
-  sound_tells _ (last_tells CoreTyped core_type_sound (λ ty bytes rest r. (omega arith, (bytes, refl, r)))),
+  sound_tells _ (last_tells CoreTyped core_type_sound (λ ty bytes rest r.
+      (omega arith, (bytes, refl, r)))),
   (
     deep_where (OpensTypes d) _ (last_tells Typed t (λ ty bytes rest r. (r.0, (bytes, refl, r.1))))
         (λ bytes g. (bytes, refl, g)),
     (
-      sound_tells _ (last_tells Aliased alias_sound (λ to bytes rest r. (omega arith, (bytes, refl, r)))),
+      sound_tells _ (last_tells Aliased alias_sound (λ to bytes rest r.
+          (omega arith, (bytes, refl, r)))),
       (
         sound_tells _ (then_tells _ extern_name_sound
             (λ name. last_tells (Exported name) type_reference_sound
@@ -137,7 +139,8 @@ components_within : (d : ℕ) (ds : List ComponentDeclaration) → AllByRecursio
     → component_depth (components_of ds) ≤ d
 components_within d [] h = omega arith
 components_within d (Imported name ty ∷ ds) h = components_within d ds h.1
-components_within d (Declared x ∷ ds) h = let others = components_within d ds h.1 in omega (arith, h.0)
+components_within d (Declared x ∷ ds) h = let others = components_within d ds h.1 in omega
+    (arith, h.0)
 
 each_instance_reads : (ds : List InstanceDeclaration) (bytes rest : List ℕ)
     → (each instance_declaration ds).Reads Wide bytes rest
@@ -229,7 +232,8 @@ instances_tell d {read = read} t = record {
       (λ ds. InstanceType (instances_of ds)) (ByteThen 0x01 (OpensTypes d))
       (λ x. (sound_behind 0x42 (Shallow (suc d)) x.0).Reads Wide bytes x.1)
       (OpensTypes (suc d) (0x42 ∷ bytes)) (instance_tells d t) bytes
-      (λ front. inr (bytes, refl, front)) (λ n middle rest ds c s. instance_made d n bytes middle rest ds c s);
+      (λ front. inr (bytes, refl, front)) (λ n middle rest ds c s. instance_made d n bytes middle
+      rest ds c s);
 }
 
 components_tell : (d : ℕ) {read : Reader DefType} → Tells (Shallow d) (OpensTypes d) read
@@ -240,7 +244,8 @@ components_tell d {read = read} t = record {
       (λ ds. ComponentType (components_of ds)) (ByteThen 0x01 (OpensTypes d))
       (λ x. (sound_behind 0x41 (Shallow (suc d)) x.0).Reads Wide bytes x.1)
       (OpensTypes (suc d) (0x41 ∷ bytes)) (component_tells d t) bytes
-      (λ front. inl (bytes, refl, front)) (λ n middle rest ds c s. component_made d n bytes middle rest ds c s);
+      (λ front. inl (bytes, refl, front)) (λ n middle rest ds c s. component_made d n bytes middle
+      rest ds c s);
 }
 
 -- the rows of what doesn't nest, and then those of what does
@@ -272,7 +277,8 @@ defined_finds : (d : ℕ) (ty : DefValType) (D : Type 0) → Finds (def_val_type
 defined_finds d ty D = other_finds _ read_shallow (no_row_is_shallow d) nothing_is_shallow
     (lawful_finds D (last DefinedType (defined_type_lawful ty)))
 
-function_finds : (d : ℕ) (is_async : Bool) (params : List LabelledType) (answer : Option ComponentValType) (D : Type 0)
+function_finds : (d : ℕ) (is_async : Bool) (params : List LabelledType)
+    (answer : Option ComponentValType) (D : Type 0)
     → Finds (function_type (to_function is_async params answer))
     (choose (type_rows (read_component_type d) (read_instance_type d)) read_shallow)
     (FunctionType (to_function is_async params answer)) D
@@ -294,7 +300,8 @@ resource_finds d rep dtor D = row_finds _ _ 0x3f read_resource_type
 mutual
   pub type_finds : (d : ℕ) (t : DefType) → Finds (def_type t) (read_type d) t (d < depth t)
   type_finds d (DefinedType ty) = rw (one_level d) (defined_finds d ty (d < 0))
-  type_finds d (FunctionType f) = rw (one_level d) (function_finds d f.is_async f.params f.answer (d < 0))
+  type_finds d (FunctionType f) = rw (one_level d) (function_finds d f.is_async f.params f.answer
+      (d < 0))
   type_finds d (ResourceType rep dtor) = rw (one_level d) (resource_finds d rep dtor (d < 0))
   type_finds zero (ComponentType ds) = rw (one_level zero)
       (row_finds _ _ 0x41 too_deep (λ rest. refl) (too_deep_finds _ (omega arith)))

@@ -12,8 +12,15 @@ use Rattle.wenc_view.proofs.core_type_views.guarded.Goals as goal
 pub returns-in_err-ty-in-80-default : goal.returns-in_err-ty-in-80-default
 returns-in_err-ty-in-80-default c =
     let p = err_from_is_err_and c.from_residual-in_err-ty-in-80-default.result c.from_residual-in_err-ty-in-80-default.ensures.1 in
-    rw (p.1, p.2, at_first ((0x50, read_extension (λ n d. Grouped (Single (sub_of false n d)))) ∷ []) nowhere 0x50 _ _ _ c.in_ok-rest.ensures (search rules), extension_follows (λ s. Grouped (Single s)) (λ n d. sub_of false n d) c.in_ok-rest.field-0.1.now)
-    (fails_always_on c.in_err-ty-in-80-default.field-0.0 (read_extension (λ n d. sub_of false n d) c.in_ok-rest.field-0.1.now) (λ s. give (Grouped (Single s))) c.in_err-ty-in-80-default.ensures)
+    rw (
+      p.1,
+      p.2,
+      at_first ((0x50, read_extension (λ n d. Grouped (Single (sub_of false n d)))) ∷ []) nowhere 0x50 _ _ _ c.in_ok-rest.ensures
+          (search rules),
+      extension_follows (λ s. Grouped (Single s)) (λ n d. sub_of false n d) c.in_ok-rest.field-0.1.now,
+    )
+    (fails_always_on c.in_err-ty-in-80-default.field-0.0 (read_extension (λ n d. sub_of false n d) c.in_ok-rest.field-0.1.now)
+    (λ s. give (Grouped (Single s))) c.in_err-ty-in-80-default.ensures)
 
 pub returns-in_ok-ty-in-80-default : goal.returns-in_ok-ty-in-80-default
 returns-in_ok-ty-in-80-default c =

@@ -24,4 +24,9 @@ pub returns-in_ok-ty-in-107 : goal.returns-in_ok-ty-in-107
 returns-in_ok-ty-in-107 c = rw (c.in-107.is, c.in_ok-ty-in-107.ensures) refl
 
 pub returns-in_ok-err-in-106 : goal.returns-in_ok-err-in-106
-returns-in_ok-err-in-106 c = rw (c.in-106.is, rw (option_map_id c.in_ok-ok-in-106.ok) at c.in_ok-ok-in-106.ensures, rw (option_map_id c.in_ok-err-in-106.err) at c.in_ok-err-in-106.ensures) refl
+returns-in_ok-err-in-106 c = rw (
+  c.in-106.is,
+  rw (option_map_id c.in_ok-ok-in-106.ok) at c.in_ok-ok-in-106.ensures,
+  rw (option_map_id c.in_ok-err-in-106.err)
+      at c.in_ok-err-in-106.ensures,
+) refl

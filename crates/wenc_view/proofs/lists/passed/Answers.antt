@@ -14,16 +14,24 @@ pub returns-in_err-after : goal.returns-in_err-after
 returns-in_err-after g c =
     let p = err_from_is_err_and c.from_residual.result c.from_residual.ensures.1 in
     let read = g.T.View.read in
-    rw (p.1, p.2) (c.in_err-after.ensures.0, stops (Flat Malformed) read c.loop.invariant.0 c.args.count c.loop.counter c.loop.rest.now (times read c.args.count c.args.bytes.now) c.loop-test.true c.in_err-after.ensures.1 c.loop.invariant.1)
+    rw (p.1, p.2) (
+      c.in_err-after.ensures.0,
+      stops (Flat Malformed) read c.loop.invariant.0 c.args.count c.loop.counter c.loop.rest.now
+          (times read c.args.count c.args.bytes.now) c.loop-test.true c.in_err-after.ensures.1 c.loop.invariant.1,
+    )
 
 pub loop-preserved : goal.loop-preserved
 loop-preserved g c =
     let read = g.T.View.read in
-    let v = g.T.View.view c.in_ok-after.field-0-0 in
-    (c.loop.invariant.0 ++ v ∷ [], times_go_on read c.loop.invariant.0 c.args.count c.loop.counter c.loop.rest.now v c.in_ok-after.after.now (times read c.args.count c.args.bytes.now) c.loop-test.true c.in_ok-after.ensures c.loop.invariant.1)
+    let v = g.T.View.view c.in_ok-after.field-0-0 in (
+      c.loop.invariant.0 ++ v ∷ [],
+      times_go_on read c.loop.invariant.0 c.args.count c.loop.counter c.loop.rest.now v c.in_ok-after.after.now
+          (times read c.args.count c.args.bytes.now) c.loop-test.true c.in_ok-after.ensures c.loop.invariant.1,
+    )
 
 pub returns : goal.returns
 returns g c =
     let read = g.T.View.read in
-    let done : times read c.args.count c.args.bytes.now ≡ Ok (c.loop.invariant.0, c.loop.rest.now) = is_done read c.loop.invariant.0 c.args.count c.loop.counter c.loop.rest.now (times read c.args.count c.args.bytes.now) c.loop-test.false c.loop.invariant.1 in
+    let done : times read c.args.count c.args.bytes.now ≡ Ok (c.loop.invariant.0, c.loop.rest.now) = is_done read c.loop.invariant.0 c.args.count c.loop.counter
+    c.loop.rest.now (times read c.args.count c.args.bytes.now) c.loop-test.false c.loop.invariant.1 in
     rw (members_are read c.args.count c.args.bytes.now c.loop.invariant.0 c.loop.rest.now done) done

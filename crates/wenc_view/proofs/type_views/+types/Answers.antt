@@ -24,27 +24,34 @@ pub instance_decls-returns-in_err-after : goal.instance_decls-returns-in_err-aft
 instance_decls-returns-in_err-after t c =
     let read = read_instance_declaration (read_type c.args.depth_left) in
     let p = err_from_is_err_and c.from_residual.result c.from_residual.ensures.1 in
-    rw (p.1, p.2) (stops_always c.in_err-after.field-0.0 read c.loop.invariant.0 c.args.count c.loop.counter c.loop.rest.now (times read c.args.count c.args.bytes.now) c.loop-test.true c.in_err-after.ensures.found c.loop.invariant.1)
+    rw (p.1, p.2) (stops_always c.in_err-after.field-0.0 read c.loop.invariant.0 c.args.count c.loop.counter c.loop.rest.now
+    (times read c.args.count c.args.bytes.now) c.loop-test.true c.in_err-after.ensures.found c.loop.invariant.1)
 
 pub instance_decls-loop-preserved : goal.instance_decls-loop-preserved
 instance_decls-loop-preserved t c =
     let read = read_instance_declaration (read_type c.args.depth_left) in
-    let v = instance_declaration_seen c.in_ok-after.field-0-0 in
-    (c.loop.invariant.0 ++ v ∷ [], times_go_on read c.loop.invariant.0 c.args.count c.loop.counter c.loop.rest.now v c.in_ok-after.after.now (times read c.args.count c.args.bytes.now) c.loop-test.true c.in_ok-after.ensures.found c.loop.invariant.1)
+    let v = instance_declaration_seen c.in_ok-after.field-0-0 in (
+      c.loop.invariant.0 ++ v ∷ [],
+      times_go_on read c.loop.invariant.0 c.args.count c.loop.counter c.loop.rest.now v c.in_ok-after.after.now
+          (times read c.args.count c.args.bytes.now) c.loop-test.true c.in_ok-after.ensures.found c.loop.invariant.1,
+    )
 
 pub instance_decls-returns : goal.instance_decls-returns
 instance_decls-returns t c =
     let read = read_instance_declaration (read_type c.args.depth_left) in
-    let done : times read c.args.count c.args.bytes.now ≡ Ok (c.loop.invariant.0, c.loop.rest.now) = is_done read c.loop.invariant.0 c.args.count c.loop.counter c.loop.rest.now (times read c.args.count c.args.bytes.now) c.loop-test.false c.loop.invariant.1 in
+    let done : times read c.args.count c.args.bytes.now ≡ Ok (c.loop.invariant.0, c.loop.rest.now) = is_done read c.loop.invariant.0 c.args.count c.loop.counter
+    c.loop.rest.now (times read c.args.count c.args.bytes.now) c.loop-test.false c.loop.invariant.1 in
     rw (members_are read c.args.count c.args.bytes.now c.loop.invariant.0 c.loop.rest.now done) done
 
 pub instance_type-returns-in_err-rest-clause-found : goal.instance_type-returns-in_err-rest-clause-found
 instance_type-returns-in_err-rest-clause-found t c =
     let p = err_from_is_err_and c.from_residual-in_err-rest.result c.from_residual-in_err-rest.ensures.1 in
-    rw (p.1, p.2) (instance_fails c.args.depth_left c.in_ok-left.left c.args.bytes.now c.in_ok-left.start.now c.in_err-rest.field-0.0 (omega arith) c.in_ok-left.ensures c.in_err-rest.ensures)
+    rw (p.1, p.2) (instance_fails c.args.depth_left c.in_ok-left.left c.args.bytes.now c.in_ok-left.start.now c.in_err-rest.field-0.0
+    (omega arith) c.in_ok-left.ensures c.in_err-rest.ensures)
 
 pub instance_type-returns-clause-found : goal.instance_type-returns-clause-found
-instance_type-returns-clause-found t c = instance_found c.args.depth_left c.in_ok-left.left c.args.bytes.now c.in_ok-left.start.now c.in_ok-rest.rest.now _ (omega arith) c.in_ok-left.ensures c.in_ok-rest.ensures
+instance_type-returns-clause-found t c = instance_found c.args.depth_left c.in_ok-left.left c.args.bytes.now c.in_ok-left.start.now c.in_ok-rest.rest.now _
+    (omega arith) c.in_ok-left.ensures c.in_ok-rest.ensures
 
 pub component_decls-loop-init : goal.component_decls-loop-init
 component_decls-loop-init t c = ([], at_start (read_component_declaration (read_type c.args.depth_left)) c.args.count c.args.bytes.now)
@@ -53,35 +60,52 @@ pub component_decls-returns-in_err-after : goal.component_decls-returns-in_err-a
 component_decls-returns-in_err-after t c =
     let read = read_component_declaration (read_type c.args.depth_left) in
     let p = err_from_is_err_and c.from_residual.result c.from_residual.ensures.1 in
-    rw (p.1, p.2) (stops_always c.in_err-after.field-0.0 read c.loop.invariant.0 c.args.count c.loop.counter c.loop.rest.now (times read c.args.count c.args.bytes.now) c.loop-test.true c.in_err-after.ensures.found c.loop.invariant.1)
+    rw (p.1, p.2) (stops_always c.in_err-after.field-0.0 read c.loop.invariant.0 c.args.count c.loop.counter c.loop.rest.now
+    (times read c.args.count c.args.bytes.now) c.loop-test.true c.in_err-after.ensures.found c.loop.invariant.1)
 
 pub component_decls-loop-preserved : goal.component_decls-loop-preserved
 component_decls-loop-preserved t c =
     let read = read_component_declaration (read_type c.args.depth_left) in
-    let v = component_declaration_seen c.in_ok-after.field-0-0 in
-    (c.loop.invariant.0 ++ v ∷ [], times_go_on read c.loop.invariant.0 c.args.count c.loop.counter c.loop.rest.now v c.in_ok-after.after.now (times read c.args.count c.args.bytes.now) c.loop-test.true c.in_ok-after.ensures.found c.loop.invariant.1)
+    let v = component_declaration_seen c.in_ok-after.field-0-0 in (
+      c.loop.invariant.0 ++ v ∷ [],
+      times_go_on read c.loop.invariant.0 c.args.count c.loop.counter c.loop.rest.now v c.in_ok-after.after.now
+          (times read c.args.count c.args.bytes.now) c.loop-test.true c.in_ok-after.ensures.found c.loop.invariant.1,
+    )
 
 pub component_decls-returns : goal.component_decls-returns
 component_decls-returns t c =
     let read = read_component_declaration (read_type c.args.depth_left) in
-    let done : times read c.args.count c.args.bytes.now ≡ Ok (c.loop.invariant.0, c.loop.rest.now) = is_done read c.loop.invariant.0 c.args.count c.loop.counter c.loop.rest.now (times read c.args.count c.args.bytes.now) c.loop-test.false c.loop.invariant.1 in
+    let done : times read c.args.count c.args.bytes.now ≡ Ok (c.loop.invariant.0, c.loop.rest.now) = is_done read c.loop.invariant.0 c.args.count c.loop.counter
+    c.loop.rest.now (times read c.args.count c.args.bytes.now) c.loop-test.false c.loop.invariant.1 in
     rw (members_are read c.args.count c.args.bytes.now c.loop.invariant.0 c.loop.rest.now done) done
 
 pub component_type-returns-in_err-rest-clause-found : goal.component_type-returns-in_err-rest-clause-found
 component_type-returns-in_err-rest-clause-found t c =
     let p = err_from_is_err_and c.from_residual-in_err-rest.result c.from_residual-in_err-rest.ensures.1 in
-    rw (p.1, p.2) (component_fails c.args.depth_left c.in_ok-left.left c.args.bytes.now c.in_ok-left.start.now c.in_err-rest.field-0.0 (omega arith) c.in_ok-left.ensures c.in_err-rest.ensures)
+    rw (p.1, p.2) (component_fails c.args.depth_left c.in_ok-left.left c.args.bytes.now c.in_ok-left.start.now c.in_err-rest.field-0.0
+    (omega arith) c.in_ok-left.ensures c.in_err-rest.ensures)
 
 pub component_type-returns-clause-found : goal.component_type-returns-clause-found
-component_type-returns-clause-found t c = component_found c.args.depth_left c.in_ok-left.left c.args.bytes.now c.in_ok-left.start.now c.in_ok-rest.rest.now _ (omega arith) c.in_ok-left.ensures c.in_ok-rest.ensures
+component_type-returns-clause-found t c = component_found c.args.depth_left c.in_ok-left.left c.args.bytes.now c.in_ok-left.start.now c.in_ok-rest.rest.now _
+    (omega arith) c.in_ok-left.ensures c.in_ok-rest.ensures
 
 pub type_at-returns-in_ok-ty-in_default-clause-found : goal.type_at-returns-in_ok-ty-in_default-clause-found
 type_at-returns-in_ok-ty-in_default-clause-found t c =
-    rw (one_level c.args.depth_left, past_rows (type_rows (read_component_type c.args.depth_left) (read_instance_type c.args.depth_left)) read_shallow _ _ _ c.in_ok-rest.ensures (search rules, (search rules, (search rules, (search rules, (search rules, tt))))))
+    rw (
+      one_level c.args.depth_left,
+      past_rows (type_rows (read_component_type c.args.depth_left) (read_instance_type c.args.depth_left)) read_shallow _ _ _
+          c.in_ok-rest.ensures (search rules, (search rules, (search rules, (search rules, (search rules, tt))))),
+    )
     (shallow_ok _ c.args.bytes.now c.in_ok-ty-in_default.rest.now c.in_ok-ty-in_default.ensures)
 
 pub type_at-returns-in_err-ty-in_default-clause-found : goal.type_at-returns-in_err-ty-in_default-clause-found
 type_at-returns-in_err-ty-in_default-clause-found t c =
     let p = err_from_is_err_and c.from_residual-in_err-ty-in_default.result c.from_residual-in_err-ty-in_default.ensures.1 in
-    rw (p.1, p.2, one_level c.args.depth_left, past_rows (type_rows (read_component_type c.args.depth_left) (read_instance_type c.args.depth_left)) read_shallow _ _ _ c.in_ok-rest.ensures (search rules, (search rules, (search rules, (search rules, (search rules, tt))))))
+    rw (
+      p.1,
+      p.2,
+      one_level c.args.depth_left,
+      past_rows (type_rows (read_component_type c.args.depth_left) (read_instance_type c.args.depth_left)) read_shallow
+          _ _ _ c.in_ok-rest.ensures (search rules, (search rules, (search rules, (search rules, (search rules, tt))))),
+    )
     (fails_always_on c.in_err-ty-in_default.field-0.0 (read_defined c.args.bytes.now) (λ ty. give (DefinedType ty)) c.in_err-ty-in_default.ensures)

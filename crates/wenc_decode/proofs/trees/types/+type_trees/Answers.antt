@@ -1,8 +1,10 @@
 use Rattle.std.proofs.Common.{◌≡◌, ◌∙◌, List, refl, ap}
 use Rattle.wenc_types.specs.ComponentTypes.{ComponentType, InstanceType, FunctionType}
-use Rattle.wenc_types.specs.ComponentTypes.{components_of, instances_of, ComponentDeclaration, InstanceDeclaration}
+use Rattle.wenc_types.specs.ComponentTypes.{components_of, instances_of, ComponentDeclaration}
+use Rattle.wenc_types.specs.ComponentTypes.{InstanceDeclaration}
 use Rattle.wenc_types.specs.DefinedTypes.{LabelledType}
-use Rattle.wenc_types.specs.TypeTrees.{labelled_type_view, instance_declaration_view, component_declaration_view}
+use Rattle.wenc_types.specs.TypeTrees.{labelled_type_view, instance_declaration_view}
+use Rattle.wenc_types.specs.TypeTrees.{component_declaration_view}
 use Rattle.wenc_types.specs.reading.DefinedTypes.{read_labelled_type, to_function}
 use Rattle.wenc_types.specs.laws.TypeTrees.{view_component, view_instance}
 use Rattle.wenc_view.specs.DefinedTypes.{labelled_seen}
@@ -26,13 +28,16 @@ instance_decls-loop-decl-preserved g t c =
     record {
       callable = goes.0;
       finite = goes.1;
-      so_far = one_seen instance_declaration_view c.loop-decl.decls.items c.push.new.self.items c.in_ok-tree.tree (instance_declaration_seen c.in-Some.decl) (instance_members c.loop-decl.decl-iterator) (instance_members c.next.new.self) _ c.in_ok-push.ensures.items c.in_ok-tree.ensures c.in-Some.ensures.steps.0 c.loop-decl.invariant.so_far;
+      so_far = one_seen instance_declaration_view c.loop-decl.decls.items c.push.new.self.items c.in_ok-tree.tree (instance_declaration_seen c.in-Some.decl)
+          (instance_members c.loop-decl.decl-iterator) (instance_members c.next.new.self) _ c.in_ok-push.ensures.items c.in_ok-tree.ensures
+          c.in-Some.ensures.steps.0 c.loop-decl.invariant.so_far;
       depth = c.in-Some.ensures.steps.2 ∙ c.loop-decl.invariant.depth;
     }
 
 pub instance_decls-returns : goal.instance_decls-returns
 instance_decls-returns g t c =
-    all_seen instance_declaration_view c.loop-decl.decls.items (instance_members c.loop-decl.decl-iterator) (instance_members c.args.view) c.in-None.ensures.steps.0
+    all_seen instance_declaration_view c.loop-decl.decls.items (instance_members c.loop-decl.decl-iterator)
+    (instance_members c.args.view) c.in-None.ensures.steps.0
     (rw c.into_iter-decl-iterator.ensures.into_iter_gives at c.loop-decl.invariant.so_far)
 
 pub component_decls-loop-decl-init : goal.component_decls-loop-decl-init
@@ -49,13 +54,16 @@ component_decls-loop-decl-preserved g t c =
     record {
       callable = goes.0;
       finite = goes.1;
-      so_far = one_seen component_declaration_view c.loop-decl.decls.items c.push.new.self.items c.in_ok-tree.tree (component_declaration_seen c.in-Some.decl) (component_members c.loop-decl.decl-iterator) (component_members c.next.new.self) _ c.in_ok-push.ensures.items c.in_ok-tree.ensures c.in-Some.ensures.steps.0 c.loop-decl.invariant.so_far;
+      so_far = one_seen component_declaration_view c.loop-decl.decls.items c.push.new.self.items c.in_ok-tree.tree (component_declaration_seen c.in-Some.decl)
+          (component_members c.loop-decl.decl-iterator) (component_members c.next.new.self) _ c.in_ok-push.ensures.items c.in_ok-tree.ensures
+          c.in-Some.ensures.steps.0 c.loop-decl.invariant.so_far;
       depth = c.in-Some.ensures.steps.2 ∙ c.loop-decl.invariant.depth;
     }
 
 pub component_decls-returns : goal.component_decls-returns
 component_decls-returns g t c =
-    all_seen component_declaration_view c.loop-decl.decls.items (component_members c.loop-decl.decl-iterator) (component_members c.args.view) c.in-None.ensures.steps.0
+    all_seen component_declaration_view c.loop-decl.decls.items (component_members c.loop-decl.decl-iterator)
+    (component_members c.args.view) c.in-None.ensures.steps.0
     (rw c.into_iter-decl-iterator.ensures.into_iter_gives at c.loop-decl.invariant.so_far)
 
 pub type_tree-returns-in_ok-params-in-Func : goal.type_tree-returns-in_ok-params-in-Func

@@ -19,7 +19,9 @@ returns-in-Ok-clause-taken c =
     }
 
 pub returns-in-Err-clause-fault : goal.returns-in-Err-clause-fault
-returns-in-Err-clause-fault c = rw c.content_fault.ensures (item_fault c.args.self.now c.in-Err.refusal (omega arith) c.are_bytes.ensures (fails_nested c.in-Err.refusal _ c.in-Err.ensures))
+returns-in-Err-clause-fault c = rw c.content_fault.ensures (item_fault c.args.self.now c.in-Err.refusal (omega arith) c.are_bytes.ensures
+    (fails_nested c.in-Err.refusal _ c.in-Err.ensures))
 
 pub returns-in-Err-clause-asks_nothing : goal.returns-in-Err-clause-asks_nothing
-returns-in-Err-clause-asks_nothing c = rw c.content_fault.ensures (no_memory c.in-Err.refusal c.args.self.now.id c.args.self.now.place (asks_nothing c.in-Err.refusal _ c.in-Err.ensures))
+returns-in-Err-clause-asks_nothing c = rw c.content_fault.ensures (no_memory c.in-Err.refusal c.args.self.now.id c.args.self.now.place
+    (asks_nothing c.in-Err.refusal _ c.in-Err.ensures))

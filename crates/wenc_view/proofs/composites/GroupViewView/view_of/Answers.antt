@@ -11,11 +11,17 @@ use Rattle.wenc_view.proofs.composites.GroupViewView.view_of.Goals as goal
 
 pub returns-in_ok-ty-in_default : goal.returns-in_ok-ty-in_default
 returns-in_ok-ty-in_default c =
-    wraps Single (sub_rows (λ s. s)) (sub_rows Single) ((0x4e, read_types (λ (t : RecType). t)) ∷ []) (subs_follow Single (λ s. s)) _ _ _ c.in_ok-rest.ensures (search rules)
+    wraps Single (sub_rows (λ s. s)) (sub_rows Single) ((0x4e, read_types (λ (t : RecType). t)) ∷ []) (subs_follow Single (λ s. s)) _ _ _ c.in_ok-rest.ensures
+    (search rules)
     ∙ rw c.in_ok-ty-in_default.ensures refl
 
 pub returns-in_err-ty-in_default : goal.returns-in_err-ty-in_default
 returns-in_err-ty-in_default c =
     let p = err_from_is_err_and c.from_residual-in_err-ty-in_default.result c.from_residual-in_err-ty-in_default.ensures.1 in
-    rw (p.1, p.2, wraps Single (sub_rows (λ s. s)) (sub_rows Single) ((0x4e, read_types (λ (t : RecType). t)) ∷ []) (subs_follow Single (λ s. s)) _ _ _ c.in_ok-rest.ensures (search rules))
+    rw (
+      p.1,
+      p.2,
+      wraps Single (sub_rows (λ s. s)) (sub_rows Single) ((0x4e, read_types (λ (t : RecType). t)) ∷ []) (subs_follow Single
+          (λ s. s)) _ _ _ c.in_ok-rest.ensures (search rules),
+    )
     (fails_always_on c.in_err-ty-in_default.field-0.0 (read_sub_type c.args.bytes.now) (λ s. give (Single s)) c.in_err-ty-in_default.ensures)

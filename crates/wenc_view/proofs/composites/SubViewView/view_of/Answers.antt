@@ -14,7 +14,11 @@ use Rattle.wenc_view.proofs.composites.SubViewView.view_of.Goals as goal
 
 pub returns-in_ok-composite_type-in_default : goal.returns-in_ok-composite_type-in_default
 returns-in_ok-composite_type-in_default c =
-    wraps final (composite_rows (λ d. d)) (composite_rows final) ((0x4f, read_closed (λ n d. sub_of true (Some n) d)) ∷ (0x50, read_extension (λ n d. sub_of false n d)) ∷ []) (composites_follow final (λ d. d)) _ _ _ c.in_ok-rest.ensures (search rules)
+    wraps final (composite_rows (λ d. d)) (composite_rows final) ((0x4f, read_closed (λ n d. sub_of true (Some n) d)) ∷ (
+      0x50,
+      read_extension
+          (λ n d. sub_of false n d),
+    ) ∷ []) (composites_follow final (λ d. d)) _ _ _ c.in_ok-rest.ensures (search rules)
     ∙ rw c.in_ok-composite_type-in_default.ensures refl
 
 pub returns-in-80-default : goal.returns-in-80-default
@@ -23,5 +27,14 @@ returns-in-80-default c = rw (at_first (sub_rows (λ s. s)) nowhere 0x50 _ _ _ c
 pub returns-in_err-composite_type-in_default : goal.returns-in_err-composite_type-in_default
 returns-in_err-composite_type-in_default c =
     let p = err_from_is_err_and c.from_residual-in_err-composite_type-in_default.result c.from_residual-in_err-composite_type-in_default.ensures.1 in
-    rw (p.1, p.2, wraps final (composite_rows (λ d. d)) (composite_rows final) ((0x4f, read_closed (λ n d. sub_of true (Some n) d)) ∷ (0x50, read_extension (λ n d. sub_of false n d)) ∷ []) (composites_follow final (λ d. d)) _ _ _ c.in_ok-rest.ensures (search rules))
-    (fails_always_on c.in_err-composite_type-in_default.field-0.0 (read_composite c.args.bytes.now) (λ d. give (final d)) c.in_err-composite_type-in_default.ensures)
+    rw (
+      p.1,
+      p.2,
+      wraps final (composite_rows (λ d. d)) (composite_rows final) ((0x4f, read_closed (λ n d. sub_of true (Some n) d)) ∷ (
+        0x50,
+        read_extension
+            (λ n d. sub_of false n d),
+      ) ∷ []) (composites_follow final (λ d. d)) _ _ _ c.in_ok-rest.ensures (search rules),
+    )
+    (fails_always_on c.in_err-composite_type-in_default.field-0.0 (read_composite c.args.bytes.now)
+    (λ d. give (final d)) c.in_err-composite_type-in_default.ensures)

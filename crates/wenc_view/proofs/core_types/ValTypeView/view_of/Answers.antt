@@ -17,5 +17,10 @@ returns-in_ok-ty-in_default c =
 pub returns-in_err-ty-in_default : goal.returns-in_err-ty-in_default
 returns-in_err-ty-in_default c =
     let p = err_from_is_err_and c.from_residual-in_err-ty-in_default.result c.from_residual-in_err-ty-in_default.ensures.1 in
-    rw (p.1, p.2, wraps Ref (reference_rows (λ r. r)) (reference_rows Ref) (number_rows (λ t. t)) (references_follow Ref (λ r. r)) _ _ _ c.in_ok-rest.ensures (search rules))
+    rw (
+      p.1,
+      p.2,
+      wraps Ref (reference_rows (λ r. r)) (reference_rows Ref) (number_rows (λ t. t)) (references_follow Ref (λ r. r)) _ _ _ c.in_ok-rest.ensures
+          (search rules),
+    )
     (fails_always_on c.in_err-ty-in_default.field-0.0 (read_reference c.args.bytes.now) (λ r. give (Ref r)) c.in_err-ty-in_default.ensures)

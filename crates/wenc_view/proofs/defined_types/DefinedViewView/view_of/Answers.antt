@@ -15,7 +15,9 @@ returns-in_err-first c =
     rw (p.1, p.2) (c.in_err-first.ensures.0, bad_first (primitive_rows Primitive ++ defined_rows (λ t. t)) nowhere c.args.bytes.now c.in_err-first.ensures.1)
 
 pub returns-in-Some : goal.returns-in-Some
-returns-in-Some c = begins primitive_byte Primitive primitive_types (defined_rows (λ t. t)) nowhere _ _ _ _ c.in_ok-first.ensures (sym c.primitive_of.ensures ∙ c.in-Some.is)
+returns-in-Some c = begins primitive_byte Primitive primitive_types (defined_rows (λ t. t)) nowhere _ _ _ _ c.in_ok-first.ensures (sym c.primitive_of.ensures
+    ∙ c.in-Some.is)
 
 pub returns-in-None : goal.returns-in-None
-returns-in-None c = rw (goes_past primitive_byte Primitive primitive_types (defined_rows (λ t. t)) nowhere _ _ _ c.in_ok-first.ensures (sym c.primitive_of.ensures ∙ c.in-None.is)) c.defined.ensures
+returns-in-None c = rw (goes_past primitive_byte Primitive primitive_types (defined_rows (λ t. t)) nowhere _ _ _ c.in_ok-first.ensures
+    (sym c.primitive_of.ensures ∙ c.in-None.is)) c.defined.ensures
