@@ -3,11 +3,11 @@
 //! Needs the feature `reader`.
 //!
 //! A type `..View<'a>` borrows its strings and its lists from the bytes that were read, and is
-//! `Copy`. The type of [`tree`](crate::tree) with the same name owns them, and can be changed and
-//! written: [`ItemView`] and [`ItemTree`](crate::tree::ItemTree), [`DefinedView`] and
-//! [`DefinedTree`](crate::tree::DefinedTree). The view of an
-//! [`AliasTree`](crate::tree::AliasTree) is an [`Alias`](crate::Alias), as in upstream's API. Types
-//! without strings and lists are the same in both.
+//! `Copy`. The type of the same name in [`tree`](crate::tree), mostly a `..Tree`, owns them, and
+//! can be changed and written: so [`ItemView`] and [`ItemTree`](crate::tree::ItemTree),
+//! [`ComponentDeclView`] and [`ComponentDecl`](crate::tree::ComponentDecl). What an
+//! [`AliasTree`](crate::tree::AliasTree) owns, an [`Alias`](crate::Alias) borrows, as in upstream's
+//! API. Types without strings and lists are the same in both.
 //!
 //! The iterators over items, [`Items`](crate::Items), return views. The whole item was then read
 //! once, and its errors found, but of each list only the number of members and the place of the

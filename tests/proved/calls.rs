@@ -14,6 +14,7 @@ mod reading;
 mod sections;
 mod types;
 mod values;
+mod views;
 
 use crate::proved::tests::hex::{bytes, digits};
 use crate::proved::wenc_base::{Encode, Section};

@@ -4,6 +4,7 @@ use crate::seen::is_same;
 use crate::spellings::ROWS;
 use crate::{GRANTED, corpus};
 use std::hash::{DefaultHasher, Hash, Hasher};
+use std::hint::black_box;
 use wenc::tree::Space;
 use wenc::view::ItemView;
 use wenc::*;
@@ -39,8 +40,7 @@ fn walk<'a>(bytes: &'a [u8], (items, fault): &mut Found<'a>) -> Result<(), ListF
         }
     }
     assert_ne!(members.finish(), 0);
-    assert!(sections.imports().chain(sections.imports()).count() % 2 == 0);
-    assert!(sections.exports().chain(sections.exports()).count() % 2 == 0);
+    black_box((sections.imports().count(), sections.exports().count()));
     Space::ALL.into_iter().try_for_each(|space| sections.index_count(space).map(drop))
 }
 
@@ -54,7 +54,7 @@ fn nothing_is_asked_for() {
         let result = walk(&bytes, &mut found);
         let asked = GRANTED.take() != Some(0);
         let (views, fault) = found;
-        // what cannot be read is looked for by reading trees
+        // what a fault is of is found by trees
         assert!(!asked || fault.is_some() || result.is_err());
 
         let sections = Sections::new(&bytes).expect("a component").nested(8);
