@@ -1,12 +1,13 @@
 //! Values in place, and owned ones made of them.
 
 use crate::proved::tests::hex::bytes;
+use crate::proved::tests::trees::tree;
 use crate::proved::wenc_base::{
     AbstractHeapType, EntityType, ExportKind, FieldType, GlobalType, HeapType, MemoryType, RefType,
     StorageType, TableType, TagType, ValType,
 };
 use crate::proved::wenc_canon::CanonicalOption;
-use crate::proved::wenc_decode::trees::{TreeOf, owned_of};
+use crate::proved::wenc_decode::TreeOf;
 use crate::proved::wenc_list::{ItemView, ListFault, SectionItems, Sections};
 use crate::proved::wenc_parts::{
     Alias, AliasTree, ComponentExportKind, ComponentTypeRef, ComponentValType, ModuleArg, NameTree,
@@ -136,19 +137,19 @@ fn items() {
 fn items_of_a_section() {
     let bytes = b"\0asm\x0d\0\x01\0\x03\x04\x02\x60\0\0";
     let mut items: SectionItems<'_> = Sections::new(bytes).unwrap().next().unwrap().unwrap();
-    assert!(matches!(items.next_view(), Ok(Some(ItemView::CoreType(_)))));
+    assert!(matches!(items.next(), Ok(Some(ItemView::CoreType(_)))));
     assert_eq!((items.left, items.reached()), (1, 14));
-    assert_eq!(items.next_view(), Err(ListFault::BadItem { place: 8 }));
+    assert_eq!(items.next(), Err(ListFault::BadItem { place: 8 }));
     items.left = 0;
-    assert_eq!(items.next_view(), Ok(None));
+    assert_eq!(items.next(), Ok(None));
 }
 
 /// The owned value of these bytes is written as them.
 #[track_caller]
 fn owned<V: View<'static>, T: TreeOf<V, Global> + Debug + PartialEq>(text: &str, wanted: T) {
-    let (tree, rest) = owned_of::<Global, V, T>(Global, with_more(text)).unwrap();
+    let (tree, rest) = tree::<V, T>(with_more(text)).unwrap();
     assert_eq!((tree, rest), (wanted, &[0x2a][..]));
-    assert!(owned_of::<Global, V, T>(Global, &[]).is_err());
+    assert!(tree::<V, T>(&[]).is_err());
 }
 
 #[test]
