@@ -147,8 +147,7 @@ fn items_of_a_section() {
 /// The owned value of these bytes is written as them.
 #[track_caller]
 fn owned<V: View<'static>, T: TreeOf<V, Global> + Debug + PartialEq>(text: &str, wanted: T) {
-    let (tree, rest) = tree::<V, T>(with_more(text)).unwrap();
-    assert_eq!((tree, rest), (wanted, &[0x2a][..]));
+    assert_eq!(tree::<V, T>(with_more(text)), Ok((wanted, &[0x2a][..])));
     assert!(tree::<V, T>(&[]).is_err());
 }
 
