@@ -15,6 +15,8 @@
 //! nothing here takes memory. A member that is asked for twice is read twice; so are the
 //! declarations of a type in a type, once more for each type around them.
 //!
+//! [`to_tree`](ItemView::to_tree) copies a value.
+//!
 //! Equality and hashes are those of the values: lists are equal if their members are, however
 //! their numbers are padded.
 //!
@@ -37,7 +39,14 @@
 
 mod lists;
 
-use crate::ComponentExternName;
+use crate::proved::wenc_decode::TreeOf;
+use crate::shim::alloc::Global;
+use crate::tree::{
+    CanonTree, CaseTree, CoreCompositeType, CoreInstanceTree, CoreSubType, CoreTypeTree,
+    DefinedTree, GroupTree, InstanceTree, ItemTree, ModuleDecl, NameTree, TypeTree,
+};
+use crate::twins::twins;
+use crate::{ComponentExternName, Error};
 use alloc::borrow::Cow;
 
 pub use crate::proved::wenc_list::ItemView;
@@ -57,4 +66,35 @@ impl<'a> From<NameView<'a>> for ComponentExternName<'a> {
             [implements, version_suffix, external_id].map(|option| option.map(Cow::Borrowed));
         Self { name: Cow::Borrowed(name), implements, version_suffix, external_id }
     }
+}
+
+/// Defines how a borrowed value is copied.
+macro_rules! copied {
+    ($($view:ident => $tree:ident,)+) => {$(
+        impl $view<'_> {
+            twins! {
+                /// Returns an owned copy, which can be changed and written. It takes memory for
+                /// all strings and lists in it.
+                fn to_tree | try_to_tree(&self) -> $tree {
+                    $tree::tree_of(Global, *self).map_err(|_| Error::NoMemory)
+                }
+            }
+        }
+    )+};
+}
+
+copied! {
+    CanonView => CanonTree,
+    CaseView => CaseTree,
+    CoreCompositeView => CoreCompositeType,
+    CoreInstanceView => CoreInstanceTree,
+    CoreSubView => CoreSubType,
+    CoreTypeView => CoreTypeTree,
+    DefinedView => DefinedTree,
+    GroupView => GroupTree,
+    InstanceView => InstanceTree,
+    ItemView => ItemTree,
+    ModuleDeclView => ModuleDecl,
+    NameView => NameTree,
+    TypeView => TypeTree,
 }

@@ -302,6 +302,62 @@ fn imports_and_exports() {
     });
 }
 
+/// A copy is encoded as these bytes.
+#[track_caller]
+fn is_copy<T: Encode>(copy: T, wanted: &[u8]) {
+    let mut sink = Vec::new();
+    copy.encode(&mut sink);
+    assert_eq!(sink, wanted);
+}
+
+#[test]
+fn items_are_copied() {
+    for (id, content, _) in EACH {
+        with(*id, content, |item| match item {
+            ItemView::CoreInstance(instance) => is_copy(instance.to_tree(), &content[1..]),
+            ItemView::CoreType(ty) => is_copy(ty.to_tree(), &content[1..]),
+            ItemView::Instance(instance) => is_copy(instance.to_tree(), &content[1..]),
+            ItemView::Type(ty) => is_copy(ty.to_tree(), &content[1..]),
+            ItemView::Canon(canon) => is_copy(canon.to_tree(), &content[1..]),
+            ItemView::Import { name, .. } => is_copy(name.to_tree(), &content[1..11]),
+            ItemView::Export { name, .. } => is_copy(name.to_tree(), &content[1..4]),
+            item => {
+                let mut section = ItemSection::new(*id);
+                section.item(&item.to_tree()).expect("it is of this section");
+                let mut component = Component::new();
+                component.section(&section);
+                assert_eq!(component.finish(), alone(*id, content));
+            }
+        });
+    }
+}
+
+#[test]
+fn parts_are_copied() {
+    each(5, |item| {
+        let ItemView::CoreType(CoreTypeView::Group(group)) = item else { panic!("{item:?}") };
+        is_copy(group.to_tree(), &EACH[5].1[1..]);
+        let GroupView::Rec(mut types) = group else { panic!("{group:?}") };
+        let sub = types.next().expect("it is there");
+        is_copy(sub.to_tree(), &EACH[5].1[3..9]);
+        is_copy(sub.composite_type.to_tree(), &EACH[5].1[6..9]);
+    });
+    each(6, |item| {
+        let ItemView::CoreType(CoreTypeView::Module(mut decls)) = item else { panic!("{item:?}") };
+        is_copy(decls.next().expect("it is there").to_tree(), &EACH[6].1[3..10]);
+    });
+    each(15, |item| {
+        let ItemView::Type(TypeView::Defined(ty)) = item else { panic!("{item:?}") };
+        is_copy(ty.to_tree(), &EACH[15].1[1..]);
+    });
+    each(16, |item| {
+        let ItemView::Type(TypeView::Defined(DefinedView::Variant(cases))) = item else {
+            panic!("{item:?}");
+        };
+        is_copy(cases.last().expect("it is there").to_tree(), b"\x01b\x01\x7d\0");
+    });
+}
+
 #[test]
 fn items_define_indices() {
     for (id, content, space) in EACH {
@@ -362,6 +418,7 @@ fn is_as_owned(bytes: &[u8]) -> Option<ListFault> {
         match (view, tree) {
             (Ok((place, view)), Ok((range, tree))) => {
                 assert!(place == range && crate::seen::is_same(*view, tree), "{bytes:x?}");
+                assert_eq!(view.to_tree(), *tree);
             }
             (Err(fault), Err(other)) => assert_eq!(fault, other, "{bytes:x?}"),
             _ => panic!("{bytes:x?}: {view:?}, but {tree:?}"),

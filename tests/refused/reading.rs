@@ -110,6 +110,19 @@ fn items_are_found() {
         })
     });
     assert_eq!(items.len(), read.len());
+
+    let views = read.iter().flat_map(SectionReader::items);
+    let views: Vec<_> = views.map(|item| item.expect("it is read").1).collect();
+    let copies = each_is_refused(10, |refusals| {
+        refusals.call(|| {
+            let mut copies = calmly(|| Vec::with_capacity(100));
+            for view in &views {
+                copies.push(view.try_to_tree()?);
+            }
+            Ok(copies)
+        })
+    });
+    assert_eq!(copies, items);
 }
 
 #[test]

@@ -54,8 +54,7 @@ fn nothing_is_asked_for() {
         let result = walk(&bytes, &mut found);
         let asked = GRANTED.take() != Some(0);
         let (views, fault) = found;
-        // what a fault is of is found by trees
-        assert!(!asked || fault.is_some() || result.is_err());
+        assert!(!asked, "{fault:?} {result:?}");
 
         let sections = Sections::new(&bytes).expect("a component").nested(8);
         let sections = sections.map_while(Result::ok).map(|(_, section)| section);
