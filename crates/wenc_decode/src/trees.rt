@@ -55,6 +55,7 @@ impl<A: Allocator + Copy> TreeOf<ComponentValType, A> for ComponentValType {
 impl<'a, A: Allocator + Copy> TreeOf<&'a str, A> for String<A> {
     ghost is_copy = { λ t v. string_bytes t ≡ v.now };
 
+    #[inline(always)]
     fn tree_of(alloc: A, view: &'a str) -> Result<String<A>, AllocError> {
         String::from_str(alloc, view)
     }
@@ -97,6 +98,7 @@ impl<'a, A: Allocator + Copy, V: View<'a>, T: TreeOf<V, A>> TreeOf<ListOf<'a, V>
 impl<'a, A: Allocator + Copy> TreeOf<Alias<'a>, A> for AliasTree<A> {
     ghost is_copy = { λ t v. alias_tree_view t ≡ alias_view v };
 
+    #[inline(always)]
     fn tree_of(alloc: A, view: Alias<'a>) -> Result<AliasTree<A>, AllocError> {
         match view {
             Alias::InstanceExport {
@@ -131,6 +133,7 @@ impl<'a, A: Allocator + Copy> TreeOf<Alias<'a>, A> for AliasTree<A> {
 impl<'a, A: Allocator + Copy> TreeOf<NameView<'a>, A> for NameTree<A> {
     ghost is_copy = { λ t v. name_tree_view t ≡ name_seen v };
 
+    #[inline(always)]
     fn tree_of(alloc: A, view: NameView<'a>) -> Result<NameTree<A>, AllocError> {
         let name = String::from_str(alloc, view.name)?;
         match (view.implements, view.version_suffix, view.external_id) {

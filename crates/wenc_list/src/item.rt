@@ -107,6 +107,7 @@ impl<A: Allocator> ItemTree<A> {
 impl<'a, A: Allocator + Copy> TreeOf<ItemView<'a>, A> for ItemTree<A> {
     ghost is_copy = { λ t v. item_view t ≡ item_seen v };
 
+    #[inline(always)]
     fn tree_of(alloc: A, view: ItemView<'a>) -> Result<ItemTree<A>, AllocError> {
         match view {
             ItemView::Module(bytes) => Ok(ItemTree::Module(Vec::from_slice(alloc, bytes)?)),

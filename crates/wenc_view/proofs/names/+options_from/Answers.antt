@@ -1,5 +1,6 @@
 use Rattle.std.proofs.Common.{rules, refl}
-use Rattle.wenc_view.specs.Names.{name_seen, option_seen}
+use Rattle.wenc_view.specs.Names.{name_seen}
+use Rattle.wenc_view.specs.inside.Names.{option_seen}
 use Rattle.wenc_view.proofs.Options.{one_more, late}
 use Rattle.wenc_view.proofs.names.+options_from.Goals as goal
 
