@@ -35,8 +35,6 @@
 //! # Ok::<(), ListFault>(())
 //! ```
 
-mod lists;
-
 use crate::ComponentExternName;
 use crate::tree::Space;
 use alloc::borrow::Cow;
