@@ -37,8 +37,6 @@
 //! # Ok::<(), ListFault>(())
 //! ```
 
-mod lists;
-
 use crate::proved::wenc_decode::TreeOf;
 use crate::shim::alloc::Global;
 use crate::tree::{

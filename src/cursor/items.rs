@@ -9,8 +9,7 @@ use core::fmt;
 use core::ops::Range;
 
 /// An iterator over the items of a section, each with its byte offsets in the component. It ends
-/// after an error. The items borrow from the component's bytes, and nothing is allocated, except
-/// while the first part of a section that can't be read is looked for.
+/// after an error. The items borrow from the component's bytes, and nothing is allocated.
 ///
 /// Needs the feature `reader`.
 #[derive(Clone, Copy)]

@@ -9,6 +9,8 @@ pub mod convert;
 #[cfg(any(script, test))]
 pub mod hex;
 pub mod iter;
+#[cfg(any(feature = "reader", script, test))]
+mod lists;
 mod macros;
 pub mod string;
 pub mod vec;

@@ -3,9 +3,6 @@
 
 extern crate alloc;
 
-#[path = "../../../src/view/lists.rs"]
-#[allow(dead_code)]
-mod lists;
 mod proved;
 #[path = "../../../src/shim/mod.rs"]
 #[allow(dead_code, unused_imports, unused_macros)]
