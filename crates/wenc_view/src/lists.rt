@@ -11,14 +11,7 @@ use wenc_read::{Refusal, u32_of};
 
 /// A list, as an iterator over its members, which are read when they are asked for.
 ///
-/// A list that `view_of` returned was read over once, so that it has all of its `left` members.
-///
-/// ```
-/// let (numbers, rest) = ListOf::view_of(bytes)?;
-/// for number in numbers {
-///     let number: u32 = number;
-/// }
-/// ```
+/// A list of an item was read over once with the item, so that all of its members are there.
 #[derive_where(Clone, Copy)]
 pub struct ListOf<'a, T> {
     /// The number of remaining members.

@@ -11,7 +11,12 @@ use wenc_read::{Refusal, byte, flag_of, u32_of};
 /// binary format, from "Component Definitions" on). Nothing is allocated.
 ///
 /// ```
-/// let (alias, rest) = Alias::view_of(bytes)?;
+/// let (numbers, rest) = ListOf::view_of(bytes)?;
+/// let mut sum: u64 = 0;
+/// for number in numbers {
+///     let number: u32 = number;
+///     sum = sum.saturating_add(u64::from(number));
+/// }
 /// ```
 pub trait View<'a>: Sized + Copy {
     /// The value in contracts.

@@ -32,7 +32,7 @@ returns-in-Ok-counted-clause-unread c =
 
 pub returns-in-Ok-counted-clause-named : goal.returns-in-Ok-counted-clause-named
 returns-in-Ok-counted-clause-named c = named_some c.args.bytes.now c.args.place
-    (IsUnread (length c.args.bytes.now) (drop c.args.place c.args.bytes.now)) c.unread_item.result (returns-in-Ok-counted-clause-unread g c)
+    (IsUnread (length c.args.bytes.now) (drop c.args.place c.args.bytes.now)) c.unread_item.result (returns-in-Ok-counted-clause-unread c)
 
 pub returns-in-Err-counted-clause-unread : goal.returns-in-Err-counted-clause-unread
 returns-in-Err-counted-clause-unread c =
@@ -57,4 +57,4 @@ pub returns-in-Err-clause-unread : goal.returns-in-Err-clause-unread
 returns-in-Err-clause-unread c = unframed (drop c.args.place c.args.bytes.now) (rw c.split_at.ensures.back at c.in-Err.ensures.1)
 
 pub returns-in-Err-clause-named : goal.returns-in-Err-clause-named
-returns-in-Err-clause-named c n = absurd (named_none c.args.bytes.now c.args.place n (returns-in-Err-clause-unread g c))
+returns-in-Err-clause-named c n = absurd (named_none c.args.bytes.now c.args.place n (returns-in-Err-clause-unread c))

@@ -9,5 +9,5 @@ loop-item-preserved c =
     let x = c.in-Some._item in (
       before.0 ++ item_seen x ∷ [],
       one_more_taken c.args.items.now c.loop-item.items c.next.new.self before.0 (item_seen x) before.1
-          (rw c.in-Some.is at c.in_ok-item.ensures.taken),
+          (rw c.in-Some.is at c.in_ok-_item.ensures.taken),
     )
