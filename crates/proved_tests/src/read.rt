@@ -51,10 +51,7 @@ pub fn alias_of(bytes: &[u8]) -> Result<(Alias<'_>, &[u8]), Refusal>
 
 /// Reads a type, which the bytes spell, no deeper than that. Returns it and the bytes after it. If
 /// it fails with `Malformed` they spell none, and with `TooDeep` none but a deeper one.
-pub fn type_within(
-    depth_left: u32,
-    bytes: &[u8],
-) -> Result<(TypeView<'_>, &[u8]), NestedRefusal>
+pub fn type_within(depth_left: u32, bytes: &[u8]) -> Result<(TypeView<'_>, &[u8]), NestedRefusal>
     ensures read { IfOk result (λ x. (depth (type_seen x.0) ≤ depth_left)
         × (def_type (type_seen x.0)).Reads Wide bytes.now x.1.now) }
     ensures none { IfErr result (λ e. e ≡ Flat Malformed → (t : DefType) (rest : List ℕ)

@@ -1,5 +1,5 @@
 -- A fault that asks for no memory.
-use Rattle.std.proofs.Common.{◌≡◌, ◌≢◌, ℕ, cond, refl, inl, inr}
+use Rattle.std.proofs.Common.{◌≢◌, ℕ, cond, refl, inl, inr}
 use Rattle.wenc_base.specs.laws.Sound.{tested}
 use Rattle.wenc_read.specs.declared.refusal.NestedRefusal.{NestedRefusal}
 use Rattle.wenc_read.specs.declared.refusal.NestedRefusal.TheVariants.{Flat, TooDeep}

@@ -1,5 +1,5 @@
 -- Which faults stand against bytes that are read.
-use Rattle.std.proofs.Common.{◌≡◌, ℕ, List, [], ◌∷◌, length, refl, sym, ◌⊎◌, inl, inr}
+use Rattle.std.proofs.Common.{◌≡◌, ℕ, List, [], ◌∷◌, length, refl, ◌⊎◌, inl, inr}
 use Rattle.std.specs.List.{AllByRecursion}
 use Rattle.wenc_base.specs.Piece.{Wide}
 use Rattle.wenc_builder.specs.Sections.{Section, section_piece, sections, Reading}

@@ -5,16 +5,15 @@ use Rattle.std.proofs.lemmas.Bool.{cases_lt, lt-ltb, le-ltb}
 use Rattle.std.proofs.lemmas.Bool.Decides.{eqb_tells}
 use Rattle.std.proofs.lemmas.List.{take_at, drop_at, take-append-drop, length-take-le}
 use Rattle.std.proofs.lemmas.Option.{same_Some}
-use Rattle.std.specs.List.{AllByRecursion}
 use Rattle.std.specs.Prelude.{IsTrue}
 use Rattle.wenc_base.specs.Forms.{list, name, AreBytes}
 use Rattle.wenc_base.specs.Number.{u32}
-use Rattle.wenc_base.specs.Piece.{Form, Wide, only_where, each, raw, ◌⨾◌}
-use Rattle.wenc_base.specs.Readers.{Flaw, Bad, Deep, Reader}
+use Rattle.wenc_base.specs.Piece.{Form, Wide, only_where, raw, ◌⨾◌}
+use Rattle.wenc_base.specs.Readers.{Flaw, Bad, Reader}
 use Rattle.wenc_base.specs.laws.Lawful.{last, same_Ok_pair}
 use Rattle.wenc_base.specs.laws.Numbers.{u32_lawful, u32_sound}
 use Rattle.wenc_base.specs.reading.Numbers.{read_u32}
-use Rattle.wenc_base.specs.laws.Sound.{Told, Tells, deep_where, sound_tells, told_on, last_tells, nowhere_tells, tested, Agrees, Finds}
+use Rattle.wenc_base.specs.laws.Sound.{Told, Tells, deep_where, sound_tells, told_on, last_tells, nowhere_tells, tested, Finds}
 use Rattle.wenc_base.specs.laws.Sound.{or_deeper, last_finds, lawful_finds}
 use Rattle.wenc_builder.specs.Item.{Item, ModuleItem, CoreInstanceItem, CoreTypeItem, ComponentItem, InstanceItem, AliasItem, TypeItem}
 use Rattle.wenc_builder.specs.Item.{CanonItem, StartItem, ImportItem, ExportItem, CustomItem, RawItem, collected, item}

@@ -1,15 +1,15 @@
 -- What is taken of a section, item by item, and what that says of it.
-use Rattle.std.proofs.Common.{◌≡◌, ℕ, Bool, zero, suc, ◌+◌, ◌-◌, ◌<◌, ◌≤◌, true, false, true≢false, cond, List, [], ◌∷◌, ◌++◌, length, drop}
-use Rattle.std.proofs.Common.{Option, Some, None, Result, Ok, Err, refl, sym, ap, subst, ◌∙◌, inl, inr, ◌⊎◌, arith, append_assoc}
+use Rattle.std.proofs.Common.{◌≡◌, ℕ, Bool, zero, suc, ◌+◌, ◌-◌, ◌<◌, true, false, true≢false, cond, List, [], ◌∷◌, ◌++◌, length, drop}
+use Rattle.std.proofs.Common.{Some, None, Result, Ok, Err, refl, sym, ap, subst, ◌∙◌, inl, inr, ◌⊎◌, arith, append_assoc}
 use Rattle.std.proofs.Common.{length-append}
 use Rattle.std.proofs.lemmas.Bool.Decides.{eqb_tells}
 use Rattle.std.proofs.lemmas.List.{append-nil, drop_at}
 use Rattle.std.proofs.lemmas.Option.{same_Some}
 use Rattle.std.specs.List.{AllByRecursion}
 use Rattle.std.specs.Prelude.{IsTrue, IsFalse}
-use Rattle.wenc_base.specs.Forms.{list, name, AreBytes}
+use Rattle.wenc_base.specs.Forms.{name, AreBytes}
 use Rattle.wenc_base.specs.Number.{u32}
-use Rattle.wenc_base.specs.Piece.{Form, Wide, EndsWith, raw, each, ◌⨾◌}
+use Rattle.wenc_base.specs.Piece.{Form, Wide, EndsWith, each}
 use Rattle.wenc_base.specs.Readers.{Flaw, Bad, Deep, give, go_on}
 use Rattle.wenc_base.specs.laws.Forms.{raw_sound, bytes_lawful, bytes_pass, name_lawful}
 use Rattle.wenc_base.specs.laws.Lawful.{same_Ok_pair, ends_on}
@@ -23,7 +23,6 @@ use Rattle.wenc_builder.specs.Item.{Item, ModuleItem, CoreInstanceItem, CoreType
 use Rattle.wenc_builder.specs.Item.{CanonItem, StartItem, ImportItem, ExportItem, CustomItem, RawItem}
 use Rattle.wenc_builder.specs.Sections.{Section, members, collects, item_of, section_piece}
 use Rattle.wenc_builder.specs.laws.Reading.{item_of_lawful}
-use Rattle.wenc_view.specs.Depth.{Front, OpensTypes}
 use Rattle.wenc_read.specs.inside.Fails.{FailsNested}
 use Rattle.wenc_read.specs.declared.refusal.NestedRefusal.{NestedRefusal}
 use Rattle.wenc_read.specs.declared.refusal.NestedRefusal.TheVariants.{Flat, TooDeep}
@@ -33,7 +32,7 @@ use Rattle.wenc_sections.specs.laws.Items.{start_content_lawful, start_content_s
 use Rattle.wenc_sections.specs.reading.Items.{read_start_content}
 use Rattle.wenc_list.specs.Cursor.{item_in, Holds, Opens, HasTaken, IsSpent, IsNeverItem, IsNoItem, IsFaultIn}
 use Rattle.wenc_list.specs.Items.{item_section}
-use Rattle.wenc_list.specs.Listing.{HasDepth, AreWithin, IsFramed, IsLabelled, IsNoneWithin, IsFaultHere}
+use Rattle.wenc_list.specs.Listing.{HasDepth, AreWithin, IsFramed, IsLabelled, IsFaultHere}
 use Rattle.wenc_list.specs.declared.cursor.SectionItems.{SectionItems}
 use Rattle.wenc_list.specs.declared.fault.ListFault.{ListFault}
 use Rattle.wenc_list.specs.declared.fault.ListFault.TheVariants as faults

@@ -1,5 +1,5 @@
 //! A whole component: its header, and its sections up to the end.
-ghost use Rattle.std.specs.Prelude.{◌≡◌, ◌≤◌, ℕ, List, [], map, length, slice_index, IfOk, IfErr};
+ghost use Rattle.std.specs.Prelude.{◌≡◌, ◌≤◌, List, [], map, length, slice_index, IfOk, IfErr};
 ghost use Rattle.std.specs.Prelude.{Err, MatchResult};
 ghost use Rattle.wenc_base.specs.Prelude.{Wide};
 ghost use Rattle.wenc_builder.specs.Prelude.{Section, Reading};

@@ -9,7 +9,7 @@ use Rattle.wenc_types.specs.ComponentTypes.{ComponentDeclaration, InstanceDeclar
 use Rattle.wenc_types.specs.ComponentTypes.{components_of, instances_of}
 use Rattle.wenc_read.specs.declared.refusal.NestedRefusal.TheVariants.{Flat, TooDeep}
 use Rattle.wenc_read.specs.inside.Fails.{FailsNested}
-use Rattle.wenc_read.specs.declared.refusal.Refusal.TheVariants.{Memory, Malformed}
+use Rattle.wenc_read.specs.declared.refusal.Refusal.TheVariants.{Memory}
 use Rattle.wenc_view.specs.Gives.{FailsAlways}
 use Rattle.wenc_view.specs.laws.Repeats.{with_front}
 use Rattle.wenc_types.specs.DefinedTypes.{DefValType}

@@ -1,5 +1,4 @@
 -- Borrowed core types as pure ones.
-use Rattle.std.specs.Prelude.{ℕ, List}
 use Rattle.wenc_base.specs.Composites.{Composite, Func, Array, Struct, Sub, RecType, Single, Rec}
 use Rattle.wenc_base.specs.reading.Composites.{read_field_type, read_sub_type}
 use Rattle.wenc_base.specs.reading.Types.{read_val_type}

@@ -3,8 +3,7 @@ use Rattle.std.specs.Prelude.{◌≡◌, Result, Ok, Err}
 use Rattle.wenc_base.specs.Readers.{Flaw, Bad, Deep}
 use Rattle.wenc_read.specs.declared.refusal.NestedRefusal.{NestedRefusal}
 use Rattle.wenc_read.specs.declared.refusal.NestedRefusal.TheVariants.{Flat, TooDeep}
-use Rattle.wenc_read.specs.declared.refusal.Refusal.{Refusal}
-use Rattle.wenc_read.specs.declared.refusal.Refusal.TheVariants.{Memory, Malformed}
+use Rattle.wenc_read.specs.declared.refusal.Refusal.TheVariants.{Malformed}
 
 abbrev pub FailsAlways : {A : Type 0} → NestedRefusal → Result A Flaw → Type 0
 FailsAlways (Flat refusal) found = (refusal ≡ Malformed) × (found ≡ Err Bad)

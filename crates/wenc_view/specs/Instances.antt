@@ -1,5 +1,4 @@
 -- Borrowed instances as pure ones.
-use Rattle.std.specs.Prelude.{ℕ, List}
 use Rattle.wenc_base.specs.reading.Exports.{read_core_export_kind}
 use Rattle.wenc_base.specs.reading.Forms.{read_name}
 use Rattle.wenc_base.specs.reading.Numbers.{read_u32}

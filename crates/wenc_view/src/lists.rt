@@ -1,5 +1,5 @@
 //! Lists that are read on demand.
-ghost use Rattle.std.specs.Prelude.{◌≡◌, List};
+ghost use Rattle.std.specs.Prelude.{List};
 ghost use Rattle.std.specs.Iterator.{at_most};
 ghost use Rattle.wenc_base.specs.Prelude.{times, read_list, list};
 ghost use Rattle.wenc_read.specs.Prelude.{GivesAlways, list_exact};

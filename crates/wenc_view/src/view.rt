@@ -1,5 +1,4 @@
 //! The trait `View`, and the parts of every form.
-ghost use Rattle.std.specs.Prelude.{◌≡◌};
 ghost use Rattle.wenc_base.specs.Prelude.{Form, Reader, read_u32, u32 as number, u32_sound};
 ghost use Rattle.wenc_base.specs.Prelude.{u32_lawful, read_name, name as name_form, name_sound};
 ghost use Rattle.wenc_base.specs.Prelude.{name_lawful};

@@ -56,8 +56,11 @@ each_found : {A : Type 0} {form : Form A} {read : Reader A} → IsExact form rea
     → (vs : List A) (bytes rest : List ℕ) → (each form vs).Reads Wide bytes rest
     → times read (length vs) bytes ≡ Ok (vs, rest)
 each_found x [] bytes rest r = rw r refl
-each_found x (v ∷ vs) bytes rest r = rw ((x bytes).read_is_given v r.0 r.1, each_found x vs r.0 rest
-    r.2) refl
+each_found x (v ∷ vs) bytes rest r = rw (
+  (x bytes).read_is_given v r.0 r.1,
+  each_found x vs r.0 rest
+      r.2,
+) refl
 
 pub list_exact : {A : Type 0} {form : Form A} {read : Reader A} → IsExact form read
     → IsExact (list form) (read_list read)

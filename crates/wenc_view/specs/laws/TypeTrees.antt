@@ -1,20 +1,20 @@
 -- The reader of types that nest is exact: what it finds is read and no deeper, what is read is
 -- found, and where it says that a type is too deep, the bytes go so deep.
-use Rattle.std.proofs.Common.{◌≡◌, ℕ, zero, suc, ◌<◌, ◌≤◌, Bool, true, false, List, [], ◌∷◌, Option}
-use Rattle.std.proofs.Common.{Result, Ok, refl, ◌∙◌, inl, inr, arith}
+use Rattle.std.proofs.Common.{ℕ, zero, suc, ◌<◌, ◌≤◌, Bool, true, false, List, [], ◌∷◌, Option}
+use Rattle.std.proofs.Common.{refl, ◌∙◌, inl, inr, arith}
 use Rattle.std.specs.List.{AllByRecursion}
 use Rattle.wenc_base.specs.Number.{u32}
 use Rattle.wenc_base.specs.Piece.{Form, Wide, only_where, each}
 use Rattle.wenc_base.specs.laws.Forms.{list_lawful, list_sound, option_lawful, option_sound}
 use Rattle.wenc_base.specs.declared.types.ValType.{ValType}
-use Rattle.wenc_base.specs.Readers.{Flaw, Reader, ◌>>=◌, give, too_deep, times, choose}
+use Rattle.wenc_base.specs.Readers.{Reader, ◌>>=◌, give, too_deep, times, choose}
 use Rattle.wenc_base.specs.laws.Lawful.{then, last}
 use Rattle.wenc_base.specs.laws.Numbers.{u32_lawful, count_lawful, u32_sound}
 use Rattle.wenc_base.specs.reading.Numbers.{read_u32}
 use Rattle.wenc_base.specs.laws.Sound.{Told, Tells, Sound, deep_where, sound_tells, told_on}
 use Rattle.wenc_base.specs.laws.Sound.{then_tells, last_tells, nowhere_tells, too_deep_tells}
 use Rattle.wenc_base.specs.laws.Sound.{sound_behind, RowsTell, both_tables, choose_tells, Fewer}
-use Rattle.wenc_base.specs.laws.Sound.{Several, times_told, each_plain, Finds, agreed, or_deeper}
+use Rattle.wenc_base.specs.laws.Sound.{Several, times_told, each_plain, Finds, or_deeper}
 use Rattle.wenc_base.specs.laws.Sound.{nothing_finds, then_finds, last_finds, lawful_finds}
 use Rattle.wenc_base.specs.laws.Sound.{too_deep_finds, row_finds, other_finds}
 use Rattle.wenc_base.specs.laws.Types.{val_type_lawful, val_type_sound}
