@@ -154,7 +154,7 @@ pub use list::{Definitions, Found, ListFault, ListedSection, Listing, Unread, li
 pub use names::{DebugNames, NamesFault};
 pub use raw::RawSection;
 #[cfg(feature = "reader")]
-pub use rewrite::ItemSection;
+pub use rewrite::{ItemSection, SectionItem};
 
 /// What was proved of the sources in `crates/`: by which logic and which kits, the number of
 /// functions with a proof (without those of a `derive`), the number of edits of the code that the

@@ -5,7 +5,7 @@ use crate::proved::wenc_sections::names::NAMES_LABEL;
 use crate::proved::wenc_view::text_of;
 use crate::tree::{ItemTree, Space};
 use crate::twins::twins;
-use crate::{ComponentNameSection, ComponentSectionId, Error, NameMap};
+use crate::{ComponentNameSection, ComponentSectionId, Error, NameMap, SectionItem};
 use alloc::collections::TryReserveError;
 use alloc::string::String;
 use by_index::ByIndex;
@@ -97,9 +97,9 @@ impl DebugNames {
     ///
     /// The first subsection that can't be read, or [`NamesFault::NoMemory`]. The names before it
     /// are added.
-    pub fn read(&mut self, item: &ItemTree) -> Result<(), NamesFault> {
-        match item {
-            ItemTree::Custom { name, data } if **name == *NAMES_LABEL => self.read_data(data),
+    pub fn read(&mut self, item: &impl SectionItem) -> Result<(), NamesFault> {
+        match item.custom() {
+            Some((NAMES_LABEL, data)) => self.read_data(data),
             _ => Ok(()),
         }
     }

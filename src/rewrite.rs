@@ -10,6 +10,7 @@ use crate::proved::wenc_base::{Encode as _, Fault, Holder, Verbatim};
 use crate::shim::alloc::Global;
 use crate::shim::vec::Vec as ProvedVec;
 use crate::tree::ItemTree;
+use crate::view::ItemView;
 use alloc::vec::Vec;
 use core::fmt;
 
@@ -49,9 +50,65 @@ impl ComponentSection for ListedSection {
     }
 }
 
+/// An item, owned or borrowed: an [`ItemTree`] or an [`ItemView`]. No other type implements this.
+///
+/// Needs the feature `reader`.
+pub trait SectionItem: sealed::Sealed {}
+
+impl SectionItem for ItemTree {}
+impl SectionItem for ItemView<'_> {}
+
+pub(crate) mod sealed {
+    use super::{Error, ItemTree, ItemView};
+
+    /// What is needed of an item.
+    pub trait Sealed {
+        /// Calls a function with the item as a tree.
+        fn with_tree<T>(
+            &self,
+            call: impl FnOnce(&ItemTree) -> Result<T, Error>,
+        ) -> Result<T, Error>;
+
+        /// Returns the name and the data of a custom section.
+        fn custom(&self) -> Option<(&str, &[u8])>;
+    }
+
+    impl Sealed for ItemTree {
+        fn with_tree<T>(
+            &self,
+            call: impl FnOnce(&ItemTree) -> Result<T, Error>,
+        ) -> Result<T, Error> {
+            call(self)
+        }
+
+        fn custom(&self) -> Option<(&str, &[u8])> {
+            match self {
+                Self::Custom { name, data } => Some((name, data)),
+                _ => None,
+            }
+        }
+    }
+
+    impl Sealed for ItemView<'_> {
+        fn with_tree<T>(
+            &self,
+            call: impl FnOnce(&ItemTree) -> Result<T, Error>,
+        ) -> Result<T, Error> {
+            call(&self.try_to_tree()?)
+        }
+
+        fn custom(&self) -> Option<(&str, &[u8])> {
+            match self {
+                Self::Custom { name, data } => Some((name, data)),
+                _ => None,
+            }
+        }
+    }
+}
+
 /// A section that is built item by item ([component model, binary format, "Component
-/// Definitions"][definitions]). An item is added as a tree, which is encoded, or as its bytes in a
-/// component, which are copied, so that padded numbers stay padded.
+/// Definitions"][definitions]). An item is added as a tree or a view, which is encoded, or as its bytes
+/// in a component, which are copied, so that padded numbers stay padded.
 ///
 /// Needs the feature `reader`.
 ///
@@ -117,7 +174,13 @@ impl ItemSection {
     /// [`WrongSection`](Error::WrongSection) if the item belongs to a section with another id;
     /// [`TooMany`](Error::TooMany), [`TooLarge`](Error::TooLarge) or
     /// [`NoMemory`](Error::NoMemory). The section is unchanged.
-    pub fn item(&mut self, item: &ItemTree) -> Result<&mut Self, Error> {
+    pub fn item(&mut self, item: &impl SectionItem) -> Result<&mut Self, Error> {
+        item.with_tree(|item| self.tree(item))?;
+        Ok(self)
+    }
+
+    /// Adds an item that is a tree.
+    fn tree(&mut self, item: &ItemTree) -> Result<(), Error> {
         if u8::from(section_id(item)) != self.id {
             return Err(Error::WrongSection);
         }
@@ -153,7 +216,7 @@ impl ItemSection {
                 items.add_encoded(&proved::CustomSection { name, data })
             }
         }?;
-        Ok(self)
+        Ok(())
     }
 
     /// Adds an item given as bytes, such as those of a component in the range that

@@ -2,6 +2,7 @@
 
 use crate::component;
 use wenc::tree::{ItemTree, Space, String};
+use wenc::view::ItemView;
 use wenc::{
     Component, ComponentNameSection, ComponentSection, DebugNames, NamesFault, Sections, list,
 };
@@ -42,6 +43,9 @@ fn each_sort_is_read_and_written() {
     let mut names = DebugNames::new();
     assert_eq!(names.read(&section(&data)), Ok(()));
     assert_eq!(names.component(), Some("z"));
+    let mut borrowed = DebugNames::new();
+    let item = ItemView::Custom { name: DebugNames::SECTION, data: &data };
+    assert_eq!((borrowed.read(&item), &borrowed), (Ok(()), &names));
     let expected = Space::ALL.into_iter().zip(OF_ALL_SORTS);
     let expected: Vec<_> = expected.map(|(space, (_, name))| (space, 0, name)).collect();
     assert_eq!(names.iter().collect::<Vec<_>>(), expected);
