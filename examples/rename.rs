@@ -8,7 +8,7 @@
 //! and the count of its section, are encoded again. Whether the new name is valid isn't checked.
 
 use std::error::Error;
-use wenc::tree::ItemTree;
+use wenc::view::{ItemView, NameView};
 use wenc::{Component, ComponentSectionId, ItemSection, SectionReader, Sections};
 
 /// Returns the section with an import renamed, or `None` if it has none of the old name.
@@ -23,11 +23,11 @@ fn with_renamed(
     }
     let mut imports = ItemSection::new(section.id());
     let mut is_renamed = false;
-    for item in section.trees() {
+    for item in section.items() {
         match item? {
-            (_, ItemTree::Import { mut name, ty }) if &*name.name == old => {
-                name.name = new.into();
-                imports.item(&ItemTree::Import { name, ty })?;
+            (_, ItemView::Import { name, ty }) if name.name == old => {
+                let name = NameView { name: new, ..name };
+                imports.item(&ItemView::Import { name, ty })?;
                 is_renamed = true;
             }
             (place, _) => {

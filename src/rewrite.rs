@@ -107,8 +107,8 @@ pub(crate) mod sealed {
 }
 
 /// A section that is built item by item ([component model, binary format, "Component
-/// Definitions"][definitions]). An item is added as a tree or a view, which is encoded, or as its bytes
-/// in a component, which are copied, so that padded numbers stay padded.
+/// Definitions"][definitions]). An item is added as a tree or a view, which is encoded, or as its
+/// bytes in a component, which are copied, so that padded numbers stay padded.
 ///
 /// Needs the feature `reader`.
 ///
