@@ -120,6 +120,7 @@ impl Ends {
                 self.more.push(end);
             }
         }
+        // 32 bits: each is that of a component in the one before it, of 8 bytes at least.
         self.len += 1;
         Ok(())
     }

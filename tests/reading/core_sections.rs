@@ -17,7 +17,7 @@ fn each_section_has_its_bytes() {
     let sections = [
         CoreSection { id: 1, name: None, data: &[1, 0x60, 0, 0], range: 8..14 },
         CoreSection { id: 12, name: None, data: &[0], range: 14..18 },
-        CoreSection { id: 0, name: Some("x".into()), data: &[7], range: 18..23 },
+        CoreSection { id: 0, name: Some("x"), data: &[7], range: 18..23 },
         CoreSection { id: 255, name: None, data: &[], range: 23..25 },
     ];
     let kinds = sections.each_ref().map(CoreSection::kind);

@@ -68,7 +68,7 @@ fn modules_have_custom_sections() {
         same(&appended, &wanted, "what is appended", n);
         let mut read = CoreSections::new(module.as_slice()).expect("a module");
         let section = read.next().expect("a section").expect("it is read");
-        assert!(section.name.as_deref() == Some(&text(n)) && *section.data == data(n), "size {n}");
+        assert!(section.name == Some(&text(n)) && *section.data == data(n), "size {n}");
     }
 }
 
