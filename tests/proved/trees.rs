@@ -2,9 +2,9 @@
 
 use crate::proved::wenc_decode::TreeOf;
 use crate::proved::wenc_read::Refusal;
+use crate::proved::wenc_types::TypeTree;
 use crate::proved::wenc_view::{TypeView, View, type_at};
 use crate::shim::alloc::Global;
-use crate::tree::TypeTree;
 
 /// Reads the borrowed value that begins the bytes, and copies it.
 pub fn tree<'a, V: View<'a>, T: TreeOf<V, Global>>(
