@@ -2,7 +2,7 @@
 
 use crate::proved::wenc_list::Unread;
 use crate::proved::wenc_read::{Refusal, u32_of};
-use crate::proved::wenc_view::{View, text_of};
+use crate::proved::wenc_view::View;
 use crate::tree::CoreEntityType;
 use crate::{CoreSection, ExportKind, ModuleFault, SectionId};
 use core::ops::Range;
@@ -43,9 +43,7 @@ impl<'a> CoreItem<'a> {
     fn first(kind: SectionId, bytes: &'a [u8]) -> Result<(Self, &'a [u8]), Refusal> {
         Ok(match kind {
             SectionId::Import => {
-                let (module, rest) = text_of(bytes)?;
-                let (name, rest) = text_of(rest)?;
-                let (ty, rest) = CoreEntityType::view_of(rest)?;
+                let ((module, name, ty), rest) = View::view_of(bytes)?;
                 (Self::Import { module, name, ty }, rest)
             }
             SectionId::Export => {

@@ -8,6 +8,7 @@
 pub mod aliases;
 pub mod canonicals;
 pub mod composites;
+pub mod core_imports;
 pub mod core_type_views;
 pub mod core_types;
 pub mod defined_types;
