@@ -5,6 +5,7 @@ use super::rows::ROWS;
 use crate::proved::tests::refusing::Refusing;
 use crate::proved::wenc_decode::TreeOf;
 use crate::proved::wenc_list::{ItemTree, ListFault, SectionItems, Sections};
+use crate::proved::wenc_parts::ComponentTypeRef;
 use crate::shim::alloc::Global;
 use std::{format, vec, vec::Vec};
 
@@ -35,9 +36,16 @@ fn walked(bytes: &[u8]) -> Vec<Walked> {
     walked
 }
 
-/// A borrowed item is the owned one, and defines the same indices.
+/// A borrowed item and its copy define the same indices, by code of their own, and end alike.
 #[test]
 fn borrowed_and_owned_items() {
+    let bytes = component("0a0601000166010a");
+    let mut items = Sections::new(&bytes).unwrap().next().unwrap().expect("a section");
+    let import = items.next().unwrap().expect("an import");
+    let ItemTree::Import { name, ty } = ItemTree::tree_of(Global, import).unwrap() else {
+        panic!("it is an import");
+    };
+    assert_eq!((name.name.as_str(), ty), ("f", ComponentTypeRef::Func(10)));
     let mut number = 0;
     for row in ROWS {
         let bytes = component(row.sections);
@@ -47,7 +55,6 @@ fn borrowed_and_owned_items() {
             while let Ok(Some(view)) = borrowed.next() {
                 let tree = owned.next_tree(Global).unwrap().expect("it is there, too");
                 assert_eq!(view.indices(), tree.indices(), "{}", row.sections);
-                assert_eq!(ItemTree::tree_of(Global, view).unwrap(), tree, "{}", row.sections);
                 number += 1;
             }
             assert_eq!(owned.next_tree(Global).err(), borrowed.next().err(), "{}", row.sections);
