@@ -285,16 +285,22 @@ fn encode_any<A: Allocator>(n: u64, sink: &mut Vec<u8, A>) -> Result<(), Fault>
 }
 
 /// Appends the encoding of a number within the capacity, without allocating.
-#[tactic(auto, using(crate::proofs::Groups::size_of_u32))]
+#[tactic(auto, using(crate::proofs::Groups::size_of_u32, crate::proofs::Groups::unsigned_texts))]
 pub(crate) fn number_in_room<A: Allocator>(n: u32, sink: &mut Vec<u8, A>)
     requires { vec_len sink.old + number_size n ≤ vec_capacity sink.old }
     ensures items { sink.new.items ≡ sink.old.items ++ unsigned_text n }
     ensures len { vec_len sink.new ≡ vec_len sink.old + number_size n }
     ensures capacity { vec_capacity sink.old ≤ vec_capacity sink.new }
 {
-    let mut text = Short::new();
-    text.unsigned(u64::from(n));
-    extend_in_room(sink, text.as_slice());
+    if n < 1 << 7 {
+        extend_in_room(sink, &[n as u8]);
+    } else if n < 1 << 14 {
+        extend_in_room(sink, &[(n % 128) as u8 + 128, (n / 128) as u8]);
+    } else {
+        let mut text = Short::new();
+        text.unsigned(u64::from(n));
+        extend_in_room(sink, text.as_slice());
+    }
 }
 
 /// Appends the encoding of a number below 128, which is one byte, within the capacity.
@@ -523,8 +529,15 @@ pub struct Verbatim<'a>(pub &'a [u8]);
 impl<'a> Encode for Verbatim<'a> {
     ghost piece = { λ v. verbatim v.0.now };
 
+    #[inline(always)]
     fn encode<A: Allocator>(&self, sink: &mut Vec<u8, A>) -> Result<(), Fault> {
-        sink.extend_from_slice(self.0)?;
-        Ok(())
+        match self.0 {
+            [] => Ok(()),
+            [byte] => encode_byte(*byte, sink),
+            bytes => {
+                sink.extend_from_slice(bytes)?;
+                Ok(())
+            }
+        }
     }
 }

@@ -244,8 +244,12 @@ impl<A: Allocator> Holder<A> {
     }
 
     /// Appends the encoding of `lead`, the values as a list, and the encoding of `tail` to the open
-    /// member. Fails as `append` does, or as encoding these does.
-    fn append_between<E: Encode, T: Encode + Drop, I: Iterator<Item = T> + Drop, F: Encode>(
+    /// member. There has to be one.
+    ///
+    /// # Errors
+    ///
+    /// Fails as `append` does, or as encoding `lead`, the values or `tail` does.
+    pub fn append_between<E: Encode, T: Encode + Drop, I: Iterator<Item = T> + Drop, F: Encode>(
         &mut self,
         lead: &E,
         values: I,
