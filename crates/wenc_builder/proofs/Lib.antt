@@ -7,6 +7,7 @@ pub mod Viewed
 pub mod Standing
 pub mod Texts
 pub mod Taken
+pub mod Whole
 pub mod OwnSections
 pub mod Entered
 pub mod Listed

@@ -61,18 +61,6 @@ begins b s old new next index d a view w is counted all space section = record {
 
 -- ---- an item is written
 
-pub not_begun : (old new next whole : State) (fault : Fault) (id : ℕ) (space : Space) (name : Option (List ℕ)) (p : Piece)
-    → AddsItem old new next (Err fault) (new_item id space name []) nothing → AddsItem old new whole (Err fault) (new_item id space name p.text) p
-not_begun old new next whole fault id space name p t = record {
-  returned = tt;
-  ok = tt;
-  fits = tt;
-  free = tt;
-  err = t.err;
-  warranted = still_warranted _ _ (beginning_refuses old id space name p.text p.Cause) fault t.warranted;
-  unfinished_first = t.unfinished_first;
-}
-
 pub added : (old begun written new : State) (index id : ℕ) (space : Space) (name : Option (List ℕ)) (p : Piece)
     → AddsItem old begun (item_begun old (new_item id space name [])) (Ok index) (new_item id space name []) nothing
     → written ≡ item_appended begun p.text → p.Fits → NoCause (either p.Cause (no_room_in_section begun p.text)) → new ≡ item_ended written
@@ -89,25 +77,5 @@ added old begun written new index id space name p t w fits free e = record {
   where
     never : (i : ℕ) → Ok i ≡ Err Unfinished → ⊥
     never i e = cc
-
-pub partly_written : (old begun written new whole : State) (fault : Fault) (index id : ℕ) (space : Space) (name : Option (List ℕ)) (p : Piece)
-    → AddsItem old begun (item_begun old (new_item id space name [])) (Ok index) (new_item id space name []) nothing
-    → IsWarranted (either p.Cause (no_room_in_section begun p.text)) fault → written.settled ≡ begun.settled → new ≡ item_given_up written
-    → AddsItem old new whole (Err fault) (new_item id space name p.text) p
-partly_written old begun written new whole fault index id space name p t refused w e = record {
-  returned = tt;
-  ok = tt;
-  fits = tt;
-  free = tt;
-  err = rw (e, w, t.ok) (back old (none_of old.begun (λ u. never index (t.unfinished_first u))));
-  warranted = still_warranted _ _ (text_refuses old (new_item id space name p.text) p.Cause) fault (rw t.ok at refused);
-  unfinished_first = λ u. absurd (never index (t.unfinished_first u));
-}
-  where
-    never : (i : ℕ) → Ok i ≡ Err Unfinished → ⊥
-    never i e = cc
-
-    back : (s : State) → s.begun ≡ None → record { settled = s.settled; begun = None } ≡ s
-    back s none = rw (← none) refl
 
 -- ---- an item that is begun for an encoder

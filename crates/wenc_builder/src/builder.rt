@@ -1,10 +1,11 @@
 //! The component builder: its methods for modules, components, aliases, imports and exports.
 ghost use Rattle.std.specs.Prelude.{◌≡◌, ◌↔◌, [], ◌∷◌, ◌++◌, List, IfOk, IfErr, OnErr, IsOk};
-ghost use Rattle.std.specs.Prelude.{IsTrue, Some, None, Err, true, false};
+ghost use Rattle.std.specs.Prelude.{IsTrue, Some, None, Err, true, false, OnOk, is_none, length};
 ghost use Rattle.std.specs.Iterator.{IsFinite};
 ghost use Rattle.std.specs.List.{AllByRecursion};
 ghost use Rattle.std.specs.Option.{option_copied};
 ghost use Rattle.wenc_base.specs.Prelude.{IsMemory, listed, nothing, Spelling, GivesUp};
+ghost use Rattle.wenc_base.specs.Prelude.{IsWarranted, NoCause};
 ghost use Rattle.wenc_base.specs.declared.fault.Fault.TheVariants.{Unfinished};
 ghost use Rattle.wenc_builder.specs.Prelude.{Section, runs, Reading, whole, Entry, items};
 ghost use Rattle.wenc_builder.specs.Prelude.{module_entry, component_entry, canonical_entry};
@@ -14,7 +15,9 @@ ghost use Rattle.wenc_builder.specs.Prelude.{alias_export_entry, core_alias_expo
 ghost use Rattle.wenc_builder.specs.Prelude.{builder_is_finished, sections_text, count_in};
 ghost use Rattle.wenc_builder.specs.Prelude.{item_begun, item_ended, item_given_up, Holds, Enters};
 ghost use Rattle.wenc_builder.specs.Prelude.{EntersWithoutIndex, AddsItem, AddsWholeItem};
-ghost use Rattle.wenc_builder.specs.Prelude.{AddsSection, AddsUnindexedSection, AppendsListed};
+ghost use Rattle.wenc_builder.specs.Prelude.{AddsSection, AddsUnindexedSection, namespace_at};
+ghost use Rattle.wenc_builder.specs.Prelude.{spaces_begun, spaces_ended, space_begun, SpaceCause};
+ghost use Rattle.wenc_builder.specs.Prelude.{buffer_ended, buffer_given_up};
 ghost use Rattle.wenc_builder.specs.Prelude.{AddsListedItem, IsItemPiece, indices_in, some_in};
 ghost use Rattle.wenc_builder.specs.Prelude.{canonical_space, is_whole, HasNoRaw, with_bytes};
 ghost use Rattle.wenc_builder.specs.Prelude.{new_item_of, kind_id, AddsNames, item_appended};
@@ -198,6 +201,7 @@ impl<A: Allocator> ComponentBuilder<A> {
     }
 
     /// Begins an item, which `discard` rolls back until it is ended. Returns its index.
+    #[inline(always)]
     fn open(&mut self, kind: Kind, space: Space, name: Option<&str>) -> Result<u32, Fault>
         ensures { AddsItem self.old self.new
             (item_begun self.old (new_item_of kind space (option_copied name.entry) []))
@@ -247,43 +251,17 @@ impl<A: Allocator> ComponentBuilder<A> {
         ensures { AddsWholeItem self.old self.new result
             (new_item_of kind space (option_copied name.entry)) (E.piece item.now) }
     {
-        let index = match self.open(kind, space, name) {
-            Ok(index) => index,
-            Err(fault) => return Err(fault),
-        };
-        match self.append_value(item) {
-            Ok(()) => {
-                self.finish_member();
-                Ok(index)
-            }
+        if !self.buffer.is_finished() {
+            return Err(Fault::Unfinished);
+        }
+        self.buffer.open(kind)?;
+        match self.buffer.append_encoded(item) {
+            Ok(()) => index_and_end(&mut self.buffer, &mut self.spaces, space, name),
             Err(fault) => {
-                self.discard();
+                self.buffer.discard();
                 Err(fault)
             }
         }
-    }
-
-    /// Appends the encoding of `lead`, the values as a list, and the encoding of `tail` to the item
-    /// being written. On failure a part of these may have been appended.
-    fn append_between<E: Encode, T: Encode + Drop, I: Iterator<Item = T> + Drop, F: Encode>(
-        &mut self,
-        lead: &E,
-        values: I,
-        tail: &F,
-    ) -> Result<(), Fault>
-        requires unfinished { builder_is_finished self.old ≡ false }
-        requires can { I.can_next values }
-        requires ends { IsFinite (I.remaining values) }
-        ensures { AppendsListed I.next_gives values self.old self.new result
-            (listed (E.piece lead.now) T.piece (F.piece tail.now)) }
-    {
-        if let Err(fault) = self.append_value(lead) {
-            return Err(fault);
-        }
-        if let Err(fault) = self.append_list(&[], values) {
-            return Err(fault);
-        }
-        self.append_value(tail)
     }
 
     /// Adds a whole item with an optional debug name, and returns its index. The item is the
@@ -305,17 +283,14 @@ impl<A: Allocator> ComponentBuilder<A> {
             (new_item_of kind space (option_copied name.entry))
             (listed (E.piece lead.now) T.piece (F.piece tail.now)) }
     {
-        let index = match self.open(kind, space, name) {
-            Ok(index) => index,
-            Err(fault) => return Err(fault),
-        };
-        match self.append_between(lead, values, tail) {
-            Ok(()) => {
-                self.finish_member();
-                Ok(index)
-            }
+        if !self.buffer.is_finished() {
+            return Err(Fault::Unfinished);
+        }
+        self.buffer.open(kind)?;
+        match self.buffer.append_between(lead, values, tail) {
+            Ok(()) => index_and_end(&mut self.buffer, &mut self.spaces, space, name),
             Err(fault) => {
-                self.discard();
+                self.buffer.discard();
                 Err(fault)
             }
         }
@@ -681,6 +656,41 @@ impl<A: Allocator> ComponentBuilder<A> {
         }
         let ComponentBuilder { buffer, spaces: _ } = self;
         Ok(buffer.finish())
+    }
+}
+
+/// Ends the item being written, which takes an index with an optional debug name, and returns that
+/// index; or discards the item and fails, if the space has no index or no room for the name.
+#[inline(always)]
+fn index_and_end<A: Allocator>(
+    buffer: &mut Buffer<A>,
+    spaces: &mut Spaces<A>,
+    space: Space,
+    name: Option<&str>,
+) -> Result<u32, Fault>
+    requires writing { is_none buffer.old.writing ≡ false }
+    requires settled { spaces.old.taking ≡ None }
+    ensures index { IfOk result (λ i. i ≡ (namespace_at spaces.old.settled space).count) }
+    ensures ok { OnOk result (spaces.new
+        ≡ spaces_ended (spaces_begun spaces.old space 1 (option_copied name.entry))) }
+    ensures ended { OnOk result (buffer.new ≡ buffer_ended buffer.old) }
+    ensures free { OnOk result (NoCause
+        (SpaceCause (space_begun spaces.old space 1 (option_copied name.entry)))) }
+    ensures err { OnErr result (spaces.new ≡ spaces.old) }
+    ensures given_up { OnErr result (buffer.new ≡ buffer_given_up buffer.old) }
+    ensures warranted { IfErr result (IsWarranted
+        (SpaceCause (space_begun spaces.old space 1 (option_copied name.entry)))) }
+    ensures all { length spaces.old.settled ≡ 13 }
+{
+    match spaces.add(space, 1, name) {
+        Ok(index) => {
+            buffer.finish_member();
+            Ok(index)
+        }
+        Err(fault) => {
+            buffer.discard();
+            Err(fault)
+        }
     }
 }
 

@@ -3,7 +3,7 @@ ghost use Rattle.std.specs.Prelude.{◌≡◌, ◌-◌, ◌≤◌, ◌++◌, len
 ghost use Rattle.std.specs.Prelude.{is_none, None, Err, false};
 ghost use Rattle.std.specs.Iterator.{IsFinite};
 ghost use Rattle.wenc_base.specs.Prelude.{AreBytes, list, IsMemory, IsWarranted, NoCause};
-ghost use Rattle.wenc_base.specs.Prelude.{behind_bytes, Extends, ExtendsListed};
+ghost use Rattle.wenc_base.specs.Prelude.{behind_bytes, listed, Extends, ExtendsListed};
 ghost use Rattle.wenc_base.specs.declared.fault.Fault.TheVariants.{Unfinished};
 ghost use Rattle.wenc_builder.specs.Prelude.{sections_text, SectionCause, NoRoom, kind_id};
 ghost use Rattle.wenc_builder.specs.Prelude.{OpensAnother, nothing_buffered, buffer_begun};
@@ -17,7 +17,7 @@ use super::kind::Kind;
 use super::section_body::SectionBody;
 use std::alloc::{Allocator, Global};
 use std::marker::Model;
-use wenc_base::{Encode, Fault, Holder, Verbatim};
+use wenc_base::{ByRef, Encode, Fault, Holder, Verbatim};
 use wenc_parts::Component;
 
 /// All sections of a component in one holder, which keeps the closed bytes and a gap. Its members
@@ -91,6 +91,7 @@ impl<A: Allocator> Buffer<A> {
 
     /// Begins an item that doesn't belong to the open section. Fails only if an allocation fails
     /// (`Memory`); nothing has changed then.
+    #[inline(never)]
     fn open_apart(&mut self, kind: Kind) -> Result<(), Fault>
         requires settled { self.old.writing ≡ None }
         requires apart { OpensAnother self.old.settled.current (kind_id kind) }
@@ -138,6 +139,24 @@ impl<A: Allocator> Buffer<A> {
         self.holder.append_listed(lead, values)
     }
 
+    /// Appends the encoding of `lead`, the values as a list, and the encoding of `tail` to the item
+    /// being written. A failed call changes nothing.
+    pub fn append_between<E: Encode, T: Encode + Drop, I: Iterator<Item = T> + Drop, F: Encode>(
+        &mut self,
+        lead: &E,
+        values: I,
+        tail: &F,
+    ) -> Result<(), Fault>
+        requires unfinished { is_none self.old.writing ≡ false }
+        requires can { I.can_next values }
+        requires ends { IsFinite (I.remaining values) }
+        ensures { ExtendsListed I.next_gives values self.old self.new result
+            (buffer_appended self.old) (λ bytes. NoRoom (section_appended self.old bytes))
+            (listed (E.piece lead.now) T.piece (F.piece tail.now)) }
+    {
+        self.holder.append_between(lead, values, tail)
+    }
+
     /// Ends the item being written, which belongs to its section from now on. Allocates nothing.
     pub fn finish_member(&mut self)
         requires { is_none self.old.writing ≡ false }
@@ -151,6 +170,8 @@ impl<A: Allocator> Buffer<A> {
     }
 
     /// Discards the item being written. Allocates nothing.
+    #[cold]
+    #[inline(never)]
     pub fn discard(&mut self)
         requires { is_none self.old.writing ≡ false }
         ensures { self.new ≡ buffer_given_up self.old }
@@ -178,8 +199,25 @@ impl<A: Allocator> Buffer<A> {
         ensures bytes { OnOk result (AreBytes (E.piece lead.now).text) }
         ensures unfinished_value { E.unfinished lead.now → result ≡ Err Unfinished }
     {
+        if self.kind.is_none() && bytes.gap == 0 && bytes.more.is_empty() {
+            return self.write_whole(lead, bytes.first);
+        }
         let head = bytes.head.as_slice();
         self.write_section(lead, bytes.first, bytes.gap, head, bytes.more)
+    }
+
+    /// Writes the encoding of `lead` and these bytes as `add_section` does, with no section open.
+    fn write_whole<E: Encode>(&mut self, lead: &E, bytes: &[u8]) -> Result<(), Fault>
+        requires settled { self.old.writing ≡ None }
+        requires closed { self.old.settled.current ≡ None }
+        ensures stood { AppendsSection self.old self.new result
+            (with_bytes (E.piece lead.now) bytes.now) }
+        ensures bytes { OnOk result (AreBytes (E.piece lead.now).text) }
+        ensures unfinished_value { E.unfinished lead.now → result ≡ Err Unfinished }
+    {
+        self.holder.keep_all(&(ByRef(lead), Verbatim(bytes)))?;
+        self.closed_len = self.holder.kept_len();
+        Ok(())
     }
 
     /// Writes the encoding of `lead` and these bytes as `add_section` does, with `head` in place of

@@ -137,6 +137,31 @@ impl<A: Allocator> Spaces<A> {
         Ok(index)
     }
 
+    /// Takes `number` indices in a space, the first of them with an optional name, and returns the
+    /// first. A failed call changes nothing.
+    pub fn add(&mut self, space: Space, number: u32, name: Option<&str>) -> Result<u32, Fault>
+        requires { self.old.taking ≡ None }
+        ensures index { IfOk result (λ i.
+            i ≡ (namespace_at self.old.settled space).count) }
+        ensures ok { OnOk result (self.new
+            ≡ spaces_ended (spaces_begun self.old space number (option_copied name.entry))) }
+        ensures free { OnOk result ((fault : FaultSpec) → SpaceCause
+            (space_begun self.old space number
+            (option_copied name.entry)) fault → ⊥) }
+        ensures err { OnErr result (self.new ≡ self.old) }
+        ensures warranted { IfErr result (IsWarranted
+            (SpaceCause
+            (space_begun self.old space number (option_copied name.entry)))) }
+        ensures all { length self.old.settled ≡ 13 }
+    {
+        let one = &mut self.spaces[space.number()];
+        let index = one.count();
+        if let Err(fault) = one.add(number, name) {
+            return Err(fault);
+        }
+        Ok(index)
+    }
+
     /// Commits the indices of the item being written.
     pub fn finish_member(&mut self)
         requires { is_none self.old.taking ≡ false }

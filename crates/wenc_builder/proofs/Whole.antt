@@ -1,0 +1,104 @@
+-- A whole item: it is written, then takes its index, and is ended; or it is given up.
+use Rattle.std.proofs.Common.{◌≡◌, ℕ, true, is_none, List, [], length, Option, Some, None, Result, Ok, Err, inl, inr, refl, sym, ◌∙◌}
+use Rattle.wenc_base.specs.Fault.{IsWarranted, NoCause, either}
+use Rattle.wenc_base.specs.Parent.{Extends, Extended}
+use Rattle.wenc_base.specs.Piece.{Piece, nothing}
+use Rattle.wenc_base.specs.declared.fault.Fault.{Fault}
+use Rattle.wenc_base.specs.declared.fault.Fault.TheVariants.{Unfinished}
+use Rattle.wenc_base.specs.laws.Serves.{still_warranted}
+use Rattle.wenc_builder.specs.Builder.{State, namespace_at, NewItem, new_item, new_item_indices, content_of, item_begun}
+use Rattle.wenc_builder.specs.Cause.{SectionCause, SpaceCause, CallCause, NoRoom}
+use Rattle.wenc_builder.specs.Adds.{AddsItem, AddsWholeItem}
+use Rattle.wenc_builder.specs.inside.Adds.{IsItemPiece}
+use Rattle.wenc_builder.specs.inside.Layout.{Buffered, section_begun, section_appended, buffer_begun, buffer_appended, buffer_ended, buffer_given_up}
+use Rattle.wenc_builder.specs.inside.Spaces.{Spaced, space_begun, spaces_begun, spaces_ended}
+use Rattle.wenc_builder.specs.inside.View.{builder_view, IsBuilder}
+use Rattle.wenc_builder.specs.Space.{some_in}
+use Rattle.wenc_builder.specs.laws.Caused.{space_refuses, beginning_refuses, text_refuses}
+use Rattle.wenc_sections.specs.declared.space.Space.{Space}
+use Rattle.wenc_builder.proofs.Standing.{writing_none, begun_stands, value_stands, ended_stands}
+use Rattle.wenc_builder.proofs.Taken.{settled_before, begins, added}
+use Rattle.wenc_builder.proofs.Viewed.{appended_value, ended_is}
+
+module _ (b : Buffered) (s : Spaced) (i : IsBuilder b s) (old : State) (view : builder_view b s ≡ old) (finished : is_none b.writing ≡ true)
+    (id : ℕ) (space : Space) (name : Option (List ℕ)) where
+  abbrev New : List ℕ → NewItem
+  New = new_item id space name
+
+  abbrev first : Buffered
+  first = buffer_begun b id
+
+  abbrev taking : Spaced
+  taking = spaces_begun s space 1 name
+
+  abbrev begun : State
+  begun = builder_view first taking
+
+  none : old.begun ≡ None
+  none = settled_before b s old i.agree view finished
+
+  begun_is : begun ≡ item_begun old (New [])
+  begun_is = rw (← view) refl
+
+  -- ---- it is given up
+
+  -- as it was, whatever was written
+  pub back : (new : Buffered) → new.settled ≡ b.settled → buffer_given_up new ≡ b
+  back new e = rw (e, ← writing_none b finished) refl
+
+  refused : (new next : State) (fault : Fault) (p : Piece) (cause : Fault → Type 0)
+      → ((f : Fault) → cause f → CallCause old p.Cause (content_of (item_begun old (New p.text))) (Some (new_item_indices (New p.text))) f)
+      → IsWarranted cause fault → new ≡ old → AddsItem old new next (Err fault) (New p.text) p
+  refused new next fault p cause there warranted same = record {
+    returned = tt;
+    ok = tt;
+    fits = tt;
+    free = tt;
+    err = same;
+    warranted = still_warranted _ _ there fault warranted;
+    unfinished_first = λ e. let settled = none in cc;
+  }
+
+  pub section_refused : (new next : State) (fault : Fault) (p : Piece) → IsWarranted (SectionCause (section_begun b id)) fault → new ≡ old
+      → AddsItem old new next (Err fault) (New p.text) p
+  section_refused new next fault p w same = refused new next fault p (SectionCause (section_begun b id))
+      (λ f c. beginning_refuses old id space name p.text p.Cause f (inl (inr (inr (rw (← view) c))))) w same
+
+  pub space_refused : (new next : State) (fault : Fault) (p : Piece) → length s.settled ≡ 13 → IsWarranted (SpaceCause (space_begun s space 1 name)) fault
+      → new ≡ old → AddsItem old new next (Err fault) (New p.text) p
+  space_refused new next fault p all w same = refused new next fault p (SpaceCause (space_begun s space 1 name))
+      (λ f c. beginning_refuses old id space name p.text p.Cause f
+      (space_refuses old (New []) (λ _. ⊥) (rw (← view) all) f (rw (← view) c))) w same
+
+  text_refused : (new next : State) (fault : Fault) (p : Piece) → IsWarranted (either p.Cause (NoRoom (section_appended first p.text))) fault
+      → new ≡ old → AddsItem old new next (Err fault) (New p.text) p
+  text_refused new next fault p w same = refused new next fault p (either p.Cause (NoRoom (section_appended first p.text)))
+      (λ f c. text_refuses old (New p.text) p.Cause f (rw (← view) c)) w same
+
+  -- ---- it is written
+
+  module _ (room : NoCause (SectionCause (section_begun b id))) (written : Buffered) where
+    stands : IsBuilder first taking
+    stands = begun_stands b s i finished id space name room
+
+    module _ (p : Piece) (a : Extends first written (buffer_appended first p.text) (Ok tt) p (NoRoom (section_appended first p.text))) where
+      longer : IsBuilder written taking
+      longer = value_stands first taking stands written (Ok tt) p a
+
+      pub value_stays : IsItemPiece (Some id) (some_in space 1) p → IsBuilder (buffer_ended written) (spaces_ended taking)
+      value_stays whole = ended_stands written taking longer (rw a.ok (whole a.fits))
+
+      pub value_added : (new : State) (index : ℕ) → index ≡ (namespace_at s.settled space).count → length s.settled ≡ 13
+          → NoCause (SpaceCause (space_begun s space 1 name))
+          → new ≡ builder_view (buffer_ended written) (spaces_ended taking) → AddsWholeItem old new (Ok index) New p
+      value_added new index counted all free is =
+          let more = appended_value first taking begun stands.agree refl written (Ok tt) p a in
+          added old begun (builder_view written taking) new index id space name p
+          (begins b s old begun (item_begun old (New [])) index (New []) i.agree view finished begun_is (rw (← view) counted) (rw (← view) all)
+          (rw (← view) free) (rw (← view) room))
+          more.ok more.fits more.free (is ∙ ended_is written taking longer.agree)
+
+-- what was made of the values of an iterator is a value
+pub as_value : (b new : Buffered) (p : Piece) → Extended new (buffer_appended b) (λ bytes. NoRoom (section_appended b bytes)) p
+    → Extends b new (buffer_appended b p.text) (Ok tt) p (NoRoom (section_appended b p.text))
+as_value b new p e = record { ok = e.state; fits = e.fits; free = e.free; err = tt; warranted = tt }
