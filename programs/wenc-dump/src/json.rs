@@ -186,9 +186,19 @@ impl<'o, W: Write> Json<'o, W> {
             Node::Flag(flag) => write!(self.out, "{flag}"),
             Node::Text(text) => self.text(text),
             Node::Word(word) => self.text(word),
-            Node::Index { index, .. } => write!(self.out, "{index}"),
-            Node::List(list) => self.list(list.iter()),
-            Node::Tuple(values) => self.list(values.iter().map(|(_, value)| value)),
+            Node::Index { index, .. } | Node::OutOfRange { index, .. } => {
+                write!(self.out, "{index}")
+            }
+            Node::List(list) => {
+                let mut lead = "[";
+                list.try_for_each(|value| self.element(&mut lead, value))?;
+                self.put(if list.is_empty() { "[]" } else { "]" })
+            }
+            Node::Tuple(values) => {
+                let mut lead = "[";
+                values.iter().try_for_each(|(_, value)| self.element(&mut lead, value))?;
+                self.put("]")
+            }
             Node::Record(_, fields) => self.fields(fields.iter()),
             Node::Variant(name, part) => self.fields([(*name, *part)]),
             Node::Struct(name, fields) => {
@@ -206,13 +216,11 @@ impl<'o, W: Write> Json<'o, W> {
         self.node(&child.node())
     }
 
-    fn list<'a>(&mut self, values: impl Iterator<Item = Child<'a>>) -> io::Result<()> {
-        self.put("[")?;
-        for (at, value) in values.enumerate() {
-            self.put(if at == 0 { "" } else { "," })?;
-            self.child(value)?;
-        }
-        self.put("]")
+    /// Writes an element of a list after its lead, which is then a comma.
+    fn element(&mut self, lead: &mut &str, value: Child) -> io::Result<()> {
+        self.put(lead)?;
+        *lead = ",";
+        self.child(value)
     }
 
     fn fields<'a>(

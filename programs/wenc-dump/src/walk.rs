@@ -5,7 +5,8 @@ use super::phrase;
 use super::report::{Content, Label, Part, Report};
 use std::io;
 use std::ops::Range;
-use wenc::tree::{ItemTree, Space};
+use wenc::tree::Space;
+use wenc::view::ItemView;
 use wenc::{CoreSections, DebugNames, ListFault, NamesFault, SectionReader, Sections};
 
 /// The maximum nesting depth of components, which is that of types.
@@ -81,7 +82,7 @@ fn names_of(sections: Sections) -> Result<DebugNames, Failure> {
 }
 
 /// Returns the byte offset of the first debug names in an item that can't be read, in its data.
-fn unread_names(item: &ItemTree) -> Result<Option<usize>, Failure> {
+fn unread_names(item: &ItemView) -> Result<Option<usize>, Failure> {
     match DebugNames::new().read(item) {
         Ok(()) => Ok(None),
         Err(NamesFault::BadSubsection { place }) => Ok(Some(place)),
@@ -170,11 +171,9 @@ impl<'f, R: Report> Walk<'f, '_, R> {
     fn section(&mut self, section: SectionReader<'f>, next: &mut Indices) -> Result<(), Failure> {
         let (range, id, count) = (section.range(), section.id(), Some(section.count()));
         self.report.open(&Part::Section { range, id, count })?;
-        for item in section.trees() {
+        for item in section.items() {
             let fault = match item {
-                Ok((range, ItemTree::Component(bytes))) => {
-                    // frees the bytes while the component's sections are reported
-                    drop(bytes);
+                Ok((range, ItemView::Component(_))) => {
                     self.nested(range, section, next)?;
                     continue;
                 }
@@ -182,7 +181,6 @@ impl<'f, R: Report> Walk<'f, '_, R> {
                     self.item(range, &item, next)?;
                     continue;
                 }
-                Err(ListFault::NoMemory) => return Err(Failure::NoMemory),
                 Err(ListFault::BadSection { place }) => Fault::NoName(place),
                 Err(fault) => Fault::List(fault),
             };
@@ -221,7 +219,7 @@ impl<'f, R: Report> Walk<'f, '_, R> {
     fn item(
         &mut self,
         range: Range<usize>,
-        item: &ItemTree,
+        item: &ItemView,
         next: &mut Indices,
     ) -> Result<(), Failure> {
         let names = self.names.last();
@@ -229,15 +227,15 @@ impl<'f, R: Report> Walk<'f, '_, R> {
         let bytes = &self.bytes[range.clone()];
         let node = phrase::of_item(item.node());
         let (content, shown) = match item {
-            ItemTree::Module(_) => (Content::Module, &[][..]),
-            ItemTree::Custom { name, data } => (Content::Custom(name, data.len()), bytes),
+            ItemView::Module(_) => (Content::Module, &[][..]),
+            ItemView::Custom { name, data } => (Content::Custom(name, data.len()), bytes),
             _ => (Content::Node(&node, &self.names), bytes),
         };
         let part = Part::Item { range: range.clone(), label, content, bytes: shown };
         self.report.open(&part)?;
         match item {
-            ItemTree::Module(_) => self.module(range.start, bytes)?,
-            ItemTree::Custom { data, .. } => {
+            ItemView::Module(_) => self.module(range.start, bytes)?,
+            ItemView::Custom { data, .. } => {
                 if let Some(place) = unread_names(item)? {
                     self.unread(Fault::Names(range.end - data.len() + place))?;
                 }
