@@ -1,7 +1,7 @@
 //! The indices in a component that its index spaces don't have.
 
 use super::{Items, NestedSections};
-use crate::tree::{IndexCounts, Scope, Scopes, Space};
+use crate::tree::{IndexCounts, Scope, Scopes, Space, UsedIndex};
 use crate::view::ItemView;
 use crate::{ComponentSectionId, ListFault};
 use alloc::collections::VecDeque;
@@ -80,10 +80,9 @@ impl<'a> AllOutOfRange<'a> {
     /// Finds the indices of an item at this byte offset.
     fn find_in(&mut self, place: usize, item: &ItemView<'_>) -> Result<(), ListFault> {
         let scopes = Scopes::new(&self.counts);
-        item.node_in(&scopes).each_use(&mut |used, count| {
+        item.node_in(&scopes).try_each_index(|UsedIndex { space, scope, index, count }| {
             let Some(count) = count else { return Ok(()) };
             self.found.try_reserve(1).map_err(|_| ListFault::NoMemory)?;
-            let (space, scope, index) = (used.space, used.scope, used.index);
             self.found.push_back(OutOfRange { place, space, scope, index, count });
             Ok(())
         })?;

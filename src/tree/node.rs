@@ -103,6 +103,8 @@ pub struct UsedIndex {
     pub scope: Scope,
     /// The index itself, from 0 to 4294967295.
     pub index: u32,
+    /// The number of indices in the space if the index is [out of range](Node::OutOfRange).
+    pub count: Option<u64>,
 }
 
 impl Node<'_> {
@@ -119,7 +121,7 @@ impl Node<'_> {
     ///     item?.1.node().each_index(|used| found.push(used));
     /// }
     /// let (space, scope) = (Space::Types, Scope::Component(0));
-    /// assert_eq!(found, [UsedIndex { space, scope, index: 0 }]);
+    /// assert_eq!(found, [UsedIndex { space, scope, index: 0, count: None }]);
     /// # Ok::<(), wenc::ListFault>(())
     /// ```
     pub fn each_index(self, mut visit: impl FnMut(UsedIndex)) {
@@ -136,18 +138,16 @@ impl Node<'_> {
         self,
         mut visit: impl FnMut(UsedIndex) -> Result<(), E>,
     ) -> Result<(), E> {
-        self.each_use(&mut |used, _| visit(used))
+        self.each_use(&mut visit)
     }
 
-    /// Visits each index, with the number of indices in its space if it is out of range.
-    pub(crate) fn each_use<E>(
-        self,
-        visit: &mut dyn FnMut(UsedIndex, Option<u64>) -> Result<(), E>,
-    ) -> Result<(), E> {
+    fn each_use<E>(self, visit: &mut dyn FnMut(UsedIndex) -> Result<(), E>) -> Result<(), E> {
         match self {
-            Self::Index { space, scope, index } => visit(UsedIndex { space, scope, index }, None),
+            Self::Index { space, scope, index } => {
+                visit(UsedIndex { space, scope, index, count: None })
+            }
             Self::OutOfRange { space, scope, index, count } => {
-                visit(UsedIndex { space, scope, index }, Some(count))
+                visit(UsedIndex { space, scope, index, count: Some(count) })
             }
             Self::Present(child) | Self::Variant(_, child) => child.node().each_use(visit),
             Self::List(list) => list.try_for_each(|child| child.node().each_use(visit)),

@@ -55,7 +55,10 @@ fn add_indices(node: Node, seen: &mut Vec<Seen>) {
 /// The indices that are visited of a node, in their order.
 fn visited(node: Node) -> Vec<Seen> {
     let mut seen = Vec::new();
-    node.each_index(|UsedIndex { space, scope, index }| seen.push((space, scope, index)));
+    node.each_index(|UsedIndex { space, scope, index, count }| {
+        assert_eq!(count, None, "the scopes aren't known");
+        seen.push((space, scope, index));
+    });
     seen
 }
 

@@ -77,7 +77,7 @@ fn indices_of(tree: &mut ItemTree) -> Vec<UsedIndex> {
     let mut indices = Vec::new();
     tree.indices_mut(|used| {
         let (space, scope, index) = (used.space, used.scope, *used.index);
-        indices.push(UsedIndex { space, scope, index });
+        indices.push(UsedIndex { space, scope, index, count: None });
     });
     indices
 }

@@ -9,7 +9,7 @@ use std::fmt::{self, Display, Write as _};
 use std::io::{self, Write};
 use std::ops::Range;
 use std::path::Path;
-use wenc::tree::{Child, Node};
+use wenc::tree::{Child, Node, Scope, UsedIndex};
 
 /// The maximum number of open parts: the file, a section and an item for each component that is
 /// nested in it and for a module, and a section and an item of that module.
@@ -292,6 +292,18 @@ impl<W: Write> Report for Json<'_, W> {
             open.unread = Some(place);
         }
         Ok(())
+    }
+
+    fn out_of_range(&mut self, _: usize, used: &UsedIndex) -> io::Result<()> {
+        let Some(open) = self.open.last_mut() else { return Ok(()) };
+        let lead = if open.list.is_empty() { ",\"out_of_range\":[" } else { "," };
+        open.list = "]";
+        let (key, scope) = match used.scope {
+            Scope::Component(out) => ("component", out),
+            Scope::Type(depth) => ("type", depth),
+        };
+        write!(self.out, "{lead}{{\"space\":\"{}\",\"{key}\":{scope},", words::space(used.space))?;
+        write!(self.out, "\"index\":{},\"count\":{}}}", used.index, used.count.unwrap_or_default())
     }
 
     fn flush(&mut self) -> io::Result<()> {

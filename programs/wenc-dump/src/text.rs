@@ -1,5 +1,6 @@
 //! A report as text.
 
+use super::check::OutOfRange;
 use super::colours::Hue;
 use super::escape::Escaped;
 use super::fault::Fault;
@@ -11,7 +12,7 @@ use std::ffi::OsStr;
 use std::fmt::Display;
 use std::io::{self, Write};
 use std::ops::Range;
-use wenc::tree::Node;
+use wenc::tree::{Node, UsedIndex};
 
 /// The number of columns of a line, if it can be folded.
 const COLUMNS: usize = 100;
@@ -298,6 +299,13 @@ impl<W: Write> Report for Text<'_, W> {
         self.begin_line(self.depth)?;
         self.place(&(place..place), false)?;
         self.plain(what)?;
+        self.end_line()
+    }
+
+    fn out_of_range(&mut self, place: usize, index: &UsedIndex) -> io::Result<()> {
+        self.begin_line(self.depth)?;
+        self.place(&(place..place), false)?;
+        self.piece(Hue::Plain, OutOfRange(index))?;
         self.end_line()
     }
 

@@ -1,5 +1,6 @@
 //! Walks through a file, part by part.
 
+use super::check::{Check, node_in};
 use super::fault::{Failure, Fault};
 use super::phrase;
 use super::report::{Content, Label, Part, Report};
@@ -21,6 +22,7 @@ pub struct Walk<'f, 'r, R> {
     tell: &'r mut dyn FnMut(Fault),
     /// The debug names of the components around the next part, the outermost first.
     names: Vec<DebugNames>,
+    check: Check,
 }
 
 /// The next index of each space.
@@ -53,18 +55,20 @@ impl Indices {
     }
 }
 
-/// Reports the component or the core module with these bytes, and passes on its faults. Before
-/// each, the report is written up to it.
+/// Reports the component or the core module with these bytes, and passes on its faults, with those
+/// of the check of indices if that is wanted. Before each, the report is written up to it.
 ///
 /// # Errors
 ///
 /// Fails if an allocation or a write fails. What comes before is reported.
 pub fn walk(
     bytes: &[u8],
+    has_check: bool,
     report: &mut impl Report,
     tell: &mut dyn FnMut(Fault),
 ) -> Result<(), Failure> {
-    let mut walk = Walk { bytes, report, tell, names: Vec::new() };
+    let check = Check::new(has_check);
+    let mut walk = Walk { bytes, report, tell, names: Vec::new(), check };
     if let Ok(sections) = CoreSections::new(bytes) {
         walk.report.open(&Part::File(0..bytes.len(), Content::Module))?;
         walk.core_sections(0, sections)?;
@@ -108,6 +112,14 @@ fn framed<'f>(mut sections: Sections<'f>) -> impl Iterator<Item = Framed<'f>> {
 }
 
 impl<'f, R: Report> Walk<'f, '_, R> {
+    /// Notes that an item or a section of the innermost component can't be read.
+    fn note(&mut self, fault: &Fault, next: &mut Indices) {
+        next.note(fault);
+        if next.are_lost {
+            self.check.add_unknown();
+        }
+    }
+
     /// Passes on a fault, after writing what comes before it.
     fn fault(&mut self, fault: Fault) -> io::Result<()> {
         self.report.flush()?;
@@ -129,13 +141,18 @@ impl<'f, R: Report> Walk<'f, '_, R> {
         let range = 0..self.bytes.len();
         self.report.open(&Part::File(range, Content::Component(names.component())))?;
         self.sections(sections, names)?;
-        Ok(self.report.close()?)
+        self.report.close()?;
+        if self.check.found > 0 {
+            self.fault(Fault::OutOfRange(self.check.found))?;
+        }
+        Ok(())
     }
 
     /// Reports the sections of a component with these debug names.
     fn sections(&mut self, sections: Sections<'f>, names: DebugNames) -> Result<(), Failure> {
         self.names.try_reserve(1).map_err(|_| Failure::NoMemory)?;
         self.names.push(names);
+        self.check.enter()?;
         let mut next = Indices::default();
         for (frame, section) in framed(sections) {
             match (section, frame) {
@@ -146,6 +163,7 @@ impl<'f, R: Report> Walk<'f, '_, R> {
                 }
             }
         }
+        self.check.leave();
         self.names.pop();
         Ok(())
     }
@@ -163,7 +181,7 @@ impl<'f, R: Report> Walk<'f, '_, R> {
             fault => Fault::List(fault),
         };
         self.report.open(&Part::Section { range, id, count: None })?;
-        next.note(&fault);
+        self.note(&fault, next);
         self.unread(fault)?;
         Ok(self.report.close()?)
     }
@@ -184,7 +202,7 @@ impl<'f, R: Report> Walk<'f, '_, R> {
                 Err(ListFault::BadSection { place }) => Fault::NoName(place),
                 Err(fault) => Fault::List(fault),
             };
-            next.note(&fault);
+            self.note(&fault, next);
             self.unread(fault)?;
         }
         Ok(self.report.close()?)
@@ -212,7 +230,23 @@ impl<'f, R: Report> Walk<'f, '_, R> {
             Ok(None) => {}
             Err(fault) => self.unread(Fault::List(fault))?,
         }
+        self.check.add(&ItemView::Component(&[]));
         Ok(self.report.close()?)
+    }
+
+    /// Reports the indices of an item at this byte offset that are out of range, if that is wanted.
+    fn check_item(&mut self, place: usize, item: &ItemView) -> io::Result<()> {
+        let Some(scopes) = self.check.scopes() else { return Ok(()) };
+        let mut found = 0;
+        item.node_in(&scopes).try_each_index(|used| match used.count {
+            None => Ok(()),
+            Some(_) => {
+                found += 1;
+                self.report.out_of_range(place, &used)
+            }
+        })?;
+        self.check.found += found;
+        Ok(())
     }
 
     /// Reports an item that isn't a component.
@@ -225,7 +259,8 @@ impl<'f, R: Report> Walk<'f, '_, R> {
         let names = self.names.last();
         let label = item.indices().map(|(space, count)| next.take(space, count, names));
         let bytes = &self.bytes[range.clone()];
-        let node = phrase::of_item(item.node());
+        let scopes = self.check.scopes();
+        let node = phrase::of_item(node_in(item, scopes.as_ref()));
         let (content, shown) = match item {
             ItemView::Module(_) => (Content::Module, &[][..]),
             ItemView::Custom { name, data } => (Content::Custom(name, data.len()), bytes),
@@ -233,6 +268,8 @@ impl<'f, R: Report> Walk<'f, '_, R> {
         };
         let part = Part::Item { range: range.clone(), label, content, bytes: shown };
         self.report.open(&part)?;
+        self.check_item(range.start, item)?;
+        self.check.add(item);
         match item {
             ItemView::Module(_) => self.module(range.start, bytes)?,
             ItemView::Custom { data, .. } => {
