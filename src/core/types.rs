@@ -12,6 +12,8 @@ pub use encoder::CoreTypeEncoder;
 pub use values::{AbstractHeapType, HeapType, RefType, ValType};
 
 use crate::Error;
+use crate::lists::{List, is_array};
+use crate::proved::wasm_encoder as proved;
 use crate::proved::wenc_base::Fault;
 use crate::shim::alloc::Global;
 use crate::shim::vec::Vec;
@@ -36,6 +38,19 @@ pub(super) fn converted<T, U>(
 /// How many values are converted without an allocation.
 const FEW: usize = 8;
 
+/// A value that fills the places of [`Converted`] without one.
+pub(super) trait Filler: Copy {
+    const FILLER: Self;
+}
+
+impl Filler for proved::ValType {
+    const FILLER: Self = Self::I32;
+}
+
+impl Filler for proved::FieldType {
+    const FILLER: Self = Self { element_type: proved::StorageType::I8, mutable: false };
+}
+
 /// Converted values, which are allocated only if they are more than [`FEW`]. Their iterator may
 /// claim another number.
 pub(super) struct Converted<T> {
@@ -45,26 +60,54 @@ pub(super) struct Converted<T> {
     all: Vec<T>,
 }
 
-impl<T: Copy> Converted<T> {
-    /// Converts the values. Fails with the first error. `unused` is in the places without a value.
+impl<T: Filler> Converted<T> {
+    /// Creates it without values.
     #[inline]
-    pub(super) fn new<U: TryInto<T, Error = Error>>(
-        values: impl IntoIterator<Item = U>,
-        unused: T,
-    ) -> Result<Self, Error> {
-        let mut converted = Self { few: [unused; FEW], few_len: 0, all: Vec::new(Global) };
+    pub(super) fn new() -> Self {
+        Self { few: [T::FILLER; FEW], few_len: 0, all: Vec::new(Global) }
+    }
+
+    /// Converts the values and returns them. Fails with the first error. Compiled for arrays by
+    /// their type, and once for other lists, as [`with_list`](crate::lists::with_list) does.
+    // In line, the compiler unrolls it for arrays.
+    #[inline(always)]
+    pub(super) fn extend<L: IntoIterator>(&mut self, values: L) -> Result<&[T], Error>
+    where
+        L::Item: TryInto<T, Error = Error>,
+    {
+        let mut values = values.into_iter();
+        if const { is_array::<L>() } {
+            self.convert(values)?;
+        } else {
+            self.convert_listed(List(&mut values))?;
+        }
+        Ok(if self.all.is_empty() { &self.few[..self.few_len] } else { &self.all })
+    }
+
+    fn convert_listed<U: TryInto<T, Error = Error>>(
+        &mut self,
+        values: List<'_, U>,
+    ) -> Result<(), Error> {
+        self.convert(values)
+    }
+
+    #[inline(always)]
+    fn convert<U: TryInto<T, Error = Error>>(
+        &mut self,
+        values: impl Iterator<Item = U>,
+    ) -> Result<(), Error> {
         for value in values {
             let value = value.try_into()?;
-            match converted.few.get_mut(converted.few_len) {
+            match self.few.get_mut(self.few_len) {
                 Some(place) => {
                     *place = value;
                     // 32 bits: it is less than `FEW`.
-                    converted.few_len += 1;
+                    self.few_len += 1;
                 }
-                None => converted.push_to_all(value)?,
+                None => self.push_to_all(value)?,
             }
         }
-        Ok(converted)
+        Ok(())
     }
 
     #[cold]
@@ -75,11 +118,5 @@ impl<T: Copy> Converted<T> {
             }
         }
         Ok(self.all.push(value)?)
-    }
-
-    /// Returns the values.
-    #[inline]
-    pub(super) fn as_slice(&self) -> &[T] {
-        if self.all.is_empty() { &self.few[..self.few_len] } else { self.all.as_slice() }
     }
 }

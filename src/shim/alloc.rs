@@ -5,6 +5,10 @@ use core::fmt;
 
 /// An allocator: [`Global`], or in tests one that fails as planned.
 pub trait Allocator: Copy + TryClone + Eq + fmt::Debug + sealed::Sealed {
+    /// The least capacity of a vector of bytes that grows from none.
+    #[doc(hidden)]
+    const FIRST_BYTES: usize = 0;
+
     /// Returns `true` if an allocation may be attempted.
     #[inline]
     fn allows(&self) -> bool {
@@ -16,7 +20,11 @@ pub trait Allocator: Copy + TryClone + Eq + fmt::Debug + sealed::Sealed {
 #[derive(Clone, Copy, Debug, Default, PartialEq, Eq, Hash)]
 pub struct Global;
 
-impl Allocator for Global {}
+impl Allocator for Global {
+    // std's vectors of bytes begin with 8: a type of a few members, or a section of a few items,
+    // would be reallocated three times.
+    const FIRST_BYTES: usize = 64;
+}
 
 pub(crate) mod sealed {
     //! Keeps other crates from implementing [`Allocator`](super::Allocator).

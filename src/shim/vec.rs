@@ -79,7 +79,9 @@ impl<T, A: Allocator> Vec<T, A> {
     #[inline(never)]
     fn grow(&mut self, more: usize) -> Result<(), AllocError> {
         self.ask()?;
-        Ok(self.inner.try_reserve(more.saturating_add(1))?)
+        let is_first = size_of::<T>() == 1 && self.inner.capacity() == 0 && more < 8;
+        let least = if is_first { A::FIRST_BYTES } else { 0 };
+        Ok(self.inner.try_reserve(more.saturating_add(1).max(least))?)
     }
 
     /// Appends an element.
@@ -89,7 +91,19 @@ impl<T, A: Allocator> Vec<T, A> {
     /// Returns the element if the allocation fails.
     #[inline]
     pub fn push(&mut self, value: T) -> Result<(), AllocFailed<T>> {
-        if self.try_reserve(1).is_err() {
+        if self.inner.len() == self.inner.capacity() {
+            return self.push_growing(value);
+        }
+        self.inner.push(value);
+        Ok(())
+    }
+
+    /// Appends an element for which there is no room. Apart from `push`, so that std's is compiled
+    /// there without its own growth.
+    #[cold]
+    #[inline(never)]
+    fn push_growing(&mut self, value: T) -> Result<(), AllocFailed<T>> {
+        if self.grow(1).is_err() {
             return Err(AllocFailed { value });
         }
         self.inner.push(value);
@@ -160,7 +174,19 @@ impl<T: Copy, A: Allocator> Vec<T, A> {
     /// Returns an error if the allocation fails.
     #[inline]
     pub fn extend_from_slice(&mut self, values: &[T]) -> Result<(), AllocError> {
-        self.try_reserve(values.len())?;
+        if self.inner.capacity() - self.inner.len() < values.len() {
+            return self.extend_growing(values);
+        }
+        self.inner.extend_from_slice(values);
+        Ok(())
+    }
+
+    /// Appends elements for which there is no room, apart from `extend_from_slice` as
+    /// `push_growing` is from `push`.
+    #[cold]
+    #[inline(never)]
+    fn extend_growing(&mut self, values: &[T]) -> Result<(), AllocError> {
+        self.grow(values.len())?;
         self.inner.extend_from_slice(values);
         Ok(())
     }

@@ -53,6 +53,22 @@ fn nested_components() {
     }
 }
 
+/// What components and their indices are kept for the next ones.
+#[test]
+fn indices_out_of_range() {
+    // a component, and one in which a list is of a type that isn't there
+    for (component, found, requests) in [
+        (&nested(1)[..], 0, 0),
+        (&nested(3), 0, 1),
+        (&nested(6), 0, 2),
+        (b"\0asm\x0d\0\x01\0\x07\x05\x02\x70\x09\x70\x09", 2, 2),
+    ] {
+        let all = || Sections::new(component).expect("a component").out_of_range(8);
+        assert_eq!(all().filter(|one| one.is_ok()).count(), found);
+        each_is_refused(all, ListFault::NoMemory, requests);
+    }
+}
+
 /// What is printed, and not kept.
 struct Nowhere;
 

@@ -60,8 +60,7 @@ impl Encode for bool {
     ghost piece = { λ b. flag b };
 
     fn encode<A: Allocator>(&self, sink: &mut Vec<u8, A>) -> Result<(), Fault> {
-        sink.push(u8::from(*self))?;
-        Ok(())
+        encode_byte(u8::from(*self), sink)
     }
 }
 
@@ -286,6 +285,7 @@ fn encode_any<A: Allocator>(n: u64, sink: &mut Vec<u8, A>) -> Result<(), Fault>
 
 /// Appends the encoding of a number within the capacity, without allocating.
 #[tactic(auto, using(crate::proofs::Groups::size_of_u32, crate::proofs::Groups::unsigned_texts))]
+#[inline(always)]
 pub(crate) fn number_in_room<A: Allocator>(n: u32, sink: &mut Vec<u8, A>)
     requires { vec_len sink.old + number_size n ≤ vec_capacity sink.old }
     ensures items { sink.new.items ≡ sink.old.items ++ unsigned_text n }
@@ -468,10 +468,7 @@ impl<T: Encode> Encode for Option<T> {
 
     fn encode<A: Allocator>(&self, sink: &mut Vec<u8, A>) -> Result<(), Fault> {
         match self {
-            None => {
-                sink.push(0x00)?;
-                Ok(())
-            }
+            None => encode_byte(0x00, sink),
             Some(value) => Tagged(0x01, value).encode(sink),
         }
     }

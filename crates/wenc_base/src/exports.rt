@@ -5,7 +5,7 @@ ghost use Rattle.wenc_base.specs.Prelude.{core_export_kind, core_export_kind_law
 ghost use Rattle.wenc_base.specs.Prelude.{read_core_export_kind, ExportKind as Seen'};
 
 use crate::delimited::{Delimited, DelimitedEq};
-use crate::encode::Encode;
+use crate::encode::{Encode, encode_byte};
 use crate::fault::Fault;
 use std::alloc::Allocator;
 
@@ -42,8 +42,7 @@ impl Encode for ExportKind {
     ghost piece = { λ kind. core_export_kind kind };
 
     fn encode<A: Allocator>(&self, sink: &mut Vec<u8, A>) -> Result<(), Fault> {
-        sink.push(kind_byte(*self))?;
-        Ok(())
+        encode_byte(kind_byte(*self), sink)
     }
 }
 

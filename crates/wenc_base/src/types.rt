@@ -15,7 +15,7 @@ pub mod storage;
 pub mod sub;
 
 use crate::delimited::{Delimited, DelimitedEq};
-use crate::encode::{Encode, Tagged};
+use crate::encode::{Encode, Tagged, encode_byte};
 use crate::fault::Fault;
 pub use composite::{ArrayType, CompositeType, FuncType, StructType};
 pub use encoder::CoreTypeEncoder;
@@ -54,8 +54,7 @@ impl Encode for ValType {
             ValType::V128 => 0x7b,
             ValType::Ref(ty) => return ty.encode(sink),
         };
-        sink.push(byte)?;
-        Ok(())
+        encode_byte(byte, sink)
     }
 }
 
@@ -214,8 +213,7 @@ impl Encode for AbstractHeapType {
     ghost piece = { λ t. abstract_type t };
 
     fn encode<A: Allocator>(&self, sink: &mut Vec<u8, A>) -> Result<(), Fault> {
-        sink.push(self.byte())?;
-        Ok(())
+        encode_byte(self.byte(), sink)
     }
 }
 

@@ -5,7 +5,7 @@ ghost use Rattle.wenc_canon.specs.Prelude.{Field, Values, fields, two_fields, In
 ghost use Rattle.wenc_canon.specs.Prelude.{CoreType, Results};
 
 use std::alloc::Allocator;
-use wenc_base::{Encode, Fault, ValType};
+use wenc_base::{Encode, Fault, ValType, encode_byte};
 use wenc_parts::ResultList;
 
 /// The fields after the opcode of a builtin, and before its options if it takes any (component
@@ -29,8 +29,7 @@ impl Encode for NotCancellable {
     ghost piece = { λ _. byte 0x00 };
 
     fn encode<A: Allocator>(&self, sink: &mut Vec<u8, A>) -> Result<(), Fault> {
-        sink.push(0x00)?;
-        Ok(())
+        encode_byte(0x00, sink)
     }
 }
 

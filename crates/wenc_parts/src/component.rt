@@ -9,7 +9,7 @@ use std::alloc::{Allocator, Global};
 use std::marker::Model;
 use wenc_base::{
     CustomSection, Delimited, DelimitedEq, Encode, Fault, ProducersSection, RawCustomSection,
-    RawSection, Tagged,
+    RawSection, Tagged, encode_byte,
 };
 
 // The bytes of kinds of items (component model, binary format, `sort` and `core:sort`).
@@ -144,8 +144,7 @@ impl Encode for ComponentSectionId {
     ghost piece = { λ id. section_id id };
 
     fn encode<A: Allocator>(&self, sink: &mut Vec<u8, A>) -> Result<(), Fault> {
-        sink.push(u8::from(*self))?;
-        Ok(())
+        encode_byte(u8::from(*self), sink)
     }
 }
 

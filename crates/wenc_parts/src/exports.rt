@@ -9,7 +9,7 @@ use crate::component::{
     VALUE_SORT,
 };
 use std::alloc::Allocator;
-use wenc_base::{Delimited, DelimitedEq, Encode, Fault};
+use wenc_base::{Delimited, DelimitedEq, Encode, Fault, encode_byte};
 
 /// The kind of an export of a component (component model, binary format, `sort`).
 #[derive(Clone, Copy, Debug, PartialEq, Eq)]
@@ -43,8 +43,7 @@ impl Encode for ComponentExportKind {
             ComponentExportKind::Instance => INSTANCE_SORT,
             ComponentExportKind::Component => COMPONENT_SORT,
         };
-        sink.push(kind)?;
-        Ok(())
+        encode_byte(kind, sink)
     }
 }
 

@@ -15,7 +15,7 @@ use crate::exports::ComponentExportKind;
 use crate::types::ComponentValType;
 use std::alloc::{Allocator, Global};
 use std::borrow::CowStr;
-use wenc_base::{Delimited, DelimitedEq, Encode, Fault, Tagged};
+use wenc_base::{Delimited, DelimitedEq, Encode, Fault, Tagged, encode_byte};
 
 /// The bounds of an imported or exported type (component model, binary format, `typebound`).
 #[derive(Clone, Copy, Debug, PartialEq, Eq, Hash)]
@@ -32,10 +32,7 @@ impl Encode for TypeBounds {
     fn encode<A: Allocator>(&self, sink: &mut Vec<u8, A>) -> Result<(), Fault> {
         match self {
             TypeBounds::Eq(index) => Tagged(0x00, index).encode(sink),
-            TypeBounds::SubResource => {
-                sink.push(0x01)?;
-                Ok(())
-            }
+            TypeBounds::SubResource => encode_byte(0x01, sink),
         }
     }
 }

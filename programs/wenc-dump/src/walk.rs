@@ -1,11 +1,13 @@
 //! Walks through a file, part by part.
 
+use super::check::{Check, node_in};
 use super::fault::{Failure, Fault};
 use super::phrase;
 use super::report::{Content, Label, Part, Report};
 use std::io;
 use std::ops::Range;
-use wenc::tree::{ItemTree, Space};
+use wenc::tree::Space;
+use wenc::view::ItemView;
 use wenc::{CoreSections, DebugNames, ListFault, NamesFault, SectionReader, Sections};
 
 /// The maximum nesting depth of components, which is that of types.
@@ -20,6 +22,7 @@ pub struct Walk<'f, 'r, R> {
     tell: &'r mut dyn FnMut(Fault),
     /// The debug names of the components around the next part, the outermost first.
     names: Vec<DebugNames>,
+    check: Check,
 }
 
 /// The next index of each space.
@@ -52,18 +55,20 @@ impl Indices {
     }
 }
 
-/// Reports the component or the core module with these bytes, and passes on its faults. Before
-/// each, the report is written up to it.
+/// Reports the component or the core module with these bytes, and passes on its faults, with those
+/// of the check of indices if that is wanted. Before each, the report is written up to it.
 ///
 /// # Errors
 ///
 /// Fails if an allocation or a write fails. What comes before is reported.
 pub fn walk(
     bytes: &[u8],
+    has_check: bool,
     report: &mut impl Report,
     tell: &mut dyn FnMut(Fault),
 ) -> Result<(), Failure> {
-    let mut walk = Walk { bytes, report, tell, names: Vec::new() };
+    let check = Check::new(has_check);
+    let mut walk = Walk { bytes, report, tell, names: Vec::new(), check };
     if let Ok(sections) = CoreSections::new(bytes) {
         walk.report.open(&Part::File(0..bytes.len(), Content::Module))?;
         walk.core_sections(0, sections)?;
@@ -81,7 +86,7 @@ fn names_of(sections: Sections) -> Result<DebugNames, Failure> {
 }
 
 /// Returns the byte offset of the first debug names in an item that can't be read, in its data.
-fn unread_names(item: &ItemTree) -> Result<Option<usize>, Failure> {
+fn unread_names(item: &ItemView) -> Result<Option<usize>, Failure> {
     match DebugNames::new().read(item) {
         Ok(()) => Ok(None),
         Err(NamesFault::BadSubsection { place }) => Ok(Some(place)),
@@ -107,6 +112,14 @@ fn framed<'f>(mut sections: Sections<'f>) -> impl Iterator<Item = Framed<'f>> {
 }
 
 impl<'f, R: Report> Walk<'f, '_, R> {
+    /// Notes that an item or a section of the innermost component can't be read.
+    fn note(&mut self, fault: &Fault, next: &mut Indices) {
+        next.note(fault);
+        if next.are_lost {
+            self.check.add_unknown();
+        }
+    }
+
     /// Passes on a fault, after writing what comes before it.
     fn fault(&mut self, fault: Fault) -> io::Result<()> {
         self.report.flush()?;
@@ -128,13 +141,18 @@ impl<'f, R: Report> Walk<'f, '_, R> {
         let range = 0..self.bytes.len();
         self.report.open(&Part::File(range, Content::Component(names.component())))?;
         self.sections(sections, names)?;
-        Ok(self.report.close()?)
+        self.report.close()?;
+        if self.check.found > 0 {
+            self.fault(Fault::OutOfRange(self.check.found))?;
+        }
+        Ok(())
     }
 
     /// Reports the sections of a component with these debug names.
     fn sections(&mut self, sections: Sections<'f>, names: DebugNames) -> Result<(), Failure> {
         self.names.try_reserve(1).map_err(|_| Failure::NoMemory)?;
         self.names.push(names);
+        self.check.enter()?;
         let mut next = Indices::default();
         for (frame, section) in framed(sections) {
             match (section, frame) {
@@ -145,6 +163,7 @@ impl<'f, R: Report> Walk<'f, '_, R> {
                 }
             }
         }
+        self.check.leave();
         self.names.pop();
         Ok(())
     }
@@ -162,7 +181,7 @@ impl<'f, R: Report> Walk<'f, '_, R> {
             fault => Fault::List(fault),
         };
         self.report.open(&Part::Section { range, id, count: None })?;
-        next.note(&fault);
+        self.note(&fault, next);
         self.unread(fault)?;
         Ok(self.report.close()?)
     }
@@ -170,11 +189,9 @@ impl<'f, R: Report> Walk<'f, '_, R> {
     fn section(&mut self, section: SectionReader<'f>, next: &mut Indices) -> Result<(), Failure> {
         let (range, id, count) = (section.range(), section.id(), Some(section.count()));
         self.report.open(&Part::Section { range, id, count })?;
-        for item in section.trees() {
+        for item in section.items() {
             let fault = match item {
-                Ok((range, ItemTree::Component(bytes))) => {
-                    // frees the bytes while the component's sections are reported
-                    drop(bytes);
+                Ok((range, ItemView::Component(_))) => {
                     self.nested(range, section, next)?;
                     continue;
                 }
@@ -182,11 +199,10 @@ impl<'f, R: Report> Walk<'f, '_, R> {
                     self.item(range, &item, next)?;
                     continue;
                 }
-                Err(ListFault::NoMemory) => return Err(Failure::NoMemory),
                 Err(ListFault::BadSection { place }) => Fault::NoName(place),
                 Err(fault) => Fault::List(fault),
             };
-            next.note(&fault);
+            self.note(&fault, next);
             self.unread(fault)?;
         }
         Ok(self.report.close()?)
@@ -214,30 +230,49 @@ impl<'f, R: Report> Walk<'f, '_, R> {
             Ok(None) => {}
             Err(fault) => self.unread(Fault::List(fault))?,
         }
+        self.check.add(&ItemView::Component(&[]));
         Ok(self.report.close()?)
+    }
+
+    /// Reports the indices of an item at this byte offset that are out of range, if that is wanted.
+    fn check_item(&mut self, place: usize, item: &ItemView) -> io::Result<()> {
+        let Some(scopes) = self.check.scopes() else { return Ok(()) };
+        let mut found = 0;
+        item.node_in(&scopes).try_each_index(|used| match used.count {
+            None => Ok(()),
+            Some(_) => {
+                found += 1;
+                self.report.out_of_range(place, &used)
+            }
+        })?;
+        self.check.found += found;
+        Ok(())
     }
 
     /// Reports an item that isn't a component.
     fn item(
         &mut self,
         range: Range<usize>,
-        item: &ItemTree,
+        item: &ItemView,
         next: &mut Indices,
     ) -> Result<(), Failure> {
         let names = self.names.last();
         let label = item.indices().map(|(space, count)| next.take(space, count, names));
         let bytes = &self.bytes[range.clone()];
-        let node = phrase::of_item(item.node());
+        let scopes = self.check.scopes();
+        let node = phrase::of_item(node_in(item, scopes.as_ref()));
         let (content, shown) = match item {
-            ItemTree::Module(_) => (Content::Module, &[][..]),
-            ItemTree::Custom { name, data } => (Content::Custom(name, data.len()), bytes),
+            ItemView::Module(_) => (Content::Module, &[][..]),
+            ItemView::Custom { name, data } => (Content::Custom(name, data.len()), bytes),
             _ => (Content::Node(&node, &self.names), bytes),
         };
         let part = Part::Item { range: range.clone(), label, content, bytes: shown };
         self.report.open(&part)?;
+        self.check_item(range.start, item)?;
+        self.check.add(item);
         match item {
-            ItemTree::Module(_) => self.module(range.start, bytes)?,
-            ItemTree::Custom { data, .. } => {
+            ItemView::Module(_) => self.module(range.start, bytes)?,
+            ItemView::Custom { data, .. } => {
                 if let Some(place) = unread_names(item)? {
                     self.unread(Fault::Names(range.end - data.len() + place))?;
                 }

@@ -45,9 +45,10 @@ impl ComponentFuncTypeEncoder<'_> {
     }
 
     /// Encodes the parameters, compiled once rather than for each iterator.
-    fn listed(&mut self, params: List<'_, (&str, ComponentValType)>) -> Result<(), Error> {
+    fn listed(&mut self, params: List<'_, (&str, ComponentValType)>) -> Result<&mut Self, Error> {
         self.at(&BEFORE_PARAMS)?;
-        Ok(on!(&mut self.by, FuncBy, encoder => encoder.params(params))?)
+        on!(&mut self.by, FuncBy, encoder => encoder.params(params))?;
+        Ok(self)
     }
 
     twins! {
@@ -79,8 +80,7 @@ impl ComponentFuncTypeEncoder<'_> {
                     return Ok(self);
                 }
             }
-            self.listed(List(&mut params))?;
-            Ok(self)
+            self.listed(List(&mut params))
         }
 
         /// Sets the type of the result, if there is one. This ends the type.

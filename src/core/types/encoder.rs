@@ -66,9 +66,9 @@ impl CoreTypeEncoder<'_> {
             R::IntoIter: ExactSizeIterator,
         }
         {
-            let params = Converted::new(params, proved::ValType::I32)?;
-            let results = Converted::new(results, proved::ValType::I32)?;
-            self.by.function(params.as_slice(), results.as_slice())
+            let (mut few_params, mut few_results) = (Converted::new(), Converted::new());
+            let params = few_params.extend(params)?;
+            self.by.function(params, few_results.extend(results)?)
         }
 
         /// Encodes a function type.
@@ -90,9 +90,7 @@ impl CoreTypeEncoder<'_> {
             F::IntoIter: ExactSizeIterator,
         }
         {
-            let element_type = proved::StorageType::I8;
-            let unused = proved::FieldType { element_type, mutable: false };
-            self.by.struct_(Converted::new(fields, unused)?.as_slice())
+            self.by.struct_(Converted::new().extend(fields)?)
         }
 
         /// Fails with [`Unsupported`](Error::Unsupported): continuation types can't be encoded.

@@ -143,6 +143,9 @@ fn fill<A: Allocator>(bytes: &mut Vec<u8, A>, start: usize, end: usize, head: &[
     ensures len { vec_len bytes.new ≤ vec_len bytes.old }
     ensures capacity { vec_capacity bytes.old ≤ vec_capacity bytes.new }
 {
+    if start == end {
+        return;
+    }
     let spare = end - start - head.len();
     let len = bytes.len();
     move_up(bytes.as_mut_slice(), start, end, head);

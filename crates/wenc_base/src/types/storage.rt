@@ -5,7 +5,7 @@ ghost use Rattle.wenc_base.specs.Prelude.{read_field_type};
 
 use super::ValType;
 use crate::delimited::{Delimited, DelimitedEq};
-use crate::encode::Encode;
+use crate::encode::{Encode, encode_byte};
 use crate::fault::Fault;
 use std::alloc::Allocator;
 
@@ -30,8 +30,7 @@ impl Encode for StorageType {
             StorageType::I16 => 0x77,
             StorageType::Val(ty) => return ty.encode(sink),
         };
-        sink.push(byte)?;
-        Ok(())
+        encode_byte(byte, sink)
     }
 }
 
