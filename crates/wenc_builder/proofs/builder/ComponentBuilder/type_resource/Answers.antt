@@ -1,9 +1,10 @@
-use Rattle.std.proofs.Common.{Global, refl}
+use Rattle.std.proofs.Common.{refl}
 use Rattle.std.specs.Option.{option_copied}
-use Rattle.wenc_base.specs.laws.Serves.{serves_itself}
-use Rattle.wenc_types.specs.ComponentTypes.{DefType}
-use Rattle.wenc_types.specs.TypeTrees.{type_view}
-use Rattle.wenc_types.specs.declared.type_tree.TypeTree.TheVariants as trees
+use Rattle.wenc_base.specs.Forms.{option}
+use Rattle.wenc_base.specs.Number.{u32}
+use Rattle.wenc_base.specs.Types.{val_type}
+use Rattle.wenc_types.specs.ComponentTypes.{ResourceType}
+use Rattle.wenc_types.proofs.Serving.{pair_serves}
 use Rattle.wenc_builder.specs.Entry.{type_entry}
 use Rattle.wenc_builder.specs.Item.{TypeItem}
 use Rattle.wenc_builder.specs.inside.Layout.{kind_id}
@@ -15,10 +16,12 @@ use Rattle.wenc_builder.proofs.builder.ComponentBuilder.type_resource.Goals as g
 
 pub returns : goal.returns
 returns g c =
-    let t : DefType = type_view {A = Global} (trees.Resource c.args.rep c.args.dtor) in
-    new_item_enters c.args.self.now c.add.new.self c.add.result (type_entry (option_copied c.args.debug_name) t)
+    new_item_enters c.args.self.now c.add.new.self c.add.result
+    (type_entry (option_copied c.args.debug_name) (ResourceType c.args.rep c.args.dtor))
     (kind_id kinds.«Type») spaces.Types (option_copied c.args.debug_name)
-    (record { section = refl; defined = refl; named = refl }) serves_itself c.add.ensures
+    (record { section = refl; defined = refl; named = refl })
+    (pair_serves 0x3f (val_type c.args.rep) (option u32 c.args.dtor)) c.add.ensures
 
 pub add-requires : goal.add-requires
-add-requires g c = item_piece (TypeItem (type_view {A = Global} (trees.Resource c.args.rep c.args.dtor))) serves_itself
+add-requires g c = item_piece (TypeItem (ResourceType c.args.rep c.args.dtor))
+    (pair_serves 0x3f (val_type c.args.rep) (option u32 c.args.dtor))
