@@ -14,16 +14,20 @@ mod library;
 mod life;
 mod listing;
 mod numbers;
+mod rows;
 mod sections;
 mod session;
 #[cfg(test)]
 #[path = "../tests/capi/mod.rs"]
 mod tests;
 mod types;
+mod walk;
 
 use crate::proved::wasm_encoder::Fault;
 use crate::proved::wenc_read::{NestedRefusal, Refusal};
-use crate::shim::alloc::{AllocError, AllocFailed};
+use crate::shim::alloc::{AllocError, AllocFailed, Global};
+use crate::shim::boxed::Box as Boxed;
+use alloc::boxed::Box;
 use core::ptr;
 use session::Session;
 
@@ -50,6 +54,7 @@ pub enum Status {
     NotAComponent,
     BadSection,
     BadItem,
+    End,
 }
 
 /// The result of a call, or the status with which it fails.
@@ -109,19 +114,36 @@ pub struct Handle {
     at: *mut Session,
 }
 
-/// Returns the session of a handle.
-unsafe fn session<'a>(handle: *mut Handle) -> Result<&'a mut Session> {
+/// Begins what a handle owns, which owns nothing yet.
+unsafe fn begin(handle: *mut Handle, make: impl FnOnce() -> Result<Session>) -> Result<()> {
+    let handle = unsafe { handle.as_mut() }.ok_or(Status::NoHandle)?;
+    if !handle.at.is_null() {
+        return Err(Status::BadArgument);
+    }
+    let made: Box<[Session; 1]> = Boxed::new(Global, make()?)?.into();
+    handle.at = Box::into_raw(made).cast();
+    Ok(())
+}
+
+/// Returns the session of a handle, to read it.
+unsafe fn session<'a>(handle: *const Handle) -> Result<&'a Session> {
+    let handle = unsafe { handle.as_ref() }.ok_or(Status::NoHandle)?;
+    unsafe { handle.at.as_ref() }.ok_or(Status::NoHandle)
+}
+
+/// Returns the session of a handle, to change it.
+unsafe fn session_mut<'a>(handle: *mut Handle) -> Result<&'a mut Session> {
     let handle = unsafe { handle.as_ref() }.ok_or(Status::NoHandle)?;
     unsafe { handle.at.as_mut() }.ok_or(Status::NoHandle)
 }
 
-/// Returns the session of a second handle, which must differ from the first.
-unsafe fn other<'a>(session: &Session, handle: *mut Handle) -> Result<&'a mut Session> {
+/// Returns the session of a second handle, to read it. It must differ from the first.
+unsafe fn other<'a>(session: &Session, handle: *const Handle) -> Result<&'a Session> {
     let at = unsafe { handle.as_ref() }.map_or(ptr::null_mut(), |handle| handle.at);
     if ptr::eq(at, session) {
         return Err(Status::BadArgument);
     }
-    unsafe { at.as_mut() }.ok_or(Status::NoHandle)
+    unsafe { at.as_ref() }.ok_or(Status::NoHandle)
 }
 
 /// Writes a value through a pointer from C, unless that is NULL.
@@ -131,13 +153,18 @@ unsafe fn put<T>(at: *mut T, value: T) {
     }
 }
 
+/// Writes the result of a call that only reads through a pointer from C.
+unsafe fn written<T>(at: *mut T, result: Result<T>) -> Status {
+    result.map(|value| unsafe { put(at, value) }).into()
+}
+
 /// Makes a call that adds an item, and writes the item's index through a pointer from C.
 unsafe fn indexed(
     handle: *mut Handle,
     index: *mut u32,
     call: impl FnOnce(&mut Session) -> Result<u32>,
 ) -> Status {
-    match unsafe { session(handle) }.and_then(call) {
+    match unsafe { session_mut(handle) }.and_then(call) {
         Ok(value) => {
             unsafe { put(index, value) };
             Status::Done
@@ -148,14 +175,14 @@ unsafe fn indexed(
 
 /// Makes a call without a result.
 unsafe fn made(handle: *mut Handle, call: impl FnOnce(&mut Session) -> Result<()>) -> Status {
-    unsafe { session(handle) }.and_then(call).into()
+    unsafe { session_mut(handle) }.and_then(call).into()
 }
 
 /// Defines functions of C. Their arguments are
 ///
 /// - `name: T`, a `T`, or `&name: T`, a pointer to one;
 /// - `name[name_len]: text`, a string in UTF-8, or `list[list_len]: T`, an array;
-/// - `debug_name: name`, a flag and a string.
+/// - `debug_name: name`, a pointer to a string, or NULL.
 ///
 /// The handle comes before them, and with `-> index`, a pointer for the index after them. The body
 /// takes the session and the arguments.
@@ -192,9 +219,9 @@ macro_rules! call {
     ($f:ident $i:tt $s:ident $b:expr, [$($c:tt)*] [$($r:tt)*] $a:ident: name, $($rest:tt)*) => {
         $crate::capi::call! {
             $f $i $s $b,
-            [$($c)* named: $crate::capi::arguments::Flag, $a: *const u8, name_len: usize,]
+            [$($c)* $a: *const $crate::capi::arguments::Text,]
             [$($r)*
-                let $a = $crate::capi::arguments::optional(named, $a, name_len)?;
+                let $a = $crate::capi::arguments::debug_name($a)?;
                 $s.take_name($a)?;
             ]
             $($rest)*

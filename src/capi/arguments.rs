@@ -4,7 +4,7 @@ use super::numbers;
 use super::{Result, Status};
 use crate::proved::wasm_encoder::{ComponentExternName, EntityType};
 use crate::shim::borrow::CowStr;
-use core::{slice, str};
+use core::{ptr, slice, str};
 
 /// A `bool` of C: true unless it is 0.
 #[derive(Clone, Copy)]
@@ -35,20 +35,22 @@ pub struct Pair {
     pub number: u32,
 }
 
+/// `wenc_text`: a string, or none if the pointer is NULL and may be.
+#[derive(Clone, Copy)]
+#[repr(C)]
+pub struct Text {
+    pub at: *const u8,
+    pub len: usize,
+}
+
 /// `wenc_name`: a name with its options.
+#[derive(Clone, Copy)]
 #[repr(C)]
 pub struct Name {
-    pub name: *const u8,
-    pub name_len: usize,
-    pub implements: *const u8,
-    pub implements_len: usize,
-    pub version_suffix: *const u8,
-    pub version_suffix_len: usize,
-    pub external_id: *const u8,
-    pub external_id_len: usize,
-    pub has_implements: Flag,
-    pub has_version_suffix: Flag,
-    pub has_external_id: Flag,
+    pub name: Text,
+    pub implements: Text,
+    pub version_suffix: Text,
+    pub external_id: Text,
 }
 
 /// `wenc_entity`: an import or an export of a core module.
@@ -121,26 +123,35 @@ pub unsafe fn text<'a>(at: *const u8, len: usize) -> Result<&'a str> {
     str::from_utf8(bytes).map_err(|_| Status::Malformed)
 }
 
-/// Returns a string if the flag is set. Otherwise, the pointer isn't used.
-pub unsafe fn optional<'a>(has: Flag, at: *const u8, len: usize) -> Result<Option<&'a str>> {
-    if has.is_set() { unsafe { text(at, len) }.map(Some) } else { Ok(None) }
+/// Returns a debug name, or none.
+pub unsafe fn debug_name<'a>(name: *const Text) -> Result<Option<&'a str>> {
+    let name = unsafe { name.as_ref() };
+    name.map_or(Ok(None), |name| unsafe { name.optional() })
+}
+
+impl Text {
+    pub const NONE: Self = Self { at: ptr::null(), len: 0 };
+
+    /// Returns the string, unless there is none.
+    unsafe fn optional<'a>(&self) -> Result<Option<&'a str>> {
+        match (self.at.is_null(), self.len) {
+            (true, 0) => Ok(None),
+            (_, len) => unsafe { text(self.at, len) }.map(Some),
+        }
+    }
 }
 
 impl Name {
     /// Returns the name with its options.
     pub unsafe fn read<'a>(&self) -> Result<ComponentExternName<'a>> {
-        let option = |has, at, len| -> Result<Option<CowStr<'a>>> {
-            Ok(unsafe { optional(has, at, len) }?.map(CowStr::Borrowed))
+        let option = |option: Text| -> Result<Option<CowStr<'a>>> {
+            Ok(unsafe { option.optional() }?.map(CowStr::Borrowed))
         };
         Ok(ComponentExternName {
-            name: CowStr::Borrowed(unsafe { text(self.name, self.name_len) }?),
-            implements: option(self.has_implements, self.implements, self.implements_len)?,
-            version_suffix: option(
-                self.has_version_suffix,
-                self.version_suffix,
-                self.version_suffix_len,
-            )?,
-            external_id: option(self.has_external_id, self.external_id, self.external_id_len)?,
+            name: CowStr::Borrowed(unsafe { text(self.name.at, self.name.len) }?),
+            implements: option(self.implements)?,
+            version_suffix: option(self.version_suffix)?,
+            external_id: option(self.external_id)?,
         })
     }
 }

@@ -152,7 +152,7 @@ calls! {
             _ => Err(session.refusal()),
         }
     };
-    wenc_component_ref(debug_name: name, nested: *mut Handle) -> index = |session| {
+    wenc_component_ref(debug_name: name, nested: *const Handle) -> index = |session| {
         let nested = other(session, nested)?;
         nest(session, debug_name, nested)
     };

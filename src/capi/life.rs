@@ -1,23 +1,21 @@
 //! The calls that begin, finish and free what handles own.
 
-use super::listing::Listed;
 use super::session::Session;
-use super::{Handle, Result, Status, numbers, put, session};
+use super::{Handle, Result, Status, begin, numbers, put, session, session_mut, written};
 use crate::proved::wasm_encoder::{
     CanonicalFunctionSection, Component, ComponentAliasSection, ComponentBuilder,
     ComponentExportKind, ComponentExportSection, ComponentImportSection, ComponentInstanceSection,
     ComponentNameSection, ComponentSectionId, ComponentType, ComponentTypeSection, CoreTypeSection,
-    InstanceSection, InstanceType, ListFault, ModuleType, Unread, first_unread,
+    InstanceSection, InstanceType, ModuleType,
 };
 use crate::shim::alloc::Global;
-use crate::shim::boxed::Box as Boxed;
 use crate::shim::vec::Vec;
 use alloc::boxed::Box;
 use core::ffi::{CStr, c_char};
 use core::{mem, ptr};
 
 /// `WENC_VERSION`.
-const VERSION: u32 = 200;
+const VERSION: u32 = 100;
 
 #[unsafe(no_mangle)]
 pub extern "C" fn wenc_version() -> u32 {
@@ -25,7 +23,7 @@ pub extern "C" fn wenc_version() -> u32 {
 }
 
 /// A message for each status, in the order of `enum wenc_status`.
-const TEXTS: [&CStr; 13] = [
+const TEXTS: [&CStr; 14] = [
     c"done",
     c"no memory",
     c"too many",
@@ -39,23 +37,13 @@ const TEXTS: [&CStr; 13] = [
     c"not a component",
     c"bad section",
     c"bad item",
+    c"end",
 ];
 
 #[unsafe(no_mangle)]
 pub extern "C" fn wenc_status_text(status: u32) -> *const c_char {
     let text = usize::try_from(status).ok().and_then(|status| TEXTS.get(status));
     text.map_or(c"unknown status", |text| text).as_ptr()
-}
-
-/// Creates a session for a handle that owns nothing.
-unsafe fn begin(handle: *mut Handle, make: impl FnOnce() -> Result<Session>) -> Result<()> {
-    let handle = unsafe { handle.as_mut() }.ok_or(Status::NoHandle)?;
-    if !handle.at.is_null() {
-        return Err(Status::BadArgument);
-    }
-    let made: Box<[Session; 1]> = Boxed::new(Global, make()?)?.into();
-    handle.at = Box::into_raw(made).cast();
-    Ok(())
 }
 
 #[unsafe(no_mangle)]
@@ -110,59 +98,6 @@ pub unsafe extern "C" fn wenc_names_new(handle: *mut Handle) -> Status {
     unsafe { begin(handle, || Ok(Session::Names(ComponentNameSection::new(Global)))) }.into()
 }
 
-/// `wenc_unread`: the part of a component that can't be read.
-#[repr(C)]
-pub struct UnreadPart {
-    pub section: usize,
-    pub place: usize,
-    pub part: u32,
-    pub item: u32,
-}
-
-#[unsafe(no_mangle)]
-pub unsafe extern "C" fn wenc_list(
-    handle: *mut Handle,
-    bytes: *const u8,
-    len: usize,
-    unread: *mut UnreadPart,
-) -> Status {
-    unsafe { put(unread, UnreadPart { section: 0, place: 0, part: 0, item: 0 }) };
-    let make = || {
-        let bytes = unsafe { super::arguments::list(bytes, len) }?;
-        match Listed::read(bytes)? {
-            Ok(listed) => Ok(Session::Listed(listed)),
-            Err(fault) => {
-                let (status, part) = unread_part(bytes, fault);
-                unsafe { put(unread, part) };
-                Err(status)
-            }
-        }
-    };
-    unsafe { begin(handle, make) }.into()
-}
-
-/// Returns the status for a component that can't be read, and the part that can't be read.
-fn unread_part(bytes: &[u8], fault: ListFault) -> (Status, UnreadPart) {
-    let (status, section) = match fault {
-        ListFault::Memory => (Status::NoMemory, 0),
-        ListFault::NotAComponent { place } => (Status::NotAComponent, place),
-        ListFault::BadSection { place } => (Status::BadSection, place),
-        ListFault::BadItem { place } => (Status::BadItem, place),
-        ListFault::TooDeep { place } => (Status::TooDeep, place),
-    };
-    let unread = match fault {
-        ListFault::BadItem { place } | ListFault::TooDeep { place } => first_unread(bytes, place),
-        _ => None,
-    };
-    let (part, item, place) = match unread {
-        None => (0, 0, section),
-        Some(Unread::Count { place }) => (1, 0, place),
-        Some(Unread::Item { number, place }) => (2, number, place),
-        Some(Unread::Behind { place }) => (3, 0, place),
-    };
-    (status, UnreadPart { section, place, part, item })
-}
-
 #[unsafe(no_mangle)]
 pub unsafe extern "C" fn wenc_free(handle: *mut Handle) {
     if let Some(handle) = unsafe { handle.as_mut() } {
@@ -196,7 +131,7 @@ pub unsafe extern "C" fn wenc_finish(
     bytes: *mut *const u8,
     len: *mut usize,
 ) -> Status {
-    match unsafe { session(handle) }.and_then(finished) {
+    match unsafe { session_mut(handle) }.and_then(finished) {
         Ok(finished) => {
             unsafe { put(bytes, finished.as_ptr()) };
             unsafe { put(len, finished.len()) };
@@ -207,7 +142,7 @@ pub unsafe extern "C" fn wenc_finish(
 }
 
 #[unsafe(no_mangle)]
-pub unsafe extern "C" fn wenc_bytes(handle: *mut Handle, bytes: *mut u8, len: usize) -> Status {
+pub unsafe extern "C" fn wenc_bytes(handle: *const Handle, bytes: *mut u8, len: usize) -> Status {
     match unsafe { session(handle) } {
         Ok(Session::Building(_) | Session::ByHand(_)) => Status::Unfinished,
         Ok(Session::Finished(whole)) if whole.len() == len && !bytes.is_null() => {
@@ -219,19 +154,14 @@ pub unsafe extern "C" fn wenc_bytes(handle: *mut Handle, bytes: *mut u8, len: us
     }
 }
 
-/// Writes a number through a pointer from C.
-unsafe fn counted<T>(at: *mut T, count: Result<T>) -> Status {
-    count.map(|count| unsafe { put(at, count) }).into()
-}
-
 #[unsafe(no_mangle)]
-pub unsafe extern "C" fn wenc_count(handle: *mut Handle, space: u32, count: *mut u32) -> Status {
+pub unsafe extern "C" fn wenc_count(handle: *const Handle, space: u32, count: *mut u32) -> Status {
     let counts =
-        |session: &mut Session| session.count(numbers::space(space).ok_or(Status::BadArgument)?);
-    unsafe { counted(count, session(handle).and_then(counts)) }
+        |session: &Session| session.count(numbers::space(space).ok_or(Status::BadArgument)?);
+    unsafe { written(count, session(handle).and_then(counts)) }
 }
 
 #[unsafe(no_mangle)]
-pub unsafe extern "C" fn wenc_len(handle: *mut Handle, len: *mut usize) -> Status {
-    unsafe { counted(len, session(handle).and_then(|session| session.len())) }
+pub unsafe extern "C" fn wenc_len(handle: *const Handle, len: *mut usize) -> Status {
+    unsafe { written(len, session(handle).and_then(Session::len)) }
 }

@@ -29,7 +29,7 @@ calls! {
         }
     };
     wenc_append_names() = |session| Ok(session.builder()?.append_names()?);
-    wenc_section(section: *mut Handle) = |session| {
+    wenc_section(section: *const Handle) = |session| {
         match other(session, section)? {
             Session::CoreInstances(section) => session.append(section).map(drop),
             Session::CoreTypes(section) => session.append(section).map(drop),

@@ -114,7 +114,7 @@ calls! {
         let ty = maybe_value(reference, of)?;
         write_type!(session, debug_name, |encoder| encoder.defined_type().stream(ty))
     };
-    wenc_type(debug_name: name, types: *mut Handle) -> index = |session| {
+    wenc_type(debug_name: name, types: *const Handle) -> index = |session| {
         match other(session, types)? {
             Session::ComponentType(ty) => {
                 write_type!(session, debug_name, |encoder| encoder.component(ty))

@@ -1,10 +1,11 @@
 //! What the header says of NULL, of numbers that stand for nothing, and of handles.
 
-use crate::capi::arguments::{Entity, Flag, Name, Pair, Part, Producer, Subtype};
+use crate::capi::arguments::{Entity, Flag, Name, Pair, Part, Producer, Subtype, Text};
 use crate::capi::core_types::*;
 use crate::capi::items::*;
 use crate::capi::life::*;
 use crate::capi::listing::*;
+use crate::capi::rows::{ItemRow, SectionRow};
 use crate::capi::sections::*;
 use crate::capi::types::*;
 use crate::capi::{Handle, Status};
@@ -15,6 +16,12 @@ use core::{mem, ptr, slice};
 const NO: Flag = Flag(0);
 const YES: Flag = Flag(1);
 const EMPTY: *const u8 = ptr::null();
+/// No debug name.
+const NONE: *const Text = ptr::null();
+
+fn named(name: &str) -> Text {
+    Text { at: name.as_ptr(), len: name.len() }
+}
 
 /// A handle, which is freed.
 struct Held(Handle);
@@ -65,13 +72,13 @@ fn import(handle: *mut Handle) -> (Status, u32) {
 #[test]
 fn statuses_have_texts() {
     let text = |status| unsafe { CStr::from_ptr(wenc_status_text(status)) };
-    let texts: Vec<&CStr> = (0..14).map(text).collect();
+    let texts: Vec<&CStr> = (0..15).map(text).collect();
     assert_eq!((texts[0], texts[7], texts[12]), (c"done", c"bad argument", c"bad item"));
     for (number, one) in texts.iter().enumerate() {
         assert!(!texts[..number].contains(one) && !one.is_empty());
     }
-    assert_eq!(text(u32::MAX), texts[13]);
-    assert_eq!(wenc_version(), 200);
+    assert_eq!((texts[13], text(u32::MAX)), (c"end", texts[14]));
+    assert_eq!(wenc_version(), 100);
 }
 
 #[test]
@@ -81,9 +88,9 @@ fn null_is_empty_or_nothing() {
     unsafe {
         assert_eq!(wenc_import(at, EMPTY, 0, 7, 0, ptr::null_mut()), Status::Done);
         assert_eq!(import(at), (Status::Done, 1));
-        assert_eq!(wenc_type_tuple(at, NO, EMPTY, 9, ptr::null(), 0, none), Status::Done);
-        assert_eq!(wenc_type_flags(at, YES, EMPTY, 0, ptr::null(), 0, none), Status::Done);
-        assert_eq!(wenc_core_module(at, NO, EMPTY, 9, EMPTY, 0, none), Status::Done);
+        assert_eq!(wenc_type_tuple(at, NONE, ptr::null(), 0, none), Status::Done);
+        assert_eq!(wenc_type_flags(at, &named(""), ptr::null(), 0, none), Status::Done);
+        assert_eq!(wenc_core_module(at, NONE, EMPTY, 0, none), Status::Done);
         assert_eq!(wenc_start(at, 0, ptr::null(), 0, 0, none), Status::Done);
         assert_eq!(wenc_custom_section(at, EMPTY, 0, EMPTY, 0), Status::Done);
         assert_eq!(wenc_producers(at, ptr::null(), 0), Status::Done);
@@ -112,10 +119,10 @@ fn null_and_impossible_lengths_are_refused() {
         [
             wenc_import(at, EMPTY, 5, 7, 0, none),
             wenc_import(at, a, most, 7, 0, none),
-            wenc_type_own(at, YES, EMPTY, 1, 0, none),
-            wenc_type_tuple(at, NO, EMPTY, 0, ptr::null(), 1, none),
-            wenc_type_tuple(at, NO, EMPTY, 0, &pair, most / 8, none),
-            wenc_core_module(at, NO, EMPTY, 0, EMPTY, 8, none),
+            wenc_type_own(at, &Text { at: EMPTY, len: 1 }, 0, none),
+            wenc_type_tuple(at, NONE, ptr::null(), 1, none),
+            wenc_type_tuple(at, NONE, &pair, most / 8, none),
+            wenc_core_module(at, NONE, EMPTY, 8, none),
             wenc_start(at, 0, ptr::null(), 1, 0, none),
             wenc_producers(at, ptr::null(), 1),
             wenc_list(nothing.at(), EMPTY, 8, ptr::null_mut()),
@@ -136,7 +143,7 @@ fn structures_are_not_null() {
         assert_eq!(wenc_import_named(at, ptr::null(), 7, 0, none), Status::BadArgument);
         assert_eq!(wenc_export_named(at, ptr::null(), 0, 0, 0, 0, none), Status::BadArgument);
         assert_eq!(
-            wenc_core_type_subtype(at, NO, EMPTY, 0, ptr::null(), none),
+            wenc_core_type_subtype(at, NONE, ptr::null(), none),
             Status::BadArgument
         );
         let status = wenc_core_type_export(module.at(), EMPTY, 0, ptr::null());
@@ -155,9 +162,9 @@ fn handles_that_have_nothing() {
             assert_eq!(wenc_bytes(at, ptr::null_mut(), 0), Status::NoHandle);
             assert_eq!(wenc_len(at, ptr::null_mut()), Status::NoHandle);
             let to = builder.at();
-            let nested = wenc_component(to, NO, EMPTY, 0, at, ptr::null_mut());
+            let nested = wenc_component(to, NONE, at, ptr::null_mut());
             assert_eq!(nested, Status::NoHandle);
-            assert_eq!(wenc_type(to, NO, EMPTY, 0, at, ptr::null_mut()), Status::NoHandle);
+            assert_eq!(wenc_type(to, NONE, at, ptr::null_mut()), Status::NoHandle);
         }
     }
     assert_eq!(unsafe { wenc_new(ptr::null_mut()) }, Status::NoHandle);
@@ -173,11 +180,11 @@ fn one_handle_is_not_two() {
     unsafe {
         for nested in [builder.at(), &raw mut copy] {
             let at = builder.at();
-            assert_eq!(wenc_component(at, NO, EMPTY, 0, nested, none), Status::BadArgument);
-            assert_eq!(wenc_component_ref(at, NO, EMPTY, 0, nested, none), Status::BadArgument);
+            assert_eq!(wenc_component(at, NONE, nested, none), Status::BadArgument);
+            assert_eq!(wenc_component_ref(at, NONE, nested, none), Status::BadArgument);
         }
         for twice in [types.at(), &raw mut types_copy] {
-            assert_eq!(wenc_type(types.at(), NO, EMPTY, 0, twice, none), Status::BadArgument);
+            assert_eq!(wenc_type(types.at(), NONE, twice, none), Status::BadArgument);
         }
     }
     assert_eq!(import(builder.at()), (Status::Done, 0));
@@ -198,14 +205,14 @@ fn finished_components_take_no_more() {
         assert_eq!(wenc_bytes(at, bytes.as_mut_ptr(), 9), Status::BadArgument);
         assert_eq!(bytes, [0; 9]);
         assert_eq!(
-            wenc_core_type_struct(at, YES, EMPTY, 0, ptr::null(), 0, none),
+            wenc_core_type_struct(at, &named(""), ptr::null(), 0, none),
             Status::Finished
         );
         let mut count = 77;
         assert_eq!((wenc_count(at, 0, &mut count), count), (Status::Finished, 77));
         let to = nested.at();
-        assert_eq!(wenc_component(to, NO, EMPTY, 0, at, none), Status::Finished);
-        assert_eq!(wenc_component_ref(at, NO, EMPTY, 0, to, none), Status::Finished);
+        assert_eq!(wenc_component(to, NONE, at, none), Status::Finished);
+        assert_eq!(wenc_component_ref(at, NONE, to, none), Status::Finished);
     }
 }
 
@@ -215,18 +222,12 @@ fn texts_are_utf8() {
     let (at, bytes) = (builder.at(), bad.as_ptr());
     let part = |name: *const u8, name_len| Part { name, name_len, kind: 0, number: 0 };
     let parts = [part(EMPTY, 0), part(bytes, 2)];
+    let text = |len| Text { at: bytes, len };
     let name = Name {
-        name: bytes,
-        name_len: 1,
-        implements: bytes,
-        implements_len: 1,
-        version_suffix: bytes,
-        version_suffix_len: 1,
-        external_id: bytes,
-        external_id_len: 2,
-        has_implements: YES,
-        has_version_suffix: YES,
-        has_external_id: YES,
+        name: text(1),
+        implements: text(1),
+        version_suffix: text(1),
+        external_id: text(2),
     };
     let tool = Producer {
         field: bytes,
@@ -240,14 +241,14 @@ fn texts_are_utf8() {
         [
             wenc_import(at, bytes, 2, 7, 0, none),
             wenc_import_named(at, &name, 7, 0, none),
-            wenc_type_own(at, YES, bytes, 2, 0, none),
-            wenc_type_enum(at, NO, EMPTY, 0, parts.as_ptr(), 2, none),
-            wenc_core_instantiate(at, NO, EMPTY, 0, 0, parts.as_ptr(), 2, none),
+            wenc_type_own(at, &Text { at: bytes, len: 2 }, 0, none),
+            wenc_type_enum(at, NONE, parts.as_ptr(), 2, none),
+            wenc_core_instantiate(at, NONE, 0, parts.as_ptr(), 2, none),
             wenc_producers(at, &tool, 1),
         ]
     };
     assert_eq!(statuses, [Status::Malformed; 6]);
-    assert_eq!(unsafe { wenc_type_own(at, NO, bytes, 2, 0, none) }, Status::Done);
+    assert_eq!(unsafe { wenc_type_own(at, NONE, 0, none) }, Status::Done);
     assert_eq!(builder.finished().len(), 8 + 5);
 }
 
@@ -262,8 +263,8 @@ fn numbers_stand_for_something() {
             wenc_import(at, EMPTY, 0, 8, 15, none),
             wenc_import(at, EMPTY, 0, u32::MAX, 0, none),
             wenc_export(at, EMPTY, 0, 6, 0, 0, 0, none),
-            wenc_alias_core_export(at, NO, EMPTY, 0, 0, 5, EMPTY, 0, none),
-            wenc_alias_outer(at, NO, EMPTY, 0, 4, 0, 0, none),
+            wenc_alias_core_export(at, NONE, 0, 5, EMPTY, 0, none),
+            wenc_alias_outer(at, NONE, 4, 0, 0, none),
             wenc_builtin(at, 0, 0, 0, none),
             wenc_builtin(at, 39, 0, 0, none),
             wenc_builtin(at, 5, 2, 0, none),
@@ -271,10 +272,10 @@ fn numbers_stand_for_something() {
             wenc_builtin_with(at, 7, 0, ptr::null(), 0, none),
             wenc_context(at, 3, 1, 0, none),
             wenc_context(at, 1, 6, 0, none),
-            wenc_lift(at, NO, EMPTY, 0, 0, 0, &pair, 1, none),
-            wenc_type_primitive(at, NO, EMPTY, 0, 0, none),
-            wenc_type_list(at, NO, EMPTY, 0, 0, 0, none),
-            wenc_item(at, 12, NO, EMPTY, 0, EMPTY, 0, none),
+            wenc_lift(at, NONE, 0, 0, &pair, 1, none),
+            wenc_type_primitive(at, NONE, 0, none),
+            wenc_type_list(at, NONE, 0, 0, none),
+            wenc_item(at, 12, NONE, EMPTY, 0, none),
             wenc_count(at, 13, ptr::null_mut()),
         ]
     };
@@ -316,13 +317,13 @@ fn numbers_of_core_types_stand_for_something() {
     let (at, of, pairs) = (builder.at(), module.at(), [Pair { kind: 21, number: 0 }]);
     let statuses = unsafe {
         [
-            wenc_core_type_struct(at, NO, EMPTY, 0, pairs.as_ptr(), 1, none),
-            wenc_core_type_function(at, NO, EMPTY, 0, ptr::null(), 0, pairs.as_ptr(), 1, none),
-            wenc_core_type_array(at, NO, EMPTY, 0, 0x400 + 1, 0, none),
-            wenc_core_type_array(at, NO, EMPTY, 0, 0x100 + 1, 0, none),
-            wenc_core_type_subtype(at, NO, EMPTY, 0, &subtype(4, &[]), none),
-            wenc_core_type_subtype(at, NO, EMPTY, 0, &subtype(3, &[]), none),
-            wenc_core_type_group(at, NO, EMPTY, 0, &subtype(2, &pairs), 1, none),
+            wenc_core_type_struct(at, NONE, pairs.as_ptr(), 1, none),
+            wenc_core_type_function(at, NONE, ptr::null(), 0, pairs.as_ptr(), 1, none),
+            wenc_core_type_array(at, NONE, 0x400 + 1, 0, none),
+            wenc_core_type_array(at, NONE, 0x100 + 1, 0, none),
+            wenc_core_type_subtype(at, NONE, &subtype(4, &[]), none),
+            wenc_core_type_subtype(at, NONE, &subtype(3, &[]), none),
+            wenc_core_type_group(at, NONE, &subtype(2, &pairs), 1, none),
             wenc_core_type_export(of, EMPTY, 0, &entity(5, 0)),
             wenc_core_type_export(of, EMPTY, 0, &entity(1, 1)),
             wenc_core_type_export(of, EMPTY, 0, &entity(3, 19)),
@@ -456,12 +457,12 @@ fn items_that_were_read() {
             row
         };
         let second = item(1, 1);
-        assert_eq!(slice::from_raw_parts(second.name, second.name_len), b"g");
+        assert_eq!(slice::from_raw_parts(second.name.name.at, second.name.name.len), b"g");
         assert_eq!((second.index, second.section, second.space, second.indices), (1, 10, 8, 1));
         assert!(second.bytes.is_null() && second.bytes_len == 0);
         let ty = item(0, 0);
         assert_eq!((ty.index, ty.section, ty.space, ty.indices), (0, 7, 12, 1));
-        assert!(ty.name.is_null() && ty.name_len == 0);
+        assert!(ty.name.name.at.is_null() && ty.name.name.len == 0);
         let custom = item(2, 0);
         assert_eq!(slice::from_raw_parts(custom.bytes, custom.bytes_len), b"y");
         assert_eq!((custom.index, custom.space, custom.indices), (0, 13, 0));
@@ -471,11 +472,11 @@ fn items_that_were_read() {
         assert_eq!(wenc_item_at(at, 3, 0, ptr::null_mut()), Status::BadArgument);
         let mut builder = Held::builder();
         let to = builder.at();
-        assert_eq!(wenc_copy(to, NO, EMPTY, 0, at, 1, 2, none), Status::BadArgument);
-        assert_eq!(wenc_copy(at, NO, EMPTY, 0, to, 0, 0, none), Status::BadArgument);
-        assert_eq!(wenc_copy(to, NO, EMPTY, 0, at, 1, 0, none), Status::Done);
+        assert_eq!(wenc_copy(to, NONE, at, 1, 2, none), Status::BadArgument);
+        assert_eq!(wenc_copy(at, NONE, to, 0, 0, none), Status::BadArgument);
+        assert_eq!(wenc_copy(to, NONE, at, 1, 0, none), Status::Done);
         let mut index = 77;
-        assert_eq!(wenc_copy(to, YES, EMPTY, 0, at, 0, 0, &mut index), Status::Done);
+        assert_eq!(wenc_copy(to, &named(""), at, 0, 0, &mut index), Status::Done);
         assert_eq!(index, 0);
     }
 }
@@ -486,7 +487,7 @@ fn items_by_their_bytes() {
     let mut item = |section, bytes: &[u8]| {
         let mut index = 77;
         let (at, len) = (bytes.as_ptr(), bytes.len());
-        let status = unsafe { wenc_item(builder.at(), section, NO, EMPTY, 0, at, len, &mut index) };
+        let status = unsafe { wenc_item(builder.at(), section, NONE, at, len, &mut index) };
         (status, index)
     };
     assert_eq!(item(0, b"\x01xy"), (Status::Done, 0));
