@@ -85,7 +85,7 @@ static const wenc_part parts[] = {{WENC_TEXT("x"), WENC_REF_PRIMITIVE, WENC_S32}
 static uint32_t declare(wenc_handle *to) {
   wenc_handle types = {NULL};
   uint32_t index, status = wenc_types_new(&types, WENC_INSTANCE);
-  if (status == WENC_DONE) status = wenc_type_record(&types, WENC_UNNAMED, parts, 2, &index);
+  if (status == WENC_DONE) status = wenc_type_record(&types, NULL, parts, 2, &index);
   if (status == WENC_DONE)
     status = wenc_type_export(&types, WENC_TEXT("an export"), WENC_REF_TYPE, 0, &index);
   if (status == WENC_DONE) status = wenc_type(to, NAMED, &types, &index);
@@ -100,7 +100,7 @@ static uint32_t declare_module(wenc_handle *to) {
   wenc_handle types = {NULL};
   uint32_t index, status = wenc_types_new(&types, WENC_MODULE);
   if (status == WENC_DONE)
-    status = wenc_core_type_function(&types, WENC_UNNAMED, params, 2, params, 1, &index);
+    status = wenc_core_type_function(&types, NULL, params, 2, params, 1, &index);
   if (status == WENC_DONE)
     status =
         wenc_core_type_import(&types, WENC_TEXT("a module"), WENC_TEXT("an import"), &function);

@@ -139,17 +139,21 @@ static list_of_text some_text(void) {
   return list;
 }
 
-typedef struct {
-  bool is_there;
-  list_of_text text;
-} option;
+static wenc_text a_text(void) {
+  list_of_text list = some_text();
+  wenc_text text;
+  text.at = list.at, text.len = list.len;
+  return text;
+}
 
-/* What isn't there may be anywhere. */
-static option an_option(void) {
-  option o = {false, {(const char *)1, SIZE_MAX}};
-  o.is_there = below(3) == 0;
-  if (o.is_there) o.text = some_text();
-  return o;
+static wenc_text an_option(void) {
+  static const wenc_text none = {NULL, 0};
+  return below(3) == 0 ? a_text() : none;
+}
+
+static const wenc_text *a_debug_name(void) {
+  wenc_text name = an_option();
+  return below(2) ? NULL : (const wenc_text *)keep(&name, sizeof name);
 }
 
 static list_of_bytes some_bytes(void) {
@@ -254,15 +258,8 @@ SOME(wenc_subtype, subtype, a_subtype())
 
 static wenc_name a_name(void) {
   wenc_name whole;
-  list_of_text text = some_text();
-  option implements = an_option(), suffix = an_option(), id = an_option();
-  whole.name = text.at, whole.name_len = text.len;
-  whole.has_implements = implements.is_there;
-  whole.implements = implements.text.at, whole.implements_len = implements.text.len;
-  whole.has_version_suffix = suffix.is_there;
-  whole.version_suffix = suffix.text.at, whole.version_suffix_len = suffix.text.len;
-  whole.has_external_id = id.is_there;
-  whole.external_id = id.text.at, whole.external_id_len = id.text.len;
+  whole.name = a_text(), whole.implements = an_option();
+  whole.version_suffix = an_option(), whole.external_id = an_option();
   return whole;
 }
 

@@ -5,7 +5,7 @@ from pathlib import Path
 
 HEADER = re.sub(r"/\*.*?\*/", "", (Path(__file__).parent / "wenc.h").read_text(), flags=re.S)
 # What fuzz.c calls by itself.
-BY_HAND = re.compile(r"wenc_(\w*new|finish|bytes|count|len|list)$")
+BY_HAND = re.compile(r"wenc_(\w*new|finish|bytes|count|len|list|walk\w*)$")
 
 
 def arguments(declared):
@@ -15,15 +15,14 @@ def arguments(declared):
     while args:
         ty, name = re.fullmatch(r"(.*?)(\w+)", args.pop(0)).groups()
         ty = ty.strip()
-        if ty == "wenc_handle *":
+        if ty in ("wenc_handle *", "const wenc_handle *"):
             hands.append(["to", "other"][handles])
             handles += 1
         elif name == "index" and ty.endswith("*"):
             hands.append("index")
-        elif name == "named":
-            declares.append("option o = an_option();")
-            hands += ["o.is_there", "o.text.at", "o.text.len"]
-            del args[:2]
+        elif ty == "const wenc_text *":
+            declares.append(f"const wenc_text *{name} = a_debug_name();")
+            hands.append(name)
         elif ty in ("wenc_listed_section *", "wenc_listed_item *"):
             hands.append("NULL")
         elif ty.endswith("*"):

@@ -151,8 +151,12 @@ impl Text {
 }
 
 impl Name {
-    const NONE: Self =
-        Self { name: Text::NONE, implements: Text::NONE, version_suffix: Text::NONE, external_id: Text::NONE };
+    const NONE: Self = Self {
+        name: Text::NONE,
+        implements: Text::NONE,
+        version_suffix: Text::NONE,
+        external_id: Text::NONE,
+    };
 
     fn new(name: NameView<'_>) -> Self {
         let option = |text: Option<&str>| text.map_or(Text::NONE, Text::new);

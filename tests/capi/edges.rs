@@ -19,15 +19,15 @@ const EMPTY: *const u8 = ptr::null();
 /// No debug name.
 const NONE: *const Text = ptr::null();
 
-fn named(name: &str) -> Text {
+pub fn named(name: &str) -> Text {
     Text { at: name.as_ptr(), len: name.len() }
 }
 
 /// A handle, which is freed.
-struct Held(Handle);
+pub struct Held(Handle);
 
 impl Held {
-    fn nothing() -> Self {
+    pub fn nothing() -> Self {
         Self(Handle { at: ptr::null_mut() })
     }
 
@@ -37,7 +37,7 @@ impl Held {
         held
     }
 
-    fn builder() -> Self {
+    pub fn builder() -> Self {
         Self::new(|handle| unsafe { wenc_new(handle) })
     }
 
@@ -45,11 +45,11 @@ impl Held {
         Self::new(|handle| unsafe { wenc_types_new(handle, kind) })
     }
 
-    fn at(&mut self) -> *mut Handle {
+    pub fn at(&mut self) -> *mut Handle {
         &mut self.0
     }
 
-    fn finished(mut self) -> Vec<u8> {
+    pub fn finished(mut self) -> Vec<u8> {
         let (mut at, mut len) = (ptr::null(), 0);
         assert_eq!(unsafe { wenc_finish(self.at(), &mut at, &mut len) }, Status::Done);
         unsafe { slice::from_raw_parts(at, len) }.into()
@@ -142,10 +142,7 @@ fn structures_are_not_null() {
         let at = builder.at();
         assert_eq!(wenc_import_named(at, ptr::null(), 7, 0, none), Status::BadArgument);
         assert_eq!(wenc_export_named(at, ptr::null(), 0, 0, 0, 0, none), Status::BadArgument);
-        assert_eq!(
-            wenc_core_type_subtype(at, NONE, ptr::null(), none),
-            Status::BadArgument
-        );
+        assert_eq!(wenc_core_type_subtype(at, NONE, ptr::null(), none), Status::BadArgument);
         let status = wenc_core_type_export(module.at(), EMPTY, 0, ptr::null());
         assert_eq!(status, Status::BadArgument);
     }
@@ -204,10 +201,7 @@ fn finished_components_take_no_more() {
         let mut bytes = [0; 9];
         assert_eq!(wenc_bytes(at, bytes.as_mut_ptr(), 9), Status::BadArgument);
         assert_eq!(bytes, [0; 9]);
-        assert_eq!(
-            wenc_core_type_struct(at, &named(""), ptr::null(), 0, none),
-            Status::Finished
-        );
+        assert_eq!(wenc_core_type_struct(at, &named(""), ptr::null(), 0, none), Status::Finished);
         let mut count = 77;
         assert_eq!((wenc_count(at, 0, &mut count), count), (Status::Finished, 77));
         let to = nested.at();
@@ -223,12 +217,8 @@ fn texts_are_utf8() {
     let part = |name: *const u8, name_len| Part { name, name_len, kind: 0, number: 0 };
     let parts = [part(EMPTY, 0), part(bytes, 2)];
     let text = |len| Text { at: bytes, len };
-    let name = Name {
-        name: text(1),
-        implements: text(1),
-        version_suffix: text(1),
-        external_id: text(2),
-    };
+    let name =
+        Name { name: text(1), implements: text(1), version_suffix: text(1), external_id: text(2) };
     let tool = Producer {
         field: bytes,
         field_len: 1,
