@@ -8,6 +8,7 @@ use crate::capi::life::{wenc_bytes, wenc_finish};
 use crate::capi::listing::*;
 use crate::capi::rows::{ItemRow, SectionRow};
 use crate::capi::walk::*;
+use alloc::collections::BTreeMap;
 use alloc::string::String;
 use alloc::vec::Vec;
 use core::{mem, ptr, slice, str};
@@ -481,4 +482,40 @@ fn readers_at_a_time() {
             scope.spawn(|| shared.read(wanted));
         }
     });
+}
+
+/// Real components, and debug names in them, beside what Rust reads.
+#[test]
+fn real_components_are_read_as_in_rust() {
+    let folder = concat!(env!("CARGO_MANIFEST_DIR"), "/tests/real/corpus/wasm");
+    let (mut items_len, mut names_len) = (0, 0);
+    for file in std::fs::read_dir(folder).expect("the corpus is there") {
+        let bytes = std::fs::read(file.expect("a file").path()).expect("it can be read");
+        let Ok(sections) = crate::Sections::new(&bytes) else { continue };
+        let mut names = BTreeMap::new();
+        let wanted: Vec<_> = sections.items().map_while(Result::ok).collect();
+        let is_whole = sections.items().all(|item| item.is_ok());
+        let (rows, status) = items(&bytes);
+        assert_eq!((rows.len(), status == Status::End), (wanted.len(), is_whole));
+        for (row, (range, view)) in rows.iter().zip(&wanted) {
+            assert_eq!(row.place..row.place + row.len, *range);
+            let indices = view.indices().map_or((13, 0), |(of, n)| (of.number() as u32, n));
+            assert_eq!((row.space, row.indices), indices);
+            let mut walk = unsafe { mem::zeroed() };
+            if unsafe { wenc_walk_names(&mut walk, row) } == Status::Done {
+                while let Ok((space, index, name)) = next_name(&mut walk) {
+                    names.entry((space, index)).or_insert_with(|| String::from(name));
+                }
+            }
+        }
+        let all = sections.names();
+        let of_items =
+            all.iter().map(|(space, index, name)| ((space.number() as u32, index), name));
+        let of_component = all.component().map(|name| ((13, 0), name));
+        let wanted: Vec<_> = of_items.chain(of_component).collect();
+        let read: Vec<_> = names.iter().map(|(of, name)| (*of, &name[..])).collect();
+        assert!(read == wanted || !is_whole, "{read:?}");
+        (items_len, names_len) = (items_len + rows.len(), names_len + names.len());
+    }
+    assert!(items_len > 500 && names_len > 50, "{items_len} items, {names_len} names");
 }
