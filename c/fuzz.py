@@ -5,7 +5,7 @@ from pathlib import Path
 
 HEADER = re.sub(r"/\*.*?\*/", "", (Path(__file__).parent / "wenc.h").read_text(), flags=re.S)
 # What fuzz.c calls by itself.
-BY_HAND = re.compile(r"wenc_(\w*new|finish|bytes|count|len|list|walk\w*)$")
+BY_HAND = re.compile(r"wenc_(\w*new|finish|bytes|last_error|count|len|list|walk\w*)$")
 
 
 def arguments(declared):

@@ -479,6 +479,17 @@ typedef struct {
   uint32_t index;
 } wenc_index_name;
 
+/* Why a call failed. */
+typedef struct {
+  /* The argument that is wrong, by its name in this header, with a terminating 0; "ref" also if its
+   * `of` is wrong, and "handle" for a call that the handle doesn't take, whatever the handle is
+   * called. NULL if no argument is wrong. It is never freed. */
+  const char *argument;
+  /* The number of the member that is wrong, counting from 0, if the argument is an array. */
+  size_t member;
+  enum wenc_status status;
+} wenc_error;
+
 /* The part of a component that wenc_list can't read: all 0 if there is none. */
 typedef struct {
   /* The byte offset of the section. */
@@ -637,6 +648,11 @@ void wenc_free(wenc_handle *handle);
 /* Finishes a component. Its `*len` bytes are at `*bytes` until the handle is freed. Doesn't
  * allocate, and may be called again. WENC_BAD_ARGUMENT, WENC_NO_HANDLE. */
 WENC_CHECKED enum wenc_status wenc_finish(wenc_handle *handle, const uint8_t **bytes, size_t *len);
+
+/* Writes why a call failed: the last that failed by this handle, of those that begin with
+ * `wenc_handle *`, unless it begins something. Its status is WENC_DONE if there is none.
+ * WENC_NO_HANDLE. */
+WENC_CHECKED enum wenc_status wenc_last_error(const wenc_handle *handle, wenc_error *error);
 
 /* Copies a finished component to `bytes`. WENC_BAD_ARGUMENT if `len` isn't its number of bytes;
  * WENC_UNFINISHED, WENC_NO_HANDLE. */

@@ -28,6 +28,7 @@ use crate::proved::wenc_read::{NestedRefusal, Refusal};
 use crate::shim::alloc::{AllocError, AllocFailed, Global};
 use crate::shim::boxed::Box as Boxed;
 use alloc::boxed::Box;
+use core::ffi::CStr;
 use core::ptr;
 use session::Session;
 
@@ -57,8 +58,40 @@ pub enum Status {
     End,
 }
 
-/// The result of a call, or the status with which it fails.
-type Result<T, E = Status> = core::result::Result<T, E>;
+/// Why a call fails: its status, and the argument that is at fault, by its name in the header, with
+/// the number of its member.
+#[derive(Clone, Copy, Debug)]
+pub struct Refused {
+    status: Status,
+    argument: Option<&'static CStr>,
+    member: usize,
+}
+
+/// The result of a call, or why it fails.
+type Result<T, E = Refused> = core::result::Result<T, E>;
+
+impl<S: Into<Status>> From<S> for Refused {
+    fn from(status: S) -> Self {
+        Self { status: status.into(), argument: None, member: 0 }
+    }
+}
+
+impl Refused {
+    /// An argument that may not be what it is.
+    fn bad(argument: &'static CStr) -> Self {
+        Self::from(Status::BadArgument).of(argument)
+    }
+
+    /// The fault of an argument.
+    fn of(self, argument: &'static CStr) -> Self {
+        Self { argument: Some(argument), ..self }
+    }
+
+    /// The fault of a member of an argument.
+    fn at(self, member: usize) -> Self {
+        Self { member, ..self }
+    }
+}
 
 impl From<Fault> for Status {
     fn from(fault: Fault) -> Self {
@@ -103,7 +136,7 @@ impl From<NestedRefusal> for Status {
 
 impl From<Result<()>> for Status {
     fn from(result: Result<()>) -> Self {
-        result.err().unwrap_or(Self::Done)
+        result.map_or_else(|refused| refused.status, |()| Self::Done)
     }
 }
 
@@ -111,39 +144,60 @@ impl From<Result<()>> for Status {
 #[derive(Debug)]
 #[repr(C)]
 pub struct Handle {
-    at: *mut Session,
+    at: *mut Owned,
+}
+
+/// What a handle owns.
+struct Owned {
+    session: Session,
+    /// Why the last call failed that did, of those that change the session.
+    refused: Option<Refused>,
 }
 
 /// Begins what a handle owns, which owns nothing yet.
 unsafe fn begin(handle: *mut Handle, make: impl FnOnce() -> Result<Session>) -> Result<()> {
     let handle = unsafe { handle.as_mut() }.ok_or(Status::NoHandle)?;
     if !handle.at.is_null() {
-        return Err(Status::BadArgument);
+        return Err(Status::BadArgument.into());
     }
-    let made: Box<[Session; 1]> = Boxed::new(Global, make()?)?.into();
+    let owned = Owned { session: make()?, refused: None };
+    let made: Box<[Owned; 1]> = Boxed::new(Global, owned)?.into();
     handle.at = Box::into_raw(made).cast();
     Ok(())
 }
 
-/// Returns the session of a handle, to read it.
-unsafe fn session<'a>(handle: *const Handle) -> Result<&'a Session> {
+/// Returns what a handle owns, to read it.
+unsafe fn owned<'a>(handle: *const Handle) -> Result<&'a Owned, Status> {
     let handle = unsafe { handle.as_ref() }.ok_or(Status::NoHandle)?;
     unsafe { handle.at.as_ref() }.ok_or(Status::NoHandle)
 }
 
-/// Returns the session of a handle, to change it.
-unsafe fn session_mut<'a>(handle: *mut Handle) -> Result<&'a mut Session> {
-    let handle = unsafe { handle.as_ref() }.ok_or(Status::NoHandle)?;
-    unsafe { handle.at.as_mut() }.ok_or(Status::NoHandle)
+/// Returns the session of a handle, to read it.
+unsafe fn session<'a>(handle: *const Handle) -> Result<&'a Session> {
+    Ok(&unsafe { owned(handle) }?.session)
 }
 
 /// Returns the session of a second handle, to read it. It must differ from the first.
 unsafe fn other<'a>(session: &Session, handle: *const Handle) -> Result<&'a Session> {
     let at = unsafe { handle.as_ref() }.map_or(ptr::null_mut(), |handle| handle.at);
-    if ptr::eq(at, session) {
-        return Err(Status::BadArgument);
+    // The first is borrowed: no reference to it is made here.
+    if !at.is_null() && ptr::eq(unsafe { &raw const (*at).session }, session) {
+        return Err(Status::BadArgument.into());
     }
-    unsafe { at.as_ref() }.ok_or(Status::NoHandle)
+    Ok(&unsafe { owned(handle) }?.session)
+}
+
+/// Makes a call that changes the session of a handle. If it fails, that is recorded.
+unsafe fn change<T>(
+    handle: *mut Handle,
+    call: impl FnOnce(&mut Session) -> Result<T>,
+) -> Result<T, Status> {
+    let handle = unsafe { handle.as_ref() }.ok_or(Status::NoHandle)?;
+    let owned = unsafe { handle.at.as_mut() }.ok_or(Status::NoHandle)?;
+    call(&mut owned.session).map_err(|refused| {
+        owned.refused = Some(refused);
+        refused.status
+    })
 }
 
 /// Writes a value through a pointer from C, unless that is NULL.
@@ -164,7 +218,7 @@ unsafe fn indexed(
     index: *mut u32,
     call: impl FnOnce(&mut Session) -> Result<u32>,
 ) -> Status {
-    match unsafe { session_mut(handle) }.and_then(call) {
+    match unsafe { change(handle, call) } {
         Ok(value) => {
             unsafe { put(index, value) };
             Status::Done
@@ -175,7 +229,7 @@ unsafe fn indexed(
 
 /// Makes a call without a result.
 unsafe fn made(handle: *mut Handle, call: impl FnOnce(&mut Session) -> Result<()>) -> Status {
-    unsafe { session_mut(handle) }.and_then(call).into()
+    unsafe { change(handle, call) }.err().unwrap_or(Status::Done)
 }
 
 /// Defines functions of C. Their arguments are
@@ -233,7 +287,10 @@ macro_rules! call {
     ) => {
         $crate::capi::call! {
             $f $i $s $b, [$($c)* $a: *const u8, $l: usize,]
-            [$($r)* let $a = $crate::capi::arguments::text($a, $l)?;] $($rest)*
+            [$($r)*
+                let $a = $crate::capi::arguments::text($a, $l)
+                    .map_err(|refused| refused.of($crate::capi::name_of!($a)))?;
+            ] $($rest)*
         }
     };
     (
@@ -242,13 +299,18 @@ macro_rules! call {
     ) => {
         $crate::capi::call! {
             $f $i $s $b, [$($c)* $a: *const $t, $l: usize,]
-            [$($r)* let $a = $crate::capi::arguments::list($a, $l)?;] $($rest)*
+            [$($r)*
+                let $a = $crate::capi::arguments::list($a, $l)
+                    .map_err(|refused| refused.of($crate::capi::name_of!($a)))?;
+            ] $($rest)*
         }
     };
     ($f:ident $i:tt $s:ident $b:expr, [$($c:tt)*] [$($r:tt)*] &$a:ident: $t:ty, $($rest:tt)*) => {
         $crate::capi::call! {
             $f $i $s $b, [$($c)* $a: *const $t,]
-            [$($r)* let $a = $a.as_ref().ok_or($crate::capi::Status::BadArgument)?;] $($rest)*
+            [$($r)*
+                let $a = $a.as_ref().ok_or($crate::capi::Refused::bad($crate::capi::name_of!($a)))?;
+            ] $($rest)*
         }
     };
     ($f:ident $i:tt $s:ident $b:expr, [$($c:tt)*] $r:tt $a:ident: $t:ty, $($rest:tt)*) => {
@@ -256,4 +318,18 @@ macro_rules! call {
     };
 }
 
-use {call, calls};
+/// Returns the name of an argument, as C has it.
+macro_rules! name_of {
+    ($argument:ident) => {
+        const {
+            match core::ffi::CStr::from_bytes_with_nul(
+                concat!(stringify!($argument), "\0").as_bytes(),
+            ) {
+                Ok(name) => name,
+                Err(_) => unreachable!(),
+            }
+        }
+    };
+}
+
+use {call, calls, name_of};

@@ -1,9 +1,10 @@
 //! Arguments from C: strings, arrays, and the structures of the header.
 
 use super::numbers;
-use super::{Result, Status};
+use super::{Refused, Result, Status};
 use crate::proved::wasm_encoder::{ComponentExternName, EntityType};
 use crate::shim::borrow::CowStr;
+use core::ffi::CStr;
 use core::{ptr, slice, str};
 
 /// A `bool` of C: true unless it is 0.
@@ -108,7 +109,7 @@ pub unsafe fn list<'a, T>(at: *const T, len: usize) -> Result<&'a [T]> {
     if len == 0 {
         Ok(&[])
     } else if at.is_null() || len > isize::MAX as usize / size_of::<T>() {
-        Err(Status::BadArgument)
+        Err(Status::BadArgument.into())
     } else {
         Ok(unsafe { slice::from_raw_parts(at, len) })
     }
@@ -120,13 +121,14 @@ pub unsafe fn text<'a>(at: *const u8, len: usize) -> Result<&'a str> {
     if bytes.is_ascii() {
         return Ok(unsafe { str::from_utf8_unchecked(bytes) });
     }
-    str::from_utf8(bytes).map_err(|_| Status::Malformed)
+    Ok(str::from_utf8(bytes).map_err(|_| Status::Malformed)?)
 }
 
 /// Returns a debug name, or none.
 pub unsafe fn debug_name<'a>(name: *const Text) -> Result<Option<&'a str>> {
     let name = unsafe { name.as_ref() };
     name.map_or(Ok(None), |name| unsafe { name.optional() })
+        .map_err(|refused| refused.of(c"debug_name"))
 }
 
 impl Text {
@@ -144,11 +146,12 @@ impl Text {
 impl Name {
     /// Returns the name with its options.
     pub unsafe fn read<'a>(&self) -> Result<ComponentExternName<'a>> {
+        let wrong = |refused: Refused| refused.of(c"name");
         let option = |option: Text| -> Result<Option<CowStr<'a>>> {
-            Ok(unsafe { option.optional() }?.map(CowStr::Borrowed))
+            Ok(unsafe { option.optional() }.map_err(wrong)?.map(CowStr::Borrowed))
         };
         Ok(ComponentExternName {
-            name: CowStr::Borrowed(unsafe { text(self.name.at, self.name.len) }?),
+            name: CowStr::Borrowed(unsafe { text(self.name.at, self.name.len) }.map_err(wrong)?),
             implements: option(self.implements)?,
             version_suffix: option(self.version_suffix)?,
             external_id: option(self.external_id)?,
@@ -159,8 +162,13 @@ impl Name {
 impl Entity {
     /// Returns the type of the import or the export.
     pub fn read(&self) -> Result<EntityType> {
-        numbers::entity(self).ok_or(Status::BadArgument)
+        numbers::entity(self).ok_or(Refused::bad(c"entity"))
     }
+}
+
+/// Returns the value of a number, or fails with the argument that is none.
+pub fn known<T>(argument: &'static CStr, value: Option<T>) -> Result<T> {
+    value.ok_or(Refused::bad(argument))
 }
 
 /// Returns an iterator over values with their names. All of them are checked first, so it yields
@@ -170,12 +178,14 @@ impl Entity {
 ///
 /// Fails if a name isn't UTF-8, or a pair of numbers isn't known to `of`.
 pub unsafe fn named<'a, T>(
+    argument: &'static CStr,
     parts: &'a [Part],
     of: impl Fn(u32, u32) -> Option<T> + 'a,
 ) -> Result<impl Iterator<Item = (&'a str, T)>> {
-    for part in parts {
-        unsafe { text(part.name, part.name_len) }?;
-        of(part.kind, part.number).ok_or(Status::BadArgument)?;
+    for (member, part) in parts.iter().enumerate() {
+        let wrong = |refused: Refused| refused.of(argument).at(member);
+        unsafe { text(part.name, part.name_len) }.map_err(wrong)?;
+        of(part.kind, part.number).ok_or(Refused::bad(argument).at(member))?;
     }
     Ok(parts.iter().filter_map(move |part| {
         let name = unsafe { str::from_utf8_unchecked(list(part.name, part.name_len).ok()?) };
@@ -185,16 +195,20 @@ pub unsafe fn named<'a, T>(
 
 /// Returns an iterator over values without names, as [`named`] does.
 pub fn unnamed<'a, T>(
+    argument: &'static CStr,
     pairs: &'a [Pair],
     of: impl Fn(u32, u32) -> Option<T> + 'a,
 ) -> Result<impl Iterator<Item = T>> {
-    if pairs.iter().any(|pair| of(pair.kind, pair.number).is_none()) {
-        return Err(Status::BadArgument);
+    if let Some(member) = pairs.iter().position(|pair| of(pair.kind, pair.number).is_none()) {
+        return Err(Refused::bad(argument).at(member));
     }
     Ok(pairs.iter().filter_map(move |pair| of(pair.kind, pair.number)))
 }
 
 /// Returns an iterator over names alone, as [`named`] does. The numbers with them aren't used.
-pub unsafe fn names(parts: &[Part]) -> Result<impl Iterator<Item = &str>> {
-    Ok(unsafe { named(parts, |_, _| Some(())) }?.map(|(name, ())| name))
+pub unsafe fn names<'a>(
+    argument: &'static CStr,
+    parts: &'a [Part],
+) -> Result<impl Iterator<Item = &'a str>> {
+    Ok(unsafe { named(argument, parts, |_, _| Some(())) }?.map(|(name, ())| name))
 }

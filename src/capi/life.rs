@@ -1,7 +1,10 @@
 //! The calls that begin, finish and free what handles own.
 
+use super::arguments::known;
 use super::session::Session;
-use super::{Handle, Result, Status, begin, numbers, put, session, session_mut, written};
+use super::{
+    Handle, Owned, Refused, Result, Status, begin, change, numbers, owned, put, session, written,
+};
 use crate::proved::wasm_encoder::{
     CanonicalFunctionSection, Component, ComponentAliasSection, ComponentBuilder,
     ComponentExportKind, ComponentExportSection, ComponentImportSection, ComponentInstanceSection,
@@ -58,13 +61,11 @@ pub unsafe extern "C" fn wenc_by_hand_new(handle: *mut Handle) -> Status {
 
 #[unsafe(no_mangle)]
 pub unsafe extern "C" fn wenc_types_new(handle: *mut Handle, kind: u32) -> Status {
-    let make = || match numbers::kind(kind) {
-        Some(ComponentExportKind::Module) => Ok(Session::ModuleType(ModuleType::new(Global))),
-        Some(ComponentExportKind::Component) => {
-            Ok(Session::ComponentType(ComponentType::new(Global)))
-        }
-        Some(ComponentExportKind::Instance) => Ok(Session::InstanceType(InstanceType::new(Global))),
-        _ => Err(Status::BadArgument),
+    let make = || match known(c"kind", numbers::kind(kind))? {
+        ComponentExportKind::Module => Ok(Session::ModuleType(ModuleType::new(Global))),
+        ComponentExportKind::Component => Ok(Session::ComponentType(ComponentType::new(Global))),
+        ComponentExportKind::Instance => Ok(Session::InstanceType(InstanceType::new(Global))),
+        _ => Err(Refused::bad(c"kind")),
     };
     unsafe { begin(handle, make) }.into()
 }
@@ -72,7 +73,7 @@ pub unsafe extern "C" fn wenc_types_new(handle: *mut Handle, kind: u32) -> Statu
 #[unsafe(no_mangle)]
 pub unsafe extern "C" fn wenc_section_new(handle: *mut Handle, section: u32) -> Status {
     let make = || {
-        Ok(match numbers::section(section).ok_or(Status::BadArgument)? {
+        Ok(match known(c"section", numbers::section(section))? {
             ComponentSectionId::CoreInstance => {
                 Session::CoreInstances(InstanceSection::new(Global))
             }
@@ -87,7 +88,7 @@ pub unsafe extern "C" fn wenc_section_new(handle: *mut Handle, section: u32) -> 
             }
             ComponentSectionId::Import => Session::Imports(ComponentImportSection::new(Global)),
             ComponentSectionId::Export => Session::Exports(ComponentExportSection::new(Global)),
-            _ => return Err(Status::BadArgument),
+            _ => return Err(Refused::bad(c"section")),
         })
     };
     unsafe { begin(handle, make) }.into()
@@ -103,7 +104,7 @@ pub unsafe extern "C" fn wenc_free(handle: *mut Handle) {
     if let Some(handle) = unsafe { handle.as_mut() } {
         let at = mem::replace(&mut handle.at, ptr::null_mut());
         if !at.is_null() {
-            drop(unsafe { Box::from_raw(at.cast::<[Session; 1]>()) });
+            drop(unsafe { Box::from_raw(at.cast::<[Owned; 1]>()) });
         }
     }
 }
@@ -115,13 +116,13 @@ fn finished(session: &mut Session) -> Result<&[u8]> {
             // No call leaves an item unfinished.
             Session::Building(builder) => builder.finish()?,
             Session::ByHand(component) => component.finish(),
-            _ => return Err(Status::BadArgument),
+            _ => return Err(Refused::bad(c"handle")),
         };
         *session = Session::Finished(bytes);
     }
     match session {
         Session::Finished(bytes) => Ok(bytes),
-        _ => Err(Status::BadArgument),
+        _ => Err(Refused::bad(c"handle")),
     }
 }
 
@@ -131,10 +132,11 @@ pub unsafe extern "C" fn wenc_finish(
     bytes: *mut *const u8,
     len: *mut usize,
 ) -> Status {
-    match unsafe { session_mut(handle) }.and_then(finished) {
-        Ok(finished) => {
-            unsafe { put(bytes, finished.as_ptr()) };
-            unsafe { put(len, finished.len()) };
+    let finish = |session: &mut Session| finished(session).map(|all| (all.as_ptr(), all.len()));
+    match unsafe { change(handle, finish) } {
+        Ok((at, finished_len)) => {
+            unsafe { put(bytes, at) };
+            unsafe { put(len, finished_len) };
             Status::Done
         }
         Err(status) => status,
@@ -150,14 +152,31 @@ pub unsafe extern "C" fn wenc_bytes(handle: *const Handle, bytes: *mut u8, len: 
             Status::Done
         }
         Ok(_) => Status::BadArgument,
-        Err(status) => status,
+        Err(refused) => refused.status,
     }
+}
+
+/// `wenc_error`: why a call failed.
+#[repr(C)]
+pub struct ErrorRow {
+    pub argument: *const c_char,
+    pub member: usize,
+    pub status: u32,
+}
+
+#[unsafe(no_mangle)]
+pub unsafe extern "C" fn wenc_last_error(handle: *const Handle, error: *mut ErrorRow) -> Status {
+    let last = unsafe { owned(handle) }.map(|owned| {
+        let refused = owned.refused.unwrap_or(Status::Done.into());
+        let argument = refused.argument.map_or(ptr::null(), CStr::as_ptr);
+        ErrorRow { argument, member: refused.member, status: refused.status as u32 }
+    });
+    unsafe { written(error, last.map_err(Into::into)) }
 }
 
 #[unsafe(no_mangle)]
 pub unsafe extern "C" fn wenc_count(handle: *const Handle, space: u32, count: *mut u32) -> Status {
-    let counts =
-        |session: &Session| session.count(numbers::space(space).ok_or(Status::BadArgument)?);
+    let counts = |session: &Session| session.count(known(c"space", numbers::space(space))?);
     unsafe { written(count, session(handle).and_then(counts)) }
 }
 

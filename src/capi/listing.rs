@@ -1,9 +1,9 @@
 //! Components that were read, and items that are read from bytes.
 
-use super::arguments::list;
+use super::arguments::{known, list};
 use super::rows::{ItemRow, SectionRow};
 use super::session::{Session, settled};
-use super::{Handle, Result, Status, begin, calls, numbers, other, put, session, written};
+use super::{Handle, Refused, Result, Status, begin, calls, numbers, other, put, session, written};
 use crate::proved::wasm_encoder::{
     ComponentBuilder, ComponentSectionId, CustomSection, ItemTree, ListFault, SectionItems,
     Sections, Space, Unread, first_unread,
@@ -78,18 +78,18 @@ impl Listed {
 
     /// Returns the number of items in an index space.
     pub fn count(&self, space: Space) -> Result<u32> {
-        u32::try_from(self.counts[space.number()]).map_err(|_| Status::TooLarge)
+        Ok(u32::try_from(self.counts[space.number()]).map_err(|_| Status::TooLarge)?)
     }
 
     fn section(&self, number: usize) -> Result<&Section> {
-        self.sections.get(number).ok_or(Status::BadArgument)
+        self.sections.get(number).ok_or(Refused::bad(c"section"))
     }
 
     /// Returns an item with this number in a section, as the first of what is left of the section.
     fn item(&self, section: usize, number: usize) -> Result<(&Item, SectionItems<'_>)> {
         let Section { row, before } = self.section(section)?;
         if number >= row.items {
-            return Err(Status::BadArgument);
+            return Err(Refused::bad(c"number"));
         }
         let (item, ends) = (&self.items[before + number], row.place + row.len);
         let (id, rest) = (row.id as u8, &self.bytes[item.place..ends]);
@@ -181,13 +181,16 @@ pub unsafe extern "C" fn wenc_item_at(
 calls! {
     wenc_copy(debug_name: name, listing: *const Handle, section: usize, number: usize) -> index
         = |session| {
-        let (_, mut items) = listed(other(session, listing)?)?.item(section, number)?;
+        let of = |argument| move |refused: Refused| refused.of(argument);
+        let listing = other(session, listing).and_then(listed).map_err(of(c"listing"))?;
+        let (_, mut items) = listing.item(section, number)?;
         let item = items.next_tree(Global)?.ok_or(Status::BadItem)?;
         add(session.builder()?, debug_name, &item)
     };
     wenc_item(section: u32, debug_name: name, bytes[len]: u8) -> index = |session| {
-        let section = numbers::section(section).ok_or(Status::BadArgument)?;
-        add(session.builder()?, debug_name, &read(section, bytes)?)
+        let section = known(c"section", numbers::section(section))?;
+        let item = read(section, bytes).map_err(|status| Refused::from(status).of(c"bytes"))?;
+        add(session.builder()?, debug_name, &item)
     };
 }
 
@@ -223,7 +226,7 @@ fn add(builder: &mut ComponentBuilder, name: Option<&str>, item: &ItemTree) -> R
 }
 
 /// Reads an item of a section, which must take all bytes.
-fn read(section: ComponentSectionId, bytes: &[u8]) -> Result<ItemTree> {
+fn read(section: ComponentSectionId, bytes: &[u8]) -> Result<ItemTree, Status> {
     let (id, ends) = (section.into(), bytes.len());
     let mut items = SectionItems { id, place: 0, ends, left: 1, rest: bytes };
     match items.next_tree(Global) {

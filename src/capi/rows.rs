@@ -151,7 +151,7 @@ impl Text {
 }
 
 impl Name {
-    const NONE: Self = Self {
+    pub const NONE: Self = Self {
         name: Text::NONE,
         implements: Text::NONE,
         version_suffix: Text::NONE,

@@ -47,7 +47,7 @@ impl Walk {
 
 /// Returns the bytes that a cursor borrows, which are never NULL.
 unsafe fn whole<'a>(at: *const u8, len: usize) -> Result<&'a [u8]> {
-    if at.is_null() { Err(Status::BadArgument) } else { unsafe { list(at, len) } }
+    if at.is_null() { Err(Status::BadArgument.into()) } else { unsafe { list(at, len) } }
 }
 
 /// Moves a cursor, unless the call fails, and writes the result through a pointer from C.
@@ -93,10 +93,10 @@ pub unsafe extern "C" fn wenc_walk_section(walk: *mut Walk, section: *mut Sectio
 
 #[unsafe(no_mangle)]
 pub unsafe extern "C" fn wenc_walk_skip(walk: *mut Walk, section: *mut SectionRow) -> Status {
-    let next = |walk: &mut Walk| {
+    let next = |walk: &mut Walk| -> Result<SectionRow> {
         let Sections { ends, rest } = unsafe { walk.sections() }?;
         if rest.is_empty() {
-            return Err(Status::End);
+            return Err(Status::End.into());
         }
         let ((id, content), behind) = part_of(rest).map_err(|_| Status::BadSection)?;
         let (place, end) = (walk.next_section, ends - behind.len());
@@ -155,7 +155,7 @@ impl NamesWalk {
         let mut rest = data.get(self.next..).ok_or(Status::BadArgument)?;
         while self.names == 0 {
             if rest.is_empty() {
-                return Err(Status::End);
+                return Err(Status::End.into());
             }
             let (names, behind) = names_of(rest)?;
             rest = behind;
@@ -178,11 +178,11 @@ impl NamesWalk {
 
 #[unsafe(no_mangle)]
 pub unsafe extern "C" fn wenc_walk_names(names: *mut NamesWalk, item: *const ItemRow) -> Status {
-    let begun = || {
+    let begun = || -> Result<NamesWalk> {
         let item = unsafe { item.as_ref() }.ok_or(Status::BadArgument)?;
         let name = unsafe { list(item.name.name.at, item.name.name.len) }?;
         if item.section != 0 || name != NAMES_LABEL.as_bytes() || item.bytes.is_null() {
-            return Err(Status::BadArgument);
+            return Err(Status::BadArgument.into());
         }
         Ok(NamesWalk { bytes: item.bytes, len: item.bytes_len, next: 0, space: 0, names: 0 })
     };

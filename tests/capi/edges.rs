@@ -1,6 +1,6 @@
 //! What the header says of NULL, of numbers that stand for nothing, and of handles.
 
-use crate::capi::arguments::{Entity, Flag, Name, Pair, Part, Producer, Subtype, Text};
+use crate::capi::arguments::{Entity, Flag, IndexName, Name, Pair, Part, Producer, Subtype, Text};
 use crate::capi::core_types::*;
 use crate::capi::items::*;
 use crate::capi::life::*;
@@ -346,6 +346,145 @@ fn handles_of_another_kind() {
         assert_eq!(unsafe { wenc_types_new(nothing.at(), kind) }, Status::BadArgument);
     }
     assert!(nothing.0.at.is_null());
+}
+
+/// Why the last call failed: the status, the argument, and the number of its member.
+fn last_error(handle: *const Handle) -> (u32, Option<&'static CStr>, usize) {
+    let mut error: ErrorRow = unsafe { mem::zeroed() };
+    assert_eq!(unsafe { wenc_last_error(handle, &mut error) }, Status::Done);
+    let is_named = !error.argument.is_null();
+    let argument = is_named.then(|| unsafe { CStr::from_ptr(error.argument) });
+    (error.status, argument, error.member)
+}
+
+/// Each call fails, and the argument that is wrong in it is named.
+macro_rules! blames {
+    ($at:ident: $($status:literal $argument:literal [$member:literal] $call:expr;)*) => {$(
+        assert_ne!(unsafe { $call }, Status::Done);
+        let wanted = ($status, Some($argument), $member);
+        assert_eq!(last_error($at), wanted, "{}", stringify!($call));
+    )*};
+}
+
+#[test]
+fn wrong_arguments_of_items_are_named() {
+    let (mut builder, mut nothing, none) = (Held::builder(), Held::nothing(), ptr::null_mut());
+    let (at, other) = (builder.at(), nothing.at());
+    let (a, bad) = (b"a".as_ptr(), b"\xff".as_ptr());
+    let part = |name, kind| Part { name, name_len: 1, kind, number: 0 };
+    let (parts, texts) = ([part(a, 0), part(a, 9)], [part(a, 0), part(a, 0), part(bad, 0)]);
+    let pairs = [Pair { kind: 0, number: 0 }, Pair { kind: 10, number: 0 }];
+    let (parts, texts, pairs) = (parts.as_ptr(), texts.as_ptr(), pairs.as_ptr());
+    let bad_name = Name { name: Text { at: bad, len: 1 }, ..Name::NONE };
+    assert_eq!(last_error(at), (0, None, 0));
+    blames! { at:
+        5 c"name" [0] wenc_import(at, bad, 1, 2, 0, none);
+        7 c"name" [0] wenc_import(at, EMPTY, 1, 2, 0, none);
+        7 c"ref" [0] wenc_import(at, a, 1, 9, 0, none);
+        7 c"ref" [0] wenc_import(at, a, 1, 8, 15, none);
+        7 c"name" [0] wenc_import_named(at, ptr::null(), 2, 0, none);
+        5 c"name" [0] wenc_import_named(at, &bad_name, 2, 0, none);
+        7 c"kind" [0] wenc_export(at, a, 1, 6, 0, 0, 0, none);
+        7 c"ref" [0] wenc_export(at, a, 1, 1, 0, 9, 0, none);
+        7 c"kind" [0] wenc_alias_export(at, 0, 6, a, 1, none);
+        7 c"kind" [0] wenc_alias_core_export(at, NONE, 0, 5, a, 1, none);
+        7 c"kind" [0] wenc_alias_outer(at, NONE, 4, 0, 0, none);
+        5 c"debug_name" [0] wenc_alias_outer(at, &Text { at: bad, len: 1 }, 0, 0, 0, none);
+        7 c"debug_name" [0] wenc_core_module(at, &Text { at: EMPTY, len: 1 }, a, 1, none);
+        7 c"bytes" [0] wenc_core_module(at, NONE, EMPTY, 1, none);
+        7 c"nested" [0] wenc_component(at, NONE, at, none);
+        9 c"nested" [0] wenc_component(at, NONE, other, none);
+        7 c"args" [0] wenc_start(at, 0, ptr::null(), 1, 0, none);
+        7 c"function" [0] wenc_builtin(at, 39, 0, 0, none);
+        7 c"first" [0] wenc_builtin(at, 5, 2, 0, none);
+        7 c"second" [0] wenc_builtin(at, 9, 0, 2, none);
+        7 c"function" [0] wenc_builtin_with(at, 7, 0, pairs, 1, none);
+        7 c"options" [1] wenc_builtin_with(at, 1, 0, pairs, 2, none);
+        7 c"ref" [0] wenc_task_return(at, 1, 0, pairs, 1, none);
+        7 c"function" [0] wenc_context(at, 3, 1, 0, none);
+        7 c"type" [0] wenc_context(at, 1, 6, 0, none);
+        7 c"options" [1] wenc_lift(at, NONE, 0, 0, pairs, 2, none);
+        5 c"args" [2] wenc_core_instantiate(at, NONE, 0, texts, 3, none);
+        7 c"exports" [1] wenc_core_exports(at, NONE, parts, 2, none);
+        5 c"items" [2] wenc_export_items(at, NONE, texts, 3, none);
+        7 c"args" [1] wenc_instantiate(at, NONE, 0, parts, 2, none);
+        7 c"section" [0] wenc_item(at, 12, NONE, a, 1, none);
+        5 c"bytes" [0] wenc_item(at, 7, NONE, a, 1, none);
+        7 c"listing" [0] wenc_copy(at, NONE, at, 0, 0, none);
+        7 c"handle" [0] wenc_raw_section(at, 1, a, 1);
+        7 c"section" [0] wenc_section(at, at);
+    }
+    assert_eq!(import(at), (Status::Done, 0));
+    assert_eq!(last_error(at), (7, Some(c"section"), 0));
+    assert_eq!(unsafe { wenc_finish(at, ptr::null_mut(), ptr::null_mut()) }, Status::Done);
+    blames! { at:
+        8 c"handle" [0] wenc_import(at, a, 1, 2, 0, none);
+        8 c"handle" [0] wenc_type_own(at, &named("n"), 0, none);
+    }
+    for nothing in [other, ptr::null_mut()] {
+        assert_eq!(unsafe { wenc_last_error(nothing, ptr::null_mut()) }, Status::NoHandle);
+    }
+}
+
+#[test]
+fn wrong_arguments_of_types_and_sections_are_named() {
+    let (mut builder, mut types, none) = (Held::builder(), Held::types(4), ptr::null_mut());
+    let mut names = Held::new(|handle| unsafe { wenc_names_new(handle) });
+    let (at, of, names) = (builder.at(), types.at(), names.at());
+    let bad = b"\xff".as_ptr();
+    let part = |kind| Part { name: EMPTY, name_len: 0, kind, number: 1 };
+    let (parts, pairs) =
+        ([part(8), part(0), part(1)], [21, 21].map(|kind| Pair { kind, number: 0 }));
+    let subtypes = [subtype(2, &[]), subtype(3, &[])];
+    let tool = |field| Producer {
+        field: EMPTY,
+        field_len: 0,
+        tool: EMPTY,
+        tool_len: 0,
+        version: field,
+        version_len: usize::from(field == bad),
+    };
+    let (tools, name) = ([tool(EMPTY), tool(bad)], IndexName { name: bad, name_len: 1, index: 0 });
+    let (parts, pairs) = (parts.as_ptr(), pairs.as_ptr());
+    blames! { at:
+        7 c"primitive" [0] wenc_type_primitive(at, NONE, 0, none);
+        7 c"fields" [1] wenc_type_record(at, NONE, parts, 2, none);
+        7 c"cases" [2] wenc_type_variant(at, NONE, parts, 3, none);
+        7 c"params" [1] wenc_type_function(at, NONE, NO, parts, 2, 0, 0, none);
+        7 c"ref" [0] wenc_type_function(at, NONE, NO, parts, 1, 1, 0, none);
+        7 c"elements" [0] wenc_type_tuple(at, NONE, pairs, 1, none);
+        7 c"key_ref" [0] wenc_type_map(at, NONE, 0, 0, 3, 0, none);
+        7 c"ref" [0] wenc_type_map(at, NONE, 3, 0, 0, 0, none);
+        7 c"ok_ref" [0] wenc_type_result(at, NONE, 9, 0, 0, 0, none);
+        7 c"err_ref" [0] wenc_type_result(at, NONE, 0, 0, 9, 0, none);
+        7 c"flags" [0] wenc_type_flags(at, NONE, ptr::null(), 1, none);
+        7 c"types" [0] wenc_type(at, NONE, names, none);
+        7 c"params" [0] wenc_core_type_function(at, NONE, pairs, 1, pairs, 1, none);
+        7 c"results" [0] wenc_core_type_function(at, NONE, pairs, 0, pairs, 1, none);
+        7 c"fields" [0] wenc_core_type_struct(at, NONE, pairs, 1, none);
+        7 c"element" [0] wenc_core_type_array(at, NONE, 0x400, 0, none);
+        7 c"subtype" [0] wenc_core_type_subtype(at, NONE, &subtypes[1], none);
+        7 c"subtypes" [1] wenc_core_type_group(at, NONE, subtypes.as_ptr(), 2, none);
+        5 c"producers" [1] wenc_producers(at, tools.as_ptr(), 2);
+        5 c"name" [0] wenc_custom_section(at, bad, 1, bad, 1);
+        7 c"data" [0] wenc_custom_section(at, EMPTY, 0, EMPTY, 1);
+    }
+    blames! { of:
+        7 c"debug_name" [0] wenc_type_own(of, &named("n"), 0, none);
+        7 c"ref" [0] wenc_type_export(of, EMPTY, 0, 9, 0, none);
+        7 c"handle" [0] wenc_append_names(of);
+        7 c"handle" [0] wenc_finish(of, ptr::null_mut(), ptr::null_mut());
+    }
+    blames! { names:
+        7 c"space" [0] wenc_names_items(names, 13, &name, 1);
+        5 c"names" [0] wenc_names_items(names, 0, &name, 1);
+    }
+    let mut module = Held::types(0);
+    let at = module.at();
+    blames! { at:
+        7 c"entity" [0] wenc_core_type_export(at, EMPTY, 0, &entity(5, 0));
+        7 c"kind" [0] wenc_alias_outer(at, NONE, 0, 0, 0, none);
+    }
 }
 
 /// Reads bytes: the status, and what isn't read, as the section, its place, part and item.
