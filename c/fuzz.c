@@ -290,7 +290,7 @@ typedef struct {
 
 #define HANDLES 5
 
-static unsigned long calls, accepted, refusals, compared;
+static unsigned long calls, accepted, refusals, compared, read_items;
 
 /* Begins something: what is decided by a number. */
 static enum wenc_status begin(uint32_t number, wenc_handle *handle) {
@@ -322,6 +322,58 @@ static void begin_two(two *one) {
   if (status == WENC_DONE) REQUIRE(begin(number, &one->shadow) == WENC_DONE);
 }
 
+/* Walks over bytes beside a listing of them: the same items, or the same status. */
+static void compare_walk(const uint8_t *bytes, size_t len) {
+  wenc_handle listing = {NULL};
+  wenc_walk walk;
+  wenc_listed_section section, section_row;
+  wenc_listed_item item, row;
+  size_t sections, items;
+  enum wenc_status wanted = wenc_list(&listing, bytes, len, NULL);
+  enum wenc_status status = wenc_walk_begin(&walk, bytes, len);
+  name = "walk";
+  for (sections = 0; status == WENC_DONE; sections++) {
+    if ((status = wenc_walk_section(&walk, &section)) != WENC_DONE) break;
+    if (wanted == WENC_DONE) {
+      REQUIRE(wenc_section_at(&listing, sections, &section_row) == WENC_DONE);
+      REQUIRE(memcmp(&section, &section_row, offsetof(wenc_listed_section, id)) == 0);
+    }
+    for (items = 0; (status = wenc_walk_item(&walk, &item)) == WENC_DONE; items++) {
+      read_items++;
+      if (wanted != WENC_DONE) continue;
+      REQUIRE(wenc_item_at(&listing, sections, items, &row) == WENC_DONE);
+      REQUIRE(row.place == item.place && row.len == item.len && row.space == item.space);
+      REQUIRE(row.ref == item.ref && row.of == item.of && row.item == item.item);
+    }
+    if (status == WENC_END) {
+      REQUIRE(items == section.items);
+      status = WENC_DONE;
+    }
+  }
+  REQUIRE(status == (wanted == WENC_DONE ? WENC_END : wanted));
+  wenc_free(&listing);
+}
+
+/* The same of a copy, of which a byte is changed; and a walk with any numbers, which ends. */
+static void damage(const uint8_t *bytes, size_t len) {
+  uint8_t *copy = (uint8_t *)__real_malloc(len);
+  wenc_walk walk;
+  wenc_listed_item item;
+  uint32_t k;
+  memcpy(copy, bytes, len);
+  copy[below((uint32_t)len)] ^= (uint8_t)(1 + below(255));
+  compare_walk(copy, len);
+  walk.bytes = copy, walk.len = len;
+  walk.next_section = below((uint32_t)len + 2), walk.next_item = below((uint32_t)len + 2);
+  walk.end = below((uint32_t)len + 2), walk.items = a_number(), walk.id = below(14);
+  for (k = 0; k < 20; k++) {
+    REQUIRE((unsigned)wenc_walk_item(&walk, &item) <= WENC_END);
+    REQUIRE((unsigned)(k % 2 ? wenc_walk_section(&walk, NULL) : wenc_walk_skip(&walk, NULL)) <=
+            WENC_END);
+  }
+  __real_free(copy);
+}
+
 static void finish(two *one) {
   const uint8_t *bytes, *wanted;
   size_t len = 77, wanted_len;
@@ -333,6 +385,8 @@ static void finish(two *one) {
   REQUIRE(wenc_finish(&one->shadow, &wanted, &wanted_len) == WENC_DONE);
   REQUIRE(len == wanted_len && memcmp(bytes, wanted, len) == 0);
   compared++;
+  compare_walk(bytes, len);
+  damage(bytes, len);
 }
 
 /* Makes a call, and the same once more where it is accepted. */
@@ -397,7 +451,7 @@ int main(int argc, char **argv) {
     state = seed * 0x2545f4914f6cdd1du;
     run();
   }
-  printf("%lu calls, %lu accepted, %lu without memory, %lu components compared\n", calls, accepted,
-         refusals, compared);
-  return accepted > count && compared > count && refusals > 0 ? 0 : 1;
+  printf("%lu calls, %lu accepted, %lu without memory, %lu components compared, %lu items read\n",
+         calls, accepted, refusals, compared, read_items);
+  return accepted > count && compared > count && refusals > 0 && read_items > count ? 0 : 1;
 }

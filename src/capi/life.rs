@@ -17,8 +17,18 @@ use alloc::boxed::Box;
 use core::ffi::{CStr, c_char};
 use core::{mem, ptr};
 
-/// `WENC_VERSION`.
-const VERSION: u32 = 100;
+/// `WENC_VERSION`: that of the package.
+const VERSION: u32 = {
+    let (minor, patch) = (env!("CARGO_PKG_VERSION_MINOR"), env!("CARGO_PKG_VERSION_PATCH"));
+    10_000 * number(env!("CARGO_PKG_VERSION_MAJOR")) + 100 * number(minor) + number(patch)
+};
+
+const fn number(digits: &str) -> u32 {
+    match u32::from_str_radix(digits, 10) {
+        Ok(number) => number,
+        Err(_) => unreachable!(),
+    }
+}
 
 #[unsafe(no_mangle)]
 pub extern "C" fn wenc_version() -> u32 {

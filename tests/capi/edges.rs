@@ -79,6 +79,8 @@ fn statuses_have_texts() {
     }
     assert_eq!((texts[13], text(u32::MAX)), (c"end", texts[14]));
     assert_eq!(wenc_version(), 100);
+    let defined = alloc::format!("#define WENC_VERSION {}\n", wenc_version());
+    assert!(include_str!("../../c/wenc.h").contains(&defined));
 }
 
 #[test]
