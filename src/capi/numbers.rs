@@ -78,39 +78,6 @@ const I16: u32 = 20;
 const NULLABLE: u32 = 0x100;
 const MUTABLE: u32 = 0x200;
 
-/// `enum wenc_section`.
-const SECTIONS: [ComponentSectionId; 12] = [
-    ComponentSectionId::CoreCustom,
-    ComponentSectionId::CoreModule,
-    ComponentSectionId::CoreInstance,
-    ComponentSectionId::CoreType,
-    ComponentSectionId::Component,
-    ComponentSectionId::Instance,
-    ComponentSectionId::Alias,
-    ComponentSectionId::Type,
-    ComponentSectionId::CanonicalFunction,
-    ComponentSectionId::Start,
-    ComponentSectionId::Import,
-    ComponentSectionId::Export,
-];
-
-/// `enum wenc_space`.
-const SPACES: [Space; 13] = [
-    Space::CoreModules,
-    Space::CoreFuncs,
-    Space::CoreTypes,
-    Space::CoreMemories,
-    Space::CoreTables,
-    Space::CoreInstances,
-    Space::CoreTags,
-    Space::CoreGlobals,
-    Space::Funcs,
-    Space::Instances,
-    Space::Values,
-    Space::Components,
-    Space::Types,
-];
-
 fn nth<T: Copy>(all: &[T], number: u32) -> Option<T> {
     all.get(usize::try_from(number).ok()?).copied()
 }
@@ -137,19 +104,19 @@ pub fn outer_kind(number: u32) -> Option<ComponentOuterAliasKind> {
 }
 
 pub fn section(number: u32) -> Option<ComponentSectionId> {
-    nth(&SECTIONS, number)
+    nth(&ComponentSectionId::ALL, number)
 }
 
 pub fn space(number: u32) -> Option<Space> {
-    nth(&SPACES, number)
+    nth(&Space::ALL, number)
 }
 
 /// The number of no index space.
-pub const NO_SPACE: u32 = 13;
+pub const NO_SPACE: u32 = Space::ALL.len() as u32;
 
 /// Returns the number of an index space in `enum wenc_space`.
 pub fn of_space(space: Space) -> u32 {
-    number_in(&SPACES, &space)
+    number_in(&Space::ALL, &space)
 }
 
 /// Returns the number of a kind in `enum wenc_kind`.
