@@ -91,7 +91,10 @@ impl Listed {
         if number >= row.items {
             return Err(Refused::bad(c"number"));
         }
-        let (item, ends) = (&self.items[before + number], row.place + row.len);
+        // 32 bits: there is an item of this number.
+        let item = &self.items[*before + number];
+        // 32 bits: the section ends where the component does, or before.
+        let ends = row.place + row.len;
         let (id, rest) = (row.id as u8, &self.bytes[item.place..ends]);
         Ok((item, SectionItems { id, place: row.place, ends, left: 1, rest }))
     }
