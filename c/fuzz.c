@@ -17,6 +17,8 @@
 /* The sequence of calls that is made, by its seed, and the call in it. */
 static uint64_t seed, state;
 static const char *name;
+/* The names of its parameters, with a space before and behind each. */
+static const char *parameters;
 
 #define REQUIRE(so) require((so), #so, __LINE__)
 
@@ -290,7 +292,7 @@ typedef struct {
 
 #define HANDLES 5
 
-static unsigned long calls, accepted, refusals, compared, read_items;
+static unsigned long calls, accepted, refusals, compared, read_items, blamed;
 
 /* Begins something: what is decided by a number. */
 static enum wenc_status begin(uint32_t number, wenc_handle *handle) {
@@ -309,6 +311,26 @@ static void check_status(enum wenc_status status) {
   REQUIRE((unsigned)status <= WENC_NO_HANDLE && status != WENC_UNFINISHED);
   REQUIRE(status != WENC_NO_MEMORY || was_refused);
   if (status == WENC_NO_MEMORY) refusals++;
+}
+
+/* What is said of a call that failed: its status and, if an argument is wrong, a parameter. */
+static void check_error(const wenc_handle *handle, enum wenc_status status) {
+  char named[64];
+  wenc_error error;
+  if (handle->at == NULL) {
+    REQUIRE(status == WENC_NO_HANDLE && wenc_last_error(handle, &error) == WENC_NO_HANDLE);
+    return;
+  }
+  /* These only read. */
+  if (strcmp(name, "wenc_section_at") == 0 || strcmp(name, "wenc_item_at") == 0) return;
+  REQUIRE(wenc_last_error(handle, &error) == WENC_DONE && error.status == status);
+  if (error.argument == NULL) {
+    REQUIRE(status == WENC_NO_MEMORY || status == WENC_TOO_MANY || status == WENC_TOO_LARGE);
+    return;
+  }
+  snprintf(named, sizeof named, " %s ", error.argument);
+  REQUIRE(strstr(parameters, named) != NULL);
+  blamed++;
 }
 
 static void begin_two(two *one) {
@@ -401,6 +423,7 @@ static void call_two(two *one, two *other) {
   until_refusal = -1;
   if (status != WENC_DONE) {
     REQUIRE(index == 77);
+    check_error(&one->handle, status);
     return;
   }
   accepted++;
@@ -451,7 +474,11 @@ int main(int argc, char **argv) {
     state = seed * 0x2545f4914f6cdd1du;
     run();
   }
-  printf("%lu calls, %lu accepted, %lu without memory, %lu components compared, %lu items read\n",
-         calls, accepted, refusals, compared, read_items);
-  return accepted > count && compared > count && refusals > 0 && read_items > count ? 0 : 1;
+  printf("%lu calls, %lu accepted, %lu without memory, %lu with a wrong argument that is named\n",
+         calls, accepted, refusals, blamed);
+  printf("%lu components compared, %lu items read\n", compared, read_items);
+  return accepted > count && compared > count && refusals > 0 && read_items > count &&
+                 blamed > count
+             ? 0
+             : 1;
 }

@@ -47,7 +47,9 @@ def main():
     for name, declared in re.findall(r"enum wenc_status (wenc_\w+)\(([^()]*)\);", HEADER):
         if not BY_HAND.match(name):
             declares, hands = arguments(declared)
-            cases.append(f'    case {len(cases)}: {{ name = "{name}"; {declares}\n'
+            params = " ".join(re.findall(r"(\w+) *(?:,|$)", declared))
+            cases.append(f'    case {len(cases)}: {{ name = "{name}";\n'
+                         f'      parameters = " handle {params} "; {declares}\n'
                          f"      return {name}({hands}); }}")
     print(f"#define CASES {len(cases)}\n")
     print("static enum wenc_status call(uint32_t number, wenc_handle *to, wenc_handle *other,")
