@@ -1004,7 +1004,10 @@ WENC_CHECKED enum wenc_status wenc_walk_skip(wenc_walk *walk, wenc_listed_sectio
 
 /* Writes the next item of the section to `*item`. WENC_BAD_ITEM, also if bytes are behind the last
  * item; WENC_TOO_DEEP; WENC_BAD_SECTION for a custom section without a name. The section's other
- * items can't be read then, but the next section can. */
+ * items can't be read then, but the next section can.
+ *
+ * A nested component is read by another walk, over the item's bytes. Its offsets count from there.
+ * */
 WENC_CHECKED enum wenc_status wenc_walk_item(wenc_walk *walk, wenc_listed_item *item);
 
 /* Begins a walk over the debug names in an item that is a custom section named "component-name".

@@ -484,6 +484,26 @@ fn readers_at_a_time() {
     });
 }
 
+/// The items of a walk, each added again by its bytes.
+fn copied(bytes: &[u8], rows: &[ItemRow]) -> Vec<u8> {
+    let mut builder = Held::builder();
+    for row in rows {
+        let item = &bytes[row.place..][..row.len];
+        let (at, len, none) = (item.as_ptr(), item.len(), ptr::null_mut());
+        let status = unsafe { wenc_item(builder.at(), row.section, ptr::null(), at, len, none) };
+        assert_eq!(status, Status::Done);
+    }
+    builder.finished()
+}
+
+/// What Rust reads of a component, written again.
+fn relisted(bytes: &[u8]) -> Vec<u8> {
+    let listing = crate::list(bytes).expect("a component");
+    let items = listing.sections.into_iter().flat_map(|section| section.items);
+    let commands: Vec<crate::tree::Command> = items.map(Into::into).collect();
+    crate::tree::build(&commands).expect("there is memory").bytes.into()
+}
+
 /// Real components, and debug names in them, beside what Rust reads.
 #[test]
 fn real_components_are_read_as_in_rust() {
@@ -515,6 +535,9 @@ fn real_components_are_read_as_in_rust() {
         let wanted: Vec<_> = of_items.chain(of_component).collect();
         let read: Vec<_> = names.iter().map(|(of, name)| (*of, &name[..])).collect();
         assert!(read == wanted || !is_whole, "{read:?}");
+        if is_whole {
+            assert_eq!(copied(&bytes, &rows), relisted(&bytes));
+        }
         (items_len, names_len) = (items_len + rows.len(), names_len + names.len());
     }
     assert!(items_len > 500 && names_len > 50, "{items_len} items, {names_len} names");
