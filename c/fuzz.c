@@ -376,10 +376,11 @@ static void compare_walk(const uint8_t *bytes, size_t len) {
   wenc_free(&listing);
 }
 
-/* The same of a copy, of which a byte is changed; and a walk with any numbers, which ends. */
+/* The same of a copy, of which a byte is changed; and walks with any numbers, which end. */
 static void damage(const uint8_t *bytes, size_t len) {
   uint8_t *copy = (uint8_t *)__real_malloc(len);
   wenc_walk walk;
+  wenc_names_walk names;
   wenc_listed_item item;
   uint32_t k;
   memcpy(copy, bytes, len);
@@ -393,6 +394,9 @@ static void damage(const uint8_t *bytes, size_t len) {
     REQUIRE((unsigned)(k % 2 ? wenc_walk_section(&walk, NULL) : wenc_walk_skip(&walk, NULL)) <=
             WENC_END);
   }
+  names.bytes = copy, names.len = len, names.next = below((uint32_t)len + 2);
+  names.space = a_number(), names.names = below(3) ? 0 : a_number();
+  for (k = 0; k < 20; k++) REQUIRE((unsigned)wenc_walk_name(&names, NULL) <= WENC_END);
   __real_free(copy);
 }
 

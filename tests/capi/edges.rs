@@ -41,7 +41,7 @@ impl Held {
         Self::new(|handle| unsafe { wenc_new(handle) })
     }
 
-    fn types(kind: u32) -> Self {
+    pub fn types(kind: u32) -> Self {
         Self::new(|handle| unsafe { wenc_types_new(handle, kind) })
     }
 

@@ -1,13 +1,14 @@
 //! The walk over a component, and over its debug names.
 
 use super::edges::{Held, named};
-use crate::capi::Status;
 use crate::capi::arguments::{Name, Text};
 use crate::capi::items::*;
 use crate::capi::life::{wenc_bytes, wenc_finish};
 use crate::capi::listing::*;
 use crate::capi::rows::{ItemRow, SectionRow};
+use crate::capi::types::wenc_type;
 use crate::capi::walk::*;
+use crate::capi::{Handle, Status};
 use alloc::collections::BTreeMap;
 use alloc::string::String;
 use alloc::vec::Vec;
@@ -443,7 +444,7 @@ fn a_walk_is_linear() {
 /// Calls that only read are made by several threads at a time.
 #[test]
 fn readers_at_a_time() {
-    struct Shared(*const crate::capi::Handle, *const crate::capi::Handle);
+    struct Shared(*const Handle, *const Handle, *const Handle);
     unsafe impl Sync for Shared {}
     impl Shared {
         fn read(&self, wanted: &[u8]) {
@@ -457,13 +458,16 @@ fn readers_at_a_time() {
                     assert_eq!(copied, Status::Done);
                     assert_eq!(text(row.name.name), Some("f"));
                     assert_eq!(wenc_bytes(self.1, copy.as_mut_ptr(), copy.len()), Status::Done);
+                    let mut types = Held::builder();
+                    assert_eq!(wenc_type(types.at(), ptr::null(), self.2, none), Status::Done);
+                    assert_eq!(types.finished()[8..], *b"\x07\x03\x01\x42\0");
                 }
                 assert_eq!(copy, wanted);
             }
             assert_eq!(builder.finished().len(), 8 + 5 + 200 * 11);
         }
     }
-    let (mut listing, mut finished) = (Held::nothing(), Held::builder());
+    let (mut listing, mut finished, mut types) = (Held::nothing(), Held::builder(), Held::types(5));
     let (mut at, mut len) = (ptr::null(), 0);
     unsafe {
         let (at, len) = (COMPONENT.as_ptr(), COMPONENT.len());
@@ -476,7 +480,7 @@ fn readers_at_a_time() {
     }
     assert_eq!(unsafe { wenc_finish(finished.at(), &mut at, &mut len) }, Status::Done);
     let wanted = b"\0asm\x0d\0\x01\0\x01\x03xyz";
-    let shared = Shared(listing.at(), finished.at());
+    let shared = Shared(listing.at(), finished.at(), types.at());
     std::thread::scope(|scope| {
         for _ in 0..4 {
             scope.spawn(|| shared.read(wanted));
