@@ -519,7 +519,8 @@ typedef struct {
 /* An item that was read. Its texts and bytes are the handle's, or those of the component that is
  * walked over. Numbers that an item hasn't are 0. */
 typedef struct {
-  /* Its index, or that of the first value of a start. A walk counts no indices: it writes 0. */
+  /* Its index, or that of the first value of a start. A walk writes 0: there, the index is the sum
+   * of the `indices` of all items before that have the same `space`. */
   uint64_t index;
   /* Its byte offset in the component, and its size in bytes, as wenc_item takes it. */
   size_t place;
@@ -649,8 +650,8 @@ void wenc_free(wenc_handle *handle);
  * allocate, and may be called again. WENC_BAD_ARGUMENT, WENC_NO_HANDLE. */
 WENC_CHECKED enum wenc_status wenc_finish(wenc_handle *handle, const uint8_t **bytes, size_t *len);
 
-/* Writes why a call failed: the last that failed by this handle, of those that begin with
- * `wenc_handle *`, unless it begins something. Its status is WENC_DONE if there is none.
+/* Writes why the last call failed that did, of those that take this handle first, as a
+ * `wenc_handle *`, after it was filled. Its status is WENC_DONE if there is none.
  * WENC_NO_HANDLE. */
 WENC_CHECKED enum wenc_status wenc_last_error(const wenc_handle *handle, wenc_error *error);
 

@@ -2,8 +2,8 @@
 //! proved sources.
 //!
 //! A call reads its arguments, whole lists included, before it changes anything; so a call that
-//! fails changes nothing. A pointer that comes with a length of 0 or a false flag isn't read. Any
-//! other pointer must be NULL or as the header says, which nothing can check.
+//! fails changes nothing. A pointer that comes with a length of 0 isn't read. Any other pointer must
+//! be NULL or as the header says, which nothing can check.
 #![allow(unsafe_code)]
 
 mod arguments;
