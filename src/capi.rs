@@ -16,7 +16,7 @@ mod listing;
 mod numbers;
 mod sections;
 mod session;
-#[cfg(test)]
+#[cfg(all(test, has_tests))]
 #[path = "../tests/capi/mod.rs"]
 mod tests;
 mod types;
