@@ -1,4 +1,5 @@
-//! What one call of each kind costs: `benches/count calls` counts the instructions that `work` takes.
+//! What one call of each kind costs: `benches/count calls` counts the instructions that `work`
+//! takes.
 //!
 //! `cargo bench --offline --bench calls -- N NAME` makes the calls of that name, N of them, and
 //! prints the hash of their bytes; without a name, all, after each other. Each call has a name of
