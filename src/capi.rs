@@ -17,7 +17,7 @@ mod numbers;
 mod rows;
 mod sections;
 mod session;
-#[cfg(test)]
+#[cfg(all(test, has_tests))]
 #[path = "../tests/capi/mod.rs"]
 mod tests;
 mod types;
