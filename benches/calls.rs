@@ -1,7 +1,9 @@
-//! What one call of each kind costs: `count calls` counts the instructions that `work` takes.
+//! What one call of each kind costs: `benches/count calls` counts the instructions that `work`
+//! takes.
 //!
-//! `cargo bench --offline --bench calls -- N NAME` makes the calls of that name, N of them; without
-//! a name, all, after each other. Each call has a name of its own, which is made before.
+//! `cargo bench --offline --bench calls -- N NAME` makes the calls of that name, N of them, and
+//! prints the hash of their bytes; without a name, all, after each other. Each call has a name of
+//! its own, which is made before.
 
 use std::hint::black_box;
 use wenc::*;
@@ -208,10 +210,88 @@ const IN_SECTIONS: [&[(&str, Calls)]; 8] = [
     },
 ];
 
+/// Makes a component by one builder.
+fn built(calls: impl FnOnce(&mut ComponentBuilder)) -> Vec<u8> {
+    let mut builder = ComponentBuilder::default();
+    calls(&mut builder);
+    builder.finish()
+}
+
+/// Returns types under these names.
+fn typed(names: &[String]) -> impl ExactSizeIterator<Item = (&str, ComponentValType)> {
+    names.iter().enumerate().map(|(i, name)| (name.as_str(), ty(i as u32)))
+}
+
+/// Calls that aren't made alike for each name: for each of many members, or by turns.
+const MANY: &[(&str, Calls)] = &[
+    ("field of a record", |names| built(|b| b.type_defined(None).1.record(typed(names)))),
+    ("parameter of a function", |names| {
+        built(|b| {
+            b.type_function(None).1.params(typed(names)).result(None);
+        })
+    }),
+    ("flag of flags", |names| {
+        built(|b| b.type_defined(None).1.flags(names.iter().map(String::as_str)))
+    }),
+    ("argument of an instance", |names| {
+        let args = names.iter().zip(0..).map(|(name, i)| (name, ComponentExportKind::Func, i));
+        built(|b| {
+            b.instantiate(None, 0, args.collect::<Vec<_>>());
+        })
+    }),
+    ("import, resource_drop by turns", |names| {
+        built(|b| {
+            for (i, name) in (0..).zip(names) {
+                match i % 2 {
+                    0 => b.import(name.as_str(), func(i)),
+                    _ => b.resource_drop(i),
+                };
+            }
+        })
+    }),
+    ("import of a name of 1,000 bytes", |names| {
+        let long = "x".repeat(1000);
+        built(|b| {
+            for i in 0..names.len() as u32 {
+                b.import(long.as_str(), func(i));
+            }
+        })
+    }),
+    ("list with a debug name, append_names", |names| {
+        built(|b| {
+            names.iter().for_each(|name| b.type_defined(Some(name)).1.list(U32));
+            b.append_names();
+        })
+    }),
+    ("name of a ComponentNameSection", |names| {
+        let mut map = NameMap::new();
+        (0..).zip(names).for_each(|(i, name)| map.append(i, name));
+        let mut section = ComponentNameSection::new();
+        section.funcs(&map);
+        let mut component = Component::new();
+        component.section(&section.as_custom());
+        component.finish()
+    }),
+    ("Component::section of one import", |names| {
+        let mut component = Component::new();
+        for (i, name) in (0..).zip(names) {
+            let mut section = ComponentImportSection::new();
+            section.import(name, func(i));
+            component.section(&section);
+        }
+        component.finish()
+    }),
+];
+
 /// What is counted.
 #[inline(never)]
 fn work(calls: Calls, names: &[String]) -> Vec<u8> {
     black_box(calls(names))
+}
+
+fn fnv1a(bytes: &[u8]) -> u64 {
+    let step = |hash: u64, byte: &u8| (hash ^ u64::from(*byte)).wrapping_mul(0x0000_0100_0000_01b3);
+    bytes.iter().fold(0xcbf2_9ce4_8422_2325, step)
 }
 
 fn main() {
@@ -219,9 +299,9 @@ fn main() {
     let words: Vec<String> = std::env::args().skip(1).filter(|word| word != "--bench").collect();
     let n = words.first().map_or(Ok(1), |word| word.parse()).expect("a number of calls");
     let names: Vec<String> = (0..n).map(|i: u32| format!("i{i}")).collect();
-    for (what, calls) in [ITEMS, TYPES].iter().chain(&IN_SECTIONS).copied().flatten() {
+    for (what, calls) in [ITEMS, TYPES, MANY].iter().chain(&IN_SECTIONS).copied().flatten() {
         if words.get(1).is_none_or(|word| word == what) {
-            println!("{what}: {} bytes", work(*calls, &names).len());
+            println!("{what}: fnv1a {:016x}", fnv1a(&work(*calls, &names)));
         }
     }
 }

@@ -50,6 +50,9 @@ fn build() {
         println!("cargo::rerun-if-changed={}", top.join("crates").join(name).join("src").display());
     }
     println!("cargo::rustc-cfg=in_repository");
+    if package.join("tests/proved").is_dir() {
+        println!("cargo::rustc-cfg=has_tests");
+    }
     if variable("CARGO_PKG_NAME") != "wenc" {
         println!("cargo::rustc-cfg=script");
     }

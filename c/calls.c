@@ -2,6 +2,7 @@
  * how many items there are in each space, and the component. */
 #include <stdio.h>
 #include <stdlib.h>
+#include <string.h>
 
 #include "wenc.h"
 
@@ -13,6 +14,14 @@ static void check(enum wenc_status status) {
     fprintf(stderr, "refused: %s\n", wenc_status_text(status));
     exit(1);
   }
+}
+
+/* A debug name, until the next one. */
+static const wenc_text *named(const char *literal) {
+  static wenc_text name;
+  name.at = literal;
+  name.len = strlen(literal);
+  return &name;
 }
 
 static void refused(enum wenc_status status) {
@@ -28,9 +37,9 @@ static void build_instances(wenc_handle *builder) {
   static const wenc_part exports[] = {{WENC_TEXT("memory"), WENC_CORE_MEMORY, 0}};
   static const wenc_part args[] = {{WENC_TEXT("env"), 0, 0}, {WENC_TEXT("wasi"), 0, 7}};
   uint32_t index;
-  check(wenc_core_module(builder, WENC_NAMED("m"), ALL(module_bytes), &index));
-  check(wenc_core_exports(builder, WENC_UNNAMED, ALL(exports), &index));
-  check(wenc_core_instantiate(builder, WENC_NAMED("main"), 0, ALL(args), &index));
+  check(wenc_core_module(builder, named("m"), ALL(module_bytes), &index));
+  check(wenc_core_exports(builder, NULL, ALL(exports), &index));
+  check(wenc_core_instantiate(builder, named("main"), 0, ALL(args), &index));
 }
 
 /* The types of which the others are made have the indices 2 and 9. */
@@ -43,26 +52,26 @@ static void build_values(wenc_handle *builder) {
   static const wenc_part colors[] = {
       {WENC_TEXT("red"), 0, 0}, {WENC_TEXT("green"), 0, 0}, {WENC_TEXT("blue"), 0, 0}};
   uint32_t file, other, own, list, index;
-  check(wenc_type_resource(builder, WENC_NAMED("file"), true, 3, &file));
-  check(wenc_type_resource(builder, WENC_UNNAMED, false, 0, &other));
-  check(wenc_type_own(builder, WENC_NAMED("own"), file, &own));
-  check(wenc_type_borrow(builder, WENC_UNNAMED, other, &index));
-  check(wenc_type_variant(builder, WENC_NAMED("v"), ALL(cases), &index));
-  check(wenc_type_tuple(builder, WENC_UNNAMED, ALL(elements), &index));
-  check(wenc_type_flags(builder, WENC_UNNAMED, ALL(flags), &index));
-  check(wenc_type_enum(builder, WENC_UNNAMED, ALL(colors), &index));
-  check(wenc_type_primitive(builder, WENC_UNNAMED, WENC_CHAR, &index));
-  check(wenc_type_list(builder, WENC_UNNAMED, WENC_REF_PRIMITIVE, WENC_STRING, &list));
+  check(wenc_type_resource(builder, named("file"), true, 3, &file));
+  check(wenc_type_resource(builder, NULL, false, 0, &other));
+  check(wenc_type_own(builder, named("own"), file, &own));
+  check(wenc_type_borrow(builder, NULL, other, &index));
+  check(wenc_type_variant(builder, named("v"), ALL(cases), &index));
+  check(wenc_type_tuple(builder, NULL, ALL(elements), &index));
+  check(wenc_type_flags(builder, NULL, ALL(flags), &index));
+  check(wenc_type_enum(builder, NULL, ALL(colors), &index));
+  check(wenc_type_primitive(builder, NULL, WENC_CHAR, &index));
+  check(wenc_type_list(builder, NULL, WENC_REF_PRIMITIVE, WENC_STRING, &list));
   check(
-      wenc_type_fixed_length_list(builder, WENC_UNNAMED, WENC_REF_PRIMITIVE, WENC_U8, 300, &index));
-  check(wenc_type_map(builder, WENC_UNNAMED, WENC_REF_PRIMITIVE, WENC_STRING, WENC_REF_VALUE, list,
+      wenc_type_fixed_length_list(builder, NULL, WENC_REF_PRIMITIVE, WENC_U8, 300, &index));
+  check(wenc_type_map(builder, NULL, WENC_REF_PRIMITIVE, WENC_STRING, WENC_REF_VALUE, list,
                       &index));
-  check(wenc_type_option(builder, WENC_UNNAMED, WENC_REF_VALUE, list, &index));
-  check(wenc_type_result(builder, WENC_UNNAMED, WENC_REF_PRIMITIVE, WENC_F64, WENC_REF_NONE, 0,
+  check(wenc_type_option(builder, NULL, WENC_REF_VALUE, list, &index));
+  check(wenc_type_result(builder, NULL, WENC_REF_PRIMITIVE, WENC_F64, WENC_REF_NONE, 0,
                          &index));
-  check(wenc_type_result(builder, WENC_UNNAMED, WENC_REF_NONE, 0, WENC_REF_VALUE, list, &index));
-  check(wenc_type_future(builder, WENC_UNNAMED, WENC_REF_PRIMITIVE, WENC_S64, &index));
-  check(wenc_type_stream(builder, WENC_UNNAMED, WENC_REF_NONE, 0, &index));
+  check(wenc_type_result(builder, NULL, WENC_REF_NONE, 0, WENC_REF_VALUE, list, &index));
+  check(wenc_type_future(builder, NULL, WENC_REF_PRIMITIVE, WENC_S64, &index));
+  check(wenc_type_stream(builder, NULL, WENC_REF_NONE, 0, &index));
   if (own != 2 || list != 9) exit(1);
 }
 
@@ -82,12 +91,12 @@ static uint32_t build_functions(wenc_handle *builder) {
                        {WENC_TEXT("c"), WENC_COMPONENT, 0},
                        {WENC_TEXT("v"), WENC_VALUE, 0}};
   uint32_t ty, index;
-  check(wenc_type_function(builder, WENC_UNNAMED, false, ALL(params), WENC_REF_VALUE, 2, &ty));
-  check(wenc_lift(builder, WENC_NAMED("open"), 0, ty, ALL(lifting), &args[0].number));
-  check(wenc_lift(builder, WENC_UNNAMED, 5, ty, NONE, &index));
-  check(wenc_lower(builder, WENC_NAMED("lowered"), args[0].number, ALL(lowering), &index));
-  check(wenc_instantiate(builder, WENC_NAMED("inner"), 0, ALL(args), &items[0].number));
-  check(wenc_export_items(builder, WENC_NAMED("world"), ALL(items), &index));
+  check(wenc_type_function(builder, NULL, false, ALL(params), WENC_REF_VALUE, 2, &ty));
+  check(wenc_lift(builder, named("open"), 0, ty, ALL(lifting), &args[0].number));
+  check(wenc_lift(builder, NULL, 5, ty, NONE, &index));
+  check(wenc_lower(builder, named("lowered"), args[0].number, ALL(lowering), &index));
+  check(wenc_instantiate(builder, named("inner"), 0, ALL(args), &items[0].number));
+  check(wenc_export_items(builder, named("world"), ALL(items), &index));
   return ty;
 }
 
@@ -95,15 +104,15 @@ static void build_components(wenc_handle *builder) {
   static const uint8_t component[] = {0x00, 0x61, 0x73, 0x6d, 0x0d, 0x00, 0x01, 0x00};
   wenc_handle nested = {NULL};
   uint32_t index;
-  check(wenc_component_bytes(builder, WENC_NAMED("bytes"), ALL(component), &index));
+  check(wenc_component_bytes(builder, named("bytes"), ALL(component), &index));
   check(wenc_new(&nested));
   check(wenc_import(&nested, WENC_TEXT("r"), WENC_REF_RESOURCE, 0, &index));
-  check(wenc_component_ref(builder, WENC_UNNAMED, &nested, &index));
+  check(wenc_component_ref(builder, NULL, &nested, &index));
   wenc_free(&nested);
-  check(wenc_alias_instance_export(builder, WENC_NAMED("a"), 0, WENC_FUNC, WENC_TEXT("open"),
+  check(wenc_alias_instance_export(builder, named("a"), 0, WENC_FUNC, WENC_TEXT("open"),
                                    &index));
-  check(wenc_alias_outer(builder, WENC_UNNAMED, WENC_OUTER_CORE_TYPE, 1, 200, &index));
-  check(wenc_alias_outer(builder, WENC_NAMED("o"), WENC_OUTER_COMPONENT, 2, 3, &index));
+  check(wenc_alias_outer(builder, NULL, WENC_OUTER_CORE_TYPE, 1, 200, &index));
+  check(wenc_alias_outer(builder, named("o"), WENC_OUTER_COMPONENT, 2, 3, &index));
 }
 
 /* `ty` is the type of the function 0. */
@@ -111,27 +120,23 @@ static void build_named(wenc_handle *builder, uint32_t ty) {
   static const uint32_t args[] = {0, 1};
   static const uint8_t data[] = {1, 2, 3};
   static const uint8_t raw[] = {3, 1, 0x79, 0x2b};
-  static const wenc_name poll = {WENC_TEXT("wasi:io/poll@0.2"),
-                                 WENC_TEXT("x:y/z"),
-                                 WENC_TEXT(".6"),
-                                 WENC_TEXT("id"),
-                                 true,
-                                 true,
-                                 true};
-  static const wenc_name plain = {
-      WENC_TEXT("plain"), NULL, 0, NULL, 0, NULL, 0, false, false, false};
-  static const wenc_name versioned = {WENC_TEXT("w"), NULL, 0,    WENC_TEXT("v"), NULL, 0,
-                                      false,          true, false};
+  static const wenc_name poll = {{WENC_TEXT("wasi:io/poll@0.2")},
+                                 {WENC_TEXT("x:y/z")},
+                                 {WENC_TEXT(".6")},
+                                 {WENC_TEXT("id")}};
+  static const wenc_name plain = {{WENC_TEXT("plain")}, {NULL, 0}, {NULL, 0}, {NULL, 0}};
+  static const wenc_name versioned = {
+      {WENC_TEXT("w")}, {NULL, 0}, {WENC_TEXT("v")}, {NULL, 0}};
   uint32_t index;
   check(wenc_import_named(builder, &poll, WENC_REF_FUNC, ty, &index));
   check(wenc_import_named(builder, &plain, WENC_REF_COMPONENT, 18, &index));
   check(wenc_export_named(builder, &versioned, WENC_FUNC, 0, WENC_REF_FUNC, ty, &index));
-  check(wenc_item(builder, WENC_SECTION_TYPE, WENC_NAMED("t"), (const uint8_t *)"\x42\x00", 2,
+  check(wenc_item(builder, WENC_SECTION_TYPE, named("t"), (const uint8_t *)"\x42\x00", 2,
                   &index));
   check(wenc_start(builder, 0, ALL(args), 2, &index));
   check(wenc_custom_section(builder, WENC_TEXT("notes"), ALL(data)));
   check(
-      wenc_item(builder, WENC_SECTION_CUSTOM, WENC_UNNAMED, (const uint8_t *)"\x01x*", 3, &index));
+      wenc_item(builder, WENC_SECTION_CUSTOM, NULL, (const uint8_t *)"\x01x*", 3, &index));
   check(wenc_raw_custom_section(builder, ALL(raw)));
 }
 
@@ -150,25 +155,25 @@ static void refuse(wenc_handle *builder) {
   static const wenc_pair unnamed[] = {{10, 0}};
   static const wenc_part unknown[] = {{WENC_TEXT("a"), 6, 0}};
   uint32_t index;
-  refused(wenc_instantiate(builder, WENC_UNNAMED, 0, ALL(unknown), &index));
-  refused(wenc_export_items(builder, WENC_UNNAMED, ALL(unknown), &index));
-  refused(wenc_lift(builder, WENC_UNNAMED, 0, 0, ALL(unnamed), &index));
-  refused(wenc_lower(builder, WENC_UNNAMED, 0, ALL(unnamed), &index));
-  refused(wenc_type_variant(builder, WENC_UNNAMED, ALL(unknown), &index));
-  refused(wenc_type_tuple(builder, WENC_UNNAMED, ALL(unnamed), &index));
-  refused(wenc_type_primitive(builder, WENC_UNNAMED, (enum wenc_primitive)0, &index));
-  refused(wenc_type_list(builder, WENC_UNNAMED, WENC_REF_NONE, 0, &index));
-  refused(wenc_type_fixed_length_list(builder, WENC_UNNAMED, WENC_REF_FUNC, 0, 1, &index));
-  refused(wenc_type_map(builder, WENC_UNNAMED, WENC_REF_NONE, 0, WENC_REF_VALUE, 0, &index));
-  refused(wenc_type_map(builder, WENC_UNNAMED, WENC_REF_VALUE, 0, WENC_REF_NONE, 0, &index));
-  refused(wenc_type_option(builder, WENC_UNNAMED, WENC_REF_PRIMITIVE, 0, &index));
-  refused(wenc_type_result(builder, WENC_UNNAMED, WENC_REF_TYPE, 0, WENC_REF_NONE, 0, &index));
-  refused(wenc_type_result(builder, WENC_UNNAMED, WENC_REF_NONE, 0, WENC_REF_TYPE, 0, &index));
-  refused(wenc_type_future(builder, WENC_UNNAMED, WENC_REF_FUNC, 0, &index));
-  refused(wenc_type_stream(builder, WENC_UNNAMED, WENC_REF_FUNC, 0, &index));
-  refused(wenc_alias_outer(builder, WENC_UNNAMED, (enum wenc_outer_kind)4, 0, 0, &index));
+  refused(wenc_instantiate(builder, NULL, 0, ALL(unknown), &index));
+  refused(wenc_export_items(builder, NULL, ALL(unknown), &index));
+  refused(wenc_lift(builder, NULL, 0, 0, ALL(unnamed), &index));
+  refused(wenc_lower(builder, NULL, 0, ALL(unnamed), &index));
+  refused(wenc_type_variant(builder, NULL, ALL(unknown), &index));
+  refused(wenc_type_tuple(builder, NULL, ALL(unnamed), &index));
+  refused(wenc_type_primitive(builder, NULL, (enum wenc_primitive)0, &index));
+  refused(wenc_type_list(builder, NULL, WENC_REF_NONE, 0, &index));
+  refused(wenc_type_fixed_length_list(builder, NULL, WENC_REF_FUNC, 0, 1, &index));
+  refused(wenc_type_map(builder, NULL, WENC_REF_NONE, 0, WENC_REF_VALUE, 0, &index));
+  refused(wenc_type_map(builder, NULL, WENC_REF_VALUE, 0, WENC_REF_NONE, 0, &index));
+  refused(wenc_type_option(builder, NULL, WENC_REF_PRIMITIVE, 0, &index));
+  refused(wenc_type_result(builder, NULL, WENC_REF_TYPE, 0, WENC_REF_NONE, 0, &index));
+  refused(wenc_type_result(builder, NULL, WENC_REF_NONE, 0, WENC_REF_TYPE, 0, &index));
+  refused(wenc_type_future(builder, NULL, WENC_REF_FUNC, 0, &index));
+  refused(wenc_type_stream(builder, NULL, WENC_REF_FUNC, 0, &index));
+  refused(wenc_alias_outer(builder, NULL, (enum wenc_outer_kind)4, 0, 0, &index));
   refused(wenc_import_named(builder, NULL, WENC_REF_FUNC, 0, &index));
-  refused(wenc_item(builder, (enum wenc_section)12, WENC_UNNAMED, module_bytes, 1, &index));
+  refused(wenc_item(builder, (enum wenc_section)12, NULL, module_bytes, 1, &index));
   refused(wenc_count(builder, (enum wenc_space)13, &index));
 }
 

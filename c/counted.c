@@ -85,7 +85,7 @@ static const wenc_part parts[] = {{WENC_TEXT("x"), WENC_REF_PRIMITIVE, WENC_S32}
 static uint32_t declare(wenc_handle *to) {
   wenc_handle types = {NULL};
   uint32_t index, status = wenc_types_new(&types, WENC_INSTANCE);
-  if (status == WENC_DONE) status = wenc_type_record(&types, WENC_UNNAMED, parts, 2, &index);
+  if (status == WENC_DONE) status = wenc_type_record(&types, NULL, parts, 2, &index);
   if (status == WENC_DONE)
     status = wenc_type_export(&types, WENC_TEXT("an export"), WENC_REF_TYPE, 0, &index);
   if (status == WENC_DONE) status = wenc_type(to, NAMED, &types, &index);
@@ -100,7 +100,7 @@ static uint32_t declare_module(wenc_handle *to) {
   wenc_handle types = {NULL};
   uint32_t index, status = wenc_types_new(&types, WENC_MODULE);
   if (status == WENC_DONE)
-    status = wenc_core_type_function(&types, WENC_UNNAMED, params, 2, params, 1, &index);
+    status = wenc_core_type_function(&types, NULL, params, 2, params, 1, &index);
   if (status == WENC_DONE)
     status =
         wenc_core_type_import(&types, WENC_TEXT("a module"), WENC_TEXT("an import"), &function);
@@ -297,11 +297,44 @@ static void listed(void) {
   }
   wenc_free(&listing);
   REQUIRE(held() == 0);
-  unread.section = 1;
+  memset(&unread, 0xee, sizeof unread);
   status = wenc_list(&listing, component, 19, &unread);
-  REQUIRE((status == WENC_BAD_SECTION && unread.section == 16) ||
-          (!is_done(status) && unread.section == 0));
+  if (status == WENC_BAD_SECTION)
+    REQUIRE(unread.section == 16 && unread.place == 16 && (unread.part | unread.item) == 0);
+  else
+    REQUIRE(!is_done(status) && (unread.section | unread.place | unread.part | unread.item) == 0);
   REQUIRE(listing.at == NULL && held() == 0);
+}
+
+/* A component of one-byte items, and debug names: what a walk over it takes, which is nothing, and
+ * what a listing takes for an item. */
+#define ITEMS 100000
+
+static void walked(void) {
+  static const uint8_t head[] = {0x00, 0x61, 0x73, 0x6d, 0x0d, 0x00, 0x01, 0x00,
+                                 0x08, 0xa3, 0x8d, 0x06, 0xa0, 0x8d, 0x06};
+  static const uint8_t names[] = {0x00, 0x13, 0x0e, 0x63, 0x6f, 0x6d, 0x70, 0x6f, 0x6e, 0x65, 0x6e,
+                                  0x74, 0x2d, 0x6e, 0x61, 0x6d, 0x65, 0x00, 0x02, 0x01, 0x63};
+  static uint8_t component[sizeof head + ITEMS + sizeof names];
+  wenc_handle listing = {NULL};
+  wenc_walk walk;
+  wenc_names_walk name_walk;
+  wenc_listed_item item;
+  size_t items = 0, found = 0, before = requests;
+  memcpy(component, head, sizeof head);
+  memset(component + sizeof head, 0x05, ITEMS);
+  memcpy(component + sizeof head + ITEMS, names, sizeof names);
+  REQUIRE(wenc_walk_begin(&walk, component, sizeof component) == WENC_DONE);
+  while (wenc_walk_section(&walk, NULL) == WENC_DONE)
+    for (; wenc_walk_item(&walk, &item) == WENC_DONE; items++)
+      if (wenc_walk_names(&name_walk, &item) == WENC_DONE)
+        for (; wenc_walk_name(&name_walk, NULL) == WENC_DONE; found++) continue;
+  REQUIRE(items == ITEMS + 1 && found == 1 && requests == before);
+  REQUIRE(wenc_list(&listing, component, sizeof component, NULL) == WENC_DONE);
+  printf("a listing holds %lu bytes for each of %d items of one byte, a walk none\n",
+         (unsigned long)(held() / ITEMS), ITEMS);
+  REQUIRE(held() < 40 * ITEMS);
+  wenc_free(&listing);
 }
 
 /* A component in another, listed; where the nested one isn't taken for want of memory, it is borrowed
@@ -339,6 +372,7 @@ int main(void) {
   given_up();
   not_given_up();
   listed();
+  walked();
   swept();
   REQUIRE(taken > 0 && taken == given);
   return 0;

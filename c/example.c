@@ -27,11 +27,12 @@ static void check(enum wenc_status status) {
 static void build_nested(wenc_handle *builder) {
   static const wenc_part fields[] = {{WENC_TEXT("x"), WENC_REF_PRIMITIVE, WENC_S32},
                                      {WENC_TEXT("y"), WENC_REF_PRIMITIVE, WENC_S32}};
+  static const wenc_text point = {WENC_TEXT("point")};
   wenc_part params[] = {{WENC_TEXT("at"), WENC_REF_VALUE, 0}};
   uint32_t record, ty;
-  check(wenc_type_record(builder, WENC_NAMED("point"), ALL(fields), &record));
+  check(wenc_type_record(builder, &point, ALL(fields), &record));
   check(wenc_import(builder, WENC_TEXT("point"), WENC_REF_TYPE, record, &params[0].number));
-  check(wenc_type_function(builder, WENC_UNNAMED, false, ALL(params), WENC_REF_PRIMITIVE,
+  check(wenc_type_function(builder, NULL, false, ALL(params), WENC_REF_PRIMITIVE,
                            WENC_STRING, &ty));
   check(wenc_import(builder, WENC_TEXT("f"), WENC_REF_FUNC, ty, NULL));
 }
@@ -44,24 +45,24 @@ static void build(wenc_handle *builder) {
 
   check(wenc_new(&nested));
   build_nested(&nested);
-  check(wenc_component(builder, WENC_UNNAMED, &nested, NULL));
+  check(wenc_component(builder, NULL, &nested, NULL));
 
   /* A function that takes and gives nothing is imported. */
-  check(wenc_type_function(builder, WENC_UNNAMED, false, NULL, 0, WENC_REF_NONE, 0, &ty));
+  check(wenc_type_function(builder, NULL, false, NULL, 0, WENC_REF_NONE, 0, &ty));
   check(wenc_import(builder, WENC_TEXT("log"), WENC_REF_FUNC, ty, NULL));
 
   /* The core module is instantiated without arguments. */
-  check(wenc_core_module(builder, WENC_UNNAMED, module, sizeof module, &index));
-  check(wenc_core_instantiate(builder, WENC_UNNAMED, index, NULL, 0, &instance));
+  check(wenc_core_module(builder, NULL, module, sizeof module, &index));
+  check(wenc_core_instantiate(builder, NULL, index, NULL, 0, &instance));
 
   /* Its function and `backpressure.inc` are exported by another core instance. */
-  check(wenc_alias_core_export(builder, WENC_UNNAMED, instance, WENC_CORE_FUNC, WENC_TEXT("run"),
+  check(wenc_alias_core_export(builder, NULL, instance, WENC_CORE_FUNC, WENC_TEXT("run"),
                                &exports[0].number));
   check(wenc_builtin(builder, WENC_BACKPRESSURE_INC, 0, 0, &exports[1].number));
-  check(wenc_core_exports(builder, WENC_UNNAMED, ALL(exports), NULL));
+  check(wenc_core_exports(builder, NULL, ALL(exports), NULL));
 
   /* Its function is lifted, without options, and exported. */
-  check(wenc_lift(builder, WENC_UNNAMED, exports[0].number, ty, NULL, 0, &run));
+  check(wenc_lift(builder, NULL, exports[0].number, ty, NULL, 0, &run));
   check(wenc_export(builder, WENC_TEXT("run"), WENC_FUNC, run, WENC_REF_NONE, 0, NULL));
   check(wenc_append_names(builder));
 }

@@ -17,6 +17,8 @@
 /* The sequence of calls that is made, by its seed, and the call in it. */
 static uint64_t seed, state;
 static const char *name;
+/* The names of its parameters, with a space before and behind each. */
+static const char *parameters;
 
 #define REQUIRE(so) require((so), #so, __LINE__)
 
@@ -139,17 +141,21 @@ static list_of_text some_text(void) {
   return list;
 }
 
-typedef struct {
-  bool is_there;
-  list_of_text text;
-} option;
+static wenc_text a_text(void) {
+  list_of_text list = some_text();
+  wenc_text text;
+  text.at = list.at, text.len = list.len;
+  return text;
+}
 
-/* What isn't there may be anywhere. */
-static option an_option(void) {
-  option o = {false, {(const char *)1, SIZE_MAX}};
-  o.is_there = below(3) == 0;
-  if (o.is_there) o.text = some_text();
-  return o;
+static wenc_text an_option(void) {
+  static const wenc_text none = {NULL, 0};
+  return below(3) == 0 ? a_text() : none;
+}
+
+static const wenc_text *a_debug_name(void) {
+  wenc_text name = an_option();
+  return below(2) ? NULL : (const wenc_text *)keep(&name, sizeof name);
 }
 
 static list_of_bytes some_bytes(void) {
@@ -254,15 +260,8 @@ SOME(wenc_subtype, subtype, a_subtype())
 
 static wenc_name a_name(void) {
   wenc_name whole;
-  list_of_text text = some_text();
-  option implements = an_option(), suffix = an_option(), id = an_option();
-  whole.name = text.at, whole.name_len = text.len;
-  whole.has_implements = implements.is_there;
-  whole.implements = implements.text.at, whole.implements_len = implements.text.len;
-  whole.has_version_suffix = suffix.is_there;
-  whole.version_suffix = suffix.text.at, whole.version_suffix_len = suffix.text.len;
-  whole.has_external_id = id.is_there;
-  whole.external_id = id.text.at, whole.external_id_len = id.text.len;
+  whole.name = a_text(), whole.implements = an_option();
+  whole.version_suffix = an_option(), whole.external_id = an_option();
   return whole;
 }
 
@@ -293,7 +292,7 @@ typedef struct {
 
 #define HANDLES 5
 
-static unsigned long calls, accepted, refusals, compared;
+static unsigned long calls, accepted, refusals, compared, read_items, blamed;
 
 /* Begins something: what is decided by a number. */
 static enum wenc_status begin(uint32_t number, wenc_handle *handle) {
@@ -314,6 +313,26 @@ static void check_status(enum wenc_status status) {
   if (status == WENC_NO_MEMORY) refusals++;
 }
 
+/* What is said of a call that failed: its status and, if an argument is wrong, a parameter. */
+static void check_error(const wenc_handle *handle, enum wenc_status status) {
+  char named[64];
+  wenc_error error;
+  if (handle->at == NULL) {
+    REQUIRE(status == WENC_NO_HANDLE && wenc_last_error(handle, &error) == WENC_NO_HANDLE);
+    return;
+  }
+  /* These only read. */
+  if (strcmp(name, "wenc_section_at") == 0 || strcmp(name, "wenc_item_at") == 0) return;
+  REQUIRE(wenc_last_error(handle, &error) == WENC_DONE && error.status == status);
+  if (error.argument == NULL) {
+    REQUIRE(status == WENC_NO_MEMORY || status == WENC_TOO_MANY || status == WENC_TOO_LARGE);
+    return;
+  }
+  snprintf(named, sizeof named, " %s ", error.argument);
+  REQUIRE(strstr(parameters, named) != NULL);
+  blamed++;
+}
+
 static void begin_two(two *one) {
   uint32_t number = below(36);
   enum wenc_status status;
@@ -323,6 +342,62 @@ static void begin_two(two *one) {
   REQUIRE((status == WENC_DONE) == (one->handle.at != NULL));
   until_refusal = -1;
   if (status == WENC_DONE) REQUIRE(begin(number, &one->shadow) == WENC_DONE);
+}
+
+/* Walks over bytes beside a listing of them: the same items, or the same status. */
+static void compare_walk(const uint8_t *bytes, size_t len) {
+  wenc_handle listing = {NULL};
+  wenc_walk walk;
+  wenc_listed_section section, section_row;
+  wenc_listed_item item, row;
+  size_t sections, items;
+  enum wenc_status wanted = wenc_list(&listing, bytes, len, NULL);
+  enum wenc_status status = wenc_walk_begin(&walk, bytes, len);
+  name = "walk";
+  for (sections = 0; status == WENC_DONE; sections++) {
+    if ((status = wenc_walk_section(&walk, &section)) != WENC_DONE) break;
+    if (wanted == WENC_DONE) {
+      REQUIRE(wenc_section_at(&listing, sections, &section_row) == WENC_DONE);
+      REQUIRE(memcmp(&section, &section_row, offsetof(wenc_listed_section, id)) == 0);
+    }
+    for (items = 0; (status = wenc_walk_item(&walk, &item)) == WENC_DONE; items++) {
+      read_items++;
+      if (wanted != WENC_DONE) continue;
+      REQUIRE(wenc_item_at(&listing, sections, items, &row) == WENC_DONE);
+      REQUIRE(row.place == item.place && row.len == item.len && row.space == item.space);
+      REQUIRE(row.ref == item.ref && row.of == item.of && row.item == item.item);
+    }
+    if (status == WENC_END) {
+      REQUIRE(items == section.items);
+      status = WENC_DONE;
+    }
+  }
+  REQUIRE(status == (wanted == WENC_DONE ? WENC_END : wanted));
+  wenc_free(&listing);
+}
+
+/* The same of a copy, of which a byte is changed; and walks with any numbers, which end. */
+static void damage(const uint8_t *bytes, size_t len) {
+  uint8_t *copy = (uint8_t *)__real_malloc(len);
+  wenc_walk walk;
+  wenc_names_walk names;
+  wenc_listed_item item;
+  uint32_t k;
+  memcpy(copy, bytes, len);
+  copy[below((uint32_t)len)] ^= (uint8_t)(1 + below(255));
+  compare_walk(copy, len);
+  walk.bytes = copy, walk.len = len;
+  walk.next_section = below((uint32_t)len + 2), walk.next_item = below((uint32_t)len + 2);
+  walk.end = below((uint32_t)len + 2), walk.items = a_number(), walk.id = below(14);
+  for (k = 0; k < 20; k++) {
+    REQUIRE((unsigned)wenc_walk_item(&walk, &item) <= WENC_END);
+    REQUIRE((unsigned)(k % 2 ? wenc_walk_section(&walk, NULL) : wenc_walk_skip(&walk, NULL)) <=
+            WENC_END);
+  }
+  names.bytes = copy, names.len = len, names.next = below((uint32_t)len + 2);
+  names.space = a_number(), names.names = below(3) ? 0 : a_number();
+  for (k = 0; k < 20; k++) REQUIRE((unsigned)wenc_walk_name(&names, NULL) <= WENC_END);
+  __real_free(copy);
 }
 
 static void finish(two *one) {
@@ -336,6 +411,8 @@ static void finish(two *one) {
   REQUIRE(wenc_finish(&one->shadow, &wanted, &wanted_len) == WENC_DONE);
   REQUIRE(len == wanted_len && memcmp(bytes, wanted, len) == 0);
   compared++;
+  compare_walk(bytes, len);
+  damage(bytes, len);
 }
 
 /* Makes a call, and the same once more where it is accepted. */
@@ -350,6 +427,7 @@ static void call_two(two *one, two *other) {
   until_refusal = -1;
   if (status != WENC_DONE) {
     REQUIRE(index == 77);
+    check_error(&one->handle, status);
     return;
   }
   accepted++;
@@ -400,7 +478,11 @@ int main(int argc, char **argv) {
     state = seed * 0x2545f4914f6cdd1du;
     run();
   }
-  printf("%lu calls, %lu accepted, %lu without memory, %lu components compared\n", calls, accepted,
-         refusals, compared);
-  return accepted > count && compared > count && refusals > 0 ? 0 : 1;
+  printf("%lu calls, %lu accepted, %lu without memory, %lu with a wrong argument that is named\n",
+         calls, accepted, refusals, blamed);
+  printf("%lu components compared, %lu items read\n", compared, read_items);
+  return accepted > count && compared > count && refusals > 0 && read_items > count &&
+                 blamed > count
+             ? 0
+             : 1;
 }

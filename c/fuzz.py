@@ -5,7 +5,7 @@ from pathlib import Path
 
 HEADER = re.sub(r"/\*.*?\*/", "", (Path(__file__).parent / "wenc.h").read_text(), flags=re.S)
 # What fuzz.c calls by itself.
-BY_HAND = re.compile(r"wenc_(\w*new|finish|bytes|count|len|list)$")
+BY_HAND = re.compile(r"wenc_(\w*new|finish|bytes|last_error|count|len|list|walk\w*)$")
 
 
 def arguments(declared):
@@ -15,15 +15,14 @@ def arguments(declared):
     while args:
         ty, name = re.fullmatch(r"(.*?)(\w+)", args.pop(0)).groups()
         ty = ty.strip()
-        if ty == "wenc_handle *":
+        if ty in ("wenc_handle *", "const wenc_handle *"):
             hands.append(["to", "other"][handles])
             handles += 1
         elif name == "index" and ty.endswith("*"):
             hands.append("index")
-        elif name == "named":
-            declares.append("option o = an_option();")
-            hands += ["o.is_there", "o.text.at", "o.text.len"]
-            del args[:2]
+        elif ty == "const wenc_text *":
+            declares.append(f"const wenc_text *{name} = a_debug_name();")
+            hands.append(name)
         elif ty in ("wenc_listed_section *", "wenc_listed_item *"):
             hands.append("NULL")
         elif ty.endswith("*"):
@@ -48,7 +47,9 @@ def main():
     for name, declared in re.findall(r"enum wenc_status (wenc_\w+)\(([^()]*)\);", HEADER):
         if not BY_HAND.match(name):
             declares, hands = arguments(declared)
-            cases.append(f'    case {len(cases)}: {{ name = "{name}"; {declares}\n'
+            params = " ".join(re.findall(r"(\w+) *(?:,|$)", declared))
+            cases.append(f'    case {len(cases)}: {{ name = "{name}";\n'
+                         f'      parameters = " handle {params} "; {declares}\n'
                          f"      return {name}({hands}); }}")
     print(f"#define CASES {len(cases)}\n")
     print("static enum wenc_status call(uint32_t number, wenc_handle *to, wenc_handle *other,")

@@ -21,7 +21,7 @@ static void add_core_types(wenc_handle *component) {
   wenc_handle section = {NULL};
   size_t len;
   check(wenc_section_new(&section, WENC_SECTION_CORE_TYPE));
-  check(wenc_core_type_group(&section, WENC_UNNAMED, group, 2, NULL));
+  check(wenc_core_type_group(&section, NULL, group, 2, NULL));
   check(wenc_len(&section, &len));
   if (len != 1) exit(1);
   check(wenc_section(component, &section));
@@ -49,7 +49,7 @@ static void list(const uint8_t *bytes, size_t len) {
     check(wenc_item_at(&listing, number, 0, &item));
     printf("%lu %lu %lu", (unsigned long)section.place, (unsigned long)section.len,
            (unsigned long)section.id);
-    if (item.name != NULL) printf(" %.*s", (int)item.name_len, item.name);
+    if (item.name.name.at != NULL) printf(" %.*s", (int)item.name.name.len, item.name.name.at);
     putchar('\n');
   }
   wenc_free(&listing);

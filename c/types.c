@@ -19,6 +19,14 @@ static void require(bool so, const char *what) {
 
 #define REQUIRE(so) require(so, #so)
 
+/* A debug name, until the next one. */
+static const wenc_text *named(const char *literal) {
+  static wenc_text name;
+  name.at = literal;
+  name.len = strlen(literal);
+  return &name;
+}
+
 /* The call is accepted and answers this index. */
 #define ADDS(call, wanted)                             \
   do {                                                 \
@@ -34,24 +42,24 @@ static void declare_interface(wenc_handle *types) {
   static const wenc_part cases[] = {{WENC_TEXT("up"), 0, 0}, {WENC_TEXT("off"), 0, 0}};
   REQUIRE(wenc_types_new(types, WENC_INSTANCE) == WENC_DONE);
   ADDS(wenc_type_export(types, WENC_TEXT("file"), WENC_REF_RESOURCE, 0, &index), 0);
-  ADDS(wenc_type_own(types, WENC_UNNAMED, 0, &index), 1);
-  ADDS(wenc_type_record(types, WENC_UNNAMED, ALL(fields), &index), 2);
+  ADDS(wenc_type_own(types, NULL, 0, &index), 1);
+  ADDS(wenc_type_record(types, NULL, ALL(fields), &index), 2);
   ADDS(wenc_type_export(types, WENC_TEXT("entry"), WENC_REF_TYPE, 2, &index), 3);
-  ADDS(wenc_type_enum(types, WENC_UNNAMED, ALL(cases), &index), 4);
-  ADDS(wenc_type_function(types, WENC_UNNAMED, true, ALL(params), WENC_REF_VALUE, 1, &index), 5);
+  ADDS(wenc_type_enum(types, NULL, ALL(cases), &index), 4);
+  ADDS(wenc_type_function(types, NULL, true, ALL(params), WENC_REF_VALUE, 1, &index), 5);
   ADDS(wenc_type_export(types, WENC_TEXT("open"), WENC_REF_FUNC, 5, &index), 0);
-  ADDS(wenc_alias_outer(types, WENC_UNNAMED, WENC_OUTER_TYPE, 1, 0, &index), 6);
-  ADDS(wenc_type_list(types, WENC_UNNAMED, WENC_REF_VALUE, 6, &index), 7);
+  ADDS(wenc_alias_outer(types, NULL, WENC_OUTER_TYPE, 1, 0, &index), 6);
+  ADDS(wenc_type_list(types, NULL, WENC_REF_VALUE, 6, &index), 7);
 }
 
 /* A component that imports the interface and exports it, with a type of its own in front. */
 static void declare_component(wenc_handle *types, wenc_handle *interface) {
   REQUIRE(wenc_types_new(types, WENC_COMPONENT) == WENC_DONE);
-  ADDS(wenc_type_primitive(types, WENC_UNNAMED, WENC_U32, &index), 0);
-  ADDS(wenc_type(types, WENC_UNNAMED, interface, &index), 1);
+  ADDS(wenc_type_primitive(types, NULL, WENC_U32, &index), 0);
+  ADDS(wenc_type(types, NULL, interface, &index), 1);
   ADDS(wenc_import(types, WENC_TEXT("from"), WENC_REF_INSTANCE, 1, &index), 0);
   ADDS(wenc_alias_export(types, 0, WENC_TYPE, WENC_TEXT("file"), &index), 2);
-  ADDS(wenc_type_borrow(types, WENC_UNNAMED, 2, &index), 3);
+  ADDS(wenc_type_borrow(types, NULL, 2, &index), 3);
   ADDS(wenc_type_export(types, WENC_TEXT("to"), WENC_REF_INSTANCE, 1, &index), 1);
 }
 
@@ -61,17 +69,17 @@ static void hand_in_others(wenc_handle *types, wenc_handle *builder) {
   size_t len;
   wenc_handle none = {NULL};
   REQUIRE(wenc_import(types, WENC_TEXT("f"), WENC_REF_FUNC, 0, &index) == WENC_BAD_ARGUMENT);
-  REQUIRE(wenc_type_own(types, WENC_NAMED("n"), 0, &index) == WENC_BAD_ARGUMENT);
-  REQUIRE(wenc_core_module(types, WENC_UNNAMED, NULL, 0, &index) == WENC_BAD_ARGUMENT);
+  REQUIRE(wenc_type_own(types, named("n"), 0, &index) == WENC_BAD_ARGUMENT);
+  REQUIRE(wenc_core_module(types, NULL, NULL, 0, &index) == WENC_BAD_ARGUMENT);
   REQUIRE(wenc_export(types, WENC_TEXT("f"), WENC_FUNC, 0, WENC_REF_NONE, 0, &index) ==
           WENC_BAD_ARGUMENT);
-  REQUIRE(wenc_component_ref(builder, WENC_UNNAMED, types, &index) == WENC_BAD_ARGUMENT);
+  REQUIRE(wenc_component_ref(builder, NULL, types, &index) == WENC_BAD_ARGUMENT);
   REQUIRE(wenc_finish(types, NULL, &len) == WENC_BAD_ARGUMENT);
   REQUIRE(wenc_count(types, WENC_FUNCS, &index) == WENC_BAD_ARGUMENT);
   REQUIRE(wenc_types_new(types, WENC_INSTANCE) == WENC_BAD_ARGUMENT);
   REQUIRE(wenc_types_new(&none, WENC_FUNC) == WENC_BAD_ARGUMENT && none.at == NULL);
   REQUIRE(wenc_type_export(builder, WENC_TEXT("f"), WENC_REF_FUNC, 0, &index) == WENC_BAD_ARGUMENT);
-  REQUIRE(wenc_type(builder, WENC_UNNAMED, &none, &index) == WENC_NO_HANDLE);
+  REQUIRE(wenc_type(builder, NULL, &none, &index) == WENC_NO_HANDLE);
   REQUIRE(index == 7);
 }
 
@@ -109,8 +117,8 @@ static void add_functions(wenc_handle *builder) {
 static void add_by_texts(wenc_handle *builder) {
   static const uint8_t exports[] = {0x01, 0x01, 0x01, 'f', 0x00, 0x09};
   static const uint8_t lifted[] = {0x00, 0x00, 0x89, 0x00, 0x01, 0x00, 0x01};
-  ADDS(wenc_item(builder, WENC_SECTION_CORE_INSTANCE, WENC_UNNAMED, ALL(exports), &index), 0);
-  ADDS(wenc_item(builder, WENC_SECTION_CANON, WENC_NAMED("lifted"), ALL(lifted), &index), 0);
+  ADDS(wenc_item(builder, WENC_SECTION_CORE_INSTANCE, NULL, ALL(exports), &index), 0);
+  ADDS(wenc_item(builder, WENC_SECTION_CANON, named("lifted"), ALL(lifted), &index), 0);
 }
 
 /* A module with a type of its own and one of the component around it. */
@@ -125,8 +133,8 @@ static void declare_module(wenc_handle *types) {
   static const wenc_entity tag = {0, 0, WENC_CORE_TAG, 0, 0, false, false, false};
   static const wenc_entity exported = {0, 0, WENC_CORE_FUNC, 0, 0, false, false, false};
   REQUIRE(wenc_types_new(types, WENC_MODULE) == WENC_DONE);
-  ADDS(wenc_core_type_function(types, WENC_UNNAMED, ALL(params), params, 0, &index), 0);
-  ADDS(wenc_alias_outer(types, WENC_UNNAMED, WENC_OUTER_CORE_TYPE, 1, 0, &index), 1);
+  ADDS(wenc_core_type_function(types, NULL, ALL(params), params, 0, &index), 0);
+  ADDS(wenc_alias_outer(types, NULL, WENC_OUTER_CORE_TYPE, 1, 0, &index), 1);
   REQUIRE(wenc_core_type_import(types, WENC_TEXT("env"), WENC_TEXT("f"), &function) == WENC_DONE);
   REQUIRE(wenc_core_type_import(types, WENC_TEXT("env"), WENC_TEXT("memory"), &memory) ==
           WENC_DONE);
@@ -150,16 +158,16 @@ static void hand_in_to_module(wenc_handle *types, wenc_handle *builder) {
   REQUIRE(wenc_types_new(&other, WENC_INSTANCE) == WENC_DONE);
   REQUIRE(wenc_import(types, WENC_TEXT("f"), WENC_REF_FUNC, 0, &index) == WENC_BAD_ARGUMENT);
   REQUIRE(wenc_type_export(types, WENC_TEXT("f"), WENC_REF_FUNC, 0, &index) == WENC_BAD_ARGUMENT);
-  REQUIRE(wenc_type_own(types, WENC_UNNAMED, 0, &index) == WENC_BAD_ARGUMENT);
-  REQUIRE(wenc_type(types, WENC_UNNAMED, &other, &index) == WENC_BAD_ARGUMENT);
-  REQUIRE(wenc_alias_outer(types, WENC_UNNAMED, WENC_OUTER_TYPE, 1, 0, &index) ==
+  REQUIRE(wenc_type_own(types, NULL, 0, &index) == WENC_BAD_ARGUMENT);
+  REQUIRE(wenc_type(types, NULL, &other, &index) == WENC_BAD_ARGUMENT);
+  REQUIRE(wenc_alias_outer(types, NULL, WENC_OUTER_TYPE, 1, 0, &index) ==
           WENC_BAD_ARGUMENT);
   REQUIRE(wenc_alias_export(types, 0, WENC_TYPE, WENC_TEXT("t"), &index) == WENC_BAD_ARGUMENT);
-  REQUIRE(wenc_core_type_function(types, WENC_NAMED("n"), ALL(known), ALL(known), &index) ==
+  REQUIRE(wenc_core_type_function(types, named("n"), ALL(known), ALL(known), &index) ==
           WENC_BAD_ARGUMENT);
-  REQUIRE(wenc_core_type_function(types, WENC_UNNAMED, ALL(unknown), ALL(known), &index) ==
+  REQUIRE(wenc_core_type_function(types, NULL, ALL(unknown), ALL(known), &index) ==
           WENC_BAD_ARGUMENT);
-  REQUIRE(wenc_core_type_function(types, WENC_UNNAMED, ALL(known), ALL(unknown), &index) ==
+  REQUIRE(wenc_core_type_function(types, NULL, ALL(known), ALL(unknown), &index) ==
           WENC_BAD_ARGUMENT);
   REQUIRE(wenc_count(types, WENC_TYPES, &index) == WENC_BAD_ARGUMENT);
   REQUIRE(wenc_core_type_import(types, WENC_TEXT("m"), WENC_TEXT("n"), &kind) == WENC_BAD_ARGUMENT);
@@ -181,15 +189,15 @@ static void declare_around(wenc_handle *instance, wenc_handle *component, wenc_h
   static const wenc_pair of_instance[] = {{WENC_CORE_F32, 0}};
   static const wenc_pair of_component[] = {{WENC_CORE_FUNCREF, 0}};
   REQUIRE(wenc_types_new(instance, WENC_INSTANCE) == WENC_DONE);
-  ADDS(wenc_core_type_function(instance, WENC_UNNAMED, of_instance, 0, ALL(of_instance), &index),
+  ADDS(wenc_core_type_function(instance, NULL, of_instance, 0, ALL(of_instance), &index),
        0);
-  ADDS(wenc_type(instance, WENC_UNNAMED, module, &index), 1);
+  ADDS(wenc_type(instance, NULL, module, &index), 1);
   ADDS(wenc_type_export(instance, WENC_TEXT("made"), WENC_REF_MODULE, 1, &index), 0);
   REQUIRE(wenc_types_new(component, WENC_COMPONENT) == WENC_DONE);
-  ADDS(wenc_core_type_function(component, WENC_UNNAMED, ALL(of_component), of_component, 0, &index),
+  ADDS(wenc_core_type_function(component, NULL, ALL(of_component), of_component, 0, &index),
        0);
-  ADDS(wenc_type(component, WENC_UNNAMED, module, &index), 1);
-  ADDS(wenc_alias_outer(component, WENC_UNNAMED, WENC_OUTER_CORE_TYPE, 1, 0, &index), 2);
+  ADDS(wenc_type(component, NULL, module, &index), 1);
+  ADDS(wenc_alias_outer(component, NULL, WENC_OUTER_CORE_TYPE, 1, 0, &index), 2);
   ADDS(wenc_import(component, WENC_TEXT("from"), WENC_REF_MODULE, 1, &index), 0);
 }
 
@@ -203,10 +211,10 @@ static void add_core_types(wenc_handle *builder) {
   count(&module, WENC_CORE_TYPES, 2);
   declare_around(&instance, &component, &module);
   count(&component, WENC_CORE_TYPES, 3);
-  ADDS(wenc_core_type_function(builder, WENC_NAMED("two"), ALL(params), ALL(results), &index), 0);
-  ADDS(wenc_type(builder, WENC_NAMED("module"), &module, &index), 1);
-  ADDS(wenc_type(builder, WENC_UNNAMED, &instance, &index), 0);
-  ADDS(wenc_type(builder, WENC_UNNAMED, &component, &index), 1);
+  ADDS(wenc_core_type_function(builder, named("two"), ALL(params), ALL(results), &index), 0);
+  ADDS(wenc_type(builder, named("module"), &module, &index), 1);
+  ADDS(wenc_type(builder, NULL, &instance, &index), 0);
+  ADDS(wenc_type(builder, NULL, &component, &index), 1);
   ADDS(wenc_import(builder, WENC_TEXT("given"), WENC_REF_MODULE, 1, &index), 0);
   REQUIRE(wenc_append_names(builder) == WENC_DONE);
   wenc_free(&module);
@@ -233,9 +241,9 @@ int main(void) {
   count(&interface, WENC_TYPES, 8);
   count(&world, WENC_INSTANCES, 2);
   count(&world, WENC_CORE_TYPES, 0);
-  ADDS(wenc_type_primitive(&builder, WENC_UNNAMED, WENC_U8, &index), 0);
-  ADDS(wenc_type(&builder, WENC_NAMED("interface"), &interface, &index), 1);
-  ADDS(wenc_type(&builder, WENC_UNNAMED, &world, &index), 2);
+  ADDS(wenc_type_primitive(&builder, NULL, WENC_U8, &index), 0);
+  ADDS(wenc_type(&builder, named("interface"), &interface, &index), 1);
+  ADDS(wenc_type(&builder, NULL, &world, &index), 2);
   ADDS(wenc_import(&builder, WENC_TEXT("host"), WENC_REF_INSTANCE, 1, &index), 0);
   add_functions(&builder);
   add_by_texts(&builder);

@@ -6,23 +6,24 @@
  * A handle owns one thing on the heap: a component that is built item by item (wenc_new) or section
  * by section (wenc_by_hand_new), the type of a component, an instance or a core module
  * (wenc_types_new), a section (wenc_section_new, wenc_names_new), or a component that was read
- * (wenc_list).
+ * (wenc_list). A walk (wenc_walk_begin) reads a component without a handle, and allocates nothing.
  *
  *  - Each call but wenc_free, wenc_version and wenc_status_text returns a status, which is
  *    WENC_DONE or says why the call failed. A call that fails changes nothing: neither what its
  *    handles own, nor what its arguments point to; except that wenc_list writes which part it can't
- *    read.
+ *    read. wenc_last_error says which argument was wrong.
  *
  *  - A text is UTF-8 without a terminating 0; bytes are any bytes. Both are passed as a pointer and
  *    a number of bytes, and the call keeps no pointer to them. If the number is 0, the pointer may
  *    be NULL. WENC_TEXT makes a text from a literal.
  *
- *  - A debug name, and each option of a wenc_name, is a flag and a text. If the flag is false,
- *    there is none, and the text isn't read. WENC_NAMED makes one from a literal, WENC_UNNAMED
- *    none.
+ *  - A debug name is a pointer to a text, or NULL for none. It, and each option of a wenc_name, is
+ *    also none if the text is {NULL, 0}: an empty one isn't NULL. WENC_NAMED makes a debug name
+ *    from a literal.
  *
  *  - Results are written through the last pointers of a call. If such a pointer is NULL, the result
- *    is left out.
+ *    is left out. A text or bytes without any are written as a pointer to "", and as NULL if there
+ *    is no text or there are no such bytes.
  *
  *  - An index is what a call wrote to `*index`: the number of items that were in its index space
  *    before. Indices aren't checked: neither whether an item has them, nor whether the component is
@@ -37,30 +38,55 @@
  *  - A pointer that isn't NULL points to as many values as its number says, aligned as their type
  *    is. Memory that a call writes to overlaps no other argument.
  *
- *  - A handle is used by one thread at a time. It may move to another.
+ *  - A call that takes a `const wenc_handle *` only reads what the handle owns: several threads may
+ *    make such calls by one handle, or by copies of it, at a time. While any other call by the
+ *    handle is made, no other thread uses it. A handle may move to another thread. The same holds
+ *    for a walk, which has nothing in common with its copies but the component's bytes.
  *
  *  - No call is made from a signal handler, nor in the child of a fork of a process with more than
- *    one thread. */
+ *    one thread.
+ *
+ * Versions: as long as the shared library's soname is libwenc.so.0, functions, structures,
+ * enumerations and macros are only added. No structure gets another member, and no member of an
+ * enumeration another number: what needs more gets a new structure, and a new function that takes
+ * it. So a program runs with a later library without being compiled again, except that statuses,
+ * kinds and the like may be new to it. */
 #ifndef WENC_H
 #define WENC_H
 
+/* For programs that parse this header, as Python's cffi does, WENC_PARSED leaves out everything but
+ * the declarations. */
+#ifndef WENC_PARSED
 #include <stdbool.h>
 #include <stddef.h>
 #include <stdint.h>
+#endif
 
 #ifdef __cplusplus
 extern "C" {
 #endif
 
-/* The version of this header: 10000 times its major number, 100 times the minor one, plus the
- * patch. It is incremented when a program has to be compiled again. */
-#define WENC_VERSION 200
+/* The version of this header, which is the package's: 10000 times its major number, 100 times the
+ * minor one, plus the patch. It rises with each function that is added, so that
+ * `#if WENC_VERSION >= 100` tells whether those of version 0.1.0 are there. */
+#define WENC_VERSION 100
 
-/* A text from a literal. */
+/* A result that mustn't be ignored, where the compiler can tell. */
+#if defined(__GNUC__) && !defined(WENC_PARSED)
+#define WENC_CHECKED __attribute__((warn_unused_result))
+#else
+#define WENC_CHECKED
+#endif
+
+/* A text from a literal: two arguments or members. */
 #define WENC_TEXT(literal) ("" literal), sizeof("" literal) - 1
-/* An optional text: from a literal, or none. */
-#define WENC_NAMED(literal) true, WENC_TEXT(literal)
-#define WENC_UNNAMED false, NULL, 0
+/* A debug name from a literal, until the end of the call or the block. In C89 there is none: begin
+ * a wenc_text with {WENC_TEXT(literal)}. */
+#ifdef __cplusplus
+#define WENC_NAMED(literal) (WencNamed(WENC_TEXT(literal)))
+#elif defined(__STDC_VERSION__) && __STDC_VERSION__ >= 199901L
+#define WENC_NAMED(literal) (&(const wenc_text){WENC_TEXT(literal)})
+#endif
 
 /* A handle, which owns one thing or nothing. Begin with {NULL}. */
 typedef struct {
@@ -79,7 +105,7 @@ enum wenc_status {
   WENC_TOO_LARGE = 3,
   /* The component isn't finished yet (only wenc_bytes). */
   WENC_UNFINISHED = 4,
-  /* A text isn't UTF-8, or bytes aren't exactly one item. */
+  /* A text isn't UTF-8, bytes aren't exactly one item, or no debug names. */
   WENC_MALFORMED = 5,
   /* Types of components and instances nest more than 100 deep. */
   WENC_TOO_DEEP = 6,
@@ -90,12 +116,15 @@ enum wenc_status {
   WENC_FINISHED = 8,
   /* The handle owns nothing, or is NULL. */
   WENC_NO_HANDLE = 9,
-  /* wenc_list: the bytes don't begin with the header of a component. */
+  /* The bytes don't begin with the header of a component. */
   WENC_NOT_A_COMPONENT = 10,
-  /* wenc_list: an unknown id, no size, a size past the end, or a custom section without a name. */
+  /* A section has an unknown id, no size or one past the end, or is a custom section without a
+   * name. */
   WENC_BAD_SECTION = 11,
-  /* wenc_list: the content of a section isn't a count and that many items, or isn't one start. */
-  WENC_BAD_ITEM = 12
+  /* The content of a section isn't a count and that many items, or isn't one start. */
+  WENC_BAD_ITEM = 12,
+  /* Nothing is left: the end of a walk, of a section's items, or of the debug names. */
+  WENC_END = 13
 };
 
 /* Kinds of items, for exports, aliases of exports, and declared types. */
@@ -161,6 +190,18 @@ enum wenc_outer_kind {
   WENC_OUTER_CORE_TYPE = 1,
   WENC_OUTER_TYPE = 2,
   WENC_OUTER_COMPONENT = 3
+};
+
+/* What an alias refers to. */
+enum wenc_alias {
+  /* The item isn't an alias. */
+  WENC_ALIAS_NONE = 0,
+  /* An export of an instance. */
+  WENC_ALIAS_EXPORT = 1,
+  /* An export of a core instance. */
+  WENC_ALIAS_CORE_EXPORT = 2,
+  /* An item of an enclosing component. */
+  WENC_ALIAS_OUTER = 3
 };
 
 /* Builtins of the component model, for wenc_builtin. The comment before one says what `first` and
@@ -325,7 +366,7 @@ enum wenc_space {
   WENC_VALUES = 10,
   WENC_COMPONENTS = 11,
   WENC_TYPES = 12,
-  /* The number of spaces. */
+  /* The number of spaces, and what has no index. */
   WENC_SPACES = 13
 };
 
@@ -343,7 +384,15 @@ enum wenc_unread_part {
 
 /* The library takes and returns enumerations as 32 bits. With a compiler that makes them shorter
  * (-fshort-enums), this doesn't compile. */
+#ifndef WENC_PARSED
 typedef char wenc_enums_have_32_bits[sizeof(enum wenc_status) == 4 ? 1 : -1];
+#endif
+
+/* A text, without a terminating 0. */
+typedef struct {
+  const char *at;
+  size_t len;
+} wenc_text;
 
 /* A member of a list of names: a name and two numbers, which the calls describe. */
 typedef struct {
@@ -366,19 +415,12 @@ typedef struct {
 } wenc_pair;
 
 /* A name of an import or an export, with its options: the interface that it implements, the rest of
- * the version in the name, and its name elsewhere. */
+ * the version in the name, and its name elsewhere. An option is {NULL, 0} if there is none. */
 typedef struct {
-  const char *name;
-  size_t name_len;
-  const char *implements;
-  size_t implements_len;
-  const char *version_suffix;
-  size_t version_suffix_len;
-  const char *external_id;
-  size_t external_id_len;
-  bool has_implements;
-  bool has_version_suffix;
-  bool has_external_id;
+  wenc_text name;
+  wenc_text implements;
+  wenc_text version_suffix;
+  wenc_text external_id;
 } wenc_name;
 
 /* The type of an import or an export of a core module. Members that its kind doesn't have aren't
@@ -437,49 +479,133 @@ typedef struct {
   uint32_t index;
 } wenc_index_name;
 
+/* Why a call failed. */
+typedef struct {
+  /* The argument that is wrong, by its name in this header, with a terminating 0; "ref" also if its
+   * `of` is wrong, and "handle" for a call that the handle doesn't take, whatever the handle is
+   * called. NULL if no argument is wrong. It is never freed. */
+  const char *argument;
+  /* The number of the member that is wrong, counting from 0, if the argument is an array. */
+  size_t member;
+  enum wenc_status status;
+} wenc_error;
+
 /* The part of a component that wenc_list can't read: all 0 if there is none. */
 typedef struct {
   /* The byte offset of the section. */
   size_t section;
   /* The byte offset of the part of it that can't be read. */
   size_t place;
-  /* One of wenc_unread_part: also WENC_UNREAD_SECTION if there was no memory to find it. */
+  /* One of wenc_unread_part. */
   uint32_t part;
   /* For WENC_UNREAD_ITEM, the number of items before it in the section. */
   uint32_t item;
 } wenc_unread;
 
-/* A section that was read. */
+/* A section that was read. Each `place` is a byte offset in the component. */
 typedef struct {
-  /* Its byte offset and its size in bytes, both including its id. */
+  /* The place of its id, and its size in bytes from there on. */
   size_t place;
   size_t len;
+  /* The place of its content, behind its id and its size: for a core module or a component that of
+   * the module or component. It ends where the section ends. */
+  size_t content;
   /* The number of items. A custom section, a module, a component and a start are one. */
   size_t items;
-  /* One of wenc_section. */
+  /* One of wenc_section; after wenc_walk_skip any. */
   uint32_t id;
 } wenc_listed_section;
 
-/* An item that was read. Its name and bytes are valid until the handle is freed. */
+/* An item that was read. Its texts and bytes are the handle's, or those of the component that is
+ * walked over. Numbers that an item hasn't are 0. */
 typedef struct {
-  /* Its index, or that of the first value of a start. */
+  /* Its index, or that of the first value of a start. A walk writes 0: there, the index is the sum
+   * of the `indices` of all items before that have the same `space`. */
   uint64_t index;
-  /* The name of an import, an export, an aliased export or a custom section; else NULL. */
-  const char *name;
-  size_t name_len;
+  /* Its byte offset in the component, and its size in bytes, as wenc_item takes it. */
+  size_t place;
+  size_t len;
+  /* The name of an import, an export, an aliased export or a custom section. */
+  wenc_name name;
   /* A core module, a component, or the data of a custom section; else NULL. */
   const uint8_t *bytes;
   size_t bytes_len;
-  /* One of wenc_section. */
-  uint32_t section;
-  /* One of wenc_space; for a custom section, which has no index, WENC_SPACES. */
-  uint32_t space;
+  /* The section with its kind of items. */
+  enum wenc_section section;
+  /* The index space; WENC_SPACES for a custom section, which has no index. */
+  enum wenc_space space;
   /* The number of indices that it defines: 1, but for a start its results, for a custom section 0.
    * */
   uint32_t indices;
+  /* The type of an import, or that ascribed to an export. */
+  enum wenc_ref ref;
+  uint32_t of;
+  /* What an alias refers to. */
+  enum wenc_alias alias;
+  /* The kind of what is exported or aliased: one of wenc_core_kind for WENC_ALIAS_CORE_EXPORT, of
+   * wenc_outer_kind for WENC_ALIAS_OUTER, otherwise of wenc_kind. */
+  uint32_t kind;
+  /* The index of what is exported; for an alias that of the instance or the outer item. */
+  uint32_t item;
+  /* For WENC_ALIAS_OUTER, the number of components further out. */
+  uint32_t count;
 } wenc_listed_item;
 
-/* The version of the library, which must be WENC_VERSION. */
+/* A walk over a component. It borrows the component's bytes, which have to stay as they are, and
+ * owns nothing: it may be copied, and each copy goes its own way. Offsets are byte offsets in the
+ * component. They may be read; if they are changed, the calls read something else or fail. */
+typedef struct {
+  const uint8_t *bytes;
+  size_t len;
+  /* The offset of the next section, or of the end. */
+  size_t next_section;
+  /* The offset of the next item of the section, or of the section's end. */
+  size_t next_item;
+  /* The offset at which the section ends. */
+  size_t end;
+  /* The number of its items that are left, and its id. */
+  uint32_t items;
+  uint32_t id;
+} wenc_walk;
+
+/* A walk over the debug names in a custom section. It is as wenc_walk is. */
+typedef struct {
+  const uint8_t *bytes;
+  size_t len;
+  /* The offset of the next name or subsection, or of the end, in the section's data. */
+  size_t next;
+  /* The index space of the next names, one of wenc_space, and their number. */
+  uint32_t space;
+  uint32_t names;
+} wenc_names_walk;
+
+/* A debug name that was read. */
+typedef struct {
+  wenc_text name;
+  /* The index space of the item; WENC_SPACES for the component itself. */
+  enum wenc_space space;
+  /* The index of the item; 0 for the component itself. */
+  uint32_t index;
+} wenc_debug_name;
+
+#ifdef __cplusplus
+}
+
+/* What WENC_NAMED makes. */
+struct WencNamed {
+  wenc_text text;
+  WencNamed(const char *at, size_t len) {
+    text.at = at;
+    text.len = len;
+  }
+  operator const wenc_text *() const { return &text; }
+};
+
+extern "C" {
+#endif
+
+/* Returns the version of the library, as WENC_VERSION has it. A program needs a library whose
+ * version is at least that of the header that it was compiled with. */
 uint32_t wenc_version(void);
 
 /* Returns what a status means, as a short English phrase, terminated by a 0. */
@@ -492,12 +618,12 @@ const char *wenc_status_text(enum wenc_status status);
  * */
 
 /* Begins a component that is built item by item. */
-enum wenc_status wenc_new(wenc_handle *handle);
+WENC_CHECKED enum wenc_status wenc_new(wenc_handle *handle);
 
 /* Begins a component that is built section by section. It takes wenc_section and wenc_raw_section,
  * and the calls that add a custom section, producers, a core module, a component, or a start: each
  * of these is a section, without an index (`*index` is 0). */
-enum wenc_status wenc_by_hand_new(wenc_handle *handle);
+WENC_CHECKED enum wenc_status wenc_by_hand_new(wenc_handle *handle);
 
 /* Begins the type of a component, an instance or a core module, without declarations.
  *
@@ -507,35 +633,41 @@ enum wenc_status wenc_by_hand_new(wenc_handle *handle);
  * wenc_core_type_import, wenc_core_type_export, and wenc_alias_outer of WENC_OUTER_CORE_TYPE. The
  * type has index spaces of its own: `*index` is the index of the declared type, core type or
  * instance there, and 0 for anything else, which isn't counted. */
-enum wenc_status wenc_types_new(wenc_handle *handle, enum wenc_kind kind);
+WENC_CHECKED enum wenc_status wenc_types_new(wenc_handle *handle, enum wenc_kind kind);
 
 /* Begins a section of core instances, core types, instances, aliases, types, functions, imports or
  * exports. It takes the calls that add such items, without a debug name: `*index` is the number of
  * items that were in it before. Declared types are added to it by wenc_type. */
-enum wenc_status wenc_section_new(wenc_handle *handle, enum wenc_section section);
+WENC_CHECKED enum wenc_status wenc_section_new(wenc_handle *handle, enum wenc_section section);
 
 /* Begins a section of debug names. */
-enum wenc_status wenc_names_new(wenc_handle *handle);
+WENC_CHECKED enum wenc_status wenc_names_new(wenc_handle *handle);
 
 /* Frees what the handle owns, and sets it to {NULL}. Does nothing if it is {NULL} or NULL. */
 void wenc_free(wenc_handle *handle);
 
 /* Finishes a component. Its `*len` bytes are at `*bytes` until the handle is freed. Doesn't
  * allocate, and may be called again. WENC_BAD_ARGUMENT, WENC_NO_HANDLE. */
-enum wenc_status wenc_finish(wenc_handle *handle, const uint8_t **bytes, size_t *len);
+WENC_CHECKED enum wenc_status wenc_finish(wenc_handle *handle, const uint8_t **bytes, size_t *len);
+
+/* Writes why the last call failed that did, of those that take this handle first, as a
+ * `wenc_handle *`, after it was filled. Its status is WENC_DONE if there is none.
+ * WENC_NO_HANDLE. */
+WENC_CHECKED enum wenc_status wenc_last_error(const wenc_handle *handle, wenc_error *error);
 
 /* Copies a finished component to `bytes`. WENC_BAD_ARGUMENT if `len` isn't its number of bytes;
  * WENC_UNFINISHED, WENC_NO_HANDLE. */
-enum wenc_status wenc_bytes(wenc_handle *handle, uint8_t *bytes, size_t len);
+WENC_CHECKED enum wenc_status wenc_bytes(const wenc_handle *handle, uint8_t *bytes, size_t len);
 
 /* Counts the items in an index space: of a component that is built item by item, or was read; or
  * the types, core types and instances of a type. WENC_BAD_ARGUMENT, WENC_FINISHED, WENC_NO_HANDLE,
  * and WENC_TOO_LARGE for a component that was read. */
-enum wenc_status wenc_count(wenc_handle *handle, enum wenc_space space, uint32_t *count);
+WENC_CHECKED enum wenc_status wenc_count(const wenc_handle *handle, enum wenc_space space,
+                                         uint32_t *count);
 
 /* Counts the items of a section or of the type of a component or an instance, or the sections of
  * a component that was read. WENC_BAD_ARGUMENT, WENC_FINISHED, WENC_NO_HANDLE. */
-enum wenc_status wenc_len(wenc_handle *handle, size_t *len);
+WENC_CHECKED enum wenc_status wenc_len(const wenc_handle *handle, size_t *len);
 
 /* ---- items
  *
@@ -544,119 +676,126 @@ enum wenc_status wenc_len(wenc_handle *handle, size_t *len);
  * WENC_FINISHED, WENC_NO_HANDLE. */
 
 /* Imports an item under a plain name, which is also its debug name. */
-enum wenc_status wenc_import(wenc_handle *handle, const char *name, size_t name_len,
-                             enum wenc_ref ref, uint32_t of, uint32_t *index);
+WENC_CHECKED enum wenc_status wenc_import(wenc_handle *handle, const char *name, size_t name_len,
+                                          enum wenc_ref ref, uint32_t of, uint32_t *index);
 
 /* Imports an item under a name with options. */
-enum wenc_status wenc_import_named(wenc_handle *handle, const wenc_name *name, enum wenc_ref ref,
-                                   uint32_t of, uint32_t *index);
+WENC_CHECKED enum wenc_status wenc_import_named(wenc_handle *handle, const wenc_name *name,
+                                                enum wenc_ref ref, uint32_t of, uint32_t *index);
 
 /* Exports the item of this kind with the index `item` under a plain name, with a type or
  * WENC_REF_NONE. `*index` is that of the exported item, which has the name as its debug name. */
-enum wenc_status wenc_export(wenc_handle *handle, const char *name, size_t name_len,
-                             enum wenc_kind kind, uint32_t item, enum wenc_ref ref, uint32_t of,
-                             uint32_t *index);
+WENC_CHECKED enum wenc_status wenc_export(wenc_handle *handle, const char *name, size_t name_len,
+                                          enum wenc_kind kind, uint32_t item, enum wenc_ref ref,
+                                          uint32_t of, uint32_t *index);
 
 /* Exports an item under a name with options. */
-enum wenc_status wenc_export_named(wenc_handle *handle, const wenc_name *name, enum wenc_kind kind,
-                                   uint32_t item, enum wenc_ref ref, uint32_t of, uint32_t *index);
+WENC_CHECKED enum wenc_status wenc_export_named(wenc_handle *handle, const wenc_name *name,
+                                                enum wenc_kind kind, uint32_t item,
+                                                enum wenc_ref ref, uint32_t of, uint32_t *index);
 
 /* Adds an alias of an instance's export of this name, which is also its debug name. */
-enum wenc_status wenc_alias_export(wenc_handle *handle, uint32_t instance, enum wenc_kind kind,
-                                   const char *name, size_t name_len, uint32_t *index);
+WENC_CHECKED enum wenc_status wenc_alias_export(wenc_handle *handle, uint32_t instance,
+                                                enum wenc_kind kind, const char *name,
+                                                size_t name_len, uint32_t *index);
 
 /* Adds an alias of an instance's export of this name, with another debug name or none. */
-enum wenc_status wenc_alias_instance_export(wenc_handle *handle, bool named, const char *debug_name,
-                                            size_t debug_name_len, uint32_t instance,
-                                            enum wenc_kind kind, const char *name, size_t name_len,
-                                            uint32_t *index);
+WENC_CHECKED enum wenc_status wenc_alias_instance_export(wenc_handle *handle,
+                                                         const wenc_text *debug_name,
+                                                         uint32_t instance, enum wenc_kind kind,
+                                                         const char *name, size_t name_len,
+                                                         uint32_t *index);
 
 /* Adds an alias of a core instance's export of this name. */
-enum wenc_status wenc_alias_core_export(wenc_handle *handle, bool named, const char *debug_name,
-                                        size_t debug_name_len, uint32_t instance,
-                                        enum wenc_core_kind kind, const char *name, size_t name_len,
-                                        uint32_t *index);
+WENC_CHECKED enum wenc_status wenc_alias_core_export(wenc_handle *handle,
+                                                     const wenc_text *debug_name, uint32_t instance,
+                                                     enum wenc_core_kind kind, const char *name,
+                                                     size_t name_len, uint32_t *index);
 
 /* Adds an alias of the item with the index `item` in an enclosing component, `count` components
  * further out (0 is this one). */
-enum wenc_status wenc_alias_outer(wenc_handle *handle, bool named, const char *debug_name,
-                                  size_t debug_name_len, enum wenc_outer_kind kind, uint32_t count,
-                                  uint32_t item, uint32_t *index);
+WENC_CHECKED enum wenc_status wenc_alias_outer(wenc_handle *handle, const wenc_text *debug_name,
+                                               enum wenc_outer_kind kind, uint32_t count,
+                                               uint32_t item, uint32_t *index);
 
 /* Adds the core module with these bytes, which aren't checked. */
-enum wenc_status wenc_core_module(wenc_handle *handle, bool named, const char *debug_name,
-                                  size_t debug_name_len, const uint8_t *bytes, size_t len,
-                                  uint32_t *index);
+WENC_CHECKED enum wenc_status wenc_core_module(wenc_handle *handle, const wenc_text *debug_name,
+                                               const uint8_t *bytes, size_t len, uint32_t *index);
 
 /* Adds the component with these bytes, which aren't checked. */
-enum wenc_status wenc_component_bytes(wenc_handle *handle, bool named, const char *debug_name,
-                                      size_t debug_name_len, const uint8_t *bytes, size_t len,
-                                      uint32_t *index);
+WENC_CHECKED enum wenc_status wenc_component_bytes(wenc_handle *handle, const wenc_text *debug_name,
+                                                   const uint8_t *bytes, size_t len,
+                                                   uint32_t *index);
 
 /* Nests the component of another handle, which is freed and set to {NULL}. A component that is
  * built section by section takes only one that is built so too. */
-enum wenc_status wenc_component(wenc_handle *handle, bool named, const char *debug_name,
-                                size_t debug_name_len, wenc_handle *nested, uint32_t *index);
+WENC_CHECKED enum wenc_status wenc_component(wenc_handle *handle, const wenc_text *debug_name,
+                                             wenc_handle *nested, uint32_t *index);
 
 /* Nests the component of another handle, as wenc_component does; that handle stays valid. */
-enum wenc_status wenc_component_ref(wenc_handle *handle, bool named, const char *debug_name,
-                                    size_t debug_name_len, wenc_handle *nested, uint32_t *index);
+WENC_CHECKED enum wenc_status wenc_component_ref(wenc_handle *handle, const wenc_text *debug_name,
+                                                 const wenc_handle *nested, uint32_t *index);
 
 /* Adds a start: a function that is called with these values when the component is instantiated. It
  * returns `results` values; `*index` is that of the first of them. */
-enum wenc_status wenc_start(wenc_handle *handle, uint32_t function, const uint32_t *args,
-                            size_t args_len, uint32_t results, uint32_t *index);
+WENC_CHECKED enum wenc_status wenc_start(wenc_handle *handle, uint32_t function,
+                                         const uint32_t *args, size_t args_len, uint32_t results,
+                                         uint32_t *index);
 
 /* Adds a builtin of the component model, whose debug name is its own. */
-enum wenc_status wenc_builtin(wenc_handle *handle, enum wenc_function function, uint32_t first,
-                              uint32_t second, uint32_t *index);
+WENC_CHECKED enum wenc_status wenc_builtin(wenc_handle *handle, enum wenc_function function,
+                                           uint32_t first, uint32_t second, uint32_t *index);
 
 /* Adds a builtin with options: `first` is the index of a type, if it takes one. */
-enum wenc_status wenc_builtin_with(wenc_handle *handle, enum wenc_function_with function,
-                                   uint32_t first, const wenc_pair *options, size_t options_len,
-                                   uint32_t *index);
+WENC_CHECKED enum wenc_status wenc_builtin_with(wenc_handle *handle,
+                                                enum wenc_function_with function, uint32_t first,
+                                                const wenc_pair *options, size_t options_len,
+                                                uint32_t *index);
 
 /* Adds task.return, with the type of the result or WENC_REF_NONE, and with options. */
-enum wenc_status wenc_task_return(wenc_handle *handle, enum wenc_ref ref, uint32_t of,
-                                  const wenc_pair *options, size_t options_len, uint32_t *index);
+WENC_CHECKED enum wenc_status wenc_task_return(wenc_handle *handle, enum wenc_ref ref, uint32_t of,
+                                               const wenc_pair *options, size_t options_len,
+                                               uint32_t *index);
 
 /* Adds context.get or context.set for the slot with this number. The slot's type is one from
  * WENC_CORE_I32 to WENC_CORE_V128. */
-enum wenc_status wenc_context(wenc_handle *handle, enum wenc_context_function function,
-                              enum wenc_core_type type, uint32_t slot, uint32_t *index);
+WENC_CHECKED enum wenc_status wenc_context(wenc_handle *handle, enum wenc_context_function function,
+                                           enum wenc_core_type type, uint32_t slot,
+                                           uint32_t *index);
 
 /* Lifts a core function to a function of the type with the index `type`, with options. */
-enum wenc_status wenc_lift(wenc_handle *handle, bool named, const char *debug_name,
-                           size_t debug_name_len, uint32_t function, uint32_t type,
-                           const wenc_pair *options, size_t options_len, uint32_t *index);
+WENC_CHECKED enum wenc_status wenc_lift(wenc_handle *handle, const wenc_text *debug_name,
+                                        uint32_t function, uint32_t type, const wenc_pair *options,
+                                        size_t options_len, uint32_t *index);
 
 /* Lowers a function to a core function, with options. */
-enum wenc_status wenc_lower(wenc_handle *handle, bool named, const char *debug_name,
-                            size_t debug_name_len, uint32_t function, const wenc_pair *options,
-                            size_t options_len, uint32_t *index);
+WENC_CHECKED enum wenc_status wenc_lower(wenc_handle *handle, const wenc_text *debug_name,
+                                         uint32_t function, const wenc_pair *options,
+                                         size_t options_len, uint32_t *index);
 
 /* Instantiates a core module with core instances under names: `number` of each part is the index of
  * one, `kind` isn't used. */
-enum wenc_status wenc_core_instantiate(wenc_handle *handle, bool named, const char *debug_name,
-                                       size_t debug_name_len, uint32_t module,
-                                       const wenc_part *args, size_t args_len, uint32_t *index);
+WENC_CHECKED enum wenc_status wenc_core_instantiate(wenc_handle *handle,
+                                                    const wenc_text *debug_name, uint32_t module,
+                                                    const wenc_part *args, size_t args_len,
+                                                    uint32_t *index);
 
 /* Adds a core instance that exports core items under names: `kind` of each part is one of
  * wenc_core_kind, `number` the item's index. */
-enum wenc_status wenc_core_exports(wenc_handle *handle, bool named, const char *debug_name,
-                                   size_t debug_name_len, const wenc_part *exports,
-                                   size_t exports_len, uint32_t *index);
+WENC_CHECKED enum wenc_status wenc_core_exports(wenc_handle *handle, const wenc_text *debug_name,
+                                                const wenc_part *exports, size_t exports_len,
+                                                uint32_t *index);
 
 /* Instantiates a component with items under names: `kind` of each part is one of wenc_kind,
  * `number` the item's index. */
-enum wenc_status wenc_instantiate(wenc_handle *handle, bool named, const char *debug_name,
-                                  size_t debug_name_len, uint32_t component, const wenc_part *args,
-                                  size_t args_len, uint32_t *index);
+WENC_CHECKED enum wenc_status wenc_instantiate(wenc_handle *handle, const wenc_text *debug_name,
+                                               uint32_t component, const wenc_part *args,
+                                               size_t args_len, uint32_t *index);
 
 /* Adds an instance that exports items under names, which are given as in wenc_instantiate. */
-enum wenc_status wenc_export_items(wenc_handle *handle, bool named, const char *debug_name,
-                                   size_t debug_name_len, const wenc_part *items, size_t items_len,
-                                   uint32_t *index);
+WENC_CHECKED enum wenc_status wenc_export_items(wenc_handle *handle, const wenc_text *debug_name,
+                                                const wenc_part *items, size_t items_len,
+                                                uint32_t *index);
 
 /* ---- types
  *
@@ -666,102 +805,99 @@ enum wenc_status wenc_export_items(wenc_handle *handle, bool named, const char *
 
 /* A resource type, represented by 32-bit numbers, with the core function that is its destructor, or
  * none. */
-enum wenc_status wenc_type_resource(wenc_handle *handle, bool named, const char *debug_name,
-                                    size_t debug_name_len, bool has_dtor, uint32_t dtor,
-                                    uint32_t *index);
+WENC_CHECKED enum wenc_status wenc_type_resource(wenc_handle *handle, const wenc_text *debug_name,
+                                                 bool has_dtor, uint32_t dtor, uint32_t *index);
 
 /* A function type: whether it is async, its parameters, and its result or WENC_REF_NONE. */
-enum wenc_status wenc_type_function(wenc_handle *handle, bool named, const char *debug_name,
-                                    size_t debug_name_len, bool is_async, const wenc_part *params,
-                                    size_t params_len, enum wenc_ref ref, uint32_t of,
-                                    uint32_t *index);
+WENC_CHECKED enum wenc_status wenc_type_function(wenc_handle *handle, const wenc_text *debug_name,
+                                                 bool is_async, const wenc_part *params,
+                                                 size_t params_len, enum wenc_ref ref, uint32_t of,
+                                                 uint32_t *index);
 
 /* A primitive type. */
-enum wenc_status wenc_type_primitive(wenc_handle *handle, bool named, const char *debug_name,
-                                     size_t debug_name_len, enum wenc_primitive primitive,
-                                     uint32_t *index);
+WENC_CHECKED enum wenc_status wenc_type_primitive(wenc_handle *handle, const wenc_text *debug_name,
+                                                  enum wenc_primitive primitive, uint32_t *index);
 
 /* A record with these fields. */
-enum wenc_status wenc_type_record(wenc_handle *handle, bool named, const char *debug_name,
-                                  size_t debug_name_len, const wenc_part *fields, size_t fields_len,
-                                  uint32_t *index);
+WENC_CHECKED enum wenc_status wenc_type_record(wenc_handle *handle, const wenc_text *debug_name,
+                                               const wenc_part *fields, size_t fields_len,
+                                               uint32_t *index);
 
 /* A variant with these cases, each with a payload type or WENC_REF_NONE. */
-enum wenc_status wenc_type_variant(wenc_handle *handle, bool named, const char *debug_name,
-                                   size_t debug_name_len, const wenc_part *cases, size_t cases_len,
-                                   uint32_t *index);
+WENC_CHECKED enum wenc_status wenc_type_variant(wenc_handle *handle, const wenc_text *debug_name,
+                                                const wenc_part *cases, size_t cases_len,
+                                                uint32_t *index);
 
 /* A list of any length. */
-enum wenc_status wenc_type_list(wenc_handle *handle, bool named, const char *debug_name,
-                                size_t debug_name_len, enum wenc_ref ref, uint32_t of,
-                                uint32_t *index);
+WENC_CHECKED enum wenc_status wenc_type_list(wenc_handle *handle, const wenc_text *debug_name,
+                                             enum wenc_ref ref, uint32_t of, uint32_t *index);
 
 /* A list of a fixed length. */
-enum wenc_status wenc_type_fixed_length_list(wenc_handle *handle, bool named,
-                                             const char *debug_name, size_t debug_name_len,
-                                             enum wenc_ref ref, uint32_t of, uint32_t length,
-                                             uint32_t *index);
+WENC_CHECKED enum wenc_status wenc_type_fixed_length_list(wenc_handle *handle,
+                                                          const wenc_text *debug_name,
+                                                          enum wenc_ref ref, uint32_t of,
+                                                          uint32_t length, uint32_t *index);
 
 /* A map from keys to values. */
-enum wenc_status wenc_type_map(wenc_handle *handle, bool named, const char *debug_name,
-                               size_t debug_name_len, enum wenc_ref key_ref, uint32_t key_of,
-                               enum wenc_ref ref, uint32_t of, uint32_t *index);
+WENC_CHECKED enum wenc_status wenc_type_map(wenc_handle *handle, const wenc_text *debug_name,
+                                            enum wenc_ref key_ref, uint32_t key_of,
+                                            enum wenc_ref ref, uint32_t of, uint32_t *index);
 
 /* A tuple of values of these types. */
-enum wenc_status wenc_type_tuple(wenc_handle *handle, bool named, const char *debug_name,
-                                 size_t debug_name_len, const wenc_pair *elements,
-                                 size_t elements_len, uint32_t *index);
+WENC_CHECKED enum wenc_status wenc_type_tuple(wenc_handle *handle, const wenc_text *debug_name,
+                                              const wenc_pair *elements, size_t elements_len,
+                                              uint32_t *index);
 
 /* Flags with these names: `kind` and `number` aren't used. */
-enum wenc_status wenc_type_flags(wenc_handle *handle, bool named, const char *debug_name,
-                                 size_t debug_name_len, const wenc_part *flags, size_t flags_len,
-                                 uint32_t *index);
+WENC_CHECKED enum wenc_status wenc_type_flags(wenc_handle *handle, const wenc_text *debug_name,
+                                              const wenc_part *flags, size_t flags_len,
+                                              uint32_t *index);
 
 /* An enum with these cases: `kind` and `number` aren't used. */
-enum wenc_status wenc_type_enum(wenc_handle *handle, bool named, const char *debug_name,
-                                size_t debug_name_len, const wenc_part *cases, size_t cases_len,
-                                uint32_t *index);
+WENC_CHECKED enum wenc_status wenc_type_enum(wenc_handle *handle, const wenc_text *debug_name,
+                                             const wenc_part *cases, size_t cases_len,
+                                             uint32_t *index);
 
 /* An option. */
-enum wenc_status wenc_type_option(wenc_handle *handle, bool named, const char *debug_name,
-                                  size_t debug_name_len, enum wenc_ref ref, uint32_t of,
-                                  uint32_t *index);
+WENC_CHECKED enum wenc_status wenc_type_option(wenc_handle *handle, const wenc_text *debug_name,
+                                               enum wenc_ref ref, uint32_t of, uint32_t *index);
 
 /* A result, each case with a payload type or WENC_REF_NONE. */
-enum wenc_status wenc_type_result(wenc_handle *handle, bool named, const char *debug_name,
-                                  size_t debug_name_len, enum wenc_ref ok_ref, uint32_t ok_of,
-                                  enum wenc_ref err_ref, uint32_t err_of, uint32_t *index);
+WENC_CHECKED enum wenc_status wenc_type_result(wenc_handle *handle, const wenc_text *debug_name,
+                                               enum wenc_ref ok_ref, uint32_t ok_of,
+                                               enum wenc_ref err_ref, uint32_t err_of,
+                                               uint32_t *index);
 
 /* An own handle of the resource type with this index. */
-enum wenc_status wenc_type_own(wenc_handle *handle, bool named, const char *debug_name,
-                               size_t debug_name_len, uint32_t resource, uint32_t *index);
+WENC_CHECKED enum wenc_status wenc_type_own(wenc_handle *handle, const wenc_text *debug_name,
+                                            uint32_t resource, uint32_t *index);
 
 /* A borrow handle of the resource type with this index. */
-enum wenc_status wenc_type_borrow(wenc_handle *handle, bool named, const char *debug_name,
-                                  size_t debug_name_len, uint32_t resource, uint32_t *index);
+WENC_CHECKED enum wenc_status wenc_type_borrow(wenc_handle *handle, const wenc_text *debug_name,
+                                               uint32_t resource, uint32_t *index);
 
 /* A future with a payload type or WENC_REF_NONE. */
-enum wenc_status wenc_type_future(wenc_handle *handle, bool named, const char *debug_name,
-                                  size_t debug_name_len, enum wenc_ref ref, uint32_t of,
-                                  uint32_t *index);
+WENC_CHECKED enum wenc_status wenc_type_future(wenc_handle *handle, const wenc_text *debug_name,
+                                               enum wenc_ref ref, uint32_t of, uint32_t *index);
 
 /* A stream with a payload type or WENC_REF_NONE. */
-enum wenc_status wenc_type_stream(wenc_handle *handle, bool named, const char *debug_name,
-                                  size_t debug_name_len, enum wenc_ref ref, uint32_t of,
-                                  uint32_t *index);
+WENC_CHECKED enum wenc_status wenc_type_stream(wenc_handle *handle, const wenc_text *debug_name,
+                                               enum wenc_ref ref, uint32_t of, uint32_t *index);
 
 /* The type that another handle declares; a module's is a core type. That handle stays valid, and
  * may declare more. */
-enum wenc_status wenc_type(wenc_handle *handle, bool named, const char *debug_name,
-                           size_t debug_name_len, wenc_handle *types, uint32_t *index);
+WENC_CHECKED enum wenc_status wenc_type(wenc_handle *handle, const wenc_text *debug_name,
+                                        const wenc_handle *types, uint32_t *index);
 
 /* Declares an export of an item under a plain name. */
-enum wenc_status wenc_type_export(wenc_handle *types, const char *name, size_t name_len,
-                                  enum wenc_ref ref, uint32_t of, uint32_t *index);
+WENC_CHECKED enum wenc_status wenc_type_export(wenc_handle *types, const char *name,
+                                               size_t name_len, enum wenc_ref ref, uint32_t of,
+                                               uint32_t *index);
 
 /* Declares an export of an item under a name with options. */
-enum wenc_status wenc_type_export_named(wenc_handle *types, const wenc_name *name,
-                                        enum wenc_ref ref, uint32_t of, uint32_t *index);
+WENC_CHECKED enum wenc_status wenc_type_export_named(wenc_handle *types, const wenc_name *name,
+                                                     enum wenc_ref ref, uint32_t of,
+                                                     uint32_t *index);
 
 /* ---- core types
  *
@@ -769,106 +905,148 @@ enum wenc_status wenc_type_export_named(wenc_handle *types, const wenc_name *nam
  * instance or a core module. The statuses are those of items. */
 
 /* A function type. It is final: it can't have subtypes. */
-enum wenc_status wenc_core_type_function(wenc_handle *handle, bool named, const char *debug_name,
-                                         size_t debug_name_len, const wenc_pair *params,
-                                         size_t params_len, const wenc_pair *results,
-                                         size_t results_len, uint32_t *index);
+WENC_CHECKED enum wenc_status wenc_core_type_function(wenc_handle *handle,
+                                                      const wenc_text *debug_name,
+                                                      const wenc_pair *params, size_t params_len,
+                                                      const wenc_pair *results, size_t results_len,
+                                                      uint32_t *index);
 
 /* A struct type with these fields. It is final. */
-enum wenc_status wenc_core_type_struct(wenc_handle *handle, bool named, const char *debug_name,
-                                       size_t debug_name_len, const wenc_pair *fields,
-                                       size_t fields_len, uint32_t *index);
+WENC_CHECKED enum wenc_status wenc_core_type_struct(wenc_handle *handle,
+                                                    const wenc_text *debug_name,
+                                                    const wenc_pair *fields, size_t fields_len,
+                                                    uint32_t *index);
 
 /* An array type: `element` and `of` are one of wenc_core_type and its index. It is final. */
-enum wenc_status wenc_core_type_array(wenc_handle *handle, bool named, const char *debug_name,
-                                      size_t debug_name_len, uint32_t element, uint32_t of,
-                                      uint32_t *index);
+WENC_CHECKED enum wenc_status wenc_core_type_array(wenc_handle *handle, const wenc_text *debug_name,
+                                                   uint32_t element, uint32_t of, uint32_t *index);
 
 /* A function, struct or array type as a subtype. */
-enum wenc_status wenc_core_type_subtype(wenc_handle *handle, bool named, const char *debug_name,
-                                        size_t debug_name_len, const wenc_subtype *subtype,
-                                        uint32_t *index);
+WENC_CHECKED enum wenc_status wenc_core_type_subtype(wenc_handle *handle,
+                                                     const wenc_text *debug_name,
+                                                     const wenc_subtype *subtype, uint32_t *index);
 
 /* A recursion group, whose types may refer to each other. It counts as one core type. */
-enum wenc_status wenc_core_type_group(wenc_handle *handle, bool named, const char *debug_name,
-                                      size_t debug_name_len, const wenc_subtype *subtypes,
-                                      size_t subtypes_len, uint32_t *index);
+WENC_CHECKED enum wenc_status wenc_core_type_group(wenc_handle *handle, const wenc_text *debug_name,
+                                                   const wenc_subtype *subtypes,
+                                                   size_t subtypes_len, uint32_t *index);
 
 /* Declares that a core module imports an item from this module under this name. */
-enum wenc_status wenc_core_type_import(wenc_handle *types, const char *module, size_t module_len,
-                                       const char *name, size_t name_len,
-                                       const wenc_entity *entity);
+WENC_CHECKED enum wenc_status wenc_core_type_import(wenc_handle *types, const char *module,
+                                                    size_t module_len, const char *name,
+                                                    size_t name_len, const wenc_entity *entity);
 
 /* Declares that a core module exports an item under this name. */
-enum wenc_status wenc_core_type_export(wenc_handle *types, const char *name, size_t name_len,
-                                       const wenc_entity *entity);
+WENC_CHECKED enum wenc_status wenc_core_type_export(wenc_handle *types, const char *name,
+                                                    size_t name_len, const wenc_entity *entity);
 
 /* ---- sections
  *
  * Sections have no indices. The statuses are those of items. */
 
 /* Adds a custom section with this name and data. */
-enum wenc_status wenc_custom_section(wenc_handle *handle, const char *name, size_t name_len,
-                                     const uint8_t *data, size_t data_len);
+WENC_CHECKED enum wenc_status wenc_custom_section(wenc_handle *handle, const char *name,
+                                                  size_t name_len, const uint8_t *data,
+                                                  size_t data_len);
 
 /* Adds a custom section given as its bytes after the id, which aren't checked. */
-enum wenc_status wenc_raw_custom_section(wenc_handle *handle, const uint8_t *bytes, size_t len);
+WENC_CHECKED enum wenc_status wenc_raw_custom_section(wenc_handle *handle, const uint8_t *bytes,
+                                                      size_t len);
 
 /* Adds a section of the tools that produced the component. Adjacent tools with the same field share
  * it; a valid section has each field once. */
-enum wenc_status wenc_producers(wenc_handle *handle, const wenc_producer *producers,
-                                size_t producers_len);
+WENC_CHECKED enum wenc_status wenc_producers(wenc_handle *handle, const wenc_producer *producers,
+                                             size_t producers_len);
 
 /* Adds a section of the debug names so far, if there are any, to a component that is built item by
  * item. */
-enum wenc_status wenc_append_names(wenc_handle *handle);
+WENC_CHECKED enum wenc_status wenc_append_names(wenc_handle *handle);
 
 /* Appends a section to a component that is built section by section; a section of debug names to
  * any component. The section's handle stays valid. */
-enum wenc_status wenc_section(wenc_handle *handle, wenc_handle *section);
+WENC_CHECKED enum wenc_status wenc_section(wenc_handle *handle, const wenc_handle *section);
 
 /* Appends a section with this id and these bytes, which aren't checked, to a component that is
  * built section by section. */
-enum wenc_status wenc_raw_section(wenc_handle *handle, uint8_t id, const uint8_t *bytes,
-                                  size_t len);
+WENC_CHECKED enum wenc_status wenc_raw_section(wenc_handle *handle, uint8_t id,
+                                               const uint8_t *bytes, size_t len);
 
 /* Names the component itself, in a section of debug names. */
-enum wenc_status wenc_names_component(wenc_handle *names, const char *name, size_t name_len);
+WENC_CHECKED enum wenc_status wenc_names_component(wenc_handle *names, const char *name,
+                                                   size_t name_len);
 
 /* Names items of an index space, in a section of debug names. The standard requires ascending
  * indices. */
-enum wenc_status wenc_names_items(wenc_handle *handle, enum wenc_space space,
-                                  const wenc_index_name *names, size_t names_len);
+WENC_CHECKED enum wenc_status wenc_names_items(wenc_handle *handle, enum wenc_space space,
+                                               const wenc_index_name *names, size_t names_len);
 
 /* Appends a subsection with this id and these bytes, which aren't checked, to a section of debug
  * names. */
-enum wenc_status wenc_names_raw(wenc_handle *names, uint8_t id, const uint8_t *bytes, size_t len);
+WENC_CHECKED enum wenc_status wenc_names_raw(wenc_handle *names, uint8_t id, const uint8_t *bytes,
+                                             size_t len);
 
-/* ---- reading components
+/* ---- walking over components
+ *
+ * These calls read a component section by section, and item by item, in linear time. Nothing is
+ * allocated. They return WENC_BAD_ARGUMENT for a walk that is NULL or wasn't begun, and WENC_END if
+ * nothing is left. If a call fails, the walk stays where it was: at what can't be read. */
+
+/* Begins a walk over the component with these bytes, which it borrows: before its first section.
+ * WENC_NOT_A_COMPONENT. */
+WENC_CHECKED enum wenc_status wenc_walk_begin(wenc_walk *walk, const uint8_t *bytes, size_t len);
+
+/* Goes to the next section, and writes what it is to `*section`. Items that are left of another are
+ * skipped. WENC_BAD_SECTION; WENC_BAD_ITEM if the section lacks the number of its items. */
+WENC_CHECKED enum wenc_status wenc_walk_section(wenc_walk *walk, wenc_listed_section *section);
+
+/* Goes past the next section, whatever its id and its content, which isn't read: `items` is 0.
+ * WENC_BAD_SECTION if it has no size within bounds. */
+WENC_CHECKED enum wenc_status wenc_walk_skip(wenc_walk *walk, wenc_listed_section *section);
+
+/* Writes the next item of the section to `*item`. WENC_BAD_ITEM, also if bytes are behind the last
+ * item; WENC_TOO_DEEP; WENC_BAD_SECTION for a custom section without a name. The section's other
+ * items can't be read then, but the next section can.
+ *
+ * A nested component is read by another walk, over the item's bytes. Its offsets count from there.
+ * */
+WENC_CHECKED enum wenc_status wenc_walk_item(wenc_walk *walk, wenc_listed_item *item);
+
+/* Begins a walk over the debug names in an item that is a custom section named "component-name".
+ * Its bytes are borrowed. WENC_BAD_ARGUMENT if it is another item. */
+WENC_CHECKED enum wenc_status wenc_walk_names(wenc_names_walk *names,
+                                              const wenc_listed_item *item);
+
+/* Writes the next debug name to `*name`. Of several names for one thing, the first is its name.
+ * WENC_MALFORMED if the next subsection can't be read. */
+WENC_CHECKED enum wenc_status wenc_walk_name(wenc_names_walk *names, wenc_debug_name *name);
+
+/* ---- reading components at once
  *
  * wenc_section_at and wenc_item_at return WENC_BAD_ARGUMENT, WENC_FINISHED, WENC_NO_HANDLE. */
 
-/* Reads a component, and keeps no pointer to its bytes. WENC_NOT_A_COMPONENT, WENC_BAD_SECTION,
+/* Reads a component, and keeps a copy of its bytes. WENC_NOT_A_COMPONENT, WENC_BAD_SECTION,
  * WENC_BAD_ITEM and WENC_TOO_DEEP say why it can't be read, and `*unread` which part. Also
- * WENC_NO_MEMORY, WENC_TOO_LARGE, WENC_BAD_ARGUMENT, WENC_NO_HANDLE. `*unread` is always written.
+ * WENC_NO_MEMORY, WENC_BAD_ARGUMENT, WENC_NO_HANDLE. `*unread` is always written: all 0 for the
+ * latter and for WENC_DONE.
  *
  * wenc_len counts its sections, wenc_count its items. Modules and nested components aren't read. */
-enum wenc_status wenc_list(wenc_handle *listing, const uint8_t *bytes, size_t len,
-                           wenc_unread *unread);
+WENC_CHECKED enum wenc_status wenc_list(wenc_handle *listing, const uint8_t *bytes, size_t len,
+                                        wenc_unread *unread);
 
 /* Writes the section with this number, counting from 0, to `*section`. WENC_BAD_ARGUMENT if there
  * is none. */
-enum wenc_status wenc_section_at(wenc_handle *listing, size_t number, wenc_listed_section *section);
+WENC_CHECKED enum wenc_status wenc_section_at(const wenc_handle *listing, size_t number,
+                                              wenc_listed_section *section);
 
 /* Writes the item with this number in a section, counting from 0, to `*item`. WENC_BAD_ARGUMENT if
  * there is none. */
-enum wenc_status wenc_item_at(wenc_handle *listing, size_t section, size_t number,
-                              wenc_listed_item *item);
+WENC_CHECKED enum wenc_status wenc_item_at(const wenc_handle *listing, size_t section,
+                                           size_t number, wenc_listed_item *item);
 
 /* Adds an item that was read to a component that is built item by item, as wenc_item does. */
-enum wenc_status wenc_copy(wenc_handle *handle, bool named, const char *debug_name,
-                           size_t debug_name_len, wenc_handle *listing, size_t section,
-                           size_t number, uint32_t *index);
+WENC_CHECKED enum wenc_status wenc_copy(wenc_handle *handle, const wenc_text *debug_name,
+                                        const wenc_handle *listing, size_t section, size_t number,
+                                        uint32_t *index);
 
 /* Adds an item given as its bytes in a section with this id (component model, binary format). For a
  * custom section, a module, a component and a start, these are the section's content. Padded
@@ -877,9 +1055,9 @@ enum wenc_status wenc_copy(wenc_handle *handle, bool named, const char *debug_na
  *
  * An import, an export and a builtin have their own debug name, and a start and a custom section
  * none: `debug_name` isn't used. A custom section has no index: `*index` is 0. */
-enum wenc_status wenc_item(wenc_handle *handle, enum wenc_section section, bool named,
-                           const char *debug_name, size_t debug_name_len, const uint8_t *bytes,
-                           size_t len, uint32_t *index);
+WENC_CHECKED enum wenc_status wenc_item(wenc_handle *handle, enum wenc_section section,
+                                        const wenc_text *debug_name, const uint8_t *bytes,
+                                        size_t len, uint32_t *index);
 
 #ifdef __cplusplus
 }

@@ -2,8 +2,8 @@
 //! proved sources.
 //!
 //! A call reads its arguments, whole lists included, before it changes anything; so a call that
-//! fails changes nothing. A pointer that comes with a length of 0 or a false flag isn't read. Any
-//! other pointer must be NULL or as the header says, which nothing can check.
+//! fails changes nothing. A pointer that comes with a length of 0 isn't read. Any other pointer must
+//! be NULL or as the header says, which nothing can check.
 #![allow(unsafe_code)]
 
 mod arguments;
@@ -14,16 +14,21 @@ mod library;
 mod life;
 mod listing;
 mod numbers;
+mod rows;
 mod sections;
 mod session;
-#[cfg(test)]
+#[cfg(all(test, has_tests))]
 #[path = "../tests/capi/mod.rs"]
 mod tests;
 mod types;
+mod walk;
 
 use crate::proved::wasm_encoder::Fault;
 use crate::proved::wenc_read::{NestedRefusal, Refusal};
-use crate::shim::alloc::{AllocError, AllocFailed};
+use crate::shim::alloc::{AllocError, AllocFailed, Global};
+use crate::shim::boxed::Box as Boxed;
+use alloc::boxed::Box;
+use core::ffi::CStr;
 use core::ptr;
 use session::Session;
 
@@ -50,10 +55,43 @@ pub enum Status {
     NotAComponent,
     BadSection,
     BadItem,
+    End,
 }
 
-/// The result of a call, or the status with which it fails.
-type Result<T, E = Status> = core::result::Result<T, E>;
+/// Why a call fails: its status, and the argument that is at fault, by its name in the header, with
+/// the number of its member.
+#[derive(Clone, Copy, Debug)]
+pub struct Refused {
+    status: Status,
+    argument: Option<&'static CStr>,
+    member: usize,
+}
+
+/// The result of a call, or why it fails.
+type Result<T, E = Refused> = core::result::Result<T, E>;
+
+impl<S: Into<Status>> From<S> for Refused {
+    fn from(status: S) -> Self {
+        Self { status: status.into(), argument: None, member: 0 }
+    }
+}
+
+impl Refused {
+    /// An argument that may not be what it is.
+    fn bad(argument: &'static CStr) -> Self {
+        Self::from(Status::BadArgument).of(argument)
+    }
+
+    /// The fault of an argument.
+    fn of(self, argument: &'static CStr) -> Self {
+        Self { argument: Some(argument), ..self }
+    }
+
+    /// The fault of a member of an argument.
+    fn at(self, member: usize) -> Self {
+        Self { member, ..self }
+    }
+}
 
 impl From<Fault> for Status {
     fn from(fault: Fault) -> Self {
@@ -98,7 +136,7 @@ impl From<NestedRefusal> for Status {
 
 impl From<Result<()>> for Status {
     fn from(result: Result<()>) -> Self {
-        result.err().unwrap_or(Self::Done)
+        result.map_or_else(|refused| refused.status, |()| Self::Done)
     }
 }
 
@@ -106,22 +144,60 @@ impl From<Result<()>> for Status {
 #[derive(Debug)]
 #[repr(C)]
 pub struct Handle {
-    at: *mut Session,
+    at: *mut Owned,
 }
 
-/// Returns the session of a handle.
-unsafe fn session<'a>(handle: *mut Handle) -> Result<&'a mut Session> {
-    let handle = unsafe { handle.as_ref() }.ok_or(Status::NoHandle)?;
-    unsafe { handle.at.as_mut() }.ok_or(Status::NoHandle)
+/// What a handle owns.
+struct Owned {
+    session: Session,
+    /// Why the last call failed that did, of those that change the session.
+    refused: Option<Refused>,
 }
 
-/// Returns the session of a second handle, which must differ from the first.
-unsafe fn other<'a>(session: &Session, handle: *mut Handle) -> Result<&'a mut Session> {
-    let at = unsafe { handle.as_ref() }.map_or(ptr::null_mut(), |handle| handle.at);
-    if ptr::eq(at, session) {
-        return Err(Status::BadArgument);
+/// Begins what a handle owns, which owns nothing yet.
+unsafe fn begin(handle: *mut Handle, make: impl FnOnce() -> Result<Session>) -> Result<()> {
+    let handle = unsafe { handle.as_mut() }.ok_or(Status::NoHandle)?;
+    if !handle.at.is_null() {
+        return Err(Status::BadArgument.into());
     }
-    unsafe { at.as_mut() }.ok_or(Status::NoHandle)
+    let owned = Owned { session: make()?, refused: None };
+    let made: Box<[Owned; 1]> = Boxed::new(Global, owned)?.into();
+    handle.at = Box::into_raw(made).cast();
+    Ok(())
+}
+
+/// Returns what a handle owns, to read it.
+unsafe fn owned<'a>(handle: *const Handle) -> Result<&'a Owned, Status> {
+    let handle = unsafe { handle.as_ref() }.ok_or(Status::NoHandle)?;
+    unsafe { handle.at.as_ref() }.ok_or(Status::NoHandle)
+}
+
+/// Returns the session of a handle, to read it.
+unsafe fn session<'a>(handle: *const Handle) -> Result<&'a Session> {
+    Ok(&unsafe { owned(handle) }?.session)
+}
+
+/// Returns the session of a second handle, to read it. It must differ from the first.
+unsafe fn other<'a>(session: &Session, handle: *const Handle) -> Result<&'a Session> {
+    let at = unsafe { handle.as_ref() }.map_or(ptr::null_mut(), |handle| handle.at);
+    // The first is borrowed: no reference to it is made here.
+    if !at.is_null() && ptr::eq(unsafe { &raw const (*at).session }, session) {
+        return Err(Status::BadArgument.into());
+    }
+    Ok(&unsafe { owned(handle) }?.session)
+}
+
+/// Makes a call that changes the session of a handle. If it fails, that is recorded.
+unsafe fn change<T>(
+    handle: *mut Handle,
+    call: impl FnOnce(&mut Session) -> Result<T>,
+) -> Result<T, Status> {
+    let handle = unsafe { handle.as_ref() }.ok_or(Status::NoHandle)?;
+    let owned = unsafe { handle.at.as_mut() }.ok_or(Status::NoHandle)?;
+    call(&mut owned.session).map_err(|refused| {
+        owned.refused = Some(refused);
+        refused.status
+    })
 }
 
 /// Writes a value through a pointer from C, unless that is NULL.
@@ -131,13 +207,18 @@ unsafe fn put<T>(at: *mut T, value: T) {
     }
 }
 
+/// Writes the result of a call that only reads through a pointer from C.
+unsafe fn written<T>(at: *mut T, result: Result<T>) -> Status {
+    result.map(|value| unsafe { put(at, value) }).into()
+}
+
 /// Makes a call that adds an item, and writes the item's index through a pointer from C.
 unsafe fn indexed(
     handle: *mut Handle,
     index: *mut u32,
     call: impl FnOnce(&mut Session) -> Result<u32>,
 ) -> Status {
-    match unsafe { session(handle) }.and_then(call) {
+    match unsafe { change(handle, call) } {
         Ok(value) => {
             unsafe { put(index, value) };
             Status::Done
@@ -148,14 +229,14 @@ unsafe fn indexed(
 
 /// Makes a call without a result.
 unsafe fn made(handle: *mut Handle, call: impl FnOnce(&mut Session) -> Result<()>) -> Status {
-    unsafe { session(handle) }.and_then(call).into()
+    unsafe { change(handle, call) }.err().unwrap_or(Status::Done)
 }
 
 /// Defines functions of C. Their arguments are
 ///
 /// - `name: T`, a `T`, or `&name: T`, a pointer to one;
 /// - `name[name_len]: text`, a string in UTF-8, or `list[list_len]: T`, an array;
-/// - `debug_name: name`, a flag and a string.
+/// - `debug_name: name`, a pointer to a string, or NULL.
 ///
 /// The handle comes before them, and with `-> index`, a pointer for the index after them. The body
 /// takes the session and the arguments.
@@ -192,9 +273,9 @@ macro_rules! call {
     ($f:ident $i:tt $s:ident $b:expr, [$($c:tt)*] [$($r:tt)*] $a:ident: name, $($rest:tt)*) => {
         $crate::capi::call! {
             $f $i $s $b,
-            [$($c)* named: $crate::capi::arguments::Flag, $a: *const u8, name_len: usize,]
+            [$($c)* $a: *const $crate::capi::arguments::Text,]
             [$($r)*
-                let $a = $crate::capi::arguments::optional(named, $a, name_len)?;
+                let $a = $crate::capi::arguments::debug_name($a)?;
                 $s.take_name($a)?;
             ]
             $($rest)*
@@ -206,7 +287,10 @@ macro_rules! call {
     ) => {
         $crate::capi::call! {
             $f $i $s $b, [$($c)* $a: *const u8, $l: usize,]
-            [$($r)* let $a = $crate::capi::arguments::text($a, $l)?;] $($rest)*
+            [$($r)*
+                let $a = $crate::capi::arguments::text($a, $l)
+                    .map_err(|refused| refused.of($crate::capi::name_of!($a)))?;
+            ] $($rest)*
         }
     };
     (
@@ -215,13 +299,18 @@ macro_rules! call {
     ) => {
         $crate::capi::call! {
             $f $i $s $b, [$($c)* $a: *const $t, $l: usize,]
-            [$($r)* let $a = $crate::capi::arguments::list($a, $l)?;] $($rest)*
+            [$($r)*
+                let $a = $crate::capi::arguments::list($a, $l)
+                    .map_err(|refused| refused.of($crate::capi::name_of!($a)))?;
+            ] $($rest)*
         }
     };
     ($f:ident $i:tt $s:ident $b:expr, [$($c:tt)*] [$($r:tt)*] &$a:ident: $t:ty, $($rest:tt)*) => {
         $crate::capi::call! {
             $f $i $s $b, [$($c)* $a: *const $t,]
-            [$($r)* let $a = $a.as_ref().ok_or($crate::capi::Status::BadArgument)?;] $($rest)*
+            [$($r)*
+                let $a = $a.as_ref().ok_or($crate::capi::Refused::bad($crate::capi::name_of!($a)))?;
+            ] $($rest)*
         }
     };
     ($f:ident $i:tt $s:ident $b:expr, [$($c:tt)*] $r:tt $a:ident: $t:ty, $($rest:tt)*) => {
@@ -229,4 +318,18 @@ macro_rules! call {
     };
 }
 
-use {call, calls};
+/// Returns the name of an argument, as C has it.
+macro_rules! name_of {
+    ($argument:ident) => {
+        const {
+            match core::ffi::CStr::from_bytes_with_nul(
+                concat!(stringify!($argument), "\0").as_bytes(),
+            ) {
+                Ok(name) => name,
+                Err(_) => unreachable!(),
+            }
+        }
+    };
+}
+
+use {call, calls, name_of};

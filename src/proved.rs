@@ -5,7 +5,8 @@
 mod for_tests;
 #[cfg(test)]
 pub use crate::shim::hex;
-#[cfg(test)]
+// The published package leaves them out.
+#[cfg(all(test, has_tests))]
 #[path = "../tests/proved/mod.rs"]
 mod tests;
 

@@ -1,10 +1,10 @@
 //! Each path that a page names is there, and each heading to which a link leads: in the repository,
-//! in the package and in the tarball.
+//! and in the package for Rust. `releasing/test` tests the links of all packages.
 //!
 //! A page names a path in a link, relative to itself, or in backquotes: relative to itself, to the
 //! repository or to `crates`, or by its end, where what stands before it is known. In backquotes
 //! `{a,b}` stands for each, `*` for any letters, and a word in capitals for any name. The package
-//! and the tarball have fewer files: there the links alone are checked.
+//! has fewer files: there the links alone are checked.
 
 use std::collections::BTreeSet;
 use std::{fs, path::Path};
@@ -143,14 +143,12 @@ fn of_package(manifest: &str) -> Vec<String> {
     patterns.map(str::to_owned).collect()
 }
 
-/// The pages that `releasing/make` installs.
+/// The pages that `releasing/make` lays in the tarball.
 #[cfg(in_repository)]
-fn of_tarball(script: &str) -> Vec<String> {
-    let lines = script.lines().skip_while(|line| *line != "lay_pages() {");
-    let lines = lines.take_while(|line| *line != "}");
-    let files = lines.filter_map(|line| line.trim().strip_prefix("install -m 644 "));
-    let files = files.flat_map(str::split_whitespace).filter(|word| !word.starts_with('"'));
-    files.map(str::to_owned).collect()
+fn of_tarball(script: &str) -> Vec<&str> {
+    let lay = "    releasing/pages . \"$1\" ";
+    let pages = script.lines().find_map(|line| line.strip_prefix(lay));
+    pages.expect("the pages are laid").split_whitespace().collect()
 }
 
 /// A path relative to a page, from the repository on.
@@ -248,19 +246,26 @@ fn each_path_on_a_page_is_there() {
 
 #[cfg(in_repository)]
 #[test]
-fn each_link_stays_in_the_package_and_in_the_tarball() {
+fn each_link_stays_in_the_package() {
     let (tree, pages) = gathered();
-    let manifest = include_str!("../Cargo.toml");
-    let script = include_str!("../releasing/make");
-    for (patterns, least) in [(of_package(manifest), 20), (of_tarball(script), 10)] {
-        let part = tree.only(|path| includes(&patterns, path));
-        let mut count = 0;
-        for (page, text) in pages.iter().filter(|(page, _)| includes(&patterns, page)) {
-            assert_eq!(part.dead_links(page, text), [""; 0], "{page}, of {patterns:?}");
-            count += 1;
-        }
-        assert!(count >= least, "only {count} pages of {patterns:?}");
+    let patterns = of_package(include_str!("../Cargo.toml"));
+    let part = tree.only(|path| includes(&patterns, path));
+    let mut count = 0;
+    for (page, text) in pages.iter().filter(|(page, _)| includes(&patterns, page)) {
+        assert_eq!(part.dead_links(page, text), [""; 0], "{page}");
+        count += 1;
     }
+    assert!(count >= 20, "only {count} pages");
+}
+
+/// The tarball has a first page of its own. On the others a link that leads out of it is a text.
+#[cfg(in_repository)]
+#[test]
+fn the_first_page_of_the_tarball_leads_to_the_others() {
+    let pages = of_tarball(include_str!("../releasing/make"));
+    let mut links = named(include_str!("../releasing/README.md.in")).0;
+    links.sort();
+    assert_eq!(links, pages);
 }
 
 #[test]

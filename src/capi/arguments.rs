@@ -1,10 +1,11 @@
 //! Arguments from C: strings, arrays, and the structures of the header.
 
 use super::numbers;
-use super::{Result, Status};
+use super::{Refused, Result, Status};
 use crate::proved::wasm_encoder::{ComponentExternName, EntityType};
 use crate::shim::borrow::CowStr;
-use core::{slice, str};
+use core::ffi::CStr;
+use core::{ptr, slice, str};
 
 /// A `bool` of C: true unless it is 0.
 #[derive(Clone, Copy)]
@@ -35,20 +36,22 @@ pub struct Pair {
     pub number: u32,
 }
 
+/// `wenc_text`: a string, or none if the pointer is NULL and may be.
+#[derive(Clone, Copy)]
+#[repr(C)]
+pub struct Text {
+    pub at: *const u8,
+    pub len: usize,
+}
+
 /// `wenc_name`: a name with its options.
+#[derive(Clone, Copy)]
 #[repr(C)]
 pub struct Name {
-    pub name: *const u8,
-    pub name_len: usize,
-    pub implements: *const u8,
-    pub implements_len: usize,
-    pub version_suffix: *const u8,
-    pub version_suffix_len: usize,
-    pub external_id: *const u8,
-    pub external_id_len: usize,
-    pub has_implements: Flag,
-    pub has_version_suffix: Flag,
-    pub has_external_id: Flag,
+    pub name: Text,
+    pub implements: Text,
+    pub version_suffix: Text,
+    pub external_id: Text,
 }
 
 /// `wenc_entity`: an import or an export of a core module.
@@ -106,7 +109,7 @@ pub unsafe fn list<'a, T>(at: *const T, len: usize) -> Result<&'a [T]> {
     if len == 0 {
         Ok(&[])
     } else if at.is_null() || len > isize::MAX as usize / size_of::<T>() {
-        Err(Status::BadArgument)
+        Err(Status::BadArgument.into())
     } else {
         Ok(unsafe { slice::from_raw_parts(at, len) })
     }
@@ -118,29 +121,40 @@ pub unsafe fn text<'a>(at: *const u8, len: usize) -> Result<&'a str> {
     if bytes.is_ascii() {
         return Ok(unsafe { str::from_utf8_unchecked(bytes) });
     }
-    str::from_utf8(bytes).map_err(|_| Status::Malformed)
+    Ok(str::from_utf8(bytes).map_err(|_| Status::Malformed)?)
 }
 
-/// Returns a string if the flag is set. Otherwise, the pointer isn't used.
-pub unsafe fn optional<'a>(has: Flag, at: *const u8, len: usize) -> Result<Option<&'a str>> {
-    if has.is_set() { unsafe { text(at, len) }.map(Some) } else { Ok(None) }
+/// Returns a debug name, or none.
+pub unsafe fn debug_name<'a>(name: *const Text) -> Result<Option<&'a str>> {
+    let name = unsafe { name.as_ref() };
+    name.map_or(Ok(None), |name| unsafe { name.optional() })
+        .map_err(|refused| refused.of(c"debug_name"))
+}
+
+impl Text {
+    pub const NONE: Self = Self { at: ptr::null(), len: 0 };
+
+    /// Returns the string, unless there is none.
+    unsafe fn optional<'a>(&self) -> Result<Option<&'a str>> {
+        match (self.at.is_null(), self.len) {
+            (true, 0) => Ok(None),
+            (_, len) => unsafe { text(self.at, len) }.map(Some),
+        }
+    }
 }
 
 impl Name {
     /// Returns the name with its options.
     pub unsafe fn read<'a>(&self) -> Result<ComponentExternName<'a>> {
-        let option = |has, at, len| -> Result<Option<CowStr<'a>>> {
-            Ok(unsafe { optional(has, at, len) }?.map(CowStr::Borrowed))
+        let wrong = |refused: Refused| refused.of(c"name");
+        let option = |option: Text| -> Result<Option<CowStr<'a>>> {
+            Ok(unsafe { option.optional() }.map_err(wrong)?.map(CowStr::Borrowed))
         };
         Ok(ComponentExternName {
-            name: CowStr::Borrowed(unsafe { text(self.name, self.name_len) }?),
-            implements: option(self.has_implements, self.implements, self.implements_len)?,
-            version_suffix: option(
-                self.has_version_suffix,
-                self.version_suffix,
-                self.version_suffix_len,
-            )?,
-            external_id: option(self.has_external_id, self.external_id, self.external_id_len)?,
+            name: CowStr::Borrowed(unsafe { text(self.name.at, self.name.len) }.map_err(wrong)?),
+            implements: option(self.implements)?,
+            version_suffix: option(self.version_suffix)?,
+            external_id: option(self.external_id)?,
         })
     }
 }
@@ -148,8 +162,13 @@ impl Name {
 impl Entity {
     /// Returns the type of the import or the export.
     pub fn read(&self) -> Result<EntityType> {
-        numbers::entity(self).ok_or(Status::BadArgument)
+        numbers::entity(self).ok_or(Refused::bad(c"entity"))
     }
+}
+
+/// Returns the value of a number, or fails with the argument that is none.
+pub fn known<T>(argument: &'static CStr, value: Option<T>) -> Result<T> {
+    value.ok_or(Refused::bad(argument))
 }
 
 /// Returns an iterator over values with their names. All of them are checked first, so it yields
@@ -159,12 +178,14 @@ impl Entity {
 ///
 /// Fails if a name isn't UTF-8, or a pair of numbers isn't known to `of`.
 pub unsafe fn named<'a, T>(
+    argument: &'static CStr,
     parts: &'a [Part],
     of: impl Fn(u32, u32) -> Option<T> + 'a,
 ) -> Result<impl Iterator<Item = (&'a str, T)>> {
-    for part in parts {
-        unsafe { text(part.name, part.name_len) }?;
-        of(part.kind, part.number).ok_or(Status::BadArgument)?;
+    for (member, part) in parts.iter().enumerate() {
+        let wrong = |refused: Refused| refused.of(argument).at(member);
+        unsafe { text(part.name, part.name_len) }.map_err(wrong)?;
+        of(part.kind, part.number).ok_or(Refused::bad(argument).at(member))?;
     }
     Ok(parts.iter().filter_map(move |part| {
         let name = unsafe { str::from_utf8_unchecked(list(part.name, part.name_len).ok()?) };
@@ -174,16 +195,20 @@ pub unsafe fn named<'a, T>(
 
 /// Returns an iterator over values without names, as [`named`] does.
 pub fn unnamed<'a, T>(
+    argument: &'static CStr,
     pairs: &'a [Pair],
     of: impl Fn(u32, u32) -> Option<T> + 'a,
 ) -> Result<impl Iterator<Item = T>> {
-    if pairs.iter().any(|pair| of(pair.kind, pair.number).is_none()) {
-        return Err(Status::BadArgument);
+    if let Some(member) = pairs.iter().position(|pair| of(pair.kind, pair.number).is_none()) {
+        return Err(Refused::bad(argument).at(member));
     }
     Ok(pairs.iter().filter_map(move |pair| of(pair.kind, pair.number)))
 }
 
 /// Returns an iterator over names alone, as [`named`] does. The numbers with them aren't used.
-pub unsafe fn names(parts: &[Part]) -> Result<impl Iterator<Item = &str>> {
-    Ok(unsafe { named(parts, |_, _| Some(())) }?.map(|(name, ())| name))
+pub unsafe fn names<'a>(
+    argument: &'static CStr,
+    parts: &'a [Part],
+) -> Result<impl Iterator<Item = &'a str>> {
+    Ok(unsafe { named(argument, parts, |_, _| Some(())) }?.map(|(name, ())| name))
 }

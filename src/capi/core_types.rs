@@ -1,8 +1,8 @@
 //! The calls that add core types, and that declare the imports and exports of core modules.
 
-use super::arguments::{Entity, Pair, Subtype, list, unnamed};
+use super::arguments::{Entity, Pair, Subtype, known, list, unnamed};
 use super::session::{Session, settled};
-use super::{Result, Status, calls, numbers};
+use super::{Refused, Result, Status, calls, numbers};
 use crate::proved::wasm_encoder::{ArrayType, CompositeType, FuncType, StructType, SubType};
 use crate::shim::alloc::Global;
 use crate::shim::vec::Vec;
@@ -44,16 +44,16 @@ macro_rules! write_core_type {
 calls! {
     wenc_core_type_function(debug_name: name, params[params_len]: Pair, results[results_len]: Pair)
         -> index = |session| {
-        let params = unnamed(params, numbers::core_value)?;
-        let results = unnamed(results, numbers::core_value)?;
+        let params = unnamed(c"params", params, numbers::core_value)?;
+        let results = unnamed(c"results", results, numbers::core_value)?;
         write_core_type!(session, debug_name, |encoder| encoder.function(params, results))
     };
     wenc_core_type_struct(debug_name: name, fields[fields_len]: Pair) -> index = |session| {
-        let fields = unnamed(fields, numbers::field)?;
+        let fields = unnamed(c"fields", fields, numbers::field)?;
         write_core_type!(session, debug_name, |encoder| encoder.struct_(fields))
     };
     wenc_core_type_array(debug_name: name, element: u32, of: u32) -> index = |session| {
-        let field = numbers::field(element, of).ok_or(Status::BadArgument)?;
+        let field = known(c"element", numbers::field(element, of))?;
         write_core_type!(session, debug_name, |encoder| {
             encoder.array(&field.element_type, field.mutable)
         })
@@ -64,8 +64,9 @@ calls! {
     };
     wenc_core_type_group(debug_name: name, subtypes[subtypes_len]: Subtype) -> index = |session| {
         let mut types = Vec::with_capacity(Global, subtypes.len())?;
-        for subtype in subtypes {
-            types.push(subtype.read()?)?;
+        for (member, subtype) in subtypes.iter().enumerate() {
+            let wrong = |refused: Refused| refused.of(c"subtypes").at(member);
+            types.push(subtype.read().map_err(wrong)?)?;
         }
         write_core_type!(session, debug_name, |encoder| encoder.rec(types.iter()))
     };
@@ -83,35 +84,40 @@ calls! {
 impl Subtype {
     /// Returns the type, with copies of its lists.
     unsafe fn read(&self) -> Result<SubType> {
+        Ok(SubType {
+            is_final: self.is_final.is_set(),
+            supertype_idx: self.has_supertype.is_set().then_some(self.supertype),
+            composite_type: unsafe { self.composite() }
+                .map_err(|refused| refused.of(c"subtype").at(0))?,
+        })
+    }
+
+    unsafe fn composite(&self) -> Result<CompositeType> {
         let fields = unsafe { list(self.fields, self.fields_len) }?;
-        let composite_type = match self.kind {
+        Ok(match self.kind {
             1 => {
                 let results = unsafe { list(self.results, self.results_len) }?;
                 CompositeType::Func(FuncType::new(
                     Global,
-                    unnamed(fields, numbers::core_value)?,
-                    unnamed(results, numbers::core_value)?,
+                    unnamed(c"fields", fields, numbers::core_value)?,
+                    unnamed(c"results", results, numbers::core_value)?,
                 )?)
             }
             2 => {
                 let mut read = Vec::with_capacity(Global, fields.len())?;
-                for field in unnamed(fields, numbers::field)? {
+                for field in unnamed(c"fields", fields, numbers::field)? {
                     read.push(field)?;
                 }
                 CompositeType::Struct(StructType { fields: read })
             }
             3 => match fields {
-                [of] => CompositeType::Array(ArrayType(
-                    numbers::field(of.kind, of.number).ok_or(Status::BadArgument)?,
-                )),
-                _ => return Err(Status::BadArgument),
+                [of] => CompositeType::Array(ArrayType(known(
+                    c"fields",
+                    numbers::field(of.kind, of.number),
+                )?)),
+                _ => return Err(Status::BadArgument.into()),
             },
-            _ => return Err(Status::BadArgument),
-        };
-        Ok(SubType {
-            is_final: self.is_final.is_set(),
-            supertype_idx: self.has_supertype.is_set().then_some(self.supertype),
-            composite_type,
+            _ => return Err(Status::BadArgument.into()),
         })
     }
 }

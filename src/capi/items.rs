@@ -1,38 +1,34 @@
 //! The calls that add items: imports, exports, aliases, modules, components, instances, functions.
 
-use super::arguments::{Name, Pair, Part, named, unnamed};
+use super::arguments::{Name, Pair, Part, known, named, unnamed};
 use super::session::{Session, counted};
-use super::{Handle, Result, Status, calls, numbers, other};
+use super::{Handle, Refused, Result, calls, numbers, other};
 use crate::proved::wasm_encoder::{
     AddsBuiltin, AddsSlot, Alias, CanonicalOption, ComponentExternName, ComponentSectionId,
     ComponentStartSection, ModuleArg, RawSection, ValType,
 };
-
-/// Returns the value of a number, or fails with `BadArgument`.
-fn known<T>(value: Option<T>) -> Result<T> {
-    value.ok_or(Status::BadArgument)
-}
+use core::ffi::CStr;
 
 calls! {
     wenc_import(name[name_len]: text, reference: u32, of: u32) -> index = |session| {
-        session.import(name.into(), known(numbers::type_ref(reference, of))?)
+        session.import(name.into(), known(c"ref", numbers::type_ref(reference, of))?)
     };
     wenc_import_named(&name: Name, reference: u32, of: u32) -> index = |session| {
-        session.import(name.read()?, known(numbers::type_ref(reference, of))?)
+        session.import(name.read()?, known(c"ref", numbers::type_ref(reference, of))?)
     };
     wenc_export(
         name[name_len]: text, kind: u32, item: u32, reference: u32, of: u32
     ) -> index = |session| {
-        let kind = known(numbers::kind(kind))?;
-        session.export(name.into(), kind, item, known(numbers::maybe_type_ref(reference, of))?)
+        let kind = known(c"kind", numbers::kind(kind))?;
+        session.export(name.into(), kind, item, known(c"ref", numbers::maybe_type_ref(reference, of))?)
     };
     wenc_export_named(&name: Name, kind: u32, item: u32, reference: u32, of: u32) -> index
         = |session| {
-        let kind = known(numbers::kind(kind))?;
-        session.export(name.read()?, kind, item, known(numbers::maybe_type_ref(reference, of))?)
+        let kind = known(c"kind", numbers::kind(kind))?;
+        session.export(name.read()?, kind, item, known(c"ref", numbers::maybe_type_ref(reference, of))?)
     };
     wenc_alias_export(instance: u32, kind: u32, name[name_len]: text) -> index = |session| {
-        let kind = known(numbers::kind(kind))?;
+        let kind = known(c"kind", numbers::kind(kind))?;
         match session {
             Session::Building(builder) => Ok(builder.alias_export(instance, name, kind)?),
             _ => session.alias(None, Alias::InstanceExport { instance, kind, name }),
@@ -41,17 +37,17 @@ calls! {
     wenc_alias_instance_export(
         debug_name: name, instance: u32, kind: u32, name[name_len]: text
     ) -> index = |session| {
-        let kind = known(numbers::kind(kind))?;
+        let kind = known(c"kind", numbers::kind(kind))?;
         session.alias(debug_name, Alias::InstanceExport { instance, kind, name })
     };
     wenc_alias_core_export(
         debug_name: name, instance: u32, kind: u32, name[name_len]: text
     ) -> index = |session| {
-        let kind = known(numbers::core_kind(kind))?;
+        let kind = known(c"kind", numbers::core_kind(kind))?;
         session.alias(debug_name, Alias::CoreInstanceExport { instance, kind, name })
     };
     wenc_alias_outer(debug_name: name, kind: u32, count: u32, item: u32) -> index = |session| {
-        let kind = known(numbers::outer_kind(kind))?;
+        let kind = known(c"kind", numbers::outer_kind(kind))?;
         session.alias(debug_name, Alias::Outer { kind, count, index: item })
     };
     wenc_core_module(debug_name: name, bytes[len]: u8) -> index = |session| match session {
@@ -69,7 +65,7 @@ calls! {
     };
     wenc_lift(debug_name: name, function: u32, ty: u32, options[options_len]: Pair) -> index
         = |session| {
-        let options = unnamed(options, numbers::option)?;
+        let options = unnamed(c"options", options, numbers::option)?;
         match session {
             Session::Building(to) => Ok(to.lift_func(debug_name, function, ty, options)?),
             Session::Functions(to) => counted!(to => to.lift(function, ty, options)),
@@ -77,7 +73,7 @@ calls! {
         }
     };
     wenc_lower(debug_name: name, function: u32, options[options_len]: Pair) -> index = |session| {
-        let options = unnamed(options, numbers::option)?;
+        let options = unnamed(c"options", options, numbers::option)?;
         match session {
             Session::Building(to) => Ok(to.lower_func(debug_name, function, options)?),
             Session::Functions(to) => counted!(to => to.lower(function, options)),
@@ -90,7 +86,7 @@ calls! {
         _ => Err(session.refusal()),
     };
     wenc_builtin_with(function: u32, first: u32, options[options_len]: Pair) -> index = |session| {
-        let options = unnamed(options, numbers::option)?;
+        let options = unnamed(c"options", options, numbers::option)?;
         match session {
             Session::Building(to) => add_builtin_with(to, function, first, options),
             Session::Functions(to) => {
@@ -100,8 +96,8 @@ calls! {
         }
     };
     wenc_task_return(reference: u32, of: u32, options[options_len]: Pair) -> index = |session| {
-        let ty = known(numbers::maybe_value(reference, of))?;
-        let options = unnamed(options, numbers::option)?;
+        let ty = known(c"ref", numbers::maybe_value(reference, of))?;
+        let options = unnamed(c"options", options, numbers::option)?;
         match session {
             Session::Building(to) => Ok(to.task_return(ty, options)?),
             Session::Functions(to) => counted!(to => to.task_return(ty, options)),
@@ -109,7 +105,7 @@ calls! {
         }
     };
     wenc_context(function: u32, ty: u32, slot: u32) -> index = |session| {
-        let ty = known(numbers::core_number(ty))?;
+        let ty = known(c"type", numbers::core_number(ty))?;
         match session {
             Session::Building(to) => add_slot(to, function, ty, slot),
             Session::Functions(to) => counted!(to => add_slot(to, function, ty, slot)),
@@ -118,7 +114,7 @@ calls! {
     };
     wenc_core_instantiate(debug_name: name, module: u32, args[args_len]: Part) -> index
         = |session| {
-        let args = named(args, |_, instance| Some(ModuleArg::Instance(instance)))?;
+        let args = named(c"args", args, |_, instance| Some(ModuleArg::Instance(instance)))?;
         match session {
             Session::Building(to) => Ok(to.core_instantiate(debug_name, module, args)?),
             Session::CoreInstances(to) => counted!(to => to.instantiate(module, args)),
@@ -126,7 +122,7 @@ calls! {
         }
     };
     wenc_core_exports(debug_name: name, exports[exports_len]: Part) -> index = |session| {
-        let exports = named(exports, |kind, item| Some((numbers::core_kind(kind)?, item)))?;
+        let exports = named(c"exports", exports, |kind, item| Some((numbers::core_kind(kind)?, item)))?;
         let exports = exports.map(|(name, (kind, item))| (name, kind, item));
         match session {
             Session::Building(to) => Ok(to.core_instantiate_exports(debug_name, exports)?),
@@ -135,7 +131,7 @@ calls! {
         }
     };
     wenc_instantiate(debug_name: name, component: u32, args[args_len]: Part) -> index = |session| {
-        let args = named(args, |kind, item| Some((numbers::kind(kind)?, item)))?;
+        let args = named(c"args", args, |kind, item| Some((numbers::kind(kind)?, item)))?;
         let args = args.map(|(name, (kind, item))| (name, kind, item));
         match session {
             Session::Building(to) => Ok(to.instantiate(debug_name, component, args)?),
@@ -144,7 +140,7 @@ calls! {
         }
     };
     wenc_export_items(debug_name: name, items[items_len]: Part) -> index = |session| {
-        let items = named(items, |kind, item| Some((numbers::kind(kind)?, item)))?;
+        let items = named(c"items", items, |kind, item| Some((numbers::kind(kind)?, item)))?;
         let items = items.map(|(name, (kind, item))| (ComponentExternName::from(name), kind, item));
         match session {
             Session::Building(to) => Ok(to.instantiate_exports(debug_name, items)?),
@@ -152,12 +148,12 @@ calls! {
             _ => Err(session.refusal()),
         }
     };
-    wenc_component_ref(debug_name: name, nested: *mut Handle) -> index = |session| {
-        let nested = other(session, nested)?;
+    wenc_component_ref(debug_name: name, nested: *const Handle) -> index = |session| {
+        let nested = other(session, nested).map_err(|refused| refused.of(c"nested"))?;
         nest(session, debug_name, nested)
     };
     wenc_component(debug_name: name, nested: *mut Handle) -> index = |session| {
-        let given = other(session, nested)?;
+        let given = other(session, nested).map_err(|refused| refused.of(c"nested"))?;
         let index = nest(session, debug_name, given)?;
         super::life::wenc_free(nested);
         Ok(index)
@@ -177,16 +173,16 @@ fn nest(session: &mut Session, debug_name: Option<&str>, nested: &Session) -> Re
     match nested {
         Session::Building(nested) => Ok(session.builder()?.component_ref(debug_name, nested)?),
         Session::ByHand(nested) => add_component(session, debug_name, nested.as_slice()),
-        _ => Err(nested.refusal()),
+        _ => Err(nested.refusal().of(c"nested")),
     }
 }
 
 /// Converts a number to a flag.
-fn flag(number: u32) -> Result<bool> {
+fn flag(argument: &'static CStr, number: u32) -> Result<bool> {
     match number {
         0 => Ok(false),
         1 => Ok(true),
-        _ => Err(Status::BadArgument),
+        _ => Err(Refused::bad(argument)),
     }
 }
 
@@ -201,15 +197,15 @@ fn add_builtin<B: AddsBuiltin>(
         1 => to.resource_new(first),
         2 => to.resource_drop(first),
         3 => to.resource_rep(first),
-        5 => to.subtask_cancel(flag(first)?),
+        5 => to.subtask_cancel(flag(c"first", first)?),
         8 => to.stream_new(first),
-        9 => to.stream_cancel_read(first, flag(second)?),
-        10 => to.stream_cancel_write(first, flag(second)?),
+        9 => to.stream_cancel_read(first, flag(c"second", second)?),
+        10 => to.stream_cancel_write(first, flag(c"second", second)?),
         11 => to.stream_drop_readable(first),
         12 => to.stream_drop_writable(first),
         13 => to.future_new(first),
-        14 => to.future_cancel_read(first, flag(second)?),
-        15 => to.future_cancel_write(first, flag(second)?),
+        14 => to.future_cancel_read(first, flag(c"second", second)?),
+        15 => to.future_cancel_write(first, flag(c"second", second)?),
         16 => to.future_drop_readable(first),
         17 => to.future_drop_writable(first),
         20 => to.waitable_set_wait(first),
@@ -244,7 +240,7 @@ fn add_plain_builtin<B: AddsBuiltin>(to: &mut B, function: u32) -> Result<B::Ans
         32 => to.thread_suspend_then_promote(),
         33 => to.thread_yield_then_promote(),
         38 => to.thread_available_parallelism(),
-        _ => return Err(Status::BadArgument),
+        _ => return Err(Refused::bad(c"function")),
     };
     Ok(added?)
 }
@@ -263,7 +259,7 @@ fn add_builtin_with<B: AddsBuiltin>(
         4 => to.future_write(first, options),
         5 => to.error_context_new(options),
         6 => to.error_context_debug_message(options),
-        _ => return Err(Status::BadArgument),
+        _ => return Err(Refused::bad(c"function")),
     };
     Ok(added?)
 }
@@ -273,6 +269,6 @@ fn add_slot<B: AddsSlot>(to: &mut B, function: u32, ty: ValType, slot: u32) -> R
     match function {
         1 => Ok(to.context_get(ty, slot)?),
         2 => Ok(to.context_set(ty, slot)?),
-        _ => Err(Status::BadArgument),
+        _ => Err(Refused::bad(c"function")),
     }
 }

@@ -4,6 +4,8 @@ use core::alloc::{GlobalAlloc, Layout};
 use core::ffi::c_void;
 use core::panic::PanicInfo;
 
+// Linked even without Rust's `std`, so that the shared library names what it needs.
+#[cfg_attr(unix, link(name = "c"))]
 unsafe extern "C" {
     fn malloc(len: usize) -> *mut c_void;
     fn realloc(at: *mut c_void, len: usize) -> *mut c_void;

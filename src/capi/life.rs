@@ -1,23 +1,34 @@
 //! The calls that begin, finish and free what handles own.
 
-use super::listing::Listed;
+use super::arguments::known;
 use super::session::Session;
-use super::{Handle, Result, Status, numbers, put, session};
+use super::{
+    Handle, Owned, Refused, Result, Status, begin, change, numbers, owned, put, session, written,
+};
 use crate::proved::wasm_encoder::{
     CanonicalFunctionSection, Component, ComponentAliasSection, ComponentBuilder,
     ComponentExportKind, ComponentExportSection, ComponentImportSection, ComponentInstanceSection,
     ComponentNameSection, ComponentSectionId, ComponentType, ComponentTypeSection, CoreTypeSection,
-    InstanceSection, InstanceType, ListFault, ModuleType, Unread, first_unread,
+    InstanceSection, InstanceType, ModuleType,
 };
 use crate::shim::alloc::Global;
-use crate::shim::boxed::Box as Boxed;
 use crate::shim::vec::Vec;
 use alloc::boxed::Box;
 use core::ffi::{CStr, c_char};
 use core::{mem, ptr};
 
-/// `WENC_VERSION`.
-const VERSION: u32 = 200;
+/// `WENC_VERSION`: that of the package.
+const VERSION: u32 = {
+    let (minor, patch) = (env!("CARGO_PKG_VERSION_MINOR"), env!("CARGO_PKG_VERSION_PATCH"));
+    10_000 * number(env!("CARGO_PKG_VERSION_MAJOR")) + 100 * number(minor) + number(patch)
+};
+
+const fn number(digits: &str) -> u32 {
+    match u32::from_str_radix(digits, 10) {
+        Ok(number) => number,
+        Err(_) => unreachable!(),
+    }
+}
 
 #[unsafe(no_mangle)]
 pub extern "C" fn wenc_version() -> u32 {
@@ -25,7 +36,7 @@ pub extern "C" fn wenc_version() -> u32 {
 }
 
 /// A message for each status, in the order of `enum wenc_status`.
-const TEXTS: [&CStr; 13] = [
+const TEXTS: [&CStr; 14] = [
     c"done",
     c"no memory",
     c"too many",
@@ -39,23 +50,13 @@ const TEXTS: [&CStr; 13] = [
     c"not a component",
     c"bad section",
     c"bad item",
+    c"end",
 ];
 
 #[unsafe(no_mangle)]
 pub extern "C" fn wenc_status_text(status: u32) -> *const c_char {
     let text = usize::try_from(status).ok().and_then(|status| TEXTS.get(status));
     text.map_or(c"unknown status", |text| text).as_ptr()
-}
-
-/// Creates a session for a handle that owns nothing.
-unsafe fn begin(handle: *mut Handle, make: impl FnOnce() -> Result<Session>) -> Result<()> {
-    let handle = unsafe { handle.as_mut() }.ok_or(Status::NoHandle)?;
-    if !handle.at.is_null() {
-        return Err(Status::BadArgument);
-    }
-    let made: Box<[Session; 1]> = Boxed::new(Global, make()?)?.into();
-    handle.at = Box::into_raw(made).cast();
-    Ok(())
 }
 
 #[unsafe(no_mangle)]
@@ -70,13 +71,11 @@ pub unsafe extern "C" fn wenc_by_hand_new(handle: *mut Handle) -> Status {
 
 #[unsafe(no_mangle)]
 pub unsafe extern "C" fn wenc_types_new(handle: *mut Handle, kind: u32) -> Status {
-    let make = || match numbers::kind(kind) {
-        Some(ComponentExportKind::Module) => Ok(Session::ModuleType(ModuleType::new(Global))),
-        Some(ComponentExportKind::Component) => {
-            Ok(Session::ComponentType(ComponentType::new(Global)))
-        }
-        Some(ComponentExportKind::Instance) => Ok(Session::InstanceType(InstanceType::new(Global))),
-        _ => Err(Status::BadArgument),
+    let make = || match known(c"kind", numbers::kind(kind))? {
+        ComponentExportKind::Module => Ok(Session::ModuleType(ModuleType::new(Global))),
+        ComponentExportKind::Component => Ok(Session::ComponentType(ComponentType::new(Global))),
+        ComponentExportKind::Instance => Ok(Session::InstanceType(InstanceType::new(Global))),
+        _ => Err(Refused::bad(c"kind")),
     };
     unsafe { begin(handle, make) }.into()
 }
@@ -84,7 +83,7 @@ pub unsafe extern "C" fn wenc_types_new(handle: *mut Handle, kind: u32) -> Statu
 #[unsafe(no_mangle)]
 pub unsafe extern "C" fn wenc_section_new(handle: *mut Handle, section: u32) -> Status {
     let make = || {
-        Ok(match numbers::section(section).ok_or(Status::BadArgument)? {
+        Ok(match known(c"section", numbers::section(section))? {
             ComponentSectionId::CoreInstance => {
                 Session::CoreInstances(InstanceSection::new(Global))
             }
@@ -99,7 +98,7 @@ pub unsafe extern "C" fn wenc_section_new(handle: *mut Handle, section: u32) -> 
             }
             ComponentSectionId::Import => Session::Imports(ComponentImportSection::new(Global)),
             ComponentSectionId::Export => Session::Exports(ComponentExportSection::new(Global)),
-            _ => return Err(Status::BadArgument),
+            _ => return Err(Refused::bad(c"section")),
         })
     };
     unsafe { begin(handle, make) }.into()
@@ -110,65 +109,12 @@ pub unsafe extern "C" fn wenc_names_new(handle: *mut Handle) -> Status {
     unsafe { begin(handle, || Ok(Session::Names(ComponentNameSection::new(Global)))) }.into()
 }
 
-/// `wenc_unread`: the part of a component that can't be read.
-#[repr(C)]
-pub struct UnreadPart {
-    pub section: usize,
-    pub place: usize,
-    pub part: u32,
-    pub item: u32,
-}
-
-#[unsafe(no_mangle)]
-pub unsafe extern "C" fn wenc_list(
-    handle: *mut Handle,
-    bytes: *const u8,
-    len: usize,
-    unread: *mut UnreadPart,
-) -> Status {
-    unsafe { put(unread, UnreadPart { section: 0, place: 0, part: 0, item: 0 }) };
-    let make = || {
-        let bytes = unsafe { super::arguments::list(bytes, len) }?;
-        match Listed::read(bytes)? {
-            Ok(listed) => Ok(Session::Listed(listed)),
-            Err(fault) => {
-                let (status, part) = unread_part(bytes, fault);
-                unsafe { put(unread, part) };
-                Err(status)
-            }
-        }
-    };
-    unsafe { begin(handle, make) }.into()
-}
-
-/// Returns the status for a component that can't be read, and the part that can't be read.
-fn unread_part(bytes: &[u8], fault: ListFault) -> (Status, UnreadPart) {
-    let (status, section) = match fault {
-        ListFault::Memory => (Status::NoMemory, 0),
-        ListFault::NotAComponent { place } => (Status::NotAComponent, place),
-        ListFault::BadSection { place } => (Status::BadSection, place),
-        ListFault::BadItem { place } => (Status::BadItem, place),
-        ListFault::TooDeep { place } => (Status::TooDeep, place),
-    };
-    let unread = match fault {
-        ListFault::BadItem { place } | ListFault::TooDeep { place } => first_unread(bytes, place),
-        _ => None,
-    };
-    let (part, item, place) = match unread {
-        None => (0, 0, section),
-        Some(Unread::Count { place }) => (1, 0, place),
-        Some(Unread::Item { number, place }) => (2, number, place),
-        Some(Unread::Behind { place }) => (3, 0, place),
-    };
-    (status, UnreadPart { section, place, part, item })
-}
-
 #[unsafe(no_mangle)]
 pub unsafe extern "C" fn wenc_free(handle: *mut Handle) {
     if let Some(handle) = unsafe { handle.as_mut() } {
         let at = mem::replace(&mut handle.at, ptr::null_mut());
         if !at.is_null() {
-            drop(unsafe { Box::from_raw(at.cast::<[Session; 1]>()) });
+            drop(unsafe { Box::from_raw(at.cast::<[Owned; 1]>()) });
         }
     }
 }
@@ -180,13 +126,13 @@ fn finished(session: &mut Session) -> Result<&[u8]> {
             // No call leaves an item unfinished.
             Session::Building(builder) => builder.finish()?,
             Session::ByHand(component) => component.finish(),
-            _ => return Err(Status::BadArgument),
+            _ => return Err(Refused::bad(c"handle")),
         };
         *session = Session::Finished(bytes);
     }
     match session {
         Session::Finished(bytes) => Ok(bytes),
-        _ => Err(Status::BadArgument),
+        _ => Err(Refused::bad(c"handle")),
     }
 }
 
@@ -196,10 +142,11 @@ pub unsafe extern "C" fn wenc_finish(
     bytes: *mut *const u8,
     len: *mut usize,
 ) -> Status {
-    match unsafe { session(handle) }.and_then(finished) {
-        Ok(finished) => {
-            unsafe { put(bytes, finished.as_ptr()) };
-            unsafe { put(len, finished.len()) };
+    let finish = |session: &mut Session| finished(session).map(|all| (all.as_ptr(), all.len()));
+    match unsafe { change(handle, finish) } {
+        Ok((at, finished_len)) => {
+            unsafe { put(bytes, at) };
+            unsafe { put(len, finished_len) };
             Status::Done
         }
         Err(status) => status,
@@ -207,7 +154,7 @@ pub unsafe extern "C" fn wenc_finish(
 }
 
 #[unsafe(no_mangle)]
-pub unsafe extern "C" fn wenc_bytes(handle: *mut Handle, bytes: *mut u8, len: usize) -> Status {
+pub unsafe extern "C" fn wenc_bytes(handle: *const Handle, bytes: *mut u8, len: usize) -> Status {
     match unsafe { session(handle) } {
         Ok(Session::Building(_) | Session::ByHand(_)) => Status::Unfinished,
         Ok(Session::Finished(whole)) if whole.len() == len && !bytes.is_null() => {
@@ -215,23 +162,35 @@ pub unsafe extern "C" fn wenc_bytes(handle: *mut Handle, bytes: *mut u8, len: us
             Status::Done
         }
         Ok(_) => Status::BadArgument,
-        Err(status) => status,
+        Err(refused) => refused.status,
     }
 }
 
-/// Writes a number through a pointer from C.
-unsafe fn counted<T>(at: *mut T, count: Result<T>) -> Status {
-    count.map(|count| unsafe { put(at, count) }).into()
+/// `wenc_error`: why a call failed.
+#[repr(C)]
+pub struct ErrorRow {
+    pub argument: *const c_char,
+    pub member: usize,
+    pub status: u32,
 }
 
 #[unsafe(no_mangle)]
-pub unsafe extern "C" fn wenc_count(handle: *mut Handle, space: u32, count: *mut u32) -> Status {
-    let counts =
-        |session: &mut Session| session.count(numbers::space(space).ok_or(Status::BadArgument)?);
-    unsafe { counted(count, session(handle).and_then(counts)) }
+pub unsafe extern "C" fn wenc_last_error(handle: *const Handle, error: *mut ErrorRow) -> Status {
+    let last = unsafe { owned(handle) }.map(|owned| {
+        let refused = owned.refused.unwrap_or(Status::Done.into());
+        let argument = refused.argument.map_or(ptr::null(), CStr::as_ptr);
+        ErrorRow { argument, member: refused.member, status: refused.status as u32 }
+    });
+    unsafe { written(error, last.map_err(Into::into)) }
 }
 
 #[unsafe(no_mangle)]
-pub unsafe extern "C" fn wenc_len(handle: *mut Handle, len: *mut usize) -> Status {
-    unsafe { counted(len, session(handle).and_then(|session| session.len())) }
+pub unsafe extern "C" fn wenc_count(handle: *const Handle, space: u32, count: *mut u32) -> Status {
+    let counts = |session: &Session| session.count(known(c"space", numbers::space(space))?);
+    unsafe { written(count, session(handle).and_then(counts)) }
+}
+
+#[unsafe(no_mangle)]
+pub unsafe extern "C" fn wenc_len(handle: *const Handle, len: *mut usize) -> Status {
+    unsafe { written(len, session(handle).and_then(Session::len)) }
 }

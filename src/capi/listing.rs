@@ -1,50 +1,74 @@
 //! Components that were read, and items that are read from bytes.
 
+use super::arguments::{known, list};
+use super::rows::{ItemRow, SectionRow};
 use super::session::{Session, settled};
-use super::{Handle, Result, Status, calls, numbers, other, put};
+use super::{Handle, Refused, Result, Status, begin, calls, numbers, other, put, session, written};
 use crate::proved::wasm_encoder::{
-    AliasTree, ComponentBuilder, ComponentSectionId, CustomSection, ItemTree, ListFault,
-    ListedSection, SectionItems, Space, list,
+    ComponentBuilder, ComponentSectionId, CustomSection, ItemTree, ListFault, SectionItems,
+    Sections, Space, Unread, first_unread,
 };
 use crate::shim::alloc::Global;
 use crate::shim::vec::Vec;
-use core::ptr;
 
 /// A component that was read.
 pub struct Listed {
-    sections: Vec<ListedSection>,
-    /// The number of items before each section.
-    before: Vec<usize>,
-    /// The size of the component in bytes.
-    len: usize,
-    /// The index of each item, or of its first, section by section.
-    indices: Vec<u64>,
+    /// A copy of its bytes.
+    bytes: Vec<u8>,
+    sections: Vec<Section>,
+    items: Vec<Item>,
     /// The number of indices in each space, by its number.
     counts: [u64; 13],
 }
 
+/// A section of it.
+struct Section {
+    row: SectionRow,
+    /// The number of items before the section.
+    before: usize,
+}
+
+/// An item of it.
+struct Item {
+    place: usize,
+    /// Its index, or that of its first value.
+    index: u64,
+}
+
 impl Listed {
     /// Reads a component.
-    pub fn read(bytes: &[u8]) -> Result<Result<Self, ListFault>> {
-        let listing = match list(Global, bytes) {
-            Ok(listing) => listing,
-            Err(fault) => return Ok(Err(fault)),
+    fn read(bytes: &[u8]) -> Result<Self, ListFault> {
+        let mut listed = Self {
+            bytes: Vec::new(Global),
+            sections: Vec::new(Global),
+            items: Vec::new(Global),
+            counts: [0; 13],
         };
-        let (mut before, mut indices) = (Vec::new(Global), Vec::new(Global));
-        let mut counts = [0_u64; 13];
-        for section in &listing.sections {
-            before.push(indices.len())?;
-            for item in &section.items {
-                let mut unspaced = 0;
-                let (count, taken) = match item.indices() {
-                    Some((space, taken)) => (&mut counts[space.number()], taken),
-                    None => (&mut unspaced, 0),
-                };
-                indices.push(*count)?;
-                *count = count.checked_add(taken.into()).ok_or(Status::TooLarge)?;
-            }
+        let mut sections = Sections::new(bytes)?;
+        while let Some(items) = sections.next()? {
+            listed.read_section(bytes, items)?;
         }
-        Ok(Ok(Self { sections: listing.sections, before, len: bytes.len(), indices, counts }))
+        listed.bytes.extend_from_slice(bytes)?;
+        Ok(listed)
+    }
+
+    fn read_section(&mut self, bytes: &[u8], items: SectionItems<'_>) -> Result<(), ListFault> {
+        let bad = |_| ListFault::BadSection { place: items.place };
+        let row = SectionRow::new(bytes, items).map_err(bad)?;
+        self.sections.push(Section { row, before: self.items.len() })?;
+        let (mut left, mut place) = (items, items.reached());
+        while let Some(item) = left.next()? {
+            let mut index = 0;
+            if let Some((space, taken)) = item.indices() {
+                let count = &mut self.counts[space.number()];
+                index = *count;
+                // A component of 2^32 such items would have more bytes than there are.
+                *count = count.saturating_add(taken.into());
+            }
+            self.items.push(Item { place, index })?;
+            place = left.reached();
+        }
+        Ok(())
     }
 
     /// Returns the number of sections.
@@ -54,89 +78,78 @@ impl Listed {
 
     /// Returns the number of items in an index space.
     pub fn count(&self, space: Space) -> Result<u32> {
-        u32::try_from(self.counts[space.number()]).map_err(|_| Status::TooLarge)
+        Ok(u32::try_from(self.counts[space.number()]).map_err(|_| Status::TooLarge)?)
     }
 
-    fn section(&self, number: usize) -> Result<SectionRow> {
-        let section = self.sections.get(number).ok_or(Status::BadArgument)?;
-        // 32 bits: there is a section of this number.
-        let end = self.sections.get(number + 1).map_or(self.len, |next| next.place);
-        Ok(SectionRow {
-            place: section.place,
-            len: end - section.place,
-            items: section.items.len(),
-            id: section.id.into(),
-        })
+    fn section(&self, number: usize) -> Result<&Section> {
+        self.sections.get(number).ok_or(Refused::bad(c"section"))
     }
 
-    fn item(&self, section: usize, item: usize) -> Result<&ItemTree> {
-        let section = self.sections.get(section).ok_or(Status::BadArgument)?;
-        section.items.get(item).ok_or(Status::BadArgument)
+    /// Returns an item with this number in a section, as the first of what is left of the section.
+    fn item(&self, section: usize, number: usize) -> Result<(&Item, SectionItems<'_>)> {
+        let Section { row, before } = self.section(section)?;
+        if number >= row.items {
+            return Err(Refused::bad(c"number"));
+        }
+        // 32 bits: there is an item of this number.
+        let item = &self.items[*before + number];
+        // 32 bits: the section ends where the component does, or before.
+        let ends = row.place + row.len;
+        let (id, rest) = (row.id as u8, &self.bytes[item.place..ends]);
+        Ok((item, SectionItems { id, place: row.place, ends, left: 1, rest }))
     }
 
-    fn row(&self, section: usize, item: usize) -> Result<ItemRow> {
-        let tree = self.item(section, item)?;
-        let (space, indices) = match tree.indices() {
-            Some((space, indices)) => (numbers::of_space(space), indices),
-            None => (u32::try_from(self.counts.len()).unwrap_or(u32::MAX), 0),
-        };
-        let name = name_in(tree);
-        let bytes = bytes_in(tree);
-        Ok(ItemRow {
-            // 32 bits: there is an item of this number.
-            index: self.indices[self.before[section] + item],
-            name: name.map_or(ptr::null(), str::as_ptr),
-            name_len: name.map_or(0, str::len),
-            bytes: bytes.map_or(ptr::null(), <[u8]>::as_ptr),
-            bytes_len: bytes.map_or(0, <[u8]>::len),
-            section: self.sections[section].id.into(),
-            space,
-            indices,
-        })
+    fn row(&self, section: usize, number: usize) -> Result<ItemRow> {
+        let (item, mut left) = self.item(section, number)?;
+        let view = left.next()?.ok_or(Status::BadItem)?;
+        let row = ItemRow::new(left.id, item.place..left.reached(), view);
+        Ok(ItemRow { index: item.index, ..row })
     }
 }
 
-/// Returns the name under which an item is imported, exported or aliased, or that of a custom
-/// section.
-fn name_in(item: &ItemTree) -> Option<&str> {
-    match item {
-        ItemTree::Import { name, .. } | ItemTree::Export { name, .. } => Some(name.name.as_str()),
-        ItemTree::Custom { name, .. } => Some(name.as_str()),
-        ItemTree::Alias(AliasTree::InstanceExport { name, .. }) => Some(name.as_str()),
-        ItemTree::Alias(AliasTree::CoreInstanceExport { name, .. }) => Some(name.as_str()),
-        _ => None,
-    }
-}
-
-/// Returns the bytes of a core module or a component, or the data of a custom section.
-fn bytes_in(item: &ItemTree) -> Option<&[u8]> {
-    match item {
-        ItemTree::Module(bytes) | ItemTree::Component(bytes) => Some(bytes),
-        ItemTree::Custom { data, .. } => Some(data),
-        _ => None,
-    }
-}
-
-/// `wenc_listed_section`: a section that was read.
+/// `wenc_unread`: the part of a component that can't be read.
 #[repr(C)]
-pub struct SectionRow {
+pub struct UnreadPart {
+    pub section: usize,
     pub place: usize,
-    pub len: usize,
-    pub items: usize,
-    pub id: u32,
+    pub part: u32,
+    pub item: u32,
 }
 
-/// `wenc_listed_item`: an item that was read.
-#[repr(C)]
-pub struct ItemRow {
-    pub index: u64,
-    pub name: *const u8,
-    pub name_len: usize,
-    pub bytes: *const u8,
-    pub bytes_len: usize,
-    pub section: u32,
-    pub space: u32,
-    pub indices: u32,
+#[unsafe(no_mangle)]
+pub unsafe extern "C" fn wenc_list(
+    handle: *mut Handle,
+    bytes: *const u8,
+    len: usize,
+    unread: *mut UnreadPart,
+) -> Status {
+    unsafe { put(unread, UnreadPart { section: 0, place: 0, part: 0, item: 0 }) };
+    let make = || {
+        let bytes = unsafe { list(bytes, len) }?;
+        Listed::read(bytes).map(Session::Listed).map_err(|fault| {
+            unsafe { put(unread, unread_part(bytes, fault)) };
+            fault.into()
+        })
+    };
+    unsafe { begin(handle, make) }.into()
+}
+
+/// Returns the part of a component that can't be read.
+fn unread_part(bytes: &[u8], fault: ListFault) -> UnreadPart {
+    let (section, unread) = match fault {
+        ListFault::Memory => (0, None),
+        ListFault::NotAComponent { place } | ListFault::BadSection { place } => (place, None),
+        ListFault::BadItem { place } | ListFault::TooDeep { place } => {
+            (place, first_unread(bytes, place))
+        }
+    };
+    let (part, item, place) = match unread {
+        None => (0, 0, section),
+        Some(Unread::Count { place }) => (1, 0, place),
+        Some(Unread::Item { number, place }) => (2, number, place),
+        Some(Unread::Behind { place }) => (3, 0, place),
+    };
+    UnreadPart { section, place, part, item }
 }
 
 /// Returns the component that a handle has read.
@@ -147,23 +160,40 @@ fn listed(session: &Session) -> Result<&Listed> {
     }
 }
 
+#[unsafe(no_mangle)]
+pub unsafe extern "C" fn wenc_section_at(
+    handle: *const Handle,
+    number: usize,
+    section: *mut SectionRow,
+) -> Status {
+    let read = |session| listed(session)?.section(number).map(|section| section.row);
+    unsafe { written(section, session(handle).and_then(read)) }
+}
+
+#[unsafe(no_mangle)]
+pub unsafe extern "C" fn wenc_item_at(
+    handle: *const Handle,
+    section: usize,
+    number: usize,
+    item: *mut ItemRow,
+) -> Status {
+    let read = |session| listed(session)?.row(section, number);
+    unsafe { written(item, session(handle).and_then(read)) }
+}
+
 calls! {
-    wenc_section_at(number: usize, section: *mut SectionRow) = |session| {
-        put(section, listed(session)?.section(number)?);
-        Ok(())
-    };
-    wenc_item_at(section: usize, number: usize, item: *mut ItemRow) = |session| {
-        put(item, listed(session)?.row(section, number)?);
-        Ok(())
-    };
-    wenc_copy(debug_name: name, listing: *mut Handle, section: usize, number: usize) -> index
+    wenc_copy(debug_name: name, listing: *const Handle, section: usize, number: usize) -> index
         = |session| {
-        let item = listed(other(session, listing)?)?.item(section, number)?;
-        add(session.builder()?, debug_name, item)
+        let of = |argument| move |refused: Refused| refused.of(argument);
+        let listing = other(session, listing).and_then(listed).map_err(of(c"listing"))?;
+        let (_, mut items) = listing.item(section, number)?;
+        let item = items.next_tree(Global)?.ok_or(Status::BadItem)?;
+        add(session.builder()?, debug_name, &item)
     };
     wenc_item(section: u32, debug_name: name, bytes[len]: u8) -> index = |session| {
-        let section = numbers::section(section).ok_or(Status::BadArgument)?;
-        add(session.builder()?, debug_name, &read(section, bytes)?)
+        let section = known(c"section", numbers::section(section))?;
+        let item = read(section, bytes).map_err(|status| Refused::from(status).of(c"bytes"))?;
+        add(session.builder()?, debug_name, &item)
     };
 }
 
@@ -199,7 +229,7 @@ fn add(builder: &mut ComponentBuilder, name: Option<&str>, item: &ItemTree) -> R
 }
 
 /// Reads an item of a section, which must take all bytes.
-fn read(section: ComponentSectionId, bytes: &[u8]) -> Result<ItemTree> {
+fn read(section: ComponentSectionId, bytes: &[u8]) -> Result<ItemTree, Status> {
     let (id, ends) = (section.into(), bytes.len());
     let mut items = SectionItems { id, place: 0, ends, left: 1, rest: bytes };
     match items.next_tree(Global) {

@@ -3,7 +3,7 @@
 
 use super::arguments::Entity;
 use crate::proved::wasm_encoder::{
-    AbstractHeapType, CanonicalOption, ComponentExportKind, ComponentOuterAliasKind,
+    AbstractHeapType, Alias, CanonicalOption, ComponentExportKind, ComponentOuterAliasKind,
     ComponentSectionId, ComponentTypeRef, ComponentValType, EntityType, ExportKind, FieldType,
     HeapType, PrimitiveValType, RefType, Space, StorageType, TypeBounds, ValType,
 };
@@ -78,39 +78,6 @@ const I16: u32 = 20;
 const NULLABLE: u32 = 0x100;
 const MUTABLE: u32 = 0x200;
 
-/// `enum wenc_section`.
-const SECTIONS: [ComponentSectionId; 12] = [
-    ComponentSectionId::CoreCustom,
-    ComponentSectionId::CoreModule,
-    ComponentSectionId::CoreInstance,
-    ComponentSectionId::CoreType,
-    ComponentSectionId::Component,
-    ComponentSectionId::Instance,
-    ComponentSectionId::Alias,
-    ComponentSectionId::Type,
-    ComponentSectionId::CanonicalFunction,
-    ComponentSectionId::Start,
-    ComponentSectionId::Import,
-    ComponentSectionId::Export,
-];
-
-/// `enum wenc_space`.
-const SPACES: [Space; 13] = [
-    Space::CoreModules,
-    Space::CoreFuncs,
-    Space::CoreTypes,
-    Space::CoreMemories,
-    Space::CoreTables,
-    Space::CoreInstances,
-    Space::CoreTags,
-    Space::CoreGlobals,
-    Space::Funcs,
-    Space::Instances,
-    Space::Values,
-    Space::Components,
-    Space::Types,
-];
-
 fn nth<T: Copy>(all: &[T], number: u32) -> Option<T> {
     all.get(usize::try_from(number).ok()?).copied()
 }
@@ -137,16 +104,59 @@ pub fn outer_kind(number: u32) -> Option<ComponentOuterAliasKind> {
 }
 
 pub fn section(number: u32) -> Option<ComponentSectionId> {
-    nth(&SECTIONS, number)
+    nth(&ComponentSectionId::ALL, number)
 }
 
 pub fn space(number: u32) -> Option<Space> {
-    nth(&SPACES, number)
+    nth(&Space::ALL, number)
 }
+
+/// The number of no index space.
+pub const NO_SPACE: u32 = Space::ALL.len() as u32;
 
 /// Returns the number of an index space in `enum wenc_space`.
 pub fn of_space(space: Space) -> u32 {
-    number_in(&SPACES, &space)
+    number_in(&Space::ALL, &space)
+}
+
+/// Returns the number of a kind in `enum wenc_kind`.
+pub fn of_kind(kind: ComponentExportKind) -> u32 {
+    number_in(&KINDS, &kind)
+}
+
+/// Returns the number of a kind in `enum wenc_core_kind`.
+pub fn of_core_kind(kind: ExportKind) -> u32 {
+    number_in(&CORE_KINDS, &kind)
+}
+
+/// Returns the number of a kind in `enum wenc_outer_kind`.
+pub fn of_outer_kind(kind: ComponentOuterAliasKind) -> u32 {
+    number_in(&OUTER_KINDS, &kind)
+}
+
+/// Returns what an alias refers to, in `enum wenc_alias`.
+pub fn of_alias(alias: &Alias<'_>) -> u32 {
+    match alias {
+        Alias::InstanceExport { .. } => 1,
+        Alias::CoreInstanceExport { .. } => 2,
+        Alias::Outer { .. } => 3,
+    }
+}
+
+/// Returns a type in `enum wenc_ref`, and its `of`.
+pub fn of_type_ref(ty: ComponentTypeRef) -> (u32, u32) {
+    match ty {
+        ComponentTypeRef::Module(of) => (1, of),
+        ComponentTypeRef::Func(of) => (2, of),
+        ComponentTypeRef::Value(ComponentValType::Type(of)) => (3, of),
+        ComponentTypeRef::Type(TypeBounds::Eq(of)) => (4, of),
+        ComponentTypeRef::Component(of) => (5, of),
+        ComponentTypeRef::Instance(of) => (6, of),
+        ComponentTypeRef::Type(TypeBounds::SubResource) => (7, 0),
+        ComponentTypeRef::Value(ComponentValType::Primitive(ty)) => {
+            (8, number_in(&PRIMITIVES, &ty) + 1)
+        }
+    }
 }
 
 /// `enum wenc_ref`: a value type.

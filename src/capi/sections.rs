@@ -1,8 +1,8 @@
 //! The calls that append sections, and the section of debug names.
 
-use super::arguments::{IndexName, Producer, text};
+use super::arguments::{IndexName, Producer, known, text};
 use super::session::Session;
-use super::{Handle, Result, Status, calls, numbers, other};
+use super::{Handle, Refused, Result, calls, numbers, other};
 use crate::component::name_items;
 use crate::proved::wasm_encoder::{
     ComponentNameSection, CustomSection, NameMap, ProducersField, ProducersSection,
@@ -29,8 +29,8 @@ calls! {
         }
     };
     wenc_append_names() = |session| Ok(session.builder()?.append_names()?);
-    wenc_section(section: *mut Handle) = |session| {
-        match other(session, section)? {
+    wenc_section(section: *const Handle) = |session| {
+        match other(session, section).map_err(|refused| refused.of(c"section"))? {
             Session::CoreInstances(section) => session.append(section).map(drop),
             Session::CoreTypes(section) => session.append(section).map(drop),
             Session::Instances(section) => session.append(section).map(drop),
@@ -40,16 +40,17 @@ calls! {
             Session::Imports(section) => session.append(section).map(drop),
             Session::Exports(section) => session.append(section).map(drop),
             Session::Names(section) => add_custom(session, &section.as_custom()),
-            _ => Err(Status::BadArgument),
+            _ => Err(Refused::bad(c"section")),
         }
     };
     wenc_names_component(name[name_len]: text) = |session| Ok(of_names(session)?.component(name)?);
     wenc_names_items(space: u32, names[names_len]: IndexName) = |session| {
         let section = of_names(session)?;
-        let space = numbers::space(space).ok_or(Status::BadArgument)?;
+        let space = known(c"space", numbers::space(space))?;
         let mut map = NameMap::new(Global);
-        for named in names {
-            map.append(named.index, text(named.name, named.name_len)?)?;
+        for (member, named) in names.iter().enumerate() {
+            let wrong = |refused: Refused| refused.of(c"names").at(member);
+            map.append(named.index, text(named.name, named.name_len).map_err(wrong)?)?;
         }
         Ok(name_items(section, space, &map)?)
     };
@@ -73,21 +74,36 @@ fn of_names(session: &mut Session) -> Result<&mut ComponentNameSection> {
 
 /// Makes a producers section of these tools. Adjacent tools with the same field share it.
 unsafe fn read_producers(producers: &[Producer]) -> Result<ProducersSection> {
-    let field_of = |producer: &Producer| unsafe { text(producer.field, producer.field_len) };
     let mut section = ProducersSection::new(Global);
     let mut rest = producers;
     while let Some(first) = rest.first() {
-        let name = field_of(first)?;
+        let read = |producer: &Producer, behind: &[Producer]| {
+            let member = producers.len() - behind.len() - 1;
+            let wrong = |refused: Refused| refused.of(c"producers").at(member);
+            unsafe { producer.read() }.map_err(wrong)
+        };
+        let (name, ..) = read(first, &rest[1..])?;
         let mut field = ProducersField::new(Global);
         while let Some((producer, behind)) = rest.split_first() {
-            if field_of(producer)? != name {
+            let (of, tool, version) = read(producer, behind)?;
+            if of != name {
                 break;
             }
-            let tool = unsafe { text(producer.tool, producer.tool_len) }?;
-            field.value(tool, unsafe { text(producer.version, producer.version_len) }?)?;
+            field.value(tool, version)?;
             rest = behind;
         }
         section.field(name, &field)?;
     }
     Ok(section)
+}
+
+impl Producer {
+    /// Returns the field, the tool and its version.
+    unsafe fn read<'a>(&self) -> Result<(&'a str, &'a str, &'a str)> {
+        Ok((
+            unsafe { text(self.field, self.field_len) }?,
+            unsafe { text(self.tool, self.tool_len) }?,
+            unsafe { text(self.version, self.version_len) }?,
+        ))
+    }
 }

@@ -1,7 +1,7 @@
 //! What a handle owns, and the calls that apply to several kinds of it.
 
 use super::listing::Listed;
-use super::{Result, Status};
+use super::{Refused, Result, Status};
 use crate::component::{count_built, count_declared};
 use crate::proved::wasm_encoder::{
     Alias, CanonicalFunctionSection, Component, ComponentAliasSection, ComponentBuilder,
@@ -78,19 +78,21 @@ macro_rules! counted {
 pub(super) use counted;
 
 impl Session {
-    /// Returns the status for a call that this session doesn't take.
-    pub fn refusal(&self) -> Status {
-        match self {
+    /// Returns why a call fails that this session doesn't take.
+    pub fn refusal(&self) -> Refused {
+        let status = match self {
             Self::Finished(_) => Status::Finished,
             _ => Status::BadArgument,
-        }
+        };
+        Refused::from(status).of(c"handle")
     }
 
     /// Checks a debug name: only items of a builder may have one.
     pub fn take_name(&self, debug_name: Option<&str>) -> Result<()> {
         match (self, debug_name) {
             (Self::Building(_), _) | (_, None) => Ok(()),
-            _ => Err(self.refusal()),
+            (Self::Finished(_), _) => Err(self.refusal()),
+            _ => Err(Refused::bad(c"debug_name")),
         }
     }
 
@@ -165,7 +167,7 @@ impl Session {
                 Alias::Outer { kind: ComponentOuterAliasKind::CoreType, count, index } => {
                     Ok(to.alias_core_type(count, index)?)
                 }
-                _ => Err(Status::BadArgument),
+                _ => Err(Refused::bad(c"kind")),
             },
             _ => Err(self.refusal()),
         }
@@ -184,8 +186,12 @@ impl Session {
         match (self, space) {
             (Self::Building(builder), _) => Ok(count_built(builder, space)),
             (Self::ModuleType(ty), Space::CoreTypes) => Ok(ty.type_count()),
-            (Self::ComponentType(ty), _) => count_declared(ty, space).ok_or(Status::BadArgument),
-            (Self::InstanceType(ty), _) => count_declared(ty, space).ok_or(Status::BadArgument),
+            (Self::ComponentType(ty), _) => {
+                Ok(count_declared(ty, space).ok_or(Status::BadArgument)?)
+            }
+            (Self::InstanceType(ty), _) => {
+                Ok(count_declared(ty, space).ok_or(Status::BadArgument)?)
+            }
             (Self::Listed(listed), _) => listed.count(space),
             _ => Err(self.refusal()),
         }
@@ -208,6 +214,6 @@ impl Session {
             Self::Listed(listed) => return Ok(listed.len()),
             _ => return Err(self.refusal()),
         };
-        usize::try_from(len).map_err(|_| Status::TooLarge)
+        Ok(usize::try_from(len).map_err(|_| Status::TooLarge)?)
     }
 }

@@ -1,11 +1,12 @@
 //! The calls that add and declare types.
 
-use super::arguments::{Flag, Name, Pair, Part, named, names, unnamed};
+use super::arguments::{Flag, Name, Pair, Part, known, named, names, unnamed};
 use super::session::{Session, settled};
-use super::{Handle, Result, Status, calls, numbers, other};
+use super::{Handle, Refused, Result, calls, numbers, other};
 use crate::proved::wasm_encoder::{
     ComponentTypeEncoder, ComponentValType, Fault, ModuleType, Parent, ValType,
 };
+use core::ffi::CStr;
 
 /// Writes a type with the encoder of a builder, a declared type or a section.
 macro_rules! write_type {
@@ -28,12 +29,16 @@ macro_rules! write_type {
     }};
 }
 
-fn value(reference: u32, of: u32) -> Result<ComponentValType> {
-    numbers::value(reference, of).ok_or(Status::BadArgument)
+fn value(argument: &'static CStr, reference: u32, of: u32) -> Result<ComponentValType> {
+    known(argument, numbers::value(reference, of))
 }
 
-fn maybe_value(reference: u32, of: u32) -> Result<Option<ComponentValType>> {
-    numbers::maybe_value(reference, of).ok_or(Status::BadArgument)
+fn maybe_value(
+    argument: &'static CStr,
+    reference: u32,
+    of: u32,
+) -> Result<Option<ComponentValType>> {
+    known(argument, numbers::maybe_value(reference, of))
 }
 
 calls! {
@@ -44,60 +49,60 @@ calls! {
     wenc_type_function(
         debug_name: name, is_async: Flag, params[params_len]: Part, reference: u32, of: u32
     ) -> index = |session| {
-        let params = named(params, numbers::value)?;
-        let result = maybe_value(reference, of)?;
+        let params = named(c"params", params, numbers::value)?;
+        let result = maybe_value(c"ref", reference, of)?;
         let is_async = is_async.is_set();
         write_type!(session, debug_name, |encoder| {
             write_function(encoder, is_async, params, result)
         })
     };
     wenc_type_primitive(debug_name: name, primitive: u32) -> index = |session| {
-        let ty = numbers::primitive(primitive).ok_or(Status::BadArgument)?;
+        let ty = known(c"primitive", numbers::primitive(primitive))?;
         write_type!(session, debug_name, |encoder| encoder.defined_type().primitive(ty))
     };
     wenc_type_record(debug_name: name, fields[fields_len]: Part) -> index = |session| {
-        let fields = named(fields, numbers::value)?;
+        let fields = named(c"fields", fields, numbers::value)?;
         write_type!(session, debug_name, |encoder| encoder.defined_type().record(fields))
     };
     wenc_type_variant(debug_name: name, cases[cases_len]: Part) -> index = |session| {
-        let cases = named(cases, numbers::maybe_value)?;
+        let cases = named(c"cases", cases, numbers::maybe_value)?;
         write_type!(session, debug_name, |encoder| encoder.defined_type().variant(cases))
     };
     wenc_type_list(debug_name: name, reference: u32, of: u32) -> index = |session| {
-        let ty = value(reference, of)?;
+        let ty = value(c"ref", reference, of)?;
         write_type!(session, debug_name, |encoder| encoder.defined_type().list(ty))
     };
     wenc_type_fixed_length_list(debug_name: name, reference: u32, of: u32, length: u32) -> index
         = |session| {
-        let ty = value(reference, of)?;
+        let ty = value(c"ref", reference, of)?;
         write_type!(session, debug_name, |encoder| {
             encoder.defined_type().fixed_length_list(ty, length)
         })
     };
     wenc_type_map(debug_name: name, key_ref: u32, key_of: u32, reference: u32, of: u32) -> index
         = |session| {
-        let (key, ty) = (value(key_ref, key_of)?, value(reference, of)?);
+        let (key, ty) = (value(c"key_ref", key_ref, key_of)?, value(c"ref", reference, of)?);
         write_type!(session, debug_name, |encoder| encoder.defined_type().map(key, ty))
     };
     wenc_type_tuple(debug_name: name, elements[elements_len]: Pair) -> index = |session| {
-        let elements = unnamed(elements, numbers::value)?;
+        let elements = unnamed(c"elements", elements, numbers::value)?;
         write_type!(session, debug_name, |encoder| encoder.defined_type().tuple(elements))
     };
     wenc_type_flags(debug_name: name, flags[flags_len]: Part) -> index = |session| {
-        let flags = names(flags)?;
+        let flags = names(c"flags", flags)?;
         write_type!(session, debug_name, |encoder| encoder.defined_type().flags(flags))
     };
     wenc_type_enum(debug_name: name, cases[cases_len]: Part) -> index = |session| {
-        let cases = names(cases)?;
+        let cases = names(c"cases", cases)?;
         write_type!(session, debug_name, |encoder| encoder.defined_type().enum_type(cases))
     };
     wenc_type_option(debug_name: name, reference: u32, of: u32) -> index = |session| {
-        let ty = value(reference, of)?;
+        let ty = value(c"ref", reference, of)?;
         write_type!(session, debug_name, |encoder| encoder.defined_type().option(ty))
     };
     wenc_type_result(debug_name: name, ok_ref: u32, ok_of: u32, err_ref: u32, err_of: u32) -> index
         = |session| {
-        let (ok, err) = (maybe_value(ok_ref, ok_of)?, maybe_value(err_ref, err_of)?);
+        let (ok, err) = (maybe_value(c"ok_ref", ok_ref, ok_of)?, maybe_value(c"err_ref", err_ref, err_of)?);
         write_type!(session, debug_name, |encoder| encoder.defined_type().result(ok, err))
     };
     wenc_type_own(debug_name: name, resource: u32) -> index = |session| {
@@ -107,15 +112,15 @@ calls! {
         write_type!(session, debug_name, |encoder| encoder.defined_type().borrow(resource))
     };
     wenc_type_future(debug_name: name, reference: u32, of: u32) -> index = |session| {
-        let ty = maybe_value(reference, of)?;
+        let ty = maybe_value(c"ref", reference, of)?;
         write_type!(session, debug_name, |encoder| encoder.defined_type().future(ty))
     };
     wenc_type_stream(debug_name: name, reference: u32, of: u32) -> index = |session| {
-        let ty = maybe_value(reference, of)?;
+        let ty = maybe_value(c"ref", reference, of)?;
         write_type!(session, debug_name, |encoder| encoder.defined_type().stream(ty))
     };
-    wenc_type(debug_name: name, types: *mut Handle) -> index = |session| {
-        match other(session, types)? {
+    wenc_type(debug_name: name, types: *const Handle) -> index = |session| {
+        match other(session, types).map_err(|refused| refused.of(c"types"))? {
             Session::ComponentType(ty) => {
                 write_type!(session, debug_name, |encoder| encoder.component(ty))
             }
@@ -123,14 +128,14 @@ calls! {
                 write_type!(session, debug_name, |encoder| encoder.instance(ty))
             }
             Session::ModuleType(ty) => write_module(session, debug_name, ty),
-            _ => Err(Status::BadArgument),
+            _ => Err(Refused::bad(c"types")),
         }
     };
     wenc_type_export(name[name_len]: text, reference: u32, of: u32) -> index = |session| {
-        session.declare(name.into(), numbers::type_ref(reference, of).ok_or(Status::BadArgument)?)
+        session.declare(name.into(), known(c"ref", numbers::type_ref(reference, of))?)
     };
     wenc_type_export_named(&name: Name, reference: u32, of: u32) -> index = |session| {
-        session.declare(name.read()?, numbers::type_ref(reference, of).ok_or(Status::BadArgument)?)
+        session.declare(name.read()?, known(c"ref", numbers::type_ref(reference, of))?)
     };
 }
 

@@ -1,10 +1,11 @@
 //! What the header says of NULL, of numbers that stand for nothing, and of handles.
 
-use crate::capi::arguments::{Entity, Flag, Name, Pair, Part, Producer, Subtype};
+use crate::capi::arguments::{Entity, Flag, IndexName, Name, Pair, Part, Producer, Subtype, Text};
 use crate::capi::core_types::*;
 use crate::capi::items::*;
 use crate::capi::life::*;
 use crate::capi::listing::*;
+use crate::capi::rows::{ItemRow, SectionRow};
 use crate::capi::sections::*;
 use crate::capi::types::*;
 use crate::capi::{Handle, Status};
@@ -15,12 +16,18 @@ use core::{mem, ptr, slice};
 const NO: Flag = Flag(0);
 const YES: Flag = Flag(1);
 const EMPTY: *const u8 = ptr::null();
+/// No debug name.
+const NONE: *const Text = ptr::null();
+
+pub fn named(name: &str) -> Text {
+    Text { at: name.as_ptr(), len: name.len() }
+}
 
 /// A handle, which is freed.
-struct Held(Handle);
+pub struct Held(Handle);
 
 impl Held {
-    fn nothing() -> Self {
+    pub fn nothing() -> Self {
         Self(Handle { at: ptr::null_mut() })
     }
 
@@ -30,19 +37,19 @@ impl Held {
         held
     }
 
-    fn builder() -> Self {
+    pub fn builder() -> Self {
         Self::new(|handle| unsafe { wenc_new(handle) })
     }
 
-    fn types(kind: u32) -> Self {
+    pub fn types(kind: u32) -> Self {
         Self::new(|handle| unsafe { wenc_types_new(handle, kind) })
     }
 
-    fn at(&mut self) -> *mut Handle {
+    pub fn at(&mut self) -> *mut Handle {
         &mut self.0
     }
 
-    fn finished(mut self) -> Vec<u8> {
+    pub fn finished(mut self) -> Vec<u8> {
         let (mut at, mut len) = (ptr::null(), 0);
         assert_eq!(unsafe { wenc_finish(self.at(), &mut at, &mut len) }, Status::Done);
         unsafe { slice::from_raw_parts(at, len) }.into()
@@ -65,13 +72,15 @@ fn import(handle: *mut Handle) -> (Status, u32) {
 #[test]
 fn statuses_have_texts() {
     let text = |status| unsafe { CStr::from_ptr(wenc_status_text(status)) };
-    let texts: Vec<&CStr> = (0..14).map(text).collect();
+    let texts: Vec<&CStr> = (0..15).map(text).collect();
     assert_eq!((texts[0], texts[7], texts[12]), (c"done", c"bad argument", c"bad item"));
     for (number, one) in texts.iter().enumerate() {
         assert!(!texts[..number].contains(one) && !one.is_empty());
     }
-    assert_eq!(text(u32::MAX), texts[13]);
-    assert_eq!(wenc_version(), 200);
+    assert_eq!((texts[13], text(u32::MAX)), (c"end", texts[14]));
+    assert_eq!(wenc_version(), 100);
+    let defined = alloc::format!("#define WENC_VERSION {}\n", wenc_version());
+    assert!(include_str!("../../c/wenc.h").contains(&defined));
 }
 
 #[test]
@@ -81,9 +90,9 @@ fn null_is_empty_or_nothing() {
     unsafe {
         assert_eq!(wenc_import(at, EMPTY, 0, 7, 0, ptr::null_mut()), Status::Done);
         assert_eq!(import(at), (Status::Done, 1));
-        assert_eq!(wenc_type_tuple(at, NO, EMPTY, 9, ptr::null(), 0, none), Status::Done);
-        assert_eq!(wenc_type_flags(at, YES, EMPTY, 0, ptr::null(), 0, none), Status::Done);
-        assert_eq!(wenc_core_module(at, NO, EMPTY, 9, EMPTY, 0, none), Status::Done);
+        assert_eq!(wenc_type_tuple(at, NONE, ptr::null(), 0, none), Status::Done);
+        assert_eq!(wenc_type_flags(at, &named(""), ptr::null(), 0, none), Status::Done);
+        assert_eq!(wenc_core_module(at, NONE, EMPTY, 0, none), Status::Done);
         assert_eq!(wenc_start(at, 0, ptr::null(), 0, 0, none), Status::Done);
         assert_eq!(wenc_custom_section(at, EMPTY, 0, EMPTY, 0), Status::Done);
         assert_eq!(wenc_producers(at, ptr::null(), 0), Status::Done);
@@ -112,10 +121,10 @@ fn null_and_impossible_lengths_are_refused() {
         [
             wenc_import(at, EMPTY, 5, 7, 0, none),
             wenc_import(at, a, most, 7, 0, none),
-            wenc_type_own(at, YES, EMPTY, 1, 0, none),
-            wenc_type_tuple(at, NO, EMPTY, 0, ptr::null(), 1, none),
-            wenc_type_tuple(at, NO, EMPTY, 0, &pair, most / 8, none),
-            wenc_core_module(at, NO, EMPTY, 0, EMPTY, 8, none),
+            wenc_type_own(at, &Text { at: EMPTY, len: 1 }, 0, none),
+            wenc_type_tuple(at, NONE, ptr::null(), 1, none),
+            wenc_type_tuple(at, NONE, &pair, most / 8, none),
+            wenc_core_module(at, NONE, EMPTY, 8, none),
             wenc_start(at, 0, ptr::null(), 1, 0, none),
             wenc_producers(at, ptr::null(), 1),
             wenc_list(nothing.at(), EMPTY, 8, ptr::null_mut()),
@@ -135,10 +144,7 @@ fn structures_are_not_null() {
         let at = builder.at();
         assert_eq!(wenc_import_named(at, ptr::null(), 7, 0, none), Status::BadArgument);
         assert_eq!(wenc_export_named(at, ptr::null(), 0, 0, 0, 0, none), Status::BadArgument);
-        assert_eq!(
-            wenc_core_type_subtype(at, NO, EMPTY, 0, ptr::null(), none),
-            Status::BadArgument
-        );
+        assert_eq!(wenc_core_type_subtype(at, NONE, ptr::null(), none), Status::BadArgument);
         let status = wenc_core_type_export(module.at(), EMPTY, 0, ptr::null());
         assert_eq!(status, Status::BadArgument);
     }
@@ -155,9 +161,9 @@ fn handles_that_have_nothing() {
             assert_eq!(wenc_bytes(at, ptr::null_mut(), 0), Status::NoHandle);
             assert_eq!(wenc_len(at, ptr::null_mut()), Status::NoHandle);
             let to = builder.at();
-            let nested = wenc_component(to, NO, EMPTY, 0, at, ptr::null_mut());
+            let nested = wenc_component(to, NONE, at, ptr::null_mut());
             assert_eq!(nested, Status::NoHandle);
-            assert_eq!(wenc_type(to, NO, EMPTY, 0, at, ptr::null_mut()), Status::NoHandle);
+            assert_eq!(wenc_type(to, NONE, at, ptr::null_mut()), Status::NoHandle);
         }
     }
     assert_eq!(unsafe { wenc_new(ptr::null_mut()) }, Status::NoHandle);
@@ -173,11 +179,11 @@ fn one_handle_is_not_two() {
     unsafe {
         for nested in [builder.at(), &raw mut copy] {
             let at = builder.at();
-            assert_eq!(wenc_component(at, NO, EMPTY, 0, nested, none), Status::BadArgument);
-            assert_eq!(wenc_component_ref(at, NO, EMPTY, 0, nested, none), Status::BadArgument);
+            assert_eq!(wenc_component(at, NONE, nested, none), Status::BadArgument);
+            assert_eq!(wenc_component_ref(at, NONE, nested, none), Status::BadArgument);
         }
         for twice in [types.at(), &raw mut types_copy] {
-            assert_eq!(wenc_type(types.at(), NO, EMPTY, 0, twice, none), Status::BadArgument);
+            assert_eq!(wenc_type(types.at(), NONE, twice, none), Status::BadArgument);
         }
     }
     assert_eq!(import(builder.at()), (Status::Done, 0));
@@ -197,15 +203,12 @@ fn finished_components_take_no_more() {
         let mut bytes = [0; 9];
         assert_eq!(wenc_bytes(at, bytes.as_mut_ptr(), 9), Status::BadArgument);
         assert_eq!(bytes, [0; 9]);
-        assert_eq!(
-            wenc_core_type_struct(at, YES, EMPTY, 0, ptr::null(), 0, none),
-            Status::Finished
-        );
+        assert_eq!(wenc_core_type_struct(at, &named(""), ptr::null(), 0, none), Status::Finished);
         let mut count = 77;
         assert_eq!((wenc_count(at, 0, &mut count), count), (Status::Finished, 77));
         let to = nested.at();
-        assert_eq!(wenc_component(to, NO, EMPTY, 0, at, none), Status::Finished);
-        assert_eq!(wenc_component_ref(at, NO, EMPTY, 0, to, none), Status::Finished);
+        assert_eq!(wenc_component(to, NONE, at, none), Status::Finished);
+        assert_eq!(wenc_component_ref(at, NONE, to, none), Status::Finished);
     }
 }
 
@@ -215,19 +218,9 @@ fn texts_are_utf8() {
     let (at, bytes) = (builder.at(), bad.as_ptr());
     let part = |name: *const u8, name_len| Part { name, name_len, kind: 0, number: 0 };
     let parts = [part(EMPTY, 0), part(bytes, 2)];
-    let name = Name {
-        name: bytes,
-        name_len: 1,
-        implements: bytes,
-        implements_len: 1,
-        version_suffix: bytes,
-        version_suffix_len: 1,
-        external_id: bytes,
-        external_id_len: 2,
-        has_implements: YES,
-        has_version_suffix: YES,
-        has_external_id: YES,
-    };
+    let text = |len| Text { at: bytes, len };
+    let name =
+        Name { name: text(1), implements: text(1), version_suffix: text(1), external_id: text(2) };
     let tool = Producer {
         field: bytes,
         field_len: 1,
@@ -240,14 +233,14 @@ fn texts_are_utf8() {
         [
             wenc_import(at, bytes, 2, 7, 0, none),
             wenc_import_named(at, &name, 7, 0, none),
-            wenc_type_own(at, YES, bytes, 2, 0, none),
-            wenc_type_enum(at, NO, EMPTY, 0, parts.as_ptr(), 2, none),
-            wenc_core_instantiate(at, NO, EMPTY, 0, 0, parts.as_ptr(), 2, none),
+            wenc_type_own(at, &Text { at: bytes, len: 2 }, 0, none),
+            wenc_type_enum(at, NONE, parts.as_ptr(), 2, none),
+            wenc_core_instantiate(at, NONE, 0, parts.as_ptr(), 2, none),
             wenc_producers(at, &tool, 1),
         ]
     };
     assert_eq!(statuses, [Status::Malformed; 6]);
-    assert_eq!(unsafe { wenc_type_own(at, NO, bytes, 2, 0, none) }, Status::Done);
+    assert_eq!(unsafe { wenc_type_own(at, NONE, 0, none) }, Status::Done);
     assert_eq!(builder.finished().len(), 8 + 5);
 }
 
@@ -262,8 +255,8 @@ fn numbers_stand_for_something() {
             wenc_import(at, EMPTY, 0, 8, 15, none),
             wenc_import(at, EMPTY, 0, u32::MAX, 0, none),
             wenc_export(at, EMPTY, 0, 6, 0, 0, 0, none),
-            wenc_alias_core_export(at, NO, EMPTY, 0, 0, 5, EMPTY, 0, none),
-            wenc_alias_outer(at, NO, EMPTY, 0, 4, 0, 0, none),
+            wenc_alias_core_export(at, NONE, 0, 5, EMPTY, 0, none),
+            wenc_alias_outer(at, NONE, 4, 0, 0, none),
             wenc_builtin(at, 0, 0, 0, none),
             wenc_builtin(at, 39, 0, 0, none),
             wenc_builtin(at, 5, 2, 0, none),
@@ -271,10 +264,10 @@ fn numbers_stand_for_something() {
             wenc_builtin_with(at, 7, 0, ptr::null(), 0, none),
             wenc_context(at, 3, 1, 0, none),
             wenc_context(at, 1, 6, 0, none),
-            wenc_lift(at, NO, EMPTY, 0, 0, 0, &pair, 1, none),
-            wenc_type_primitive(at, NO, EMPTY, 0, 0, none),
-            wenc_type_list(at, NO, EMPTY, 0, 0, 0, none),
-            wenc_item(at, 12, NO, EMPTY, 0, EMPTY, 0, none),
+            wenc_lift(at, NONE, 0, 0, &pair, 1, none),
+            wenc_type_primitive(at, NONE, 0, none),
+            wenc_type_list(at, NONE, 0, 0, none),
+            wenc_item(at, 12, NONE, EMPTY, 0, none),
             wenc_count(at, 13, ptr::null_mut()),
         ]
     };
@@ -316,13 +309,13 @@ fn numbers_of_core_types_stand_for_something() {
     let (at, of, pairs) = (builder.at(), module.at(), [Pair { kind: 21, number: 0 }]);
     let statuses = unsafe {
         [
-            wenc_core_type_struct(at, NO, EMPTY, 0, pairs.as_ptr(), 1, none),
-            wenc_core_type_function(at, NO, EMPTY, 0, ptr::null(), 0, pairs.as_ptr(), 1, none),
-            wenc_core_type_array(at, NO, EMPTY, 0, 0x400 + 1, 0, none),
-            wenc_core_type_array(at, NO, EMPTY, 0, 0x100 + 1, 0, none),
-            wenc_core_type_subtype(at, NO, EMPTY, 0, &subtype(4, &[]), none),
-            wenc_core_type_subtype(at, NO, EMPTY, 0, &subtype(3, &[]), none),
-            wenc_core_type_group(at, NO, EMPTY, 0, &subtype(2, &pairs), 1, none),
+            wenc_core_type_struct(at, NONE, pairs.as_ptr(), 1, none),
+            wenc_core_type_function(at, NONE, ptr::null(), 0, pairs.as_ptr(), 1, none),
+            wenc_core_type_array(at, NONE, 0x400 + 1, 0, none),
+            wenc_core_type_array(at, NONE, 0x100 + 1, 0, none),
+            wenc_core_type_subtype(at, NONE, &subtype(4, &[]), none),
+            wenc_core_type_subtype(at, NONE, &subtype(3, &[]), none),
+            wenc_core_type_group(at, NONE, &subtype(2, &pairs), 1, none),
             wenc_core_type_export(of, EMPTY, 0, &entity(5, 0)),
             wenc_core_type_export(of, EMPTY, 0, &entity(1, 1)),
             wenc_core_type_export(of, EMPTY, 0, &entity(3, 19)),
@@ -355,6 +348,145 @@ fn handles_of_another_kind() {
         assert_eq!(unsafe { wenc_types_new(nothing.at(), kind) }, Status::BadArgument);
     }
     assert!(nothing.0.at.is_null());
+}
+
+/// Why the last call failed: the status, the argument, and the number of its member.
+fn last_error(handle: *const Handle) -> (u32, Option<&'static CStr>, usize) {
+    let mut error: ErrorRow = unsafe { mem::zeroed() };
+    assert_eq!(unsafe { wenc_last_error(handle, &mut error) }, Status::Done);
+    let is_named = !error.argument.is_null();
+    let argument = is_named.then(|| unsafe { CStr::from_ptr(error.argument) });
+    (error.status, argument, error.member)
+}
+
+/// Each call fails, and the argument that is wrong in it is named.
+macro_rules! blames {
+    ($at:ident: $($status:literal $argument:literal [$member:literal] $call:expr;)*) => {$(
+        assert_ne!(unsafe { $call }, Status::Done);
+        let wanted = ($status, Some($argument), $member);
+        assert_eq!(last_error($at), wanted, "{}", stringify!($call));
+    )*};
+}
+
+#[test]
+fn wrong_arguments_of_items_are_named() {
+    let (mut builder, mut nothing, none) = (Held::builder(), Held::nothing(), ptr::null_mut());
+    let (at, other) = (builder.at(), nothing.at());
+    let (a, bad) = (b"a".as_ptr(), b"\xff".as_ptr());
+    let part = |name, kind| Part { name, name_len: 1, kind, number: 0 };
+    let (parts, texts) = ([part(a, 0), part(a, 9)], [part(a, 0), part(a, 0), part(bad, 0)]);
+    let pairs = [Pair { kind: 0, number: 0 }, Pair { kind: 10, number: 0 }];
+    let (parts, texts, pairs) = (parts.as_ptr(), texts.as_ptr(), pairs.as_ptr());
+    let bad_name = Name { name: Text { at: bad, len: 1 }, ..Name::NONE };
+    assert_eq!(last_error(at), (0, None, 0));
+    blames! { at:
+        5 c"name" [0] wenc_import(at, bad, 1, 2, 0, none);
+        7 c"name" [0] wenc_import(at, EMPTY, 1, 2, 0, none);
+        7 c"ref" [0] wenc_import(at, a, 1, 9, 0, none);
+        7 c"ref" [0] wenc_import(at, a, 1, 8, 15, none);
+        7 c"name" [0] wenc_import_named(at, ptr::null(), 2, 0, none);
+        5 c"name" [0] wenc_import_named(at, &bad_name, 2, 0, none);
+        7 c"kind" [0] wenc_export(at, a, 1, 6, 0, 0, 0, none);
+        7 c"ref" [0] wenc_export(at, a, 1, 1, 0, 9, 0, none);
+        7 c"kind" [0] wenc_alias_export(at, 0, 6, a, 1, none);
+        7 c"kind" [0] wenc_alias_core_export(at, NONE, 0, 5, a, 1, none);
+        7 c"kind" [0] wenc_alias_outer(at, NONE, 4, 0, 0, none);
+        5 c"debug_name" [0] wenc_alias_outer(at, &Text { at: bad, len: 1 }, 0, 0, 0, none);
+        7 c"debug_name" [0] wenc_core_module(at, &Text { at: EMPTY, len: 1 }, a, 1, none);
+        7 c"bytes" [0] wenc_core_module(at, NONE, EMPTY, 1, none);
+        7 c"nested" [0] wenc_component(at, NONE, at, none);
+        9 c"nested" [0] wenc_component(at, NONE, other, none);
+        7 c"args" [0] wenc_start(at, 0, ptr::null(), 1, 0, none);
+        7 c"function" [0] wenc_builtin(at, 39, 0, 0, none);
+        7 c"first" [0] wenc_builtin(at, 5, 2, 0, none);
+        7 c"second" [0] wenc_builtin(at, 9, 0, 2, none);
+        7 c"function" [0] wenc_builtin_with(at, 7, 0, pairs, 1, none);
+        7 c"options" [1] wenc_builtin_with(at, 1, 0, pairs, 2, none);
+        7 c"ref" [0] wenc_task_return(at, 1, 0, pairs, 1, none);
+        7 c"function" [0] wenc_context(at, 3, 1, 0, none);
+        7 c"type" [0] wenc_context(at, 1, 6, 0, none);
+        7 c"options" [1] wenc_lift(at, NONE, 0, 0, pairs, 2, none);
+        5 c"args" [2] wenc_core_instantiate(at, NONE, 0, texts, 3, none);
+        7 c"exports" [1] wenc_core_exports(at, NONE, parts, 2, none);
+        5 c"items" [2] wenc_export_items(at, NONE, texts, 3, none);
+        7 c"args" [1] wenc_instantiate(at, NONE, 0, parts, 2, none);
+        7 c"section" [0] wenc_item(at, 12, NONE, a, 1, none);
+        5 c"bytes" [0] wenc_item(at, 7, NONE, a, 1, none);
+        7 c"listing" [0] wenc_copy(at, NONE, at, 0, 0, none);
+        7 c"handle" [0] wenc_raw_section(at, 1, a, 1);
+        7 c"section" [0] wenc_section(at, at);
+    }
+    assert_eq!(import(at), (Status::Done, 0));
+    assert_eq!(last_error(at), (7, Some(c"section"), 0));
+    assert_eq!(unsafe { wenc_finish(at, ptr::null_mut(), ptr::null_mut()) }, Status::Done);
+    blames! { at:
+        8 c"handle" [0] wenc_import(at, a, 1, 2, 0, none);
+        8 c"handle" [0] wenc_type_own(at, &named("n"), 0, none);
+    }
+    for nothing in [other, ptr::null_mut()] {
+        assert_eq!(unsafe { wenc_last_error(nothing, ptr::null_mut()) }, Status::NoHandle);
+    }
+}
+
+#[test]
+fn wrong_arguments_of_types_and_sections_are_named() {
+    let (mut builder, mut types, none) = (Held::builder(), Held::types(4), ptr::null_mut());
+    let mut names = Held::new(|handle| unsafe { wenc_names_new(handle) });
+    let (at, of, names) = (builder.at(), types.at(), names.at());
+    let bad = b"\xff".as_ptr();
+    let part = |kind| Part { name: EMPTY, name_len: 0, kind, number: 1 };
+    let (parts, pairs) =
+        ([part(8), part(0), part(1)], [21, 21].map(|kind| Pair { kind, number: 0 }));
+    let subtypes = [subtype(2, &[]), subtype(3, &[])];
+    let tool = |field| Producer {
+        field: EMPTY,
+        field_len: 0,
+        tool: EMPTY,
+        tool_len: 0,
+        version: field,
+        version_len: usize::from(field == bad),
+    };
+    let (tools, name) = ([tool(EMPTY), tool(bad)], IndexName { name: bad, name_len: 1, index: 0 });
+    let (parts, pairs) = (parts.as_ptr(), pairs.as_ptr());
+    blames! { at:
+        7 c"primitive" [0] wenc_type_primitive(at, NONE, 0, none);
+        7 c"fields" [1] wenc_type_record(at, NONE, parts, 2, none);
+        7 c"cases" [2] wenc_type_variant(at, NONE, parts, 3, none);
+        7 c"params" [1] wenc_type_function(at, NONE, NO, parts, 2, 0, 0, none);
+        7 c"ref" [0] wenc_type_function(at, NONE, NO, parts, 1, 1, 0, none);
+        7 c"elements" [0] wenc_type_tuple(at, NONE, pairs, 1, none);
+        7 c"key_ref" [0] wenc_type_map(at, NONE, 0, 0, 3, 0, none);
+        7 c"ref" [0] wenc_type_map(at, NONE, 3, 0, 0, 0, none);
+        7 c"ok_ref" [0] wenc_type_result(at, NONE, 9, 0, 0, 0, none);
+        7 c"err_ref" [0] wenc_type_result(at, NONE, 0, 0, 9, 0, none);
+        7 c"flags" [0] wenc_type_flags(at, NONE, ptr::null(), 1, none);
+        7 c"types" [0] wenc_type(at, NONE, names, none);
+        7 c"params" [0] wenc_core_type_function(at, NONE, pairs, 1, pairs, 1, none);
+        7 c"results" [0] wenc_core_type_function(at, NONE, pairs, 0, pairs, 1, none);
+        7 c"fields" [0] wenc_core_type_struct(at, NONE, pairs, 1, none);
+        7 c"element" [0] wenc_core_type_array(at, NONE, 0x400, 0, none);
+        7 c"subtype" [0] wenc_core_type_subtype(at, NONE, &subtypes[1], none);
+        7 c"subtypes" [1] wenc_core_type_group(at, NONE, subtypes.as_ptr(), 2, none);
+        5 c"producers" [1] wenc_producers(at, tools.as_ptr(), 2);
+        5 c"name" [0] wenc_custom_section(at, bad, 1, bad, 1);
+        7 c"data" [0] wenc_custom_section(at, EMPTY, 0, EMPTY, 1);
+    }
+    blames! { of:
+        7 c"debug_name" [0] wenc_type_own(of, &named("n"), 0, none);
+        7 c"ref" [0] wenc_type_export(of, EMPTY, 0, 9, 0, none);
+        7 c"handle" [0] wenc_append_names(of);
+        7 c"handle" [0] wenc_finish(of, ptr::null_mut(), ptr::null_mut());
+    }
+    blames! { names:
+        7 c"space" [0] wenc_names_items(names, 13, &name, 1);
+        5 c"names" [0] wenc_names_items(names, 0, &name, 1);
+    }
+    let mut module = Held::types(0);
+    let at = module.at();
+    blames! { at:
+        7 c"entity" [0] wenc_core_type_export(at, EMPTY, 0, &entity(5, 0));
+        7 c"kind" [0] wenc_alias_outer(at, NONE, 0, 0, 0, none);
+    }
 }
 
 /// Reads bytes: the status, and what isn't read, as the section, its place, part and item.
@@ -456,12 +588,12 @@ fn items_that_were_read() {
             row
         };
         let second = item(1, 1);
-        assert_eq!(slice::from_raw_parts(second.name, second.name_len), b"g");
+        assert_eq!(slice::from_raw_parts(second.name.name.at, second.name.name.len), b"g");
         assert_eq!((second.index, second.section, second.space, second.indices), (1, 10, 8, 1));
         assert!(second.bytes.is_null() && second.bytes_len == 0);
         let ty = item(0, 0);
         assert_eq!((ty.index, ty.section, ty.space, ty.indices), (0, 7, 12, 1));
-        assert!(ty.name.is_null() && ty.name_len == 0);
+        assert!(ty.name.name.at.is_null() && ty.name.name.len == 0);
         let custom = item(2, 0);
         assert_eq!(slice::from_raw_parts(custom.bytes, custom.bytes_len), b"y");
         assert_eq!((custom.index, custom.space, custom.indices), (0, 13, 0));
@@ -471,11 +603,11 @@ fn items_that_were_read() {
         assert_eq!(wenc_item_at(at, 3, 0, ptr::null_mut()), Status::BadArgument);
         let mut builder = Held::builder();
         let to = builder.at();
-        assert_eq!(wenc_copy(to, NO, EMPTY, 0, at, 1, 2, none), Status::BadArgument);
-        assert_eq!(wenc_copy(at, NO, EMPTY, 0, to, 0, 0, none), Status::BadArgument);
-        assert_eq!(wenc_copy(to, NO, EMPTY, 0, at, 1, 0, none), Status::Done);
+        assert_eq!(wenc_copy(to, NONE, at, 1, 2, none), Status::BadArgument);
+        assert_eq!(wenc_copy(at, NONE, to, 0, 0, none), Status::BadArgument);
+        assert_eq!(wenc_copy(to, NONE, at, 1, 0, none), Status::Done);
         let mut index = 77;
-        assert_eq!(wenc_copy(to, YES, EMPTY, 0, at, 0, 0, &mut index), Status::Done);
+        assert_eq!(wenc_copy(to, &named(""), at, 0, 0, &mut index), Status::Done);
         assert_eq!(index, 0);
     }
 }
@@ -486,7 +618,7 @@ fn items_by_their_bytes() {
     let mut item = |section, bytes: &[u8]| {
         let mut index = 77;
         let (at, len) = (bytes.as_ptr(), bytes.len());
-        let status = unsafe { wenc_item(builder.at(), section, NO, EMPTY, 0, at, len, &mut index) };
+        let status = unsafe { wenc_item(builder.at(), section, NONE, at, len, &mut index) };
         (status, index)
     };
     assert_eq!(item(0, b"\x01xy"), (Status::Done, 0));

@@ -3,3 +3,4 @@
 mod edges;
 mod same;
 mod values;
+mod walk;

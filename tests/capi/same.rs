@@ -4,7 +4,7 @@ mod facade;
 mod functions;
 
 use super::values::{Both, Random};
-use crate::capi::arguments::{Flag, IndexName, Producer};
+use crate::capi::arguments::{Flag, IndexName, Producer, Text};
 use crate::capi::core_types::*;
 use crate::capi::items::*;
 use crate::capi::life::*;
@@ -42,11 +42,9 @@ impl Drop for Two {
 macro_rules! named {
     ($two:ident, $debug_name:ident, $wanted:expr, $call:ident($($arg:expr),*)) => {{
         let mut index = UNTOUCHED;
-        let name: &str = $debug_name.unwrap_or_default();
-        let at = if $debug_name.is_some() { name.as_ptr() } else { ptr::dangling() };
-        let len = if $debug_name.is_some() { name.len() } else { 9 };
-        let flag = Flag($debug_name.is_some().into());
-        let status = unsafe { $call(&mut $two.handle, flag, at, len, $($arg,)* &mut index) };
+        let name = $debug_name.map(|name: &str| Text { at: name.as_ptr(), len: name.len() });
+        let name = name.as_ref().map_or(ptr::null(), ptr::from_ref);
+        let status = unsafe { $call(&mut $two.handle, name, $($arg,)* &mut index) };
         same(stringify!($call), status, index, $wanted);
     }};
 }
@@ -656,9 +654,9 @@ fn items_that_were_read_are_added_again() {
             .enumerate()
             .flat_map(|(section, row)| (0..row.items.len()).map(move |item| (section, item)));
         for (section, item) in commands {
-            let (at, from, none) = (ptr::dangling(), &raw mut listed.handle, ptr::null_mut());
+            let (name, from, none) = (ptr::null(), &raw const listed.handle, ptr::null_mut());
             let to = &mut copied.handle;
-            let status = unsafe { wenc_copy(to, Flag(0), at, 5, from, section, item, none) };
+            let status = unsafe { wenc_copy(to, name, from, section, item, none) };
             assert_eq!(status, Status::Done);
         }
         let items = listing.sections.into_iter().flat_map(|section| section.items);

@@ -1,7 +1,7 @@
 //! Random values, each as C hands it over and as the facade takes it. What the numbers of the
 //! header stand for is said here once more.
 
-use crate::capi::arguments::{Entity, Flag, Name, Pair, Part, Subtype};
+use crate::capi::arguments::{Entity, Flag, Name, Pair, Part, Subtype, Text};
 use crate::{
     AbstractHeapType, CanonicalOption, ComponentExportKind, ComponentExternName,
     ComponentOuterAliasKind, ComponentTypeRef, ComponentValType, CompositeInnerType, CompositeType,
@@ -10,7 +10,6 @@ use crate::{
     TypeBounds, ValType,
 };
 use alloc::vec::Vec;
-use core::ptr;
 
 /// A sequence of numbers that a seed decides.
 pub struct Random(pub u64);
@@ -308,20 +307,15 @@ impl Random {
     pub fn name(&mut self) -> (Name, ComponentExternName<'static>) {
         let [name, implements, suffix, id] = [(); 4].map(|()| self.text());
         let [has_implements, has_suffix, has_id] = [(); 3].map(|()| self.flag());
-        // What isn't there isn't looked at, wherever it is.
-        let at = |has: bool, text: &str| if has { text.as_ptr() } else { ptr::dangling() };
+        let option = |has: bool, text: &str| match has {
+            true => Text { at: text.as_ptr(), len: text.len() },
+            false => Text::NONE,
+        };
         let c = Name {
-            name: name.as_ptr(),
-            name_len: name.len(),
-            implements: at(has_implements, implements),
-            implements_len: implements.len(),
-            version_suffix: at(has_suffix, suffix),
-            version_suffix_len: suffix.len(),
-            external_id: at(has_id, id),
-            external_id_len: id.len(),
-            has_implements: Flag(has_implements.into()),
-            has_version_suffix: Flag(has_suffix.into()),
-            has_external_id: Flag(has_id.into()),
+            name: option(true, name),
+            implements: option(has_implements, implements),
+            version_suffix: option(has_suffix, suffix),
+            external_id: option(has_id, id),
         };
         let rust = ComponentExternName {
             name: name.into(),

@@ -282,7 +282,7 @@ impl Two {
         let status = unsafe { wenc_finish(&mut self.handle, &mut at, &mut len) };
         assert_eq!(status, Status::Done);
         let mut copy = alloc::vec![0; len];
-        let status = unsafe { wenc_bytes(&mut self.handle, copy.as_mut_ptr(), len) };
+        let status = unsafe { wenc_bytes(&self.handle, copy.as_mut_ptr(), len) };
         assert_eq!(status, Status::Done);
         assert_eq!(unsafe { slice::from_raw_parts(at, len) }, copy);
         copy
@@ -293,14 +293,14 @@ impl Two {
         let wanted = Space::ALL.map(|space| builder.count(space));
         for (space, wanted) in (0..).zip(wanted) {
             let mut count = u32::MAX;
-            let status = unsafe { wenc_count(&mut self.handle, space, &mut count) };
+            let status = unsafe { wenc_count(&self.handle, space, &mut count) };
             assert_eq!((status, count), (Status::Done, wanted));
         }
     }
 
     pub fn compare_len(&mut self) {
         let mut len = usize::MAX;
-        let status = unsafe { wenc_len(&mut self.handle, &mut len) };
+        let status = unsafe { wenc_len(&self.handle, &mut len) };
         assert_eq!((status, len), (Status::Done, self.facade.len()));
     }
 }

@@ -2,7 +2,7 @@
 
 use super::facade::Facade;
 use super::{Random, Two, UNTOUCHED, indexed, named, same};
-use crate::capi::arguments::Flag;
+use crate::capi::arguments::Text;
 use crate::capi::items::*;
 use core::ptr;
 

@@ -1,0 +1,170 @@
+//! What a call writes about a section or an item that it read.
+
+use super::arguments::{Name, Text};
+use super::{Result, Status, numbers};
+use crate::proved::wasm_encoder::{Alias, ListFault, SectionItems};
+use crate::proved::wenc_list::{ItemView, part_of};
+use crate::proved::wenc_view::NameView;
+use core::ops::Range;
+use core::ptr;
+
+impl From<ListFault> for Status {
+    fn from(fault: ListFault) -> Self {
+        match fault {
+            ListFault::Memory => Self::NoMemory,
+            ListFault::NotAComponent { .. } => Self::NotAComponent,
+            ListFault::BadSection { .. } => Self::BadSection,
+            ListFault::BadItem { .. } => Self::BadItem,
+            ListFault::TooDeep { .. } => Self::TooDeep,
+        }
+    }
+}
+
+/// `wenc_listed_section`: a section that was read.
+#[derive(Clone, Copy)]
+#[repr(C)]
+pub struct SectionRow {
+    pub place: usize,
+    pub len: usize,
+    pub content: usize,
+    pub items: usize,
+    pub id: u32,
+}
+
+impl SectionRow {
+    /// Describes a section of a component, none of whose items was taken yet.
+    pub fn new(bytes: &[u8], items: SectionItems<'_>) -> Result<Self> {
+        let section = bytes.get(items.place..items.ends).unwrap_or_default();
+        let ((id, content), _) = part_of(section)?;
+        Ok(Self {
+            place: items.place,
+            len: section.len(),
+            content: items.ends - content.len(),
+            items: usize::try_from(items.left).map_err(|_| Status::TooLarge)?,
+            id: id.into(),
+        })
+    }
+}
+
+/// `wenc_listed_item`: an item that was read.
+#[derive(Clone, Copy)]
+#[repr(C)]
+pub struct ItemRow {
+    pub index: u64,
+    pub place: usize,
+    pub len: usize,
+    pub name: Name,
+    pub bytes: *const u8,
+    pub bytes_len: usize,
+    pub section: u32,
+    pub space: u32,
+    pub indices: u32,
+    pub reference: u32,
+    pub of: u32,
+    pub alias: u32,
+    pub kind: u32,
+    pub item: u32,
+    pub count: u32,
+}
+
+impl ItemRow {
+    /// Describes an item of a section with this id, at these byte offsets in the component.
+    pub fn new(section: u8, range: Range<usize>, item: ItemView<'_>) -> Self {
+        let mut row = Self::of_section(section, range);
+        if let Some((space, indices)) = item.indices() {
+            (row.space, row.indices) = (numbers::of_space(space), indices);
+        }
+        match item {
+            ItemView::Module(bytes) | ItemView::Component(bytes) => row.set_bytes(bytes),
+            ItemView::Custom { name, data } => {
+                row.name.name = Text::new(name);
+                row.set_bytes(data);
+            }
+            ItemView::Import { name, ty } => {
+                row.name = Name::new(name);
+                (row.reference, row.of) = numbers::of_type_ref(ty);
+            }
+            ItemView::Export { name, kind, index, ty } => {
+                row.name = Name::new(name);
+                (row.kind, row.item) = (numbers::of_kind(kind), index);
+                (row.reference, row.of) = ty.map_or((0, 0), numbers::of_type_ref);
+            }
+            ItemView::Alias(alias) => row.set_alias(alias),
+            _ => {}
+        }
+        row
+    }
+
+    /// Describes a custom section, until more is known.
+    fn of_section(section: u8, range: Range<usize>) -> Self {
+        Self {
+            index: 0,
+            place: range.start,
+            len: range.len(),
+            name: Name::NONE,
+            bytes: ptr::null(),
+            bytes_len: 0,
+            section: section.into(),
+            space: numbers::NO_SPACE,
+            indices: 0,
+            reference: 0,
+            of: 0,
+            alias: 0,
+            kind: 0,
+            item: 0,
+            count: 0,
+        }
+    }
+
+    fn set_bytes(&mut self, bytes: &[u8]) {
+        (self.bytes, self.bytes_len) = (at_of(bytes), bytes.len());
+    }
+
+    fn set_alias(&mut self, alias: Alias<'_>) {
+        self.alias = numbers::of_alias(&alias);
+        match alias {
+            Alias::InstanceExport { instance, kind, name } => {
+                self.name.name = Text::new(name);
+                (self.kind, self.item) = (numbers::of_kind(kind), instance);
+            }
+            Alias::CoreInstanceExport { instance, kind, name } => {
+                self.name.name = Text::new(name);
+                (self.kind, self.item) = (numbers::of_core_kind(kind), instance);
+            }
+            Alias::Outer { kind, count, index } => {
+                (self.kind, self.item) = (numbers::of_outer_kind(kind), index);
+                self.count = count;
+            }
+        }
+    }
+}
+
+/// Returns a pointer to the bytes: to `""` if there are none.
+pub fn at_of(bytes: &[u8]) -> *const u8 {
+    if bytes.is_empty() { c"".as_ptr().cast() } else { bytes.as_ptr() }
+}
+
+impl Text {
+    pub fn new(text: &str) -> Self {
+        Self { at: at_of(text.as_bytes()), len: text.len() }
+    }
+}
+
+impl Name {
+    pub const NONE: Self = Self {
+        name: Text::NONE,
+        implements: Text::NONE,
+        version_suffix: Text::NONE,
+        external_id: Text::NONE,
+    };
+
+    fn new(name: NameView<'_>) -> Self {
+        let option = |text: Option<&str>| text.map_or(Text::NONE, Text::new);
+        Self {
+            name: Text::new(name.name),
+            implements: option(name.implements),
+            version_suffix: option(name.version_suffix),
+            external_id: option(name.external_id),
+        }
+    }
+}

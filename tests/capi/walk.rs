@@ -1,0 +1,548 @@
+//! The walk over a component, and over its debug names.
+
+use super::edges::{Held, named};
+use crate::capi::arguments::{Name, Text};
+use crate::capi::items::*;
+use crate::capi::life::{wenc_bytes, wenc_finish};
+use crate::capi::listing::*;
+use crate::capi::rows::{ItemRow, SectionRow};
+use crate::capi::types::wenc_type;
+use crate::capi::walk::*;
+use crate::capi::{Handle, Status};
+use alloc::collections::BTreeMap;
+use alloc::string::String;
+use alloc::vec::Vec;
+use core::{mem, ptr, slice, str};
+
+/// A type, an import, an export, three aliases, a custom section, a core module and a start.
+const COMPONENT: &[u8] = b"\0asm\x0d\0\x01\0\
+    \x07\x05\x01\x40\0\x01\0\
+    \x0a\x0c\x01\x02\x01a\x02\0\x01i\x02\0\x01\0\
+    \x0b\x09\x01\0\x01g\x01\0\x01\x01\0\
+    \x06\x11\x03\0\x10\x02\x01\x02\0\x04\x01\0\x01t\x01\0\x05\x01f\
+    \0\x03\x01xy\
+    \x01\x08\0asm\x01\0\0\0\
+    \x09\x03\0\0\x02";
+
+fn begun(bytes: &[u8]) -> Walk {
+    let mut walk = unsafe { mem::zeroed() };
+    let status = unsafe { wenc_walk_begin(&mut walk, bytes.as_ptr(), bytes.len()) };
+    assert_eq!(status, Status::Done);
+    walk
+}
+
+fn next_section(walk: &mut Walk) -> Result<SectionRow, Status> {
+    let mut row = unsafe { mem::zeroed() };
+    done(unsafe { wenc_walk_section(walk, &mut row) }).map(|()| row)
+}
+
+fn next_item(walk: &mut Walk) -> Result<ItemRow, Status> {
+    let mut row = unsafe { mem::zeroed() };
+    done(unsafe { wenc_walk_item(walk, &mut row) }).map(|()| row)
+}
+
+fn next_name(names: &mut NamesWalk) -> Result<(u32, u32, &'static str), Status> {
+    let mut name: DebugName = unsafe { mem::zeroed() };
+    done(unsafe { wenc_walk_name(names, &mut name) })?;
+    Ok((name.space, name.index, text(name.name).expect("a name")))
+}
+
+fn done(status: Status) -> Result<(), Status> {
+    if status == Status::Done { Ok(()) } else { Err(status) }
+}
+
+/// A text that was written, until its bytes are gone.
+fn text(text: Text) -> Option<&'static str> {
+    if text.at.is_null() {
+        assert_eq!(text.len, 0);
+        return None;
+    }
+    str::from_utf8(unsafe { slice::from_raw_parts(text.at, text.len) }).ok()
+}
+
+fn texts(name: Name) -> [Option<&'static str>; 4] {
+    [name.name, name.implements, name.version_suffix, name.external_id].map(text)
+}
+
+fn section(row: SectionRow) -> [usize; 5] {
+    [row.place, row.len, row.content, row.items, row.id as usize]
+}
+
+/// All items of a component, with what follows the last.
+fn items(bytes: &[u8]) -> (Vec<ItemRow>, Status) {
+    let (mut walk, mut items) = (begun(bytes), Vec::new());
+    loop {
+        match next_section(&mut walk) {
+            Ok(_) => loop {
+                match next_item(&mut walk) {
+                    Ok(item) => items.push(item),
+                    Err(Status::End) => break,
+                    Err(status) => return (items, status),
+                }
+            },
+            Err(status) => return (items, status),
+        }
+    }
+}
+
+#[test]
+fn sections_have_places() {
+    let mut walk = begun(COMPONENT);
+    let sections: Vec<_> = (0..7).map(|_| next_section(&mut walk).map(section)).collect();
+    let wanted = [
+        [8, 7, 10, 1, 7],
+        [15, 14, 17, 1, 10],
+        [29, 11, 31, 1, 11],
+        [40, 19, 42, 3, 6],
+        [59, 5, 61, 1, 0],
+        [64, 10, 66, 1, 1],
+        [74, 5, 76, 1, 9],
+    ];
+    assert_eq!(sections, wanted.map(Ok));
+    assert_eq!(next_section(&mut walk).map(section), Err(Status::End));
+    assert_eq!(next_section(&mut walk).map(section), Err(Status::End));
+}
+
+#[test]
+fn items_have_places() {
+    let (items, status) = items(COMPONENT);
+    assert_eq!(status, Status::End);
+    let places: Vec<_> = items.iter().map(|item| (item.place, item.len, item.section)).collect();
+    let wanted = [
+        (11, 4, 7),
+        (18, 11, 10),
+        (32, 8, 11),
+        (43, 5, 6),
+        (48, 6, 6),
+        (54, 5, 6),
+        (61, 3, 0),
+        (66, 8, 1),
+        (76, 3, 9),
+    ];
+    assert_eq!(places, wanted);
+    let spaces: Vec<_> = items.iter().map(|item| (item.space, item.indices)).collect();
+    let wanted = [(12, 1), (8, 1), (8, 1), (2, 1), (6, 1), (8, 1), (13, 0), (0, 1), (10, 2)];
+    assert_eq!(spaces, wanted);
+    assert!(items.iter().all(|item| item.index == 0));
+}
+
+/// What else a row has, beside place, space and texts.
+fn rest(item: &ItemRow) -> [u32; 6] {
+    [item.reference, item.of, item.alias, item.kind, item.item, item.count]
+}
+
+#[test]
+fn items_have_types_and_targets() {
+    let (items, _) = items(COMPONENT);
+    assert_eq!(
+        items.iter().map(rest).collect::<Vec<_>>(),
+        [
+            [0; 6],
+            // Of the function type 0.
+            [2, 0, 0, 0, 0, 0],
+            // The function 0, as one of the function type 0.
+            [2, 0, 0, 1, 0, 0],
+            // A core type of the component around this one; the tag of a core instance; a function.
+            [0, 0, 3, 1, 2, 1],
+            [0, 0, 2, 4, 0, 0],
+            [0, 0, 1, 1, 5, 0],
+            [0; 6],
+            [0; 6],
+            [0; 6],
+        ]
+    );
+    assert_eq!(
+        items.iter().map(|item| texts(item.name)).collect::<Vec<_>>(),
+        [
+            [None; 4],
+            [Some("a"), Some("i"), None, Some("")],
+            [Some("g"), None, None, None],
+            [None; 4],
+            [Some("t"), None, None, None],
+            [Some("f"), None, None, None],
+            [Some("x"), None, None, None],
+            [None; 4],
+            [None; 4],
+        ]
+    );
+    let bytes = |item: &ItemRow| (item.bytes as usize, item.bytes_len);
+    let at = COMPONENT.as_ptr() as usize;
+    for (number, item) in items.iter().enumerate() {
+        let wanted = match number {
+            6 => (at + 63, 1),
+            7 => (at + 66, 8),
+            _ => (0, 0),
+        };
+        assert_eq!(bytes(item), wanted);
+    }
+}
+
+/// Empty texts and bytes are `""`, which a program may read as a string.
+#[test]
+fn what_is_empty_is_a_string() {
+    let component = b"\0asm\x0d\0\x01\0\0\x01\0\x01\0\x0a\x05\x01\0\0\x01\0";
+    let (items, status) = items(component);
+    assert_eq!((items.len(), status), (3, Status::End));
+    let empty = [items[0].name.name.at, items[0].bytes, items[1].bytes, items[2].name.name.at];
+    for at in empty {
+        assert_eq!(unsafe { *at }, 0);
+    }
+    let lens = [items[0].name.name.len, items[0].bytes_len, items[1].bytes_len];
+    assert_eq!(lens, [0; 3]);
+}
+
+/// A section and an item whose sizes take one byte, two, and three.
+#[test]
+fn sizes_are_read() {
+    for (len, size, name_len, content) in [
+        (20, &b"\x19"[..], &b"\x14"[..], 10),
+        (200, b"\xce\x01", b"\xc8\x01", 11),
+        (20_000, b"\xa7\x9c\x01", b"\xa0\x9c\x01", 12),
+    ] {
+        let name = b"n".repeat(len);
+        let bytes =
+            [b"\0asm\x0d\0\x01\0\x0a", size, b"\x01\0", name_len, &name, b"\x01\0"].concat();
+        let mut walk = begun(&bytes);
+        let row = next_section(&mut walk).map(section);
+        assert_eq!(row, Ok([8, bytes.len() - 8, content, 1, 10]));
+        let item = next_item(&mut walk).unwrap_or_else(|status| panic!("{status:?}"));
+        assert_eq!((item.place, item.len), (content + 1, bytes.len() - content - 1));
+        assert_eq!(text(item.name.name).map(str::len), Some(len));
+        assert_eq!(next_item(&mut walk).err(), Some(Status::End));
+    }
+}
+
+#[test]
+fn a_walk_goes_on_behind_what_it_cannot_read() {
+    // A builtin that there isn't, behind one that there is; a section with an unknown id; a count
+    // that isn't there; and an import.
+    let bytes =
+        b"\0asm\x0d\0\x01\0\x08\x04\x02\x05\xff\0\x0c\x01\x07\x06\0\x0a\x06\x01\0\x01f\x01\0";
+    let mut walk = begun(bytes);
+    assert_eq!(next_section(&mut walk).map(section), Ok([8, 6, 10, 2, 8]));
+    assert_eq!(next_item(&mut walk).map(|item| item.place), Ok(11));
+    for _ in 0..2 {
+        assert_eq!(next_item(&mut walk).err(), Some(Status::BadItem));
+        assert_eq!((walk.next_item, walk.items), (12, 1));
+    }
+    assert_eq!(next_section(&mut walk).err(), Some(Status::BadSection));
+    assert_eq!(walk.next_section, 14);
+    // The items before are as they were.
+    assert_eq!(next_item(&mut walk).err(), Some(Status::BadItem));
+    let mut skipped: SectionRow = unsafe { mem::zeroed() };
+    assert_eq!(unsafe { wenc_walk_skip(&mut walk, &mut skipped) }, Status::Done);
+    assert_eq!(section(skipped), [14, 3, 16, 0, 12]);
+    assert_eq!(next_item(&mut walk).err(), Some(Status::End));
+    assert_eq!(next_section(&mut walk).err(), Some(Status::BadItem));
+    assert_eq!(unsafe { wenc_walk_skip(&mut walk, ptr::null_mut()) }, Status::Done);
+    assert_eq!(next_section(&mut walk).map(section), Ok([19, 8, 21, 1, 10]));
+    assert_eq!(next_item(&mut walk).map(|item| (item.place, item.len)), Ok((22, 5)));
+    assert_eq!(unsafe { wenc_walk_skip(&mut walk, ptr::null_mut()) }, Status::End);
+}
+
+#[test]
+fn a_walk_says_what_is_wrong() {
+    let status = |bytes: &[u8]| items(bytes).1;
+    let behind = |bytes: &[u8]| status(&[b"\0asm\x0d\0\x01\0", bytes].concat());
+    assert_eq!(behind(b""), Status::End);
+    assert_eq!(behind(b"\x07"), Status::BadSection);
+    assert_eq!(behind(b"\x07\x05\x01"), Status::BadSection);
+    assert_eq!(behind(b"\0\x02\x02x"), Status::BadSection);
+    assert_eq!(behind(b"\x07\x05\0\x40\0\x01\0"), Status::BadItem);
+    assert_eq!(behind(b"\x07\x05\x02\x40\0\x01\0"), Status::BadItem);
+    let mut deep = b"\x07\xb2\x02\x01".to_vec();
+    deep.extend_from_slice(&b"\x41\x01\x01".repeat(101));
+    deep.extend_from_slice(b"\x41\0");
+    assert_eq!(behind(&deep), Status::TooDeep);
+    let mut walk: Walk = unsafe { mem::zeroed() };
+    for bytes in [&b""[..], b"\0asm\x01\0\0\0", b"\0asm\x0d\0\x01"] {
+        let status = unsafe { wenc_walk_begin(&mut walk, bytes.as_ptr(), bytes.len()) };
+        assert_eq!((status, walk.bytes), (Status::NotAComponent, ptr::null()));
+    }
+}
+
+#[test]
+fn bad_arguments_of_walks() {
+    let (none, a) = (ptr::null_mut(), COMPONENT.as_ptr());
+    let mut walk: Walk = unsafe { mem::zeroed() };
+    let mut names: NamesWalk = unsafe { mem::zeroed() };
+    let mut row: ItemRow = unsafe { mem::zeroed() };
+    let statuses = unsafe {
+        [
+            wenc_walk_begin(ptr::null_mut(), a, 8),
+            wenc_walk_begin(&mut walk, ptr::null(), 8),
+            wenc_walk_begin(&mut walk, a, usize::MAX),
+            wenc_walk_section(ptr::null_mut(), ptr::null_mut()),
+            wenc_walk_skip(ptr::null_mut(), ptr::null_mut()),
+            wenc_walk_item(ptr::null_mut(), ptr::null_mut()),
+            wenc_walk_names(ptr::null_mut(), &row),
+            wenc_walk_names(&mut names, ptr::null()),
+            wenc_walk_name(ptr::null_mut(), ptr::null_mut()),
+            // What wasn't begun.
+            wenc_walk_section(&mut walk, ptr::null_mut()),
+            wenc_walk_skip(&mut walk, ptr::null_mut()),
+            wenc_walk_item(&mut walk, &mut row),
+            wenc_walk_name(&mut names, none),
+        ]
+    };
+    assert_eq!(statuses, [Status::BadArgument; 13]);
+    // Any offset, id and number.
+    let any = [0, 1, 9, 58, COMPONENT.len(), COMPONENT.len() + 1, usize::MAX];
+    let mut read = 0;
+    for (next_item, end, items, id) in any.into_iter().flat_map(|at| {
+        any.into_iter().flat_map(move |end| {
+            [0, 1, u32::MAX]
+                .into_iter()
+                .flat_map(move |n| [0, 7, 12, 256].map(|id| (at, end, n, id)))
+        })
+    }) {
+        let changed = Walk { next_section: end, next_item, end, items, id, ..begun(COMPONENT) };
+        let is_bad = next_item > end || end > COMPONENT.len() || id > 255;
+        let (mut one, mut other) = (changed, changed);
+        let status = unsafe { wenc_walk_item(&mut one, ptr::null_mut()) };
+        assert_eq!(status == Status::BadArgument, is_bad);
+        read += usize::from(status == Status::Done);
+        let status = unsafe { wenc_walk_section(&mut other, ptr::null_mut()) };
+        assert_eq!(status == Status::BadArgument, end > COMPONENT.len());
+    }
+    assert!(read > 10);
+}
+
+/// Results are left out where the pointer is NULL.
+#[test]
+fn a_walk_without_results() {
+    let mut walk = begun(COMPONENT);
+    unsafe {
+        assert_eq!(wenc_walk_item(&mut walk, ptr::null_mut()), Status::End);
+        assert_eq!(wenc_walk_section(&mut walk, ptr::null_mut()), Status::Done);
+        assert_eq!(wenc_walk_item(&mut walk, ptr::null_mut()), Status::Done);
+        assert_eq!(wenc_walk_item(&mut walk, ptr::null_mut()), Status::End);
+        assert_eq!(wenc_walk_skip(&mut walk, ptr::null_mut()), Status::Done);
+        assert_eq!(next_section(&mut walk).map(section), Ok([29, 11, 31, 1, 11]));
+    }
+}
+
+/// The names of a component, of two functions, of nothing, and of a type; and a subsection with
+/// another id.
+const NAMES: &[u8] = b"\0\x02\x01c\x01\x08\x01\x02\x00\x01g\xff\x01\0\x09\x01z\x01\x02\x02\0\
+    \x01\x06\x03\x01\x05\x02\xc3\xa9";
+
+/// The only item of a component with a custom section.
+fn custom(name: &[u8], data: &[u8]) -> (Vec<u8>, ItemRow) {
+    let content = [&[name.len() as u8], name, data].concat();
+    let bytes = [b"\0asm\x0d\0\x01\0\0", &[content.len() as u8][..], &content].concat();
+    let item = items(&bytes).0[0];
+    (bytes, item)
+}
+
+fn names_in(data: &[u8]) -> (Vec<(u32, u32, &'static str)>, Status) {
+    let (_bytes, item) = custom(b"component-name", data);
+    let mut walk = unsafe { mem::zeroed() };
+    assert_eq!(unsafe { wenc_walk_names(&mut walk, &item) }, Status::Done);
+    let mut names = Vec::new();
+    loop {
+        match next_name(&mut walk) {
+            Ok((space, index, name)) => names.push((space, index, String::leak(name.into()) as &_)),
+            Err(status) => return (names, status),
+        }
+    }
+}
+
+#[test]
+fn debug_names_are_read() {
+    let wanted = [(13, 0, "c"), (8, 0, "g"), (8, 255, ""), (12, 5, "\u{e9}")];
+    assert_eq!(names_in(NAMES), (wanted.to_vec(), Status::End));
+    assert_eq!(names_in(b""), (Vec::new(), Status::End));
+    // A subsection past the end, behind another; two names where one is there.
+    let bad = |data| names_in(data);
+    assert_eq!(bad(b"\0\x02\x01c\x01\x03\x01"), (wanted[..1].to_vec(), Status::Malformed));
+    assert_eq!(bad(b"\x01\x05\x01\x02\0\x01g"), (Vec::new(), Status::Malformed));
+    assert_eq!(bad(b"\0\x02\x01\xff"), (Vec::new(), Status::Malformed));
+    let mut names: NamesWalk = unsafe { mem::zeroed() };
+    for (name, wanted) in [(&b"component-name"[..], Status::Done), (b"name", Status::BadArgument)] {
+        let (_bytes, item) = custom(name, NAMES);
+        assert_eq!(unsafe { wenc_walk_names(&mut names, &item) }, wanted);
+    }
+    let import = &items(COMPONENT).0[1];
+    assert_eq!(unsafe { wenc_walk_names(&mut names, import) }, Status::BadArgument);
+}
+
+/// Each type, kind and target that a call takes is the one that is read.
+#[test]
+fn numbers_are_read_as_they_were_written() {
+    let mut builder = Held::builder();
+    let (at, none, a) = (builder.at(), ptr::null_mut(), b"a".as_ptr());
+    let mut wanted = Vec::new();
+    let types = (1..8).map(|reference| (reference, 300)).chain((1..15).map(|of| (8, of)));
+    let of = |(reference, of)| if reference == 7 { [7, 0] } else { [reference, of] };
+    unsafe {
+        for (reference, number) in types {
+            assert_eq!(wenc_import(at, a, 1, reference, number, none), Status::Done);
+            let [reference, number] = of((reference, number));
+            wanted.push([reference, number, 0, 0, 0, 0]);
+            assert_eq!(wenc_export(at, a, 1, 1, 9, reference, number, none), Status::Done);
+            wanted.push([reference, number, 0, 1, 9, 0]);
+        }
+        for kind in 0..6 {
+            assert_eq!(wenc_export(at, a, 1, kind, 9, 0, 0, none), Status::Done);
+            wanted.push([0, 0, 0, kind, 9, 0]);
+            assert_eq!(wenc_alias_export(at, 8, kind, a, 1, none), Status::Done);
+            wanted.push([0, 0, 1, kind, 8, 0]);
+        }
+        for kind in 0..5 {
+            let status = wenc_alias_core_export(at, &named("n"), 7, kind, a, 1, none);
+            assert_eq!(status, Status::Done);
+            wanted.push([0, 0, 2, kind, 7, 0]);
+        }
+        for kind in 0..4 {
+            assert_eq!(wenc_alias_outer(at, ptr::null(), kind, 2, 6, none), Status::Done);
+            wanted.push([0, 0, 3, kind, 6, 2]);
+        }
+    }
+    let bytes = builder.finished();
+    let (items, status) = items(&bytes);
+    assert_eq!((items.iter().map(rest).collect::<Vec<_>>(), status), (wanted, Status::End));
+}
+
+/// A listing has the rows of the walk, with indices; its texts are its own.
+#[test]
+fn a_listing_has_the_rows_of_the_walk() {
+    let (walked, _) = items(COMPONENT);
+    let mut copy = COMPONENT.to_vec();
+    let mut listing = Held::nothing();
+    let (at, len) = (copy.as_ptr(), copy.len());
+    assert_eq!(unsafe { wenc_list(listing.at(), at, len, ptr::null_mut()) }, Status::Done);
+    copy.fill(0xff);
+    let mut walked = walked.iter();
+    let mut indices = Vec::new();
+    for (number, count) in [1, 1, 1, 3, 1, 1, 1].into_iter().enumerate() {
+        for item in 0..count {
+            let mut row: ItemRow = unsafe { mem::zeroed() };
+            assert_eq!(unsafe { wenc_item_at(listing.at(), number, item, &mut row) }, Status::Done);
+            let wanted = walked.next().expect("an item");
+            assert_eq!((row.place, row.len), (wanted.place, wanted.len));
+            assert_eq!((texts(row.name), rest(&row)), (texts(wanted.name), rest(wanted)));
+            indices.push(row.index);
+        }
+    }
+    assert_eq!(indices, [0, 0, 1, 0, 0, 2, 0, 0, 0]);
+}
+
+/// A million items are walked over in less than the time that a walk from the start to each takes.
+#[test]
+fn a_walk_is_linear() {
+    let items_len = 1_000_000;
+    let head = b"\0asm\x0d\0\x01\0\x08\xc3\x84\x3d\xc0\x84\x3d";
+    let bytes = [&head[..], &b"\x05".repeat(items_len)].concat();
+    let begun_at = std::time::Instant::now();
+    let (items, status) = items(&bytes);
+    assert_eq!((items.len(), status), (items_len, Status::End));
+    assert_eq!(items[items_len - 1].place, bytes.len() - 1);
+    assert!(begun_at.elapsed().as_secs() < 60, "{:?}", begun_at.elapsed());
+}
+
+/// Calls that only read are made by several threads at a time.
+#[test]
+fn readers_at_a_time() {
+    struct Shared(*const Handle, *const Handle, *const Handle);
+    unsafe impl Sync for Shared {}
+    impl Shared {
+        fn read(&self, wanted: &[u8]) {
+            let (mut builder, none) = (Held::builder(), ptr::null_mut());
+            let (mut row, mut copy) = (unsafe { mem::zeroed() }, Vec::new());
+            copy.resize(wanted.len(), 0);
+            for _ in 0..200 {
+                unsafe {
+                    assert_eq!(wenc_item_at(self.0, 3, 2, &mut row), Status::Done);
+                    let copied = wenc_copy(builder.at(), ptr::null(), self.0, 1, 0, none);
+                    assert_eq!(copied, Status::Done);
+                    assert_eq!(text(row.name.name), Some("f"));
+                    assert_eq!(wenc_bytes(self.1, copy.as_mut_ptr(), copy.len()), Status::Done);
+                    let mut types = Held::builder();
+                    assert_eq!(wenc_type(types.at(), ptr::null(), self.2, none), Status::Done);
+                    assert_eq!(types.finished()[8..], *b"\x07\x03\x01\x42\0");
+                }
+                assert_eq!(copy, wanted);
+            }
+            assert_eq!(builder.finished().len(), 8 + 5 + 200 * 11);
+        }
+    }
+    let (mut listing, mut finished, mut types) = (Held::nothing(), Held::builder(), Held::types(5));
+    let (mut at, mut len) = (ptr::null(), 0);
+    unsafe {
+        let (at, len) = (COMPONENT.as_ptr(), COMPONENT.len());
+        assert_eq!(wenc_list(listing.at(), at, len, ptr::null_mut()), Status::Done);
+        let (at, len) = (b"xyz".as_ptr(), 3);
+        assert_eq!(
+            wenc_core_module(finished.at(), ptr::null(), at, len, ptr::null_mut()),
+            Status::Done
+        );
+    }
+    assert_eq!(unsafe { wenc_finish(finished.at(), &mut at, &mut len) }, Status::Done);
+    let wanted = b"\0asm\x0d\0\x01\0\x01\x03xyz";
+    let shared = Shared(listing.at(), finished.at(), types.at());
+    std::thread::scope(|scope| {
+        for _ in 0..4 {
+            scope.spawn(|| shared.read(wanted));
+        }
+    });
+}
+
+/// The items of a walk, each added again by its bytes.
+fn copied(bytes: &[u8], rows: &[ItemRow]) -> Vec<u8> {
+    let mut builder = Held::builder();
+    for row in rows {
+        let item = &bytes[row.place..][..row.len];
+        let (at, len, none) = (item.as_ptr(), item.len(), ptr::null_mut());
+        let status = unsafe { wenc_item(builder.at(), row.section, ptr::null(), at, len, none) };
+        assert_eq!(status, Status::Done);
+    }
+    builder.finished()
+}
+
+/// What Rust reads of a component, written again.
+fn relisted(bytes: &[u8]) -> Vec<u8> {
+    let listing = crate::list(bytes).expect("a component");
+    let items = listing.sections.into_iter().flat_map(|section| section.items);
+    let commands: Vec<crate::tree::Command> = items.map(Into::into).collect();
+    crate::tree::build(&commands).expect("there is memory").bytes.into()
+}
+
+/// Real components, and debug names in them, beside what Rust reads.
+#[test]
+fn real_components_are_read_as_in_rust() {
+    let folder = concat!(env!("CARGO_MANIFEST_DIR"), "/tests/real/corpus/wasm");
+    let (mut items_len, mut names_len) = (0, 0);
+    for file in std::fs::read_dir(folder).expect("the corpus is there") {
+        let bytes = std::fs::read(file.expect("a file").path()).expect("it can be read");
+        let Ok(sections) = crate::Sections::new(&bytes) else { continue };
+        let mut names = BTreeMap::new();
+        let wanted: Vec<_> = sections.items().map_while(Result::ok).collect();
+        let is_whole = sections.items().all(|item| item.is_ok());
+        let (rows, status) = items(&bytes);
+        assert_eq!((rows.len(), status == Status::End), (wanted.len(), is_whole));
+        for (row, (range, view)) in rows.iter().zip(&wanted) {
+            assert_eq!(row.place..row.place + row.len, *range);
+            let indices = view.indices().map_or((13, 0), |(of, n)| (of.number() as u32, n));
+            assert_eq!((row.space, row.indices), indices);
+            let mut walk = unsafe { mem::zeroed() };
+            if unsafe { wenc_walk_names(&mut walk, row) } == Status::Done {
+                while let Ok((space, index, name)) = next_name(&mut walk) {
+                    names.entry((space, index)).or_insert_with(|| String::from(name));
+                }
+            }
+        }
+        let all = sections.names();
+        let of_items =
+            all.iter().map(|(space, index, name)| ((space.number() as u32, index), name));
+        let of_component = all.component().map(|name| ((13, 0), name));
+        let wanted: Vec<_> = of_items.chain(of_component).collect();
+        let read: Vec<_> = names.iter().map(|(of, name)| (*of, &name[..])).collect();
+        assert!(read == wanted || !is_whole, "{read:?}");
+        if is_whole {
+            assert_eq!(copied(&bytes, &rows), relisted(&bytes));
+        }
+        (items_len, names_len) = (items_len + rows.len(), names_len + names.len());
+    }
+    assert!(items_len > 500 && names_len > 50, "{items_len} items, {names_len} names");
+}
