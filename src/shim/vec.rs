@@ -79,8 +79,8 @@ impl<T, A: Allocator> Vec<T, A> {
     #[inline(never)]
     fn grow(&mut self, more: usize) -> Result<(), AllocError> {
         self.ask()?;
-        let is_first = size_of::<T>() == 1 && self.inner.capacity() == 0 && more < 8;
-        let least = if is_first { A::FIRST_BYTES } else { 0 };
+        let is_small = size_of::<T>() == 1 && self.inner.capacity() < A::FIRST_BYTES;
+        let least = if is_small { A::FIRST_BYTES - self.inner.len() } else { 0 };
         Ok(self.inner.try_reserve(more.saturating_add(1).max(least))?)
     }
 
