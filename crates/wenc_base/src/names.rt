@@ -63,6 +63,7 @@ impl<A: Allocator> NameMap<A> {
     /// Fails with `TooMany` if the number of names would exceed 4294967295, and with `TooLarge` if
     /// the bytes of the name or of the map would.
     #[tactic(auto, using(crate::proofs::Groups::size_of_u32))]
+    #[inline(always)]
     pub fn append(&mut self, idx: u32, name: &str) -> Result<(), Fault>
         ensures { let entry : NameAssociation = record { index = idx; name = name.now } in
             AddsMember (name_association entry) self.old self.new result }
