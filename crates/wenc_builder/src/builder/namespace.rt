@@ -61,6 +61,7 @@ impl<A: Allocator> Namespace<A> {
 
     /// Adds `number` items, the first of them with an optional name. A failed call changes nothing.
     #[tactic(auto, using(crate::proofs::Mapped::unnamed_free))]
+    #[inline(always)]
     pub fn add(&mut self, number: u32, name: Option<&str>) -> Result<(), Fault>
         ensures ok { OnOk result
             (self.new ≡ namespace_with self.old number (option_copied name.entry)) }

@@ -139,6 +139,7 @@ impl<A: Allocator> Spaces<A> {
 
     /// Takes `number` indices in a space, the first of them with an optional name, and returns the
     /// first. A failed call changes nothing.
+    #[inline(always)]
     pub fn add(&mut self, space: Space, number: u32, name: Option<&str>) -> Result<u32, Fault>
         requires { self.old.taking ≡ None }
         ensures index { IfOk result (λ i.
