@@ -87,7 +87,7 @@ class Mutant:
         self.path, self.function, self.what, self.place, self.new = path, function, what, place, new
 
     def name(self):
-        return f"{self.path} {self.function}: {self.what}"
+        return f"{self.path} {self.function}: {self.what}".replace(" :", ":")
 
 
 def switched(source, mutants, first):
@@ -115,7 +115,9 @@ def switched(source, mutants, first):
         put(source.text[at:start])
         old, everyone = source.text[start:end], [mutant.number for mutant in inside]
         number = f"crate::mutants::number({body})"
-        if inside[0].place == (start, end):
+        if "MUTANT" in inside[0].new:
+            put(inside[0].new.replace("MUTANT", f"({number} == {everyone[0]})"), everyone)
+        elif inside[0].place == (start, end):
             put(f"(if {number} == {everyone[0]} {{ {inside[0].new} }} else {{ {old} }})", everyone)
         else:
             put(f"{{ match {number} {{", everyone)
