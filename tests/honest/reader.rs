@@ -48,7 +48,7 @@ const CRATES: [&str; 15] = [
     "wenc_list",
     "wasm_encoder",
     "wenc",
-    "command_fuzz",
+    "rebuild",
     "proved_tests",
     "hex",
 ];
