@@ -33,7 +33,8 @@
 //! `tree::build` builds it again. [`Sections`] reads it section by section, and item by item into
 //! values of [`view`], without allocating. Each section can be written again byte for byte
 //! ([`SectionReader`]) or item by item ([`ItemSection`]). To renumber what was read,
-//! `ItemTree::indices_mut` visits each index that an item contains.
+//! `ItemTree::indices_mut` visits each index that an item contains; `Sections::out_of_range` finds
+//! those that aren't there.
 //!
 //! # What is proved
 //!
