@@ -146,9 +146,7 @@ pub use core_items::{CoreItem, CoreItems};
 #[cfg(feature = "reader")]
 pub use core_sections::{CoreSection, CoreSections, ModuleFault};
 #[cfg(feature = "reader")]
-pub use cursor::{
-    AllOutOfRange, Items, NestedSections, OutOfRange, SectionReader, Sections, Trees,
-};
+pub use cursor::{Items, NestedSections, OutOfRange, SectionReader, Sections, Trees};
 pub use encode::{Encode, encoding_size};
 pub use error::{Error, Unsupported};
 #[cfg(feature = "reader")]

@@ -346,8 +346,8 @@ nodes! {
 }
 
 impl ItemView<'_> {
-    /// Returns the item as a [`Node`], in which an index is [`Node::OutOfRange`] if its space has no
-    /// such index in these scopes.
+    /// Returns the item as a [`Node`], in which an index is [`Node::OutOfRange`] if its space has
+    /// no such index in these scopes.
     ///
     /// ```
     /// use wenc::tree::{IndexCounts, Scopes};
@@ -360,11 +360,11 @@ impl ItemView<'_> {
     /// for item in Sections::new(component)?.items() {
     ///     let (_, item) = item?;
     ///     let scopes = Scopes::new(&counts);
-    ///     item.node_in(&scopes).each_index(|used| assert_eq!((used.index, used.count), (1, None)));
-    ///     // before the types, it would be out of range
-    ///     let before = [IndexCounts::default()];
-    ///     let scopes = Scopes::new(&before);
-    ///     item.node_in(&scopes).each_index(|used| assert_eq!((used.index, used.count), (1, Some(0))));
+    ///     item.node_in(&scopes).each_index(|used| assert_eq!(used.count, None));
+    ///     // in front of the types, it would be out of range
+    ///     let none = [IndexCounts::default()];
+    ///     let scopes = Scopes::new(&none);
+    ///     item.node_in(&scopes).each_index(|used| assert_eq!(used.count, Some(0)));
     ///     counts[0].add(&item);
     /// }
     /// # Ok::<(), ListFault>(())
