@@ -18,7 +18,7 @@ use core::ops::Range;
 
 pub use items::{Items, Trees};
 pub use nested::NestedSections;
-pub use out_of_range::{AllOutOfRange, OutOfRange};
+pub use out_of_range::OutOfRange;
 
 /// An iterator over the sections of a component.
 ///
@@ -175,8 +175,9 @@ impl<'a> Sections<'a> {
     /// Each comes with the byte offset of its item. A valid component has none; nothing else is
     /// checked. A recursion group defines an index for each of its types, to which they may refer.
     ///
-    /// Memory is taken for each depth of components, and for the indices of one item that are out
-    /// of range.
+    /// The iterator ends after an error, which is that of a section or of an item, or
+    /// [`ListFault::NoMemory`]: memory is taken for each depth of components, and for the indices of
+    /// one item that are out of range.
     ///
     /// ```
     /// use wenc::tree::{Scope, Space};
@@ -193,8 +194,12 @@ impl<'a> Sections<'a> {
     /// assert_eq!(found?, [OutOfRange { place: 18, space, scope, index: 99, count: 1 }]);
     /// # Ok::<(), ListFault>(())
     /// ```
-    pub fn out_of_range(self, limit: usize) -> AllOutOfRange<'a> {
-        AllOutOfRange::new(self.nested(limit))
+    pub fn out_of_range(
+        self,
+        limit: usize,
+    ) -> impl Iterator<Item = Result<OutOfRange, ListFault>> + 'a {
+        let mut finder = out_of_range::Finder::new(self.nested(limit));
+        up_to_fault(iter::from_fn(move || finder.find().transpose()))
     }
 
     /// Returns the fault, after which there are no sections.

@@ -33,7 +33,8 @@
 //! `tree::build` builds it again. [`Sections`] reads it section by section, and item by item into
 //! values of [`view`], without allocating. Each section can be written again byte for byte
 //! ([`SectionReader`]) or item by item ([`ItemSection`]). To renumber what was read,
-//! `ItemTree::indices_mut` visits each index that an item contains.
+//! `ItemTree::indices_mut` visits each index that an item contains; `Sections::out_of_range` finds
+//! those that aren't there.
 //!
 //! # What is proved
 //!
@@ -145,9 +146,7 @@ pub use core_items::{CoreItem, CoreItems};
 #[cfg(feature = "reader")]
 pub use core_sections::{CoreSection, CoreSections, ModuleFault};
 #[cfg(feature = "reader")]
-pub use cursor::{
-    AllOutOfRange, Items, NestedSections, OutOfRange, SectionReader, Sections, Trees,
-};
+pub use cursor::{Items, NestedSections, OutOfRange, SectionReader, Sections, Trees};
 pub use encode::{Encode, encoding_size};
 pub use error::{Error, Unsupported};
 #[cfg(feature = "reader")]

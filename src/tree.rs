@@ -11,7 +11,8 @@
 //! Core types are those of WebAssembly 3.0, `CoreValType` and others. They convert to the types of
 //! sections with `From`, and from these with `TryFrom`, which fails for what proposals add.
 //!
-//! An item's [`Node`] has its fields with their names, without a type for each kind of value.
+//! An item's [`Node`] has its fields with their names, without a type for each kind of value. Owned
+//! and borrowed items have the same nodes.
 //!
 //! A builder takes a [`Command`] ([`ComponentBuilder::command`](crate::ComponentBuilder::command)),
 //! a section an [`ItemTree`] ([`ItemSection`](crate::ItemSection)), an encoder the tree of a type.

@@ -15,7 +15,8 @@
 //! nothing here takes memory. A member that is asked for twice is read twice; so are the
 //! declarations of a type in a type, once more for each type around them.
 //!
-//! [`to_tree`](ItemView::to_tree) copies a value.
+//! [`to_tree`](ItemView::to_tree) copies a value; [`node`](ItemView::node) has its fields and its
+//! indices, without a copy.
 //!
 //! Equality and hashes are those of the values: lists are equal if their members are, however
 //! their numbers are padded.

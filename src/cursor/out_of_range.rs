@@ -24,26 +24,20 @@ pub struct OutOfRange {
     pub count: u64,
 }
 
-/// An iterator over the indices in a component that are out of range, as
-/// [`Sections::out_of_range`](crate::Sections::out_of_range) returns it.
-///
-/// Needs the feature `reader`.
-#[derive(Clone, Debug)]
-pub struct AllOutOfRange<'a> {
+/// Finds the indices in a component that are out of range.
+pub(super) struct Finder<'a> {
     sections: NestedSections<'a>,
-    /// The items of the current section; `None` if its component is nested.
+    /// The items of the current section; `None` if it is a component.
     items: Option<Items<'a>>,
     /// What the components around the next item have so far, the outermost first.
     counts: Vec<IndexCounts>,
     /// What was found in the last item.
     found: VecDeque<OutOfRange>,
-    is_over: bool,
 }
 
-impl<'a> AllOutOfRange<'a> {
+impl<'a> Finder<'a> {
     pub(super) fn new(sections: NestedSections<'a>) -> Self {
-        let (counts, found) = (Vec::new(), VecDeque::new());
-        Self { sections, items: None, counts, found, is_over: false }
+        Self { sections, items: None, counts: Vec::new(), found: VecDeque::new() }
     }
 
     /// Goes on with the next section. Returns whether there is one.
@@ -91,7 +85,7 @@ impl<'a> AllOutOfRange<'a> {
     }
 
     /// Returns the next index that is out of range.
-    fn find(&mut self) -> Result<Option<OutOfRange>, ListFault> {
+    pub(super) fn find(&mut self) -> Result<Option<OutOfRange>, ListFault> {
         loop {
             if let Some(found) = self.found.pop_front() {
                 return Ok(Some(found));
@@ -102,21 +96,5 @@ impl<'a> AllOutOfRange<'a> {
                 None => {}
             }
         }
-    }
-}
-
-/// # Errors
-///
-/// As [`NestedSections`] and [`Items`], or [`ListFault::NoMemory`].
-impl Iterator for AllOutOfRange<'_> {
-    type Item = Result<OutOfRange, ListFault>;
-
-    fn next(&mut self) -> Option<Self::Item> {
-        if self.is_over {
-            return None;
-        }
-        let next = self.find().transpose();
-        self.is_over = !matches!(next, Some(Ok(_)));
-        next
     }
 }

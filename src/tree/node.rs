@@ -13,10 +13,12 @@ use core::fmt;
 use core::ops::ControlFlow;
 
 /// An item, or a value within one, by its kind and its fields, from which programs can print it
-/// without a case for each type. Names are those of the Rust types.
+/// without a case for each type.
 ///
-/// [`ItemTree::node`] and [`CoreItem::node`] return an item's node, [`Child::node`] that of a value
-/// within. Nothing is allocated. Types in items that were read are at most 100 deep.
+/// [`ItemTree::node`], [`ItemView::node`] and [`CoreItem::node`] return an item's node,
+/// [`Child::node`] that of a value within. Names are those of the Rust types; a borrowed value has
+/// those of the owned one, and the elements of its lists are read one by one. Nothing is allocated.
+/// Types in items that were read are at most 100 deep.
 ///
 /// ```
 /// use wenc::list;
@@ -344,21 +346,25 @@ nodes! {
 }
 
 impl ItemView<'_> {
-    /// Returns the item as a [`Node`] in which indices that aren't defined yet are
-    /// [`Node::OutOfRange`], in these components.
+    /// Returns the item as a [`Node`], in which an index is [`Node::OutOfRange`] if its space has
+    /// no such index in these scopes.
     ///
     /// ```
-    /// use wenc::tree::{IndexCounts, Node, Scopes, Space};
-    /// use wenc::view::ItemView;
-    /// use wenc::{ComponentTypeRef, ListFault, Sections};
+    /// use wenc::tree::{IndexCounts, Scopes};
+    /// use wenc::{ListFault, Sections};
     ///
     /// // two types, and an import of a function of the second
-    /// let component = b"\0asm\x0d\0\x01\0\x07\x08\x02\x40\0\x01\0\x40\0\x01\0\x0a\x06\x01\0\x01f\x01\x01";
+    /// let component = b"\0asm\x0d\0\x01\0\x07\x09\x02\x40\0\x01\0\x40\0\x01\0\
+    ///     \x0a\x06\x01\0\x01f\x01\x01";
     /// let mut counts = [IndexCounts::default()];
     /// for item in Sections::new(component)?.items() {
     ///     let (_, item) = item?;
     ///     let scopes = Scopes::new(&counts);
-    ///     item.node_in(&scopes).each_index(|used| assert_eq!((used.space, used.index), (Space::Types, 1)));
+    ///     item.node_in(&scopes).each_index(|used| assert_eq!(used.count, None));
+    ///     // in front of the types, it would be out of range
+    ///     let none = [IndexCounts::default()];
+    ///     let scopes = Scopes::new(&none);
+    ///     item.node_in(&scopes).each_index(|used| assert_eq!(used.count, Some(0)));
     ///     counts[0].add(&item);
     /// }
     /// # Ok::<(), ListFault>(())

@@ -16,7 +16,7 @@ use crate::view::ItemView;
 /// for item in Sections::new(component)?.items() {
 ///     counts.add(&item?.1);
 /// }
-/// assert_eq!([Space::Types, Space::Funcs, Space::Values].map(|space| counts.of(space)), [1, 1, 0]);
+/// assert_eq!((counts.of(Space::Types), counts.of(Space::Funcs)), (1, 1));
 /// # Ok::<(), wenc::ListFault>(())
 /// ```
 #[derive(Clone, Copy, Debug, Default, PartialEq, Eq, Hash)]
@@ -38,7 +38,7 @@ impl IndexCounts {
         });
     }
 
-    /// Makes all indices known, for an item that can't be read: what it defines is unknown.
+    /// Adds an item that can't be read: then no index is out of range.
     pub fn add_unknown(&mut self) {
         self.0 = [u64::MAX; Space::ALL.len()];
     }

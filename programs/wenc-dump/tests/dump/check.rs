@@ -8,7 +8,8 @@ use crate::{FUNCTION, FUNCTION_TEXT, component, dump, expect, expect_of, file};
 fn sections() -> Vec<u8> {
     // an instance type with a list of its type 1, an outer alias of type 1, one of type 0 two
     // further out, and an export of its type 2, which the second alias defines
-    let ty = b"\x07\x17\x01\x42\x04\x01\x70\x01\x02\x03\x02\x01\x01\x02\x03\x02\x02\0\x04\0\x01e\x03\0\x02";
+    let ty = b"\x07\x17\x01\x42\x04\x01\x70\x01\x02\x03\x02\x01\x01\
+        \x02\x03\x02\x02\0\x04\0\x01e\x03\0\x02";
     // a component with an outer alias of type 1, and one of component 0, which it is itself
     let inner = component(b"\x06\x09\x02\x03\x02\x01\x01\x04\x02\x01\0");
     let nested = [&[4, 19][..], &inner].concat();
