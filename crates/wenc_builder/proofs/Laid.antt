@@ -366,4 +366,16 @@ stood h kept new text first more head gap end closed_len new_len kind earlier no
     let closed = before ++ (text ++ bytes) in
     rw (n, all, idle.0) (rw (← view, idle.0, idle.1, take_all (length closed) closed (omega arith)) refl)
 
+-- where no section is open, what is written after all bytes is closed
+pub stood_alone : (h new : HolderState) (text : List ℕ) (closed_len new_len : ℕ) (earlier : Option Earlier) (now : Buffered)
+    → IsLaidOut h closed_len None earlier → buffer_view h closed_len None earlier ≡ now → now.writing ≡ None
+    → new ≡ holding (all_bytes h ++ text) 0 [] → new_len ≡ length new.kept → buffer_view new new_len None earlier ≡ buffer_with now text
+stood_alone h new text closed_len new_len earlier now l view none is n =
+    let idle = none_is_written h closed_len None earlier (ap (λ (b : Buffered). b.writing) view ∙ none) in
+    let members : MembersAreIn None closed_len h × BegunIsIn h.opening h.count (length h.body) = (rw idle.0 at l).indices in
+    let closed : take closed_len h.kept ++ [] ≡ all_bytes h =
+    rw (members.0.1, ← members.0.0, take_all (length h.kept) h.kept (omega arith)) refl in
+    let all = all_bytes h ++ text in
+    rw (n, is, idle.0) (rw (← view, idle.0, idle.1, closed, take_all (length all) all (omega arith)) refl)
+
 -- ---- all bytes

@@ -1,5 +1,6 @@
 -- A whole item: it is written, then takes its index, and is ended; or it is given up.
-use Rattle.std.proofs.Common.{◌≡◌, ℕ, true, is_none, List, [], length, Option, Some, None, Result, Ok, Err, inl, inr, refl, sym, ◌∙◌}
+use Rattle.std.proofs.Common.{◌≡◌, ℕ, true, is_none, List, [], length, Option, Some, None, Result, Ok, Err, OnOk, OnErr, inl, inr, refl, ◌∙◌}
+use Rattle.std.specs.Prelude.{IfOk, IfErr}
 use Rattle.wenc_base.specs.Fault.{IsWarranted, NoCause, either}
 use Rattle.wenc_base.specs.Parent.{Extends, Extended}
 use Rattle.wenc_base.specs.Piece.{Piece, nothing}
@@ -85,10 +86,10 @@ module _ (b : Buffered) (s : Spaced) (i : IsBuilder b s) (old : State) (view : b
       longer : IsBuilder written taking
       longer = value_stands first taking stands written (Ok tt) p a
 
-      pub value_stays : IsItemPiece (Some id) (some_in space 1) p → IsBuilder (buffer_ended written) (spaces_ended taking)
+      value_stays : IsItemPiece (Some id) (some_in space 1) p → IsBuilder (buffer_ended written) (spaces_ended taking)
       value_stays whole = ended_stands written taking longer (rw a.ok (whole a.fits))
 
-      pub value_added : (new : State) (index : ℕ) → index ≡ (namespace_at s.settled space).count → length s.settled ≡ 13
+      value_added : (new : State) (index : ℕ) → index ≡ (namespace_at s.settled space).count → length s.settled ≡ 13
           → NoCause (SpaceCause (space_begun s space 1 name))
           → new ≡ builder_view (buffer_ended written) (spaces_ended taking) → AddsWholeItem old new (Ok index) New p
       value_added new index counted all free is =
@@ -97,6 +98,32 @@ module _ (b : Buffered) (s : Spaced) (i : IsBuilder b s) (old : State) (view : b
           (begins b s old begun (item_begun old (New [])) index (New []) i.agree view finished begun_is (rw (← view) counted) (rw (← view) all)
           (rw (← view) free) (rw (← view) room))
           more.ok more.fits more.free (is ∙ ended_is written taking longer.agree)
+
+      -- ---- it takes its index and is ended, or it is given up
+
+      module _ (new : Buffered) (spaces : Spaced) (result : Result ℕ Fault) (ok : OnOk result (spaces ≡ spaces_ended taking))
+          (ended : OnOk result (new ≡ buffer_ended written)) (err : OnErr result (spaces ≡ s))
+          (given_up : OnErr result (new ≡ buffer_given_up written)) where
+        pub whole_stands : IsItemPiece (Some id) (some_in space 1) p → IsBuilder new spaces
+        whole_stands whole = at result ok ended err given_up
+          where
+            at : (r : Result ℕ Fault) → OnOk r (spaces ≡ spaces_ended taking) → OnOk r (new ≡ buffer_ended written) → OnErr r (spaces ≡ s)
+                → OnErr r (new ≡ buffer_given_up written) → IsBuilder new spaces
+            at (Ok index) k e r g = rw (k, e) (value_stays whole)
+            at (Err fault) k e r g = rw (r, g, back written (rw a.ok refl)) i
+
+        pub whole_added : (state : State) → builder_view new spaces ≡ state → IfOk result (λ i. i ≡ (namespace_at s.settled space).count)
+            → length s.settled ≡ 13 → OnOk result (NoCause (SpaceCause (space_begun s space 1 name)))
+            → IfErr result (IsWarranted (SpaceCause (space_begun s space 1 name))) → AddsWholeItem old state result New p
+        whole_added state is index all free warranted = at result ok ended err given_up index free warranted
+          where
+            at : (r : Result ℕ Fault) → OnOk r (spaces ≡ spaces_ended taking) → OnOk r (new ≡ buffer_ended written) → OnErr r (spaces ≡ s)
+                → OnErr r (new ≡ buffer_given_up written) → IfOk r (λ i. i ≡ (namespace_at s.settled space).count)
+                → OnOk r (NoCause (SpaceCause (space_begun s space 1 name))) → IfErr r (IsWarranted (SpaceCause (space_begun s space 1 name)))
+                → AddsWholeItem old state r New p
+            at (Ok index) k e r g counted none w = value_added state index counted all none (rw (← is, k, e) refl)
+            at (Err fault) k e r g counted none w =
+                space_refused state _ fault p all w (rw (← is, r, g, back written (rw a.ok refl)) view)
 
 -- what was made of the values of an iterator is a value
 pub as_value : (b new : Buffered) (p : Piece) → Extended new (buffer_appended b) (λ bytes. NoRoom (section_appended b bytes)) p

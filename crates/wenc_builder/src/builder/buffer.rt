@@ -200,24 +200,12 @@ impl<A: Allocator> Buffer<A> {
         ensures unfinished_value { E.unfinished lead.now → result ≡ Err Unfinished }
     {
         if self.kind.is_none() && bytes.gap == 0 && bytes.more.is_empty() {
-            return self.write_whole(lead, bytes.first);
+            self.holder.keep_all(&(ByRef(lead), Verbatim(bytes.first)))?;
+            self.closed_len = self.holder.kept_len();
+            return Ok(());
         }
         let head = bytes.head.as_slice();
         self.write_section(lead, bytes.first, bytes.gap, head, bytes.more)
-    }
-
-    /// Writes the encoding of `lead` and these bytes as `add_section` does, with no section open.
-    fn write_whole<E: Encode>(&mut self, lead: &E, bytes: &[u8]) -> Result<(), Fault>
-        requires settled { self.old.writing ≡ None }
-        requires closed { self.old.settled.current ≡ None }
-        ensures stood { AppendsSection self.old self.new result
-            (with_bytes (E.piece lead.now) bytes.now) }
-        ensures bytes { OnOk result (AreBytes (E.piece lead.now).text) }
-        ensures unfinished_value { E.unfinished lead.now → result ≡ Err Unfinished }
-    {
-        self.holder.keep_all(&(ByRef(lead), Verbatim(bytes)))?;
-        self.closed_len = self.holder.kept_len();
-        Ok(())
     }
 
     /// Writes the encoding of `lead` and these bytes as `add_section` does, with `head` in place of

@@ -1,11 +1,14 @@
+use Rattle.std.proofs.Common.{sym}
 use Rattle.std.specs.Option.{option_copied}
 use Rattle.wenc_builder.specs.inside.Layout.{kind_id}
-use Rattle.wenc_builder.proofs.Taken.{added}
+use Rattle.wenc_builder.proofs.Whole.{section_refused, text_refused, whole_added, whole_stands}
 use Rattle.wenc_builder.proofs.builder.ComponentBuilder.add.Goals as goal
 
-pub returns-in-Ok-append_value : goal.returns-in-Ok-append_value
-returns-in-Ok-append_value g c =
-    let a = c.in-Ok-append_value.ensures.appended in
-    added c.args.self.now c.open.new.self c.append_value.new.self c.finish_member.new.self c.in-Ok.index (kind_id c.args.kind) c.args.space
-    (option_copied c.args.name)
-    (g.E.Encode.piece c.args.item.now) c.in-Ok.ensures a.ok a.fits a.free c.finish_member.ensures
+pub returns-in-Ok : goal.returns-in-Ok
+returns-in-Ok g c =
+    let p = g.E.Encode.piece c.args.item.now in
+    let e = c.index_and_end.ensures in
+    whole_added c.self.inside.buffer c.self.inside.spaces c.self.invariant c.args.self.now c.self.view_is (sym c.if-not-is_finished.ensures)
+    (kind_id c.args.kind) c.args.space (option_copied c.args.name) c.in_ok-open.ensures.free c.append_encoded.new.buffer p
+    c.in-Ok.ensures.appended c.index_and_end.new.buffer c.index_and_end.new.spaces c.index_and_end.result e.ok e.ended e.err e.given_up
+    _ refl e.index e.all e.free e.warranted
