@@ -1,0 +1,60 @@
+//! Sections with one item, by hand: custom sections, modules, components and starts.
+
+use crate::bytes;
+use crate::format::{Model, sized};
+use crate::size::{SIZES, Size};
+use wenc::*;
+
+/// A component with the section has these bytes, by each call that writes it.
+#[track_caller]
+fn is_alone(section: &impl ComponentSection, wanted: &[u8]) {
+    let mut whole = Component::new();
+    whole.section(section);
+    let mut appended = Component::HEADER.to_vec();
+    section.append_to_component(&mut appended);
+    let mut encoded = [&Component::HEADER[..], &[section.id()]].concat();
+    section.encode(&mut encoded);
+    assert!([whole.as_slice(), &appended, &encoded].iter().all(|bytes| *bytes == wanted));
+    assert!(whole.clone().finish() == wanted && whole.finish() == wanted);
+}
+
+/// A component of this section.
+fn component(id: u8, content: Vec<u8>) -> Vec<u8> {
+    let mut model = Model::new();
+    model.add(id, content);
+    model.finish()
+}
+
+#[test]
+fn sections_alone() {
+    for size in SIZES {
+        let a = Size::new(size, size, size % 300, size);
+        let custom =
+            CustomSection { name: a.text.as_str().into(), data: a.other.as_bytes().into() };
+        let content = bytes![a.text.as_str(), a.other.as_bytes()];
+        is_alone(&custom, &component(0, content.clone()));
+        is_alone(&custom.clone(), &component(0, content.clone()));
+        is_alone(&RawCustomSection(&sized(&content)), &component(0, content.clone()));
+        for id in [12, 200] {
+            let raw = RawSection { id, data: a.other.as_bytes() };
+            let wanted = bytes![&Component::HEADER[..], i32::from(id), sized(a.other.as_bytes())];
+            is_alone(&raw, &wanted);
+        }
+
+        let (mut module, mut nested) = (Module::new(), Component::new());
+        module.section(&custom);
+        nested.section(&custom);
+        let inner = bytes![&b"\0asm\x01\0\0\0"[..], 0x00, sized(&content)];
+        assert!(module.as_slice() == inner && module.clone().finish() == inner);
+        is_alone(&ModuleSection(&module), &component(1, inner));
+        let inner = component(0, content);
+        is_alone(&NestedComponentSection(&nested), &component(4, inner.clone()));
+        is_alone(&NestedComponentBytes(&inner), &component(4, inner.clone()));
+
+        let args: Vec<u32> = (0..a.count).map(|at| a.at(at)).collect();
+        let start = bytes![a.second, a.bytes(|at| bytes![a.at(at)]), a.index];
+        let section =
+            ComponentStartSection { function_index: a.second, args: &args[..], results: a.index };
+        is_alone(&section, &component(9, start));
+    }
+}
