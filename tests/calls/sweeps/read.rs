@@ -7,7 +7,7 @@ use crate::format::Model;
 use crate::seen::is_same;
 use crate::size::{Size, cases};
 use crate::table::calls;
-use wenc::tree::{Command, ItemTree, build};
+use wenc::tree::{Command, ItemTree, Node, Scope, build};
 use wenc::*;
 
 /// The command without a debug name.
@@ -28,8 +28,38 @@ fn seen(item: &mut ItemTree, by: u32) -> Vec<Seen> {
     seen
 }
 
+/// Adds the indices in the node.
+fn add_indices(node: Node, seen: &mut Vec<Seen>) {
+    match node {
+        Node::Index { space, scope, index } => seen.push((space, scope, index)),
+        Node::Present(child) | Node::Variant(_, child) => add_indices(child.node(), seen),
+        Node::List(list) => list.iter().for_each(|child| add_indices(child.node(), seen)),
+        Node::Tuple(fields) | Node::Record(_, fields) | Node::Struct(_, fields) => {
+            fields.iter().for_each(|(_, child)| add_indices(child.node(), seen));
+        }
+        _ => {}
+    }
+}
+
+/// The node has the same indices, in the order of its fields.
+fn is_node(call: &Call, node: Node, wanted: &[Seen]) {
+    let (mut seen, mut wanted) = (Vec::new(), wanted.to_vec());
+    add_indices(node, &mut seen);
+    let key = |(space, scope, index): &Seen| {
+        let scope = match scope {
+            Scope::Component(count) => (0, *count),
+            Scope::Type(depth) => (1, *depth),
+        };
+        (space.number(), scope, *index)
+    };
+    seen.sort_by_key(key);
+    wanted.sort_by_key(key);
+    assert!(seen == wanted, "{}: the node", call.name);
+}
+
 fn is_visited(call: &Call, size: &Size, mut item: ItemTree) {
     let (before, wanted) = (item.clone(), (call.indices)(size));
+    is_node(call, item.node(), &wanted);
     assert!(seen(&mut item, 1000) == wanted, "{}", call.name);
     let raised: Vec<_> =
         wanted.iter().map(|(of, from, at)| (*of, *from, at.wrapping_add(1000))).collect();
