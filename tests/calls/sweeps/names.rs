@@ -1,5 +1,5 @@
-//! Sections of debug names and of producers, by their own calls: at each size, and with each request
-//! refused in turn.
+//! Sections of debug names and of producers by hand: at each size, and with each request refused in
+//! turn.
 
 use crate::bytes;
 use crate::format::{Model, NAMED, list, sized};

@@ -1,9 +1,18 @@
 //! One component of all kinds of items at each size, whose bytes upstream's own calls give too.
 
-use super::{data, text};
 use wenc::*;
 
 const STRING: PrimitiveValType = PrimitiveValType::String;
+
+/// A text of so many bytes, most of them of letters that take two.
+fn text(size: usize) -> String {
+    ["é".repeat(size / 2), "a".repeat(size % 2)].concat()
+}
+
+/// So many bytes.
+fn data(size: usize) -> Vec<u8> {
+    (0..size).map(|at| at as u8).collect()
+}
 
 /// Adds definitions with this debug name, and lists of so many members.
 fn add_definitions(b: &mut ComponentBuilder, name: &str, n: usize) {
