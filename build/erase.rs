@@ -329,13 +329,11 @@ impl<'a> Eraser<'a> {
         Ok(())
     }
 
-    /// Erases a bound `Drop`, which every type of Rust has. A trait with only this bound gets
-    /// `Sized`.
+    /// Erases a bound `Drop`, which every type of Rust has.
     fn bound(&mut self, i: usize) -> Result<(), Refused> {
         match (self.before(i, 1), self.at(i + 1)) {
             ("+", "," | ">" | "{" | "+" | ")") => self.leave_out(i - 1..i + 1),
             (":", "," | ">") if self.before(i, 2) != ":" => self.leave_out(i - 1..i + 1),
-            (":", "{") if self.before(i, 2) != ":" => self.put(i, "Sized"),
             _ => return Err((self.line(i), "a use of `Drop` that is no bound")),
         }
         Ok(())

@@ -19,7 +19,7 @@ const WRITER: [&str; 6] =
 const READER: [&str; 5] = ["wenc_read", "wenc_view", "wenc_decode", "wenc_list", "wasm_encoder"];
 
 /// The crates of the programs.
-const PROGRAMS: [&str; 2] = ["wenc", "command_fuzz"];
+const PROGRAMS: [&str; 2] = ["wenc", "rebuild"];
 
 /// The crates that only tests use: proved callers, the examples of the documentation, and types as
 /// another crate defines them.

@@ -172,7 +172,6 @@ fn what_a_user_prints_or_does_not_call() {
 #[test]
 fn bounds() {
     becomes("fn f<T: Drop, U: Copy + Drop>() {}\n", "fn f<T , U: Copy  >() {}\n");
-    becomes("trait T: Drop {}\n", "trait T: Sized {}\n");
     becomes("trait T: Copy + Drop + Sized {}\n", "trait T: Copy   + Sized {}\n");
     becomes("fn f(x: impl Copy + Drop) {}\n", "fn f(x: impl Copy  ) {}\n");
 }
@@ -355,6 +354,7 @@ fn uses_of_drop_that_are_no_bounds() {
     refuses("impl Drop for S {\n    fn drop(self) {}\n}\n", 1, why);
     refuses("\nuse a::Drop;\n", 2, why);
     refuses("fn f<T: Drop + Copy>() {}\n", 1, why);
+    refuses("trait T: Drop {}\n", 1, why);
     refuses("use a::{Drop, B};\n", 1, why);
 }
 

@@ -1,4 +1,4 @@
-//! Components in hexadecimal for `wenc list`, some of them damaged.
+//! Components in hexadecimal for `wenc list`.
 
 use crate::random::Random;
 
@@ -10,34 +10,18 @@ pub fn words(random: &mut Random) -> &'static [&'static str] {
     if random.one_in(50) { random.one_of(&OTHER_WORDS) } else { &["list"] }
 }
 
-/// These digits, unchanged or damaged.
-pub fn listing(random: &mut Random, digits: &[u8]) -> Vec<u8> {
-    let mut digits = digits.to_vec();
+/// The digits of these bytes, sometimes with a character that is no digit.
+pub fn listing(random: &mut Random, bytes: &[u8]) -> Vec<u8> {
+    let mut digits: Vec<u8> =
+        bytes.iter().flat_map(|byte| format!("{byte:02x}").into_bytes()).collect();
     if random.one_in(4) {
         digits.make_ascii_uppercase();
     }
-    if random.one_in(2) {
-        for _ in 0..=random.below(3) {
-            damage(random, &mut digits);
-        }
+    if random.one_in(20) {
+        digits.insert(random.below(digits.len() + 1), random.one_of(b"g -\n0"));
     }
     if random.one_in(2) {
         digits.push(b'\n');
     }
     digits
-}
-
-/// Removes bytes, changes them or inserts some, truncates the input, or inserts a character that is
-/// no digit.
-fn damage(random: &mut Random, digits: &mut Vec<u8>) {
-    let start = random.below(digits.len() / 2 + 1) * 2;
-    let end = digits.len().min(start + 2);
-    let byte = format!("{:02x}", random.byte());
-    match random.below(10) {
-        0 | 1 => drop(digits.drain(start..end)),
-        2 | 3 => digits.truncate(start),
-        4 | 5 => drop(digits.splice(start..start, byte.bytes())),
-        6 => digits.insert(start, random.one_of(b"g -\n0")),
-        _ => drop(digits.splice(start..end, byte.bytes())),
-    }
 }

@@ -1,23 +1,23 @@
-//! Compares two compilations of the proved programs: `command_fuzz` and `wenc` as compiled by the
-//! kit, and by rustc. Both get the same inputs, which are made from a seed, and have to write the
-//! same bytes to both outputs and end with the same status.
+//! Compares two compilations of the proved programs: `rebuild` and `wenc` as compiled by the kit,
+//! and by rustc. Both get the same inputs, which are made from a seed, and have to write the same
+//! bytes to both outputs and end with the same status.
 //!
-//!     both DRIVEN WENC [SEED [NUMBER]]
+//!     both REBUILD WENC [SEED [NUMBER]]
 //!
-//! Some inputs of `command_fuzz` are stored with the output of upstream's own builder, which both
-//! have to write.
+//! Some inputs of `rebuild` are components that upstream's own builder wrote: both have to write
+//! them again, before the names.
 //!
-//! DRIVEN and WENC are the kit's programs; those of rustc are in this program's folder.
-//! `gate/both/run` makes all of them, and calls this one. There are NUMBER other inputs for
-//! `command_fuzz`, that many scripts for `wenc`, and that many components for `wenc list`. An input
-//! with two different results is kept.
+//! REBUILD and WENC are the kit's programs; those of rustc are in this program's folder.
+//! `gate/both/run` makes all of them, and calls this one. There are NUMBER other components for
+//! `rebuild`, that many scripts for `wenc`, and that many components for `wenc list`. An input with
+//! two different results is kept.
 
-mod answered;
-mod commands;
+mod components;
 mod listings;
 mod random;
 mod scripts;
 
+use components::{Pool, damage};
 use random::Random;
 use std::io::{self, ErrorKind, Write};
 use std::path::{Path, PathBuf};
@@ -33,8 +33,8 @@ const TOLD: usize = 5;
 struct Input {
     words: &'static [&'static str],
     bytes: Vec<u8>,
-    /// The expected output, if another program has written it.
-    wanted: Option<Vec<u8>>,
+    /// Whether the component that is printed has to begin with this one.
+    is_front: bool,
 }
 
 /// A program in both compilations.
@@ -52,7 +52,7 @@ struct Kind<'a> {
     input: Box<dyn Fn(usize) -> Input + Sync + 'a>,
     /// The numbers of accepted and refused inputs, by the output; `None` if a program never ends
     /// so.
-    count: fn(&Input, &Output) -> Option<Vec<usize>>,
+    count: fn(&Output) -> Option<Vec<usize>>,
 }
 
 /// How a program ended on an input.
@@ -74,9 +74,8 @@ fn ended(program: &Path, input: &Input) -> io::Result<Output> {
 }
 
 impl Kind<'_> {
-    /// Returns the results of the programs on an input, with what is counted of them, or their
-    /// difference.
-    fn compare(&self, input: &Input) -> Result<(Output, Vec<usize>), String> {
+    /// Returns what is counted of the results on an input, or the difference of the programs.
+    fn compare(&self, input: &Input) -> Result<Vec<usize>, String> {
         let [kit, rustc] = [&self.program.by_kit, &self.program.by_rustc].map(|program| {
             ended(program, input).map_err(|error| format!("{}: {error}", program.display()))
         });
@@ -92,29 +91,23 @@ impl Kind<'_> {
                 return Err(format!("standard {stream}, from byte {same} on"));
             }
         }
-        if input.wanted.as_ref().is_some_and(|wanted| *wanted != kit.stdout) {
-            return Err("standard output, from what is stored".into());
+        let digits = || input.bytes.iter().map(|byte| format!("{byte:02x}")).collect::<String>();
+        if input.is_front && !component(&kit).starts_with(digits().as_bytes()) {
+            return Err("standard output, from what upstream wrote".into());
         }
-        match (self.count)(input, &kit) {
-            Some(counted) => Ok((kit, counted)),
-            None => Err(format!("in nothing, but both end with {}", kit.status)),
-        }
+        let counted = (self.count)(&kit);
+        counted.ok_or_else(|| format!("in nothing, but both end with {}", kit.status))
     }
 
-    /// Returns the results on the inputs, in order, or none if they failed. Prints how they
-    /// compared.
-    fn run(&self, number: usize) -> Option<Vec<Output>> {
-        let mut answers = Vec::new();
+    /// Returns whether the results on the inputs are equal. Prints how they compared.
+    fn run(&self, number: usize) -> bool {
         let mut sums = vec![0; self.counted.len()];
         let mut differences = 0;
         for (at, answer) in
             side_by_side(number, |at| self.compare(&(self.input)(at))).into_iter().enumerate()
         {
             match answer {
-                Ok((output, counted)) => {
-                    answers.push(output);
-                    sums.iter_mut().zip(counted).for_each(|(sum, more)| *sum += more);
-                }
+                Ok(counted) => sums.iter_mut().zip(counted).for_each(|(sum, more)| *sum += more),
                 Err(difference) => {
                     differences += 1;
                     if differences <= TOLD {
@@ -134,7 +127,7 @@ impl Kind<'_> {
         if is_idle {
             println!("{}: where one of these is 0 little is compared", self.name);
         }
-        (differences == 0 && !is_idle).then_some(answers)
+        differences == 0 && !is_idle
     }
 
     /// Prints a difference, and keeps the input.
@@ -176,47 +169,52 @@ fn component(output: &Output) -> &[u8] {
     output.stdout.trim_ascii_end().rsplit(|byte| *byte == b'\n').next().unwrap_or_default()
 }
 
-/// Counts how many of the outermost commands of `command_fuzz` were accepted and refused.
-fn commands_of(_: &Input, output: &Output) -> Option<Vec<usize>> {
-    let lines: Vec<&[u8]> = output.stdout.split(|byte| *byte == b'\n').collect();
-    let refused = lines.iter().filter(|line| line.starts_with(b"refused ")).count();
-    // The component is one line, and nothing follows the last line end.
-    let commands = lines.len().checked_sub(2)?;
-    (output.status.code() == Some(0)).then(|| vec![commands - refused, refused])
-}
-
 /// Counts one input by its status, if that is one of these.
 fn by_status(output: &Output, known: [i32; 3]) -> Option<Vec<usize>> {
     let status = output.status.code()?;
     known.contains(&status).then(|| known.map(|one| usize::from(one == status)).into())
 }
 
-/// Choice bytes for `command_fuzz`.
-fn of_command_fuzz(program: &Program, seed: u64) -> Kind<'_> {
-    Kind {
-        name: "command_fuzz",
-        program,
-        counted: &["commands accepted", "commands refused"],
-        input: Box::new(move |at| Input {
-            words: &[],
-            bytes: commands::choices(&mut Random::new(seed, 1, at as u64)),
-            wanted: None,
-        }),
-        count: commands_of,
-    }
+/// Counts a component by whether it was built again, and a command was refused.
+fn rebuilt(output: &Output) -> Option<Vec<usize>> {
+    let is_refused = |line: &[u8]| line.starts_with(b"refused ");
+    let place = match output.status.code()? {
+        0 => usize::from(output.stdout.split(|byte| *byte == b'\n').any(is_refused)),
+        3 => 2,
+        _ => return None,
+    };
+    Some((0..3).map(|at| usize::from(at == place)).collect())
 }
 
-/// Choice bytes for `command_fuzz` with the output of upstream, all of them.
-fn of_answered(program: &Program) -> bool {
-    let number = answered::inputs().len();
+/// Components of upstream's for `rebuild`, all of them.
+fn of_upstream(program: &Program) -> bool {
+    let components = components::upstream();
     let kind = Kind {
-        name: "answered",
+        name: "upstream",
         program,
-        counted: &answered::COUNTED,
-        input: Box::new(|at| answered::inputs().swap_remove(at)),
-        count: answered::count,
+        counted: &["built again"],
+        input: Box::new(|at| Input { words: &[], bytes: components[at].clone(), is_front: true }),
+        count: |output| (output.status.code() == Some(0)).then(|| vec![1]),
     };
-    kind.run(number).is_some()
+    kind.run(components.len())
+}
+
+/// Components for `rebuild`, a third of them damaged.
+fn of_components<'a>(program: &'a Program, pool: &'a Pool, seed: u64) -> Kind<'a> {
+    Kind {
+        name: "components",
+        program,
+        counted: &["built again", "with a refused command", "not listed"],
+        input: Box::new(move |at| {
+            let mut random = Random::new(seed, 1, at as u64);
+            let mut bytes = pool.component(&mut random);
+            if random.one_in(3) {
+                damage(&mut random, &mut bytes);
+            }
+            Input { words: &[], bytes, is_front: false }
+        }),
+        count: rebuilt,
+    }
 }
 
 /// Scripts for `wenc`.
@@ -228,38 +226,42 @@ fn of_scripts(program: &Program, seed: u64) -> Kind<'_> {
         input: Box::new(move |at| Input {
             words: &[],
             bytes: scripts::script(&mut Random::new(seed, 2, at as u64)),
-            wanted: None,
+            is_front: false,
         }),
-        count: |_, output| by_status(output, [0, 1, 2]),
+        count: |output| by_status(output, [0, 1, 2]),
     }
 }
 
-/// Components for `wenc list`, from what the others wrote.
-fn of_listings<'a>(program: &'a Program, seed: u64, written: &'a [Output]) -> Kind<'a> {
+/// Components for `wenc list`, half of them damaged.
+fn of_listings<'a>(program: &'a Program, pool: &'a Pool, seed: u64) -> Kind<'a> {
     Kind {
         name: "listings",
         program,
         counted: &["listed", "refused as no component", "refused as no digits or for other words"],
         input: Box::new(move |at| {
             let mut random = Random::new(seed, 3, at as u64);
-            let digits = component(&written[random.below(written.len())]);
+            let mut bytes = pool.component(&mut random);
+            if random.one_in(2) {
+                damage(&mut random, &mut bytes);
+            }
             let words = listings::words(&mut random);
-            Input { words, bytes: listings::listing(&mut random, digits), wanted: None }
+            Input { words, bytes: listings::listing(&mut random, &bytes), is_front: false }
         }),
-        count: |_, output| by_status(output, [0, 3, 1]),
+        count: |output| by_status(output, [0, 3, 1]),
     }
 }
 
 /// Compares everything, and returns how many kinds passed and failed.
-fn compare_all(command_fuzz: &Program, wenc: &Program, seed: u64, number: usize) -> (usize, usize) {
-    let answers =
-        [of_command_fuzz(command_fuzz, seed).run(number), of_scripts(wenc, seed).run(number)];
-    let mut passed = answers.iter().flatten().count() + usize::from(of_answered(command_fuzz));
-    let written: Vec<Output> = answers.into_iter().flatten().flatten().collect();
-    if !written.is_empty() {
-        passed += usize::from(of_listings(wenc, seed, &written).run(number).is_some());
-    }
-    (passed, 4 - passed)
+fn compare_all(rebuild: &Program, wenc: &Program, seed: u64, number: usize) -> (usize, usize) {
+    let pool = Pool::new();
+    let results = [
+        of_upstream(rebuild),
+        of_components(rebuild, &pool, seed).run(number),
+        of_scripts(wenc, seed).run(number),
+        of_listings(wenc, &pool, seed).run(number),
+    ];
+    let passed = results.iter().filter(|is_equal| **is_equal).count();
+    (passed, results.len() - passed)
 }
 
 fn main() -> ExitCode {
@@ -269,7 +271,7 @@ fn main() -> ExitCode {
     let own = env::current_exe().ok();
     // Examples are in a folder below that of the programs.
     let examples = own.as_deref().and_then(Path::parent);
-    let (Some(command_fuzz), Some(wenc), Some(seed), Some(number), Some(examples), Some(programs)) = (
+    let (Some(rebuild), Some(wenc), Some(seed), Some(number), Some(examples), Some(programs)) = (
         words.first(),
         words.get(1),
         number_at(2, 1),
@@ -277,14 +279,13 @@ fn main() -> ExitCode {
         examples,
         examples.and_then(Path::parent),
     ) else {
-        eprintln!("both DRIVEN WENC [SEED [NUMBER]]");
+        eprintln!("both REBUILD WENC [SEED [NUMBER]]");
         return ExitCode::FAILURE;
     };
-    let command_fuzz =
-        Program { by_kit: command_fuzz.into(), by_rustc: examples.join("command_fuzz") };
+    let rebuild = Program { by_kit: rebuild.into(), by_rustc: examples.join("rebuild") };
     let wenc = Program { by_kit: wenc.into(), by_rustc: programs.join("wenc") };
     println!("seed {seed}");
-    let (passed, failed) = compare_all(&command_fuzz, &wenc, seed, number as usize);
+    let (passed, failed) = compare_all(&rebuild, &wenc, seed, number as usize);
     println!("{passed} passed, {failed} failed");
     ExitCode::from(u8::from(failed > 0))
 }

@@ -5,7 +5,7 @@ use super::lexer::{Token, lex};
 use std::collections::BTreeMap;
 
 /// The ways, each of which some source takes.
-pub const WAYS: [&str; 27] = [
+pub const WAYS: [&str; 26] = [
     "kept",
     "prelude",
     "ghost use left out",
@@ -22,7 +22,6 @@ pub const WAYS: [&str; 27] = [
     "text of an error left out",
     "Display and Error of an error",
     "bound Drop left out",
-    "bound Drop of a trait",
     "use of thiserror left out",
     "root of the crate",
     "root of std",
@@ -48,7 +47,7 @@ const CRATES: [&str; 15] = [
     "wenc_list",
     "wasm_encoder",
     "wenc",
-    "command_fuzz",
+    "rebuild",
     "proved_tests",
     "hex",
 ];
@@ -427,7 +426,6 @@ impl<'a> Source<'a> {
             ":" if self.stands(": Drop >") || self.stands(": Drop ,") => {
                 Some(step("bound Drop left out", 2, ""))
             }
-            ":" if self.stands(": Drop {") => Some(step("bound Drop of a trait", 2, ": Sized")),
             "use" if self.stands("use thiserror :: Error ;") => {
                 Some(step("use of thiserror left out", 5, ""))
             }

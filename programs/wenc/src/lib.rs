@@ -1,4 +1,4 @@
-//! The program `wenc`, and `command_fuzz`, over the proved calls.
+//! The program `wenc`, and `rebuild`, over the proved calls.
 #![forbid(unsafe_code)]
 
 extern crate alloc;
@@ -49,7 +49,7 @@ pub fn wenc(
     }
 }
 
-/// Runs the commands that are chosen by the bytes on standard input, and prints their results.
-pub fn command_fuzz() -> ExitCode {
-    proved::command_fuzz::main(HostRuntime)
+/// Builds the component on standard input again, and prints the results.
+pub fn rebuild() -> ExitCode {
+    proved::rebuild::main(HostRuntime)
 }
