@@ -1,5 +1,6 @@
 //! A report as JSON: a line for each file.
 
+use super::cause::Cause;
 use super::fault::Fault;
 use super::report::{Content, Label, Part, Report};
 use super::walk::DEPTH;
@@ -27,10 +28,8 @@ pub struct Json<'o, W> {
 
 /// The text that closes a part.
 struct Open {
-    /// The text before the byte offset from which on nothing is read.
-    list: &'static str,
-    /// That byte offset.
-    unread: Option<usize>,
+    /// The text before the byte offset from which on nothing is read; `None` once both are written.
+    list: Option<&'static str>,
     /// Whether the part has a field for it even if all is read.
     has_unread: bool,
     /// The text after it.
@@ -137,12 +136,20 @@ impl<'o, W: Write> Json<'o, W> {
         self.text_or_null(*name)
     }
 
-    /// Writes the bytes in hexadecimal, if they are wanted and there are any.
-    fn bytes(&mut self, bytes: &[u8]) -> io::Result<()> {
+    /// Writes the cause of a fault.
+    fn cause(&mut self, cause: Option<&Cause>) -> io::Result<()> {
+        let Some(cause) = cause else { return self.put("null") };
+        write!(self.out, "{{\"place\":{},\"message\":", cause.place())?;
+        self.text(cause)?;
+        self.put("}")
+    }
+
+    /// Writes a field with bytes in hexadecimal, if they are wanted and there are any.
+    fn bytes(&mut self, key: &str, bytes: &[u8]) -> io::Result<()> {
         if !self.has_bytes || bytes.is_empty() {
             return Ok(());
         }
-        self.put(",\"hex\":\"")?;
+        write!(self.out, ",\"{key}\":\"")?;
         for byte in bytes {
             write!(self.out, "{byte:02x}")?;
         }
@@ -157,22 +164,22 @@ impl<'o, W: Write> Json<'o, W> {
                 self.put(",\"name\":")?;
                 self.text_or_null(*name)?;
                 self.put(",\"sections\":[")?;
-                Ok(Open { list: "]", unread: None, has_unread: false, object: "}" })
+                Ok(Open { list: Some("]"), has_unread: false, object: "}" })
             }
             Content::Module => {
                 self.range(range)?;
                 self.put(",\"sections\":[")?;
-                Ok(Open { list: "]", unread: None, has_unread: true, object: "}" })
+                Ok(Open { list: Some("]"), has_unread: true, object: "}" })
             }
             Content::Custom(name, size) => {
                 self.put("{\"name\":")?;
                 self.text(name)?;
                 write!(self.out, ",\"size\":{size}")?;
-                Ok(Open { list: "", unread: None, has_unread: true, object: "}" })
+                Ok(Open { list: Some(""), has_unread: true, object: "}" })
             }
             Content::Node(node, _) => {
                 self.node(node)?;
-                Ok(Open { list: "", unread: None, has_unread: false, object: "" })
+                Ok(Open { list: Some(""), has_unread: false, object: "" })
             }
         }
     }
@@ -241,7 +248,7 @@ impl<'o, W: Write> Json<'o, W> {
                 self.put(",\"count\":")?;
                 self.number_or_null(*count)?;
                 self.put(",\"items\":[")?;
-                Ok(Open { list: "]", unread: None, has_unread: false, object: "}" })
+                Ok(Open { list: Some("]"), has_unread: false, object: "}" })
             }
             Part::CoreSection { range, id, name, count, bytes } => {
                 self.member(range)?;
@@ -250,14 +257,14 @@ impl<'o, W: Write> Json<'o, W> {
                 self.text_or_null(*name)?;
                 self.put(",\"count\":")?;
                 self.number_or_null(*count)?;
-                self.bytes(bytes)?;
+                self.bytes("hex", bytes)?;
                 self.put(",\"items\":[")?;
-                Ok(Open { list: "]", unread: None, has_unread: true, object: "}" })
+                Ok(Open { list: Some("]"), has_unread: true, object: "}" })
             }
             Part::Item { range, label, content, bytes } => {
                 self.member(range)?;
                 self.label(label.as_ref())?;
-                self.bytes(bytes)?;
+                self.bytes("hex", bytes)?;
                 self.put(",\"item\":")?;
                 let open = self.content(range, content)?;
                 Ok(Open { object: if open.object.is_empty() { "}" } else { "}}" }, ..open })
@@ -279,11 +286,12 @@ impl<W: Write> Report for Json<'_, W> {
         Ok(())
     }
 
-    fn unread(&mut self, place: usize, _: &str) -> io::Result<()> {
-        if let Some(open) = self.open.last_mut() {
-            open.unread = Some(place);
-        }
-        Ok(())
+    fn unread(&mut self, place: usize, _: &str, bytes: &[u8]) -> io::Result<()> {
+        let Some(list) = self.open.last_mut().and_then(|open| open.list.take()) else {
+            return Ok(());
+        };
+        write!(self.out, "{list},\"unread\":{place}")?;
+        self.bytes("unread_hex", bytes)
     }
 
     fn flush(&mut self) -> io::Result<()> {
@@ -291,13 +299,12 @@ impl<W: Write> Report for Json<'_, W> {
     }
 
     fn close(&mut self) -> io::Result<()> {
-        let Some(Open { list, unread, has_unread, object }) = self.open.pop() else {
+        let Some(Open { list, has_unread, object }) = self.open.pop() else {
             return Ok(());
         };
-        self.put(list)?;
-        if has_unread || unread.is_some() {
-            self.put(",\"unread\":")?;
-            self.number_or_null(unread)?;
+        if let Some(list) = list {
+            self.put(list)?;
+            self.put(if has_unread { ",\"unread\":null" } else { "" })?;
         }
         self.is_first = false;
         self.put(object)
@@ -315,6 +322,8 @@ impl<W: Write> Report for Json<'_, W> {
                 self.number_or_null(fault.place())?;
                 self.put(",\"message\":")?;
                 self.text(fault)?;
+                self.put(",\"cause\":")?;
+                self.cause(fault.cause())?;
                 self.put("}")?;
             }
         }

@@ -3,6 +3,7 @@
 #![forbid(unsafe_code)]
 
 mod arguments;
+mod cause;
 mod colours;
 mod escape;
 mod fault;
@@ -10,6 +11,7 @@ mod fold;
 mod json;
 mod modules;
 mod phrase;
+mod probe;
 mod report;
 mod run;
 mod text;

@@ -15,9 +15,9 @@ pub trait Report {
     /// Opens a part, within the innermost open part.
     fn open(&mut self, part: &Part) -> io::Result<()>;
 
-    /// Notes that nothing is read from this byte offset to the end of the innermost open part, and
-    /// what can't be read there.
-    fn unread(&mut self, place: usize, what: &str) -> io::Result<()>;
+    /// Notes that nothing is read from this byte offset to the end of the innermost open part, what
+    /// can't be read there, and the bytes, unless they were reported before.
+    fn unread(&mut self, place: usize, what: &str, bytes: &[u8]) -> io::Result<()>;
 
     /// Writes everything that was reported so far.
     fn flush(&mut self) -> io::Result<()>;

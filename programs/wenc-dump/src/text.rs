@@ -222,15 +222,13 @@ impl<'o, W: Write> Text<'o, W> {
         closing(node, self)
     }
 
-    /// Writes the bytes, which begin at this byte offset, if they are wanted.
-    fn bytes(&mut self, mut place: usize, bytes: &[u8]) -> io::Result<()> {
-        if !self.has_bytes {
-            return Ok(());
-        }
+    /// Writes bytes, which begin at this byte offset, and after which others may be left out.
+    fn bytes(&mut self, mut place: usize, bytes: &[u8], has_more: bool) -> io::Result<()> {
         for some in bytes.chunks(BYTES) {
             self.begin_line(self.depth + 1)?;
             self.piece(Hue::Place, format_args!("{place:#x}:"))?;
             some.iter().try_for_each(|byte| self.piece(Hue::Plain, format_args!(" {byte:02x}")))?;
+            self.plain(if has_more { " ..." } else { "" })?;
             self.end_line()?;
             place += some.len();
         }
@@ -281,16 +279,20 @@ impl<W: Write> Report for Text<'_, W> {
         self.begin_line(self.depth)?;
         let (place, bytes) = self.line(part)?;
         self.end_line()?;
-        self.bytes(place, bytes)?;
+        if self.has_bytes {
+            self.bytes(place, bytes, false)?;
+        }
         self.depth += 1;
         Ok(())
     }
 
-    fn unread(&mut self, place: usize, what: &str) -> io::Result<()> {
+    fn unread(&mut self, place: usize, what: &str, bytes: &[u8]) -> io::Result<()> {
         self.begin_line(self.depth)?;
         self.place(&(place..place), false)?;
         self.plain(what)?;
-        self.end_line()
+        self.end_line()?;
+        let shown = if self.has_bytes { bytes.len() } else { BYTES.min(bytes.len()) };
+        self.bytes(place, &bytes[..shown], shown < bytes.len())
     }
 
     fn flush(&mut self) -> io::Result<()> {

@@ -2,6 +2,7 @@
 //! JSON, and what it says of bad ones.
 
 mod corpus;
+mod examples;
 mod faults;
 mod json;
 #[cfg(target_os = "linux")]
