@@ -2,6 +2,7 @@
 
 use super::probe::{Accepted, Place, Probe};
 use super::walk::DEPTH;
+use super::words::Counted;
 use std::collections::TryReserveError;
 use std::fmt::{self, Display};
 use wenc::{Component, ComponentSection, ComponentSectionId, Found, RawSection, Sections};
@@ -18,8 +19,8 @@ pub enum Cause {
         place: usize,
         /// The byte.
         byte: u8,
-        /// The bytes that can be there.
-        expected: Accepted,
+        /// The bytes that can be there; `None` if that takes too much work.
+        expected: Option<Accepted>,
     },
     /// A byte of a text that isn't UTF-8.
     Text {
@@ -95,30 +96,36 @@ impl Bad<'_> {
         let (section, outer) = ((self.id, self.count), (self.place, self.header));
         let mut probe = Probe::new(outer, section, self.bytes, left)?;
         let cause = if self.is_too_deep {
-            Cause::Deep { place: self.at + probe.deep() - 1 }
+            let place = self.at + probe.deep() - 1;
+            Some(Cause::Deep { place }).filter(|_| !probe.is_over())
         } else {
-            self.cause_by(&mut probe)
+            self.of_bytes(&mut probe)
         };
-        Ok(Some(cause).filter(|_| !probe.is_over()))
+        Ok(cause)
     }
 
-    fn cause_by(&self, probe: &mut Probe) -> Cause {
+    /// Returns the cause of an item that isn't too deep.
+    fn of_bytes(&self, probe: &mut Probe) -> Option<Cause> {
         let front = probe.front();
+        if probe.is_over() {
+            return None;
+        }
         let Some(byte) = self.bytes.get(front).copied() else {
             let len = self.bytes.len();
             let needed = probe.missing().map(|missing| len + missing);
-            return Cause::Few { place: self.at, needed, len };
+            return Some(Cause::Few { place: self.at, needed, len });
         };
-        let (place, expected) = (self.at + front, probe.accepted(front));
-        if expected.is_of_text() {
-            return Cause::Text { place, byte };
+        let (place, (accepted, is_all)) = (self.at + front, probe.accepted(front));
+        if accepted.is_of_text() {
+            return Some(Cause::Text { place, byte });
         }
         for (bits, bytes, most) in [(32, 5, 0x0f), (64, 10, 0x01)] {
-            if expected.is_up_to(most) && self.is_number_before(probe, front, bytes) {
-                return Cause::Number { place: place + 1 - bytes, bits };
+            if accepted.is_up_to(most) && self.is_number_before(probe, front, bytes) {
+                return Some(Cause::Number { place: place + 1 - bytes, bits });
             }
         }
-        self.too_many(probe, front).unwrap_or(Cause::Byte { place, byte, expected })
+        let expected = is_all.then_some(accepted);
+        self.too_many(probe, front).or(Some(Cause::Byte { place, byte, expected }))
     }
 
     /// Returns whether all bytes before the last of a number with so many bytes are there.
@@ -230,18 +237,22 @@ impl Cause {
 impl Display for Cause {
     fn fmt(&self, f: &mut fmt::Formatter<'_>) -> fmt::Result {
         match *self {
-            Self::Byte { place, byte, expected } => {
+            Self::Byte { place, byte, expected: Some(expected) } => {
                 write!(f, "{byte:#04x} at {place:#x}, where {expected} is expected")
+            }
+            Self::Byte { place, byte, expected: None } => {
+                write!(f, "{byte:#04x} at {place:#x} can't be there")
             }
             Self::Text { place, byte } => write!(f, "{byte:#04x} at {place:#x} isn't UTF-8"),
             Self::Number { place, bits } => {
                 write!(f, "the number at {place:#x} has more than {bits} bits")
             }
-            Self::Few { place, needed: Some(needed), len } => {
-                write!(f, "needs {needed} bytes or more from {place:#x} on, {len} are there")
-            }
-            Self::Few { place, needed: None, len } => {
-                write!(f, "needs more than the {len} bytes from {place:#x} on")
+            Self::Few { place, needed, len } => {
+                match needed {
+                    Some(needed) => write!(f, "needs {} or more", Counted(needed, "byte"))?,
+                    None => f.write_str("needs more bytes")?,
+                }
+                write!(f, " from {place:#x} on, where {len} {} left", if len == 1 { "is" } else { "are" })
             }
             Self::Version { version, .. } => write!(f, "version {version:#x}"),
             Self::Start { bytes, len, .. } => {

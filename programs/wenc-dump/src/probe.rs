@@ -7,25 +7,51 @@
 
 use std::collections::TryReserveError;
 use std::fmt::{self, Display};
-use wenc::{ComponentSection, CoreSections, ListFault, RawSection, Sections, Unread};
+use wenc::{
+    ComponentSection, ComponentSectionId, CoreSections, ListFault, RawSection, Sections, Unread,
+};
 
 /// A component with items whose ends complete fronts of other items, as the library writes them.
 const EXAMPLES: &[u8] = include_bytes!("examples.wasm");
 
 /// The maximum number of examples of a section.
-const EXAMPLES_OF_ONE: usize = 8;
+const EXAMPLES_OF_ONE: usize = 12;
 
-/// The number of ends of an example that are tried, beginning with the whole.
+/// How many bytes are tried behind a front.
+#[derive(Clone, Copy)]
+struct Effort {
+    /// The number of ends of an example, beginning with the whole.
+    ends: usize,
+    /// The maximum number of zeros before an end of the first example.
+    zeros: usize,
+}
+
+/// The number of ends that are tried after zeros.
 const ENDS: usize = 12;
 
-/// The same if nothing else was found.
-const MANY_ENDS: usize = 100;
+impl Effort {
+    /// The bytes that are tried behind long fronts.
+    const SMALL: Self = Self { ends: 8, zeros: 2 };
+    /// The bytes that are mostly tried.
+    const USUAL: Self = Self { ends: ENDS, zeros: 6 };
+    /// The bytes that are tried if no others go on.
+    const LARGE: Self = Self { ends: 100, zeros: 130 };
 
-/// The maximum number of zeros before an end of the first example.
-const ZEROS: usize = 6;
+    /// Returns the effort for a front with this length, since it is read each time.
+    fn usual(len: usize) -> Self {
+        if is_long(len) { Self::SMALL } else { Self::USUAL }
+    }
 
-/// The same if nothing else was found.
-const MANY_ZEROS: usize = 130;
+    /// Returns the same if nothing was found.
+    fn large(len: usize) -> Self {
+        if is_long(len) { Self::USUAL } else { Self::LARGE }
+    }
+}
+
+/// Returns whether a front is so long that few bytes are tried.
+fn is_long(len: usize) -> bool {
+    len > 1 << 10
+}
 
 /// The number of bytes in which a longer front that can go on is looked for.
 const AHEAD: usize = 16;
@@ -129,10 +155,10 @@ impl<'a> Probe<'a> {
         bytes.extend_from_slice(header);
         RawSection { id, data: &data }.append_to_component(&mut bytes);
         let start = bytes.len() - item.len() - room;
+        // imports of core modules are those of module types
+        let of = if place == Place::Module { ComponentSectionId::CoreType.into() } else { id };
         let mut examples = [&[][..]; EXAMPLES_OF_ONE];
-        if place == Place::Component {
-            examples.iter_mut().zip(examples_of(id)).for_each(|(one, example)| *one = example);
-        }
+        examples.iter_mut().zip(examples_of(of)).for_each(|(one, example)| *one = example);
         Ok(Self { place, examples, bytes, start, item, left })
     }
 
@@ -158,7 +184,7 @@ impl<'a> Probe<'a> {
 
     /// Reads the item, of which this many bytes were set.
     fn outcome(&mut self, len: usize) -> Outcome {
-        *self.left = self.left.saturating_sub(len + 32);
+        *self.left = self.left.saturating_sub(len + 64);
         match self.place {
             _ if self.is_over() => Outcome::Unread,
             Place::Component => read(&self.bytes),
@@ -176,21 +202,21 @@ impl<'a> Probe<'a> {
         let from = self.start + at;
         let Some(room) = self.bytes.get_mut(from..from + bytes.len()) else { return false };
         room.copy_from_slice(bytes);
-        let is_read = self.is_read(at + bytes.len());
+        let is_read = self.is_read(at);
         self.bytes[from..from + bytes.len()].fill(0);
         is_read
     }
 
     /// Returns whether the front that is loaded can go on with zeros or with an end of an example,
     /// the first of which may be after some zeros.
-    fn goes_on(&mut self, len: usize, zeros: usize, ends: usize) -> bool {
+    fn goes_on(&mut self, len: usize, effort: Effort) -> bool {
         if self.is_read(len) {
             return true;
         }
         (0..EXAMPLES_OF_ONE).any(|number| {
-            let (example, zeros) = (self.examples[number], if number == 0 { zeros } else { 0 });
-            (0..=zeros).any(|zeros| {
-                let ends = if zeros == 0 { ends } else { ENDS };
+            let example = self.examples[number];
+            (0..=if number == 0 { effort.zeros } else { 0 }).any(|zeros| {
+                let ends = if zeros == 0 { effort.ends } else { effort.ends.min(ENDS) };
                 (0..ends.min(example.len()))
                     .any(|from| self.is_read_with(len + zeros, &example[from..]))
             })
@@ -200,13 +226,13 @@ impl<'a> Probe<'a> {
     /// Returns whether a front can go on.
     fn front_goes_on(&mut self, len: usize) -> bool {
         self.load(len);
-        self.goes_on(len, ZEROS, ENDS)
+        self.goes_on(len, Effort::usual(len))
     }
 
     /// Returns whether a front can go on, after more attempts.
     fn front_goes_on_at_all(&mut self, len: usize) -> bool {
         self.load(len);
-        if self.goes_on(len, MANY_ZEROS, MANY_ENDS) || self.is_read_with_any(len) {
+        if self.goes_on(len, Effort::large(len)) || self.is_read_with_any(len) {
             return true;
         }
         // the rest, in place of a byte, after another one, and without one
@@ -270,13 +296,14 @@ impl<'a> Probe<'a> {
         good
     }
 
-    /// Returns which bytes can follow the front with this length.
-    pub fn accepted(&mut self, len: usize) -> Accepted {
+    /// Returns the bytes that can follow the front with this length, and whether there are no
+    /// others: few are found of a long one.
+    pub fn accepted(&mut self, len: usize) -> (Accepted, bool) {
         let mut accepted = Accepted::default();
         self.load(len);
         for byte in 0..=u8::MAX {
             self.bytes[self.start + len] = byte;
-            if self.goes_on(len + 1, ZEROS, ENDS) {
+            if self.is_read(len + 1) || !is_long(len) && self.goes_on(len + 1, Effort::USUAL) {
                 accepted.insert(byte);
             }
         }
@@ -287,14 +314,14 @@ impl<'a> Probe<'a> {
                 accepted.insert(byte);
             }
         }
-        accepted
+        (accepted, !is_long(len) && !self.is_over())
     }
 
     /// Returns whether this byte can be in this place.
     pub fn accepts(&mut self, at: usize, byte: u8) -> bool {
         self.load(at);
         self.bytes[self.start + at] = byte;
-        self.goes_on(at + 1, ZEROS, ENDS)
+        self.goes_on(at + 1, Effort::usual(at))
     }
 
     /// Returns how many bytes are missing behind the item, at least; `None` if that isn't found.

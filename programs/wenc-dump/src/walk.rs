@@ -16,10 +16,10 @@ use wenc::{
 pub const DEPTH: usize = 100;
 
 /// The number of bytes that are read, at most, to find the cause of one fault.
-const WORK: usize = 1 << 24;
+const WORK: usize = 1 << 26;
 
-/// The same for all faults of a file, besides a multiple of its size.
-const ALL_WORK: usize = 1 << 26;
+/// The same for all faults of a file, besides its size.
+const ALL_WORK: usize = 1 << 28;
 
 /// A walk through a file.
 pub struct Walk<'f, 'r, R> {

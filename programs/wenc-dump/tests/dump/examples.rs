@@ -6,9 +6,10 @@ use std::path::Path;
 use wenc::{
     Alias, CanonicalFunctionSection, Component, ComponentAliasSection, ComponentExportKind,
     ComponentExportSection, ComponentExternName, ComponentImportSection, ComponentInstanceSection,
-    ComponentType, ComponentTypeRef, ComponentTypeSection, CompositeInnerType, CompositeType,
-    CoreTypeEncoder, CoreTypeSection, ExportKind, FieldType, FuncType, InstanceSection,
-    InstanceType, ModuleArg, StorageType, StructType, SubType, ValType,
+    ComponentOuterAliasKind, ComponentType, ComponentTypeRef, ComponentTypeSection,
+    CompositeInnerType, CompositeType, CoreTypeEncoder, CoreTypeSection, ExportKind, FieldType,
+    FuncType, GlobalType, InstanceSection, InstanceType, ModuleArg, ModuleType, RefType,
+    StorageType, StructType, SubType, TableType, ValType,
 };
 
 /// The number of members of a list.
@@ -44,8 +45,16 @@ fn subtype(inner: CompositeInnerType) -> SubType {
     SubType { is_final: true, supertype_idx: None, composite_type }
 }
 
-/// The core types with lists.
-fn core_types() -> [fn(CoreTypeEncoder<'_>); 3] {
+/// Aliases whose bytes aren't zeros.
+fn core_aliases() -> [Alias<'static>; 2] {
+    [
+        Alias::CoreInstanceExport { instance: 0, kind: ExportKind::Func, name: "" },
+        Alias::Outer { kind: ComponentOuterAliasKind::CoreType, count: 0, index: 0 },
+    ]
+}
+
+/// Core types with lists, and with supertypes.
+fn core_types() -> [fn(CoreTypeEncoder<'_>); 5] {
     let function: fn(CoreTypeEncoder<'_>) =
         |ty| ty.function(vec![ValType::I32; MEMBERS], vec![ValType::I32; 0]);
     let fields: fn(CoreTypeEncoder<'_>) = |ty| {
@@ -57,7 +66,31 @@ fn core_types() -> [fn(CoreTypeEncoder<'_>); 3] {
         let function = subtype(CompositeInnerType::Func(FuncType::new([], [])));
         ty.rec(vec![function; MEMBERS]);
     };
-    [function, fields, group]
+    let open: fn(CoreTypeEncoder<'_>) = |ty| {
+        let function = subtype(CompositeInnerType::Func(FuncType::new([], [])));
+        ty.subtype(&SubType { is_final: false, ..function });
+    };
+    let closed: fn(CoreTypeEncoder<'_>) = |ty| {
+        let function = subtype(CompositeInnerType::Func(FuncType::new([], [])));
+        ty.subtype(&SubType { supertype_idx: Some(0), ..function });
+    };
+    [function, fields, group, open, closed]
+}
+
+/// A module type with an import of each kind that isn't all zeros.
+fn module_type() -> ModuleType {
+    let table = TableType {
+        element_type: RefType::FUNCREF,
+        table64: false,
+        minimum: 0,
+        maximum: None,
+        shared: false,
+    };
+    let global = GlobalType { val_type: ValType::I32, mutable: false, shared: false };
+    let mut module = ModuleType::new();
+    module.import("", "", table.into()).import("", "", global.into());
+    module.alias_outer_core_type(0, 0);
+    module
 }
 
 /// An instance type with a declaration, behind which the types are deep.
@@ -77,12 +110,14 @@ fn section(ty: &InstanceType) -> ComponentTypeSection {
 
 /// The types, each in its own section, since they can't be read to their ends.
 fn types() -> Vec<ComponentTypeSection> {
-    let core_alias = Alias::CoreInstanceExport { instance: 0, kind: ExportKind::Func, name: "" };
     let mut types = vec![
         section(&before_deep(|ty| _ = ty.export("", ComponentTypeRef::Func(0)))),
+        section(&before_deep(|ty| _ = ty.export("", ComponentTypeRef::Module(0)))),
         section(&before_deep(|ty| _ = ty.export(named(), ComponentTypeRef::Func(0)))),
-        section(&before_deep(|ty| _ = ty.alias(core_alias))),
     ];
+    for alias in core_aliases() {
+        types.push(section(&before_deep(|ty| _ = ty.alias(alias))));
+    }
     for core in core_types() {
         types.push(section(&before_deep(|ty| core(ty.core_type().core()))));
     }
@@ -97,6 +132,7 @@ fn types() -> Vec<ComponentTypeSection> {
 
 fn core_type_section() -> CoreTypeSection {
     let mut types = CoreTypeSection::new();
+    types.ty().module(&module_type());
     core_types().into_iter().for_each(|core| core(types.ty().core()));
     types
 }
@@ -109,14 +145,17 @@ fn examples() -> Vec<u8> {
     instances.instantiate(0, vec![("", ComponentExportKind::Func, 0); MANY]);
     instances.export_items(vec![("", ComponentExportKind::Func, 0); MANY]);
     instances.export_items([(named(), ComponentExportKind::Func, 0)]);
+    instances.instantiate(0, vec![("", ComponentExportKind::Module, 0); MANY]);
     let mut aliases = ComponentAliasSection::new();
-    aliases.alias(Alias::CoreInstanceExport { instance: 0, kind: ExportKind::Func, name: "" });
+    core_aliases().into_iter().for_each(|alias| _ = aliases.alias(alias));
     let mut functions = CanonicalFunctionSection::new();
     functions.context_get(ValType::I32, 0);
     let mut imports = ComponentImportSection::new();
-    imports.import("", ComponentTypeRef::Func(0)).import(named(), ComponentTypeRef::Func(0));
+    imports.import("", ComponentTypeRef::Func(0)).import("", ComponentTypeRef::Module(0));
+    imports.import(named(), ComponentTypeRef::Func(0));
     let mut exports = ComponentExportSection::new();
     exports.export("", ComponentExportKind::Func, 0, None);
+    exports.export("", ComponentExportKind::Module, 0, Some(ComponentTypeRef::Module(0)));
     exports.export(named(), ComponentExportKind::Func, 0, None);
     let mut component = Component::new();
     types().iter().for_each(|types| _ = component.section(types));

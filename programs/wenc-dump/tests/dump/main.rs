@@ -1,6 +1,7 @@
 //! The program `wenc-dump`: what it prints of worked components and of the corpus, as text and as
 //! JSON, and what it says of bad ones.
 
+mod causes;
 mod corpus;
 mod examples;
 mod faults;
