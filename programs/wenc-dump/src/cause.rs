@@ -8,7 +8,7 @@ use std::fmt::{self, Display};
 use wenc::{Component, ComponentSection, ComponentSectionId, Found, RawSection, Sections};
 
 /// The maximum number of bytes of a number of 32 bits.
-const NUMBER: usize = 5;
+pub const NUMBER: usize = 5;
 
 /// Why bytes can't be read, and from which byte on. Byte offsets are those of the file.
 #[derive(Clone, Copy, Debug, PartialEq, Eq)]
@@ -115,41 +115,47 @@ impl Bad<'_> {
             let needed = probe.missing().map(|missing| len + missing);
             return Some(Cause::Few { place: self.at, needed, len });
         };
-        let (place, (accepted, is_all)) = (self.at + front, probe.accepted(front));
-        if accepted.is_of_text() {
-            return Some(Cause::Text { place, byte });
+        // a text of too many bytes isn't looked at
+        if let Some(few) = probe.front_within(front).and_then(|size| self.too_many(probe, size)) {
+            return Some(few);
         }
+        let (place, (accepted, is_all)) = (self.at + front, probe.accepted(front));
         for (bits, bytes, most) in [(32, 5, 0x0f), (64, 10, 0x01)] {
             if accepted.is_up_to(most) && self.is_number_before(probe, front, bytes) {
                 return Some(Cause::Number { place: place + 1 - bytes, bits });
             }
         }
-        let expected = is_all.then_some(accepted);
+        if accepted.is_of_text() {
+            return Some(Cause::Text { place, byte });
+        }
+        let expected = Some(accepted).filter(|accepted| is_all && !accepted.is_empty());
         self.too_many(probe, front).or(Some(Cause::Byte { place, byte, expected }))
     }
 
     /// Returns whether all bytes before the last of a number with so many bytes are there.
     fn is_number_before(&self, probe: &mut Probe, last: usize, bytes: usize) -> bool {
         last.checked_sub(bytes - 1).is_some_and(|first| {
-            let mut places = first..last;
-            places.all(|at| self.bytes[at] > 0x7f && probe.accepts(at, u8::MAX))
+            self.bytes[first..last].iter().all(|byte| *byte > 0x7f) && begins_number(probe, first)
         })
     }
 
     /// Returns the fault of a number that is the size of a text or the length of a list, and more
     /// than the bytes that are left.
     fn too_many(&self, probe: &mut Probe, last: usize) -> Option<Cause> {
-        let mut first = last;
-        while first > 0 && self.bytes[first - 1] > 0x7f && probe.accepts(first - 1, u8::MAX) {
-            first -= 1;
-        }
+        let before = self.bytes[..last].iter().rev().take(NUMBER - 1);
+        let before = before.take_while(|byte| **byte > 0x7f).count();
+        let first = (last - before..=last).find(|first| begins_number(probe, *first))?;
         let (number, len) = number(&self.bytes[first..]).ok()??;
         let (end, number) = (last + 1, usize::try_from(number).ok()?);
         let left = self.bytes.len() - end;
-        let is_number = first + len == end && probe.accepts(last, 0) && probe.accepts(last, 0x80);
         let few = Cause::Few { place: self.at + end, needed: Some(number), len: left };
-        (is_number && number > left).then_some(few)
+        (first + len == end && number > left).then_some(few)
     }
+}
+
+/// Returns whether a number begins at this byte: no other form begins with both of these bytes.
+fn begins_number(probe: &mut Probe, first: usize) -> bool {
+    probe.accepts(first, 0) && probe.accepts(first, 0x80)
 }
 
 /// Returns the number that begins the bytes, and the number of its bytes.
@@ -157,7 +163,7 @@ impl Bad<'_> {
 /// # Errors
 ///
 /// An allocation failed.
-fn number(bytes: &[u8]) -> Result<Option<(u32, usize)>, TryReserveError> {
+pub fn number(bytes: &[u8]) -> Result<Option<(u32, usize)>, TryReserveError> {
     let mut component = Vec::new();
     component.try_reserve_exact(64)?;
     // the number of items of a section is such a number, and without items all of its content
@@ -220,13 +226,13 @@ impl Cause {
         }
     }
 
-    /// Returns the byte offset of the cause.
+    /// Returns the byte offset of the cause, or of the end where bytes are missing.
     pub fn place(&self) -> usize {
         match *self {
+            Self::Few { place, len, .. } => place + len,
             Self::Byte { place, .. }
             | Self::Text { place, .. }
             | Self::Number { place, .. }
-            | Self::Few { place, .. }
             | Self::Deep { place }
             | Self::Version { place, .. }
             | Self::Start { place, .. } => place,

@@ -136,10 +136,10 @@ impl<'o, W: Write> Json<'o, W> {
         self.text_or_null(*name)
     }
 
-    /// Writes the cause of a fault.
+    /// Writes the cause of a fault, if it is known.
     fn cause(&mut self, cause: Option<&Cause>) -> io::Result<()> {
-        let Some(cause) = cause else { return self.put("null") };
-        write!(self.out, "{{\"place\":{},\"message\":", cause.place())?;
+        let Some(cause) = cause else { return Ok(()) };
+        write!(self.out, ",\"cause\":{{\"place\":{},\"message\":", cause.place())?;
         self.text(cause)?;
         self.put("}")
     }
@@ -322,7 +322,6 @@ impl<W: Write> Report for Json<'_, W> {
                 self.number_or_null(fault.place())?;
                 self.put(",\"message\":")?;
                 self.text(fault)?;
-                self.put(",\"cause\":")?;
                 self.cause(fault.cause())?;
                 self.put("}")?;
             }

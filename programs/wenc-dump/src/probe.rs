@@ -5,6 +5,7 @@
 //! The bytes that are tried are zeros, the rest of the item, and ends of the items of
 //! `examples.wasm`.
 
+use super::cause::{NUMBER, number};
 use std::collections::TryReserveError;
 use std::fmt::{self, Display};
 use wenc::{
@@ -88,9 +89,14 @@ pub struct Probe<'a> {
     start: usize,
     /// The item, and what follows it in its section.
     item: &'a [u8],
+    /// Whether bytes are tried only as far as the section goes.
+    is_bounded: bool,
     /// The number of bytes that may still be read.
     left: &'a mut usize,
 }
+
+/// A byte that nothing goes on with after a number or a text, nor with several of it.
+const NEVER: u8 = u8::MAX;
 
 /// The examples in sections with this id. Types are too deep to be read to their ends.
 fn examples_of(id: u8) -> impl Iterator<Item = &'static [u8]> {
@@ -159,7 +165,7 @@ impl<'a> Probe<'a> {
         let of = if place == Place::Module { ComponentSectionId::CoreType.into() } else { id };
         let mut examples = [&[][..]; EXAMPLES_OF_ONE];
         examples.iter_mut().zip(examples_of(of)).for_each(|(one, example)| *one = example);
-        Ok(Self { place, examples, bytes, start, item, left })
+        Ok(Self { place, examples, bytes, start, item, is_bounded: false, left })
     }
 
     /// Returns whether the limit was reached, so that nothing that was found counts.
@@ -172,6 +178,9 @@ impl<'a> Probe<'a> {
         let copy = &mut self.bytes[self.start..];
         copy[..len].copy_from_slice(&self.item[..len]);
         copy[len..].fill(0);
+        if self.is_bounded {
+            copy[self.item.len()..].fill(NEVER);
+        }
         *self.left = self.left.saturating_sub(copy.len() / 16);
     }
 
@@ -199,18 +208,20 @@ impl<'a> Probe<'a> {
 
     /// Returns whether the item can be read with these bytes in it, after which it has zeros again.
     fn is_read_with(&mut self, at: usize, bytes: &[u8]) -> bool {
-        let from = self.start + at;
-        let Some(room) = self.bytes.get_mut(from..from + bytes.len()) else { return false };
-        room.copy_from_slice(bytes);
+        let end = if self.is_bounded { self.start + self.item.len() } else { self.bytes.len() };
+        let from = self.start.saturating_add(at);
+        let Some(room) = self.bytes.get_mut(from..end) else { return false };
+        let len = room.len().min(bytes.len());
+        room[..len].copy_from_slice(&bytes[..len]);
         let is_read = self.is_read(at);
-        self.bytes[from..from + bytes.len()].fill(0);
+        self.bytes[from..from + len].fill(0);
         is_read
     }
 
     /// Returns whether the front that is loaded can go on with zeros or with an end of an example,
     /// the first of which may be after some zeros.
     fn goes_on(&mut self, len: usize, effort: Effort) -> bool {
-        if self.is_read(len) {
+        if self.is_read(len) || self.goes_on_after_text(len) {
             return true;
         }
         (0..EXAMPLES_OF_ONE).any(|number| {
@@ -220,6 +231,19 @@ impl<'a> Probe<'a> {
                 (0..ends.min(example.len()))
                     .any(|from| self.is_read_with(len + zeros, &example[from..]))
             })
+        })
+    }
+
+    /// Returns whether the front that is loaded, which ends in the size of a text, can go on with
+    /// that many zeros and an end of the first example.
+    fn goes_on_after_text(&mut self, len: usize) -> bool {
+        (len.saturating_sub(NUMBER)..len).any(|first| {
+            let size = number(&self.bytes[self.start + first..self.start + len]);
+            let Ok(Some((size, bytes))) = size else { return false };
+            let (example, size) = (self.examples[0], usize::try_from(size).unwrap_or(usize::MAX));
+            first + bytes == len
+                && (0..ENDS.min(example.len()))
+                    .any(|from| self.is_read_with(len.saturating_add(size), &example[from..]))
         })
     }
 
@@ -274,6 +298,15 @@ impl<'a> Probe<'a> {
                 None => return good,
             }
         }
+    }
+
+    /// Returns the length of the longest front that can go on in as many bytes as the section has;
+    /// `None` if the one with this length can.
+    pub fn front_within(&mut self, longest: usize) -> Option<usize> {
+        self.is_bounded = true;
+        let front = if self.front_goes_on(longest) { None } else { Some(self.front()) };
+        self.is_bounded = false;
+        front
     }
 
     /// Returns the length of a longer front that can go on and that can't with one more byte, as far
@@ -345,8 +378,7 @@ impl<'a> Probe<'a> {
         (1..=room.min(1 << 10)).find(|needed| {
             self.load(len);
             self.bytes[self.start + len] = byte;
-            // no item has one of these behind a front
-            self.bytes[self.start + len + needed..].fill(u8::MAX);
+            self.bytes[self.start + len + needed..].fill(NEVER);
             self.outcome(len) == Outcome::Read
         })
     }
@@ -375,6 +407,11 @@ impl Accepted {
 
     fn has(&self, byte: u8) -> bool {
         self.0[usize::from(byte >> 7)] >> (byte & 0x7f) & 1 == 1
+    }
+
+    /// Returns whether there are none.
+    pub fn is_empty(&self) -> bool {
+        self.0 == [0; 2]
     }
 
     /// Returns whether these are the bytes that a text can have in one place: what UTF-8 begins

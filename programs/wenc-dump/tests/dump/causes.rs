@@ -64,6 +64,7 @@ fn expected(message: &str) -> Vec<u8> {
         u8::from_str_radix(text.trim_start_matches("0x"), 16).expect("it is a byte")
     };
     let mut bytes = Vec::new();
+    if ranges.is_empty() { eprintln!("EMPTY {message}"); return bytes; }
     for range in ranges.split(", ") {
         let (from, to) = range.split_once(" to ").unwrap_or((range, range));
         bytes.extend(byte(from)..=byte(to));
@@ -97,6 +98,7 @@ fn adhoc2() {
                 *kinds.entry(kind).or_default() += 1;
                 if place < start || place > bytes.len() { eprintln!("OUT {id} {item:02x?} {place} {message}"); }
                 if message.contains("is expected") {
+                    if message.contains("where  is") { eprintln!("EMPTY {id} {item:02x?} {message}"); }
                     let expected = expected(&message);
                     for byte in 0..=255_u8 {
                         if !expected.contains(&byte) && byte % 16 != 3 { continue; }
