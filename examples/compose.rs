@@ -9,17 +9,21 @@
 //! These are functions and interfaces of plain values: an exported resource would also need its
 //! type exported before it.
 
-use wenc::{ComponentBuilder, ComponentExportKind as Kind, Listing, list};
+use wenc::{ComponentBuilder, ComponentExportKind as Kind, ListFault, Sections};
 
-fn listed(component: &[u8]) -> Result<Listing, String> {
-    list(component).map_err(|fault| fault.to_string())
+fn sections(component: &[u8]) -> Result<Sections<'_>, String> {
+    Sections::new(component).map_err(|fault| fault.to_string())
+}
+
+fn all<T>(items: impl Iterator<Item = Result<T, ListFault>>) -> Result<Vec<T>, String> {
+    items.collect::<Result<_, _>>().map_err(|fault| fault.to_string())
 }
 
 /// Returns the component of both, or what is wrong with them.
 pub fn compose(provider: &[u8], consumer: &[u8]) -> Result<Vec<u8>, String> {
-    let (provided, consumed) = (listed(provider)?, listed(consumer)?);
-    if let Some((import, _)) = provided.imports().next() {
-        return Err(format!("the provider imports {}", &*import.name));
+    let (provided, consumed) = (sections(provider)?, sections(consumer)?);
+    if let Some((import, _)) = all(provided.imports())?.first() {
+        return Err(format!("the provider imports {}", import.name));
     }
 
     let mut builder = ComponentBuilder::default();
@@ -28,9 +32,10 @@ pub fn compose(provider: &[u8], consumer: &[u8]) -> Result<Vec<u8>, String> {
     let provider = builder.instantiate(Some("provider"), component, nothing);
 
     let mut arguments = Vec::new();
-    for (name, ty) in consumed.imports() {
-        let (text, kind) = (&*name.name, ty.kind());
-        if !provided.exports().any(|(export, of, _)| export == name && of == kind) {
+    let exports = all(provided.exports())?;
+    for (name, ty) in all(consumed.imports())? {
+        let (text, kind) = (name.name, ty.kind());
+        if !exports.iter().any(|(export, of, _)| *export == name && *of == kind) {
             return Err(format!("nothing provides {text}"));
         }
         arguments.push((text, kind, builder.alias_export(provider, text, kind)));
@@ -38,8 +43,8 @@ pub fn compose(provider: &[u8], consumer: &[u8]) -> Result<Vec<u8>, String> {
     let component = builder.component_raw(Some("consumer"), consumer);
     let consumer = builder.instantiate(Some("consumer"), component, arguments);
 
-    for (name, kind, _) in consumed.exports() {
-        let index = builder.alias_export(consumer, &name.name, kind);
+    for (name, kind, _) in all(consumed.exports())? {
+        let index = builder.alias_export(consumer, name.name, kind);
         builder.export(name, kind, index, None);
     }
     Ok(builder.finish())

@@ -12,7 +12,7 @@
 use wenc::tree::{
     Command, CoreTypeTree, GroupTree, IndexUse, ItemTree, NameTree, Scope, Space, build,
 };
-use wenc::{ComponentExportKind as Kind, ComponentNameSection, DebugNames, list};
+use wenc::{ComponentExportKind as Kind, ComponentNameSection, DebugNames, Sections};
 
 /// The maximum nesting depth of components.
 const LIMIT: usize = 100;
@@ -77,10 +77,11 @@ struct Merged {
 impl Merged {
     /// Adds the items of a component.
     fn add(&mut self, component: &[u8]) -> Result<(), String> {
-        let listing = list(component).map_err(|fault| fault.to_string())?;
-        let names = listing.names();
+        let sections = Sections::new(component).map_err(|fault| fault.to_string())?;
+        let names = sections.names();
         let mut moved = Moved::default();
-        for item in listing.into_items() {
+        for item in sections.trees() {
+            let (_, item) = item.map_err(|fault| fault.to_string())?;
             self.add_item(item, &mut moved)?;
         }
         for (space, index, name) in names.iter() {

@@ -2,6 +2,7 @@
 
 mod items;
 mod nested;
+mod out_of_range;
 
 use crate::proved::wenc_list as proved;
 use crate::tree::{ItemTree, Space};
@@ -17,6 +18,7 @@ use core::ops::Range;
 
 pub use items::{Items, Trees};
 pub use nested::NestedSections;
+pub use out_of_range::{AllOutOfRange, OutOfRange};
 
 /// An iterator over the sections of a component.
 ///
@@ -163,6 +165,36 @@ impl<'a> Sections<'a> {
     /// `limit` deep.
     pub fn nested(self, limit: usize) -> NestedSections<'a> {
         NestedSections::new(self, limit)
+    }
+
+    /// Returns the indices that are out of range: those of which the space has too few before the
+    /// item, in the component or the type that the index is of (component model, explainer, "Index
+    /// Spaces"). The items of components that are nested up to `limit` deep are included. An outer
+    /// alias out of the outermost component is out of range.
+    ///
+    /// Each comes with the byte offset of its item. A valid component has none; nothing else is
+    /// checked. A recursion group defines an index for each of its types, to which they may refer.
+    ///
+    /// Memory is taken for each depth of components, and for the indices of one item that are out
+    /// of range.
+    ///
+    /// ```
+    /// use wenc::tree::{Scope, Space};
+    /// use wenc::{ListFault, OutOfRange, Sections};
+    ///
+    /// // the type of a function, and an import of a function of that type
+    /// let mut component = *b"\0asm\x0d\0\x01\0\x07\x05\x01\x40\0\x01\0\x0a\x06\x01\0\x01f\x01\0";
+    /// assert!(Sections::new(&component)?.out_of_range(100).next().is_none());
+    ///
+    /// // the same with the index 99
+    /// component[22] = 99;
+    /// let found: Result<Vec<_>, _> = Sections::new(&component)?.out_of_range(100).collect();
+    /// let (space, scope) = (Space::Types, Scope::Component(0));
+    /// assert_eq!(found?, [OutOfRange { place: 18, space, scope, index: 99, count: 1 }]);
+    /// # Ok::<(), ListFault>(())
+    /// ```
+    pub fn out_of_range(self, limit: usize) -> AllOutOfRange<'a> {
+        AllOutOfRange::new(self.nested(limit))
     }
 
     /// Returns the fault, after which there are no sections.

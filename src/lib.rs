@@ -145,7 +145,9 @@ pub use core_items::{CoreItem, CoreItems};
 #[cfg(feature = "reader")]
 pub use core_sections::{CoreSection, CoreSections, ModuleFault};
 #[cfg(feature = "reader")]
-pub use cursor::{Items, NestedSections, SectionReader, Sections, Trees};
+pub use cursor::{
+    AllOutOfRange, Items, NestedSections, OutOfRange, SectionReader, Sections, Trees,
+};
 pub use encode::{Encode, encoding_size};
 pub use error::{Error, Unsupported};
 #[cfg(feature = "reader")]

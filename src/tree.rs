@@ -62,8 +62,9 @@ pub use crate::shim::alloc::{AllocError, AllocFailed, Global};
 pub use crate::shim::boxed::Box;
 pub use crate::shim::string::String;
 pub use crate::shim::vec::Vec;
+pub use fields::{IndexCounts, Scopes};
 pub use indices::{IndexUse, OuterFault, Scope};
-pub use node::{Child, Fields, List, Node};
+pub use node::{Child, Fields, List, Node, UsedIndex};
 // The types of the same names in the crate's root include what proposals add.
 pub use proved::{
     AbstractHeapType as CoreAbstractHeapType, ArrayType as CoreArrayType,

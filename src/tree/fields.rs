@@ -1,13 +1,19 @@
-//! The fields of each type of trees, with the index spaces of those that are indices. From this
-//! come the indices of an item and its [`Node`].
+//! The fields of each type of items, with the index spaces of those that are indices. From this
+//! come the [`Node`]s of owned and borrowed items, and the indices of owned ones.
 //!
-//! A field is written as in the Rust type. What follows its name, if anything, says what it is:
+//! An entry `CaseTree = CaseView` is for the owned type and for the borrowed one, whose variants
+//! and fields have the same names. A field is written as in the Rust type. What follows its name,
+//! if anything, says what it is:
 //!
 //! - `Types`, or another [`Space`]: an index in that space, or an option or a list of such;
 //! - `(last Types)`: such an index, which is encoded after the other fields;
 //! - `(count, space)`: an index in that space of the scope that is `count` further out;
-//! - `inner`: the declarations of a type that has index spaces of its own.
+//! - `inner`: the declarations of a type that has index spaces of its own;
+//! - `group`: core types that may refer to each other.
+//!
+//! What follows `=>` are the indices that a variant defines, if it is a declaration.
 
+mod place;
 mod values;
 
 use super::indices::Visitor;
@@ -19,65 +25,78 @@ use super::{
     CoreTableType, CoreTagType, CoreTypeTree, CoreValType, DefinedTree, GroupTree, InstanceDecl,
     InstanceTree, ItemTree, ModuleDecl, NameOptions, NameTree, Scope, Space, TypeTree,
 };
+use crate::view::{
+    CanonView, CaseView, ComponentDeclView, CoreInstanceView, CoreSubView, CoreTypeView,
+    DefinedView, GroupView, InstanceDeclView, InstanceView, ItemView, ModuleDeclView, TypeView,
+};
 use crate::{
-    CanonicalOption, ComponentExportKind, ComponentOuterAliasKind, ComponentTypeRef,
+    Alias, CanonicalOption, ComponentExportKind, ComponentOuterAliasKind, ComponentTypeRef,
     ComponentValType, CoreItem, ExportKind, ModuleArg, PrimitiveValType, TypeBounds,
 };
+use core::ops::ControlFlow;
 
-/// A value that is an item or within one.
+pub(super) use place::Place;
+pub use place::{IndexCounts, Scopes};
+
+/// A function that takes the elements of a list, each with the number of bytes that it was read
+/// from, until it breaks.
+pub(super) type Visit<'v> = dyn FnMut(&dyn Tree, Option<usize>) -> ControlFlow<()> + 'v;
+
+/// A value that is an item or within one, owned or borrowed.
 pub(super) trait Tree {
     /// Returns the value at this place as a node.
-    fn node(&self, place: Place) -> Node<'_>;
+    fn node<'n>(&'n self, place: Place<'n>) -> Node<'n>;
 
-    /// Visits each index in the value at this place, in the order in which they are encoded.
-    fn each_index(&mut self, _: Place, _: &mut Visitor<'_>) {}
+    /// Returns the node of a part that only the owned type has as a value by itself.
+    fn part<'n>(&'n self, place: Place<'n>) -> Node<'n> {
+        self.node(place)
+    }
 
-    /// Returns the element of a list at this position.
-    fn element(&self, _: usize) -> Option<&dyn Tree> {
+    /// Returns whether the list has no elements.
+    fn is_empty(&self) -> bool {
+        true
+    }
+
+    /// Visits the elements of the list, in order.
+    fn each_element(&self, _: &mut Visit<'_>) -> ControlFlow<()> {
+        ControlFlow::Continue(())
+    }
+
+    /// Returns the space and the number of the indices that the declaration defines.
+    fn defined(&self) -> Option<(Space, u32)> {
         None
     }
 }
 
-/// Where a value is, which determines what an index is of.
-#[derive(Clone, Copy, Default)]
-pub(super) struct Place {
-    /// The number of enclosing types with index spaces of their own.
-    depth: u32,
-    /// The space and the scope of the value, if it is an index.
-    index_of: Option<(Space, Scope)>,
+/// An owned value, whose indices may be changed.
+pub(super) trait TreeMut: Tree {
+    /// Visits each index in the value at this place, in the order in which they are encoded.
+    fn each_index(&mut self, _: Place<'_>, _: &mut Visitor<'_>) {}
 }
 
-impl Place {
-    /// Returns the place of the declarations of a type.
-    fn inner(self) -> Self {
-        Self { depth: self.depth + 1, index_of: None }
-    }
-
-    /// Returns the place of an index in a space of the scope that is `count` further out.
-    fn outer(self, count: u32, space: Space) -> Self {
-        let scope = match count.checked_sub(self.depth) {
-            Some(out) => Scope::Component(out),
-            None => Scope::Type(self.depth - count),
-        };
-        Self { index_of: Some((space, scope)), ..self }
-    }
+/// Returns an index in this space, which a declaration defines.
+fn one(space: impl Into<Space>) -> Option<(Space, u32)> {
+    Some((space.into(), 1))
 }
 
 /// Returns the place of a field.
 macro_rules! place {
-    ($place:ident) => {
+    ($place:ident $field:ident) => {
         $place
     };
-    ($place:ident inner) => {
+    ($place:ident $field:ident inner) => {
         $place.inner()
     };
-    ($place:ident ($count:expr, $space:expr)) => {
+    ($place:ident $field:ident group) => {
+        $place.within($field)
+    };
+    ($place:ident $field:ident ($count:expr, $space:expr)) => {
         $place.outer($count, $space)
     };
-    ($place:ident (last $space:ident)) => {
-        place!($place $space)
+    ($place:ident $field:ident (last $space:ident)) => {
+        $place.outer(0, Space::$space).last()
     };
-    ($place:ident $space:ident) => {
+    ($place:ident $field:ident $space:ident) => {
         $place.outer(0, Space::$space)
     };
 }
@@ -86,7 +105,7 @@ macro_rules! place {
 macro_rules! visit {
     (first $visitor:ident $place:ident $field:ident (last $space:ident)) => {};
     (first $visitor:ident $place:ident $field:ident $($role:tt)?) => {
-        $field.each_index(place!($place $($role)?), $visitor);
+        $field.each_index(place!($place $field $($role)?), $visitor);
     };
     (last $visitor:ident $place:ident $field:ident (last $space:ident)) => {
         visit!(first $visitor $place $field $space);
@@ -100,25 +119,37 @@ macro_rules! node {
         Node::Word(stringify!($name))
     };
     ($place:ident $name:ident($field:ident $(: $role:tt)?)) => {
-        Node::Variant(stringify!($name), Child::new($field, place!($place $($role)?)))
+        Node::Variant(stringify!($name), Child::new($field, place!($place $field $($role)?)))
     };
     ($place:ident $name:ident { $($field:ident $(: $role:tt)?),+ }) => {
         node!($place Struct $name { $($field $(: $role)?),+ })
     };
     ($place:ident $kind:ident $name:ident { $($field:ident $(: $role:tt)?),+ }) => {
         Node::$kind(stringify!($name), Fields::new([
-            $((stringify!($field), Child::new($field, place!($place $($role)?)))),+
+            $((stringify!($field), Child::new($field, place!($place $field $($role)?)))),+
         ]))
     };
 }
 
-/// Implements `Tree` for enums, by their variants.
-macro_rules! enums {
-    ($($ty:ty { $($name:ident $(($one:ident $(: $of:tt)?))?
-        $({ $($field:ident $(: $role:tt)?),+ })?),+ $(,)? })+) => {$(
-        #[allow(unused_variables, reason = "not all variants have fields, or fields with indices")]
+/// Returns what a variant defines, if anything.
+macro_rules! defined {
+    () => {
+        None
+    };
+    ($defined:expr) => {
+        $defined
+    };
+}
+
+/// Implements `Tree` for an enum, by its variants.
+macro_rules! node_of_enum {
+    ($ty:ty, {
+        $($name:ident $(($one:ident $(: $of:tt)?))? $({ $($field:ident $(: $role:tt)?),+ })?
+            $(=> $defined:expr)?),+ $(,)?
+    }) => {
+        #[allow(unused_variables, reason = "not all variants have fields, or define indices")]
         impl Tree for $ty {
-            fn node(&self, place: Place) -> Node<'_> {
+            fn node<'n>(&'n self, place: Place<'n>) -> Node<'n> {
                 match self {$(
                     Self::$name $(($one))? $({ $($field),+ })? => node!(
                         place $name $(($one $(: $of)?))? $({ $($field $(: $role)?),+ })?
@@ -126,7 +157,24 @@ macro_rules! enums {
                 )+}
             }
 
-            fn each_index(&mut self, place: Place, visitor: &mut Visitor<'_>) {
+            fn defined(&self) -> Option<(Space, u32)> {
+                match self {$(
+                    Self::$name $(($one))? $({ $($field),+ })? => defined!($($defined)?),
+                )+}
+            }
+        }
+    };
+}
+
+/// Implements `TreeMut` for an enum, by its variants.
+macro_rules! indices_of_enum {
+    ($ty:ty, {
+        $($name:ident $(($one:ident $(: $of:tt)?))? $({ $($field:ident $(: $role:tt)?),+ })?
+            $(=> $defined:expr)?),+ $(,)?
+    }) => {
+        #[allow(unused_variables, reason = "not all variants have fields with indices")]
+        impl TreeMut for $ty {
+            fn each_index(&mut self, place: Place<'_>, visitor: &mut Visitor<'_>) {
                 match self {$(
                     Self::$name $(($one))? $({ $($field),+ })? => {
                         $(visit!(first visitor place $one $($of)?);)?
@@ -136,45 +184,81 @@ macro_rules! enums {
                 )+}
             }
         }
-    )+};
+    };
 }
 
-/// Implements `Tree` for structs, by their fields.
-macro_rules! structs {
-    ($($name:ident { $($field:ident $(: $role:tt)?),+ })+) => {$(
-        impl Tree for $name {
-            fn node(&self, place: Place) -> Node<'_> {
+/// Implements `Tree` and `TreeMut` for enums.
+macro_rules! enums {
+    () => {};
+    ($tree:ident = $view:ident $variants:tt $($rest:tt)*) => {
+        node_of_enum! { $view<'_>, $variants }
+        enums! { $tree $variants $($rest)* }
+    };
+    ($tree:ident $variants:tt $($rest:tt)*) => {
+        node_of_enum! { $tree, $variants }
+        indices_of_enum! { $tree, $variants }
+        enums! { $($rest)* }
+    };
+}
+
+/// Implements `Tree` for a struct, by its fields. Its name is that of the owned one.
+macro_rules! node_of_struct {
+    ($name:ident, $ty:ty, { $($field:ident $(: $role:tt)?),+ }) => {
+        impl Tree for $ty {
+            fn node<'n>(&'n self, place: Place<'n>) -> Node<'n> {
                 let Self { $($field),+ } = self;
                 node!(place Record $name { $($field $(: $role)?),+ })
             }
+        }
+    };
+}
 
-            fn each_index(&mut self, place: Place, visitor: &mut Visitor<'_>) {
+/// Implements `Tree` and `TreeMut` for structs.
+macro_rules! structs {
+    () => {};
+    ($tree:ident = $view:ident $fields:tt $($rest:tt)*) => {
+        node_of_struct! { $tree, $view<'_>, $fields }
+        structs! { $tree $fields $($rest)* }
+    };
+    ($tree:ident { $($field:ident $(: $role:tt)?),+ } $($rest:tt)*) => {
+        node_of_struct! { $tree, $tree, { $($field $(: $role)?),+ } }
+
+        impl TreeMut for $tree {
+            fn each_index(&mut self, place: Place<'_>, visitor: &mut Visitor<'_>) {
                 let Self { $($field),+ } = self;
                 $(visit!(first visitor place $field $($role)?);)+
             }
         }
-    )+};
+
+        structs! { $($rest)* }
+    };
 }
 
 structs! {
-    CaseTree { name, ty }
+    CaseTree = CaseView { name, ty }
     CoreFieldType { element_type, mutable }
     CoreGlobalType { val_type, mutable }
     CoreMemoryType { minimum, maximum, memory64, shared }
     CoreRefType { nullable, heap_type }
     CoreStructType { fields }
-    CoreSubType { is_final, supertype_idx: CoreTypes, composite_type }
+    CoreSubType = CoreSubView { is_final, supertype_idx: CoreTypes, composite_type }
     CoreTableType { element_type, table64, minimum, maximum }
     CoreTagType { func_type_idx: CoreTypes }
     NameOptions { implements, version_suffix, external_id }
     NameTree { name, options }
 }
 
+node_of_enum! { CoreItem<'_>, {
+    Import { module, name, ty },
+    Export { name, kind, index: (0, (*kind).into()) },
+    Start { function: CoreFuncs },
+} }
+
 enums! {
-    AliasTree {
-        InstanceExport { instance: Instances, kind, name },
-        CoreInstanceExport { instance: CoreInstances, kind, name },
-        Outer { kind, count, index: (*count, (*kind).into()) },
+    AliasTree = Alias {
+        InstanceExport { instance: Instances, kind, name } => one(*kind),
+        CoreInstanceExport { instance: CoreInstances, kind, name } => one(*kind),
+        Outer { kind, count, index: (*count, (*kind).into()) } => one(*kind),
     }
 
     CanonicalOption {
@@ -183,7 +267,10 @@ enums! {
         Realloc(index: CoreFuncs), PostReturn(index: CoreFuncs), Callback(index: CoreFuncs),
     }
 
-    ComponentDecl { Import { name, ty }, Decl(declared) }
+    ComponentDecl = ComponentDeclView {
+        Import { name, ty } => one(ty.kind()),
+        Decl(declared) => declared.defined(),
+    }
 
     ComponentExportKind { Module, Func, Value, Type, Instance, Component }
 
@@ -202,25 +289,30 @@ enums! {
 
     CoreCompositeType { Func(ty), Array(ty), Struct(ty) }
 
-    CoreEntityType { Function(index: CoreTypes), Table(ty), Memory(ty), Global(ty), Tag(ty) }
+    CoreEntityType {
+        Function(index: CoreTypes) => one(Space::CoreFuncs),
+        Table(ty) => one(Space::CoreTables),
+        Memory(ty) => one(Space::CoreMemories),
+        Global(ty) => one(Space::CoreGlobals),
+        Tag(ty) => one(Space::CoreTags),
+    }
 
     CoreHeapType { Abstract(ty), Concrete(index: CoreTypes) }
 
-    CoreInstanceTree { Instantiate { module: CoreModules, args }, Exports(exports) }
-
-    CoreItem<'_> {
-        Import { module, name, ty },
-        Export { name, kind, index: (0, (*kind).into()) },
-        Start { function: CoreFuncs },
+    CoreInstanceTree = CoreInstanceView {
+        Instantiate { module: CoreModules, args }, Exports(exports),
     }
 
     CoreStorageType { I8, I16, Val(ty) }
 
-    CoreTypeTree { Group(ty), Module(declared: inner) }
+    CoreTypeTree = CoreTypeView {
+        Group(ty: group) => ty.defined(),
+        Module(declared: inner) => one(Space::CoreTypes),
+    }
 
     CoreValType { I32, I64, F32, F64, V128, Ref(ty) }
 
-    DefinedTree {
+    DefinedTree = DefinedView {
         Primitive(ty), Record(fields), Variant(cases), Tuple(elements), Flags(names), Enum(names),
         List(element), FixedLengthList { element, length }, Map { key, value },
         Option(ty), Result { ok, err },
@@ -229,13 +321,23 @@ enums! {
 
     ExportKind { Func, Table, Memory, Global, Tag }
 
-    GroupTree { Sub(ty), Rec(types) }
+    GroupTree = GroupView {
+        Sub(ty) => one(Space::CoreTypes),
+        Rec(types) => Some((Space::CoreTypes, u32::try_from(types.len()).unwrap_or(u32::MAX))),
+    }
 
-    InstanceDecl { CoreType(ty), Type(ty), Alias(alias), Export { name, ty } }
+    InstanceDecl = InstanceDeclView {
+        CoreType(ty) => ty.defined(),
+        Type(ty) => one(Space::Types),
+        Alias(alias) => alias.defined(),
+        Export { name, ty } => one(ty.kind()),
+    }
 
-    InstanceTree { Instantiate { component: Components, args }, Exports(exports) }
+    InstanceTree = InstanceView {
+        Instantiate { component: Components, args }, Exports(exports),
+    }
 
-    ItemTree {
+    ItemTree = ItemView {
         Module(bytes), CoreInstance(instance), CoreType(ty), Component(bytes),
         Instance(instance), Alias(alias), Type(ty), Canon(canon),
         Start { function: Funcs, args: Values, results },
@@ -246,10 +348,10 @@ enums! {
 
     ModuleArg { Instance(index: CoreInstances) }
 
-    ModuleDecl {
-        Import { module, name, ty },
-        Type(ty),
-        Alias { count, index: (*count, Space::CoreTypes) },
+    ModuleDecl = ModuleDeclView {
+        Import { module, name, ty } => ty.defined(),
+        Type(ty: group) => ty.defined(),
+        Alias { count, index: (*count, Space::CoreTypes) } => one(Space::CoreTypes),
         Export { name, ty },
     }
 
@@ -259,7 +361,7 @@ enums! {
 
     TypeBounds { Eq(index: Types), SubResource }
 
-    TypeTree {
+    TypeTree = TypeView {
         Defined(ty),
         Func { is_async, params, result },
         Component(declared: inner),
@@ -267,7 +369,7 @@ enums! {
         Resource { rep, dtor: CoreFuncs },
     }
 
-    CanonTree {
+    CanonTree = CanonView {
         Lift { core_func: CoreFuncs, ty: (last Types), options },
         Lower { func: Funcs, options },
         ResourceNew(index: Types), ResourceDrop(index: Types), ResourceRep(index: Types),

@@ -4,7 +4,7 @@ mod nested;
 
 pub use nested::OuterFault;
 
-use super::fields::{Place, Tree};
+use super::fields::{Place, TreeMut};
 use super::{ItemTree, Space};
 use crate::Error;
 use crate::error::or_panic;

@@ -1,9 +1,16 @@
 //! Items as nodes with named fields.
 
-use super::fields::{Place, Tree};
+use super::fields::{IndexCounts, Place, Scopes, Tree};
 use super::{ItemTree, Scope, Space, ValType};
 use crate::CoreItem;
+use crate::view::{
+    CanonView, CaseView, ComponentDeclView, CoreCompositeView, CoreInstanceView, CoreSubView,
+    CoreTypeView, DefinedView, GroupView, InstanceDeclView, InstanceView, ItemView, ModuleDeclView,
+    NameView, TypeView,
+};
+use core::convert::Infallible;
 use core::fmt;
+use core::ops::ControlFlow;
 
 /// An item, or a value within one, by its kind and its fields, from which programs can print it
 /// without a case for each type. Names are those of the Rust types.
@@ -20,7 +27,7 @@ use core::fmt;
 ///     match node {
 ///         Node::Index { space, scope, index } => visit(scope, space, index),
 ///         Node::Present(child) | Node::Variant(_, child) => each_index(child.node(), visit),
-///         Node::List(list) => list.iter().for_each(|child| each_index(child.node(), visit)),
+///         Node::List(list) => list.for_each(|child| each_index(child.node(), visit)),
 ///         Node::Tuple(fields) | Node::Record(_, fields) | Node::Struct(_, fields) => {
 ///             fields.iter().for_each(|(_, child)| each_index(child.node(), visit));
 ///         }
@@ -60,6 +67,19 @@ pub enum Node<'a> {
         /// The index itself, from 0 to 4294967295.
         index: u32,
     },
+    /// An index that its space doesn't have, in the node of an item in its
+    /// [scopes](ItemView::node_in); in other nodes it is an [`Index`](Self::Index), too.
+    OutOfRange {
+        /// The index space that the index is in.
+        space: Space,
+        /// The scope that the index space belongs to, as seen from the item.
+        scope: Scope,
+        /// The index itself, from 0 to 4294967295.
+        index: u32,
+        /// The number of indices in the space, up to this item or declaration; 0 if there is no
+        /// such scope.
+        count: u64,
+    },
     /// Values of one type.
     List(List<'a>),
     /// Values of several types. Their names are their positions: `0`, `1`, `2`.
@@ -74,35 +94,132 @@ pub enum Node<'a> {
     Struct(&'static str, Fields<'a>),
 }
 
+/// An index that an item contains, as [`Node::each_index`] visits it.
+#[derive(Clone, Copy, Debug, PartialEq, Eq)]
+pub struct UsedIndex {
+    /// The index space that the index is in.
+    pub space: Space,
+    /// The scope that the index space belongs to.
+    pub scope: Scope,
+    /// The index itself, from 0 to 4294967295.
+    pub index: u32,
+    /// The number of indices in the space if the index is [out of range](Node::OutOfRange).
+    pub count: Option<u64>,
+}
+
+impl Node<'_> {
+    /// Visits each index in the value, in the order in which they are encoded.
+    ///
+    /// ```
+    /// use wenc::Sections;
+    /// use wenc::tree::{Scope, Space, UsedIndex};
+    ///
+    /// // the type `u32`, and that of lists of it
+    /// let component = b"\0asm\x0d\0\x01\0\x07\x04\x02\x79\x70\0";
+    /// let mut found = Vec::new();
+    /// for item in Sections::new(component)?.items() {
+    ///     item?.1.node().each_index(|used| found.push(used));
+    /// }
+    /// let (space, scope) = (Space::Types, Scope::Component(0));
+    /// assert_eq!(found, [UsedIndex { space, scope, index: 0, count: None }]);
+    /// # Ok::<(), wenc::ListFault>(())
+    /// ```
+    pub fn each_index(self, mut visit: impl FnMut(UsedIndex)) {
+        let visited = self.try_each_index(|used| Ok::<(), Infallible>(visit(used)));
+        visited.unwrap_or_else(|never| match never {});
+    }
+
+    /// Does what [`each_index`](Self::each_index) does, up to the first error.
+    ///
+    /// # Errors
+    ///
+    /// The error that `visit` returns.
+    pub fn try_each_index<E>(
+        self,
+        mut visit: impl FnMut(UsedIndex) -> Result<(), E>,
+    ) -> Result<(), E> {
+        self.each_use(&mut visit)
+    }
+
+    fn each_use<E>(self, visit: &mut dyn FnMut(UsedIndex) -> Result<(), E>) -> Result<(), E> {
+        match self {
+            Self::Index { space, scope, index } => {
+                visit(UsedIndex { space, scope, index, count: None })
+            }
+            Self::OutOfRange { space, scope, index, count } => {
+                visit(UsedIndex { space, scope, index, count: Some(count) })
+            }
+            Self::Present(child) | Self::Variant(_, child) => child.node().each_use(visit),
+            Self::List(list) => list.try_for_each(|child| child.node().each_use(visit)),
+            Self::Tuple(fields) | Self::Record(_, fields) | Self::Struct(_, fields) => {
+                let [first, last] = [false, true].map(|is_last| {
+                    fields
+                        .0
+                        .into_iter()
+                        .flatten()
+                        .filter(move |field| field.1.place.is_last == is_last)
+                });
+                first.chain(last).try_for_each(|(_, child)| child.node().each_use(visit))
+            }
+            _ => Ok(()),
+        }
+    }
+}
+
 /// A value within a [`Node`].
 #[derive(Clone, Copy)]
 pub struct Child<'a> {
     source: Source<'a>,
-    place: Place,
+    place: Place<'a>,
+    encoded_len: Option<usize>,
 }
 
 #[derive(Clone, Copy)]
 enum Source<'a> {
     Tree(&'a dyn Tree),
+    /// A part of a value.
+    Part(&'a dyn Tree),
+    /// An option that is a part of a value.
+    Present(&'a dyn Tree),
     /// The parameters or the results of a core function type.
     Types(&'a [ValType]),
 }
 
 impl<'a> Child<'a> {
-    pub(super) fn new(tree: &'a dyn Tree, place: Place) -> Self {
-        Self { source: Source::Tree(tree), place }
+    fn of(source: Source<'a>, place: Place<'a>) -> Self {
+        Self { source, place, encoded_len: None }
     }
 
-    pub(super) fn types(types: &'a [ValType], place: Place) -> Self {
-        Self { source: Source::Types(types), place }
+    pub(super) fn new(tree: &'a dyn Tree, place: Place<'a>) -> Self {
+        Self::of(Source::Tree(tree), place)
+    }
+
+    pub(super) fn part(whole: &'a dyn Tree, place: Place<'a>) -> Self {
+        Self::of(Source::Part(whole), place)
+    }
+
+    pub(super) fn present(whole: &'a dyn Tree, place: Place<'a>) -> Self {
+        Self::of(Source::Present(whole), place)
+    }
+
+    pub(super) fn types(types: &'a [ValType], place: Place<'a>) -> Self {
+        Self::of(Source::Types(types), place)
     }
 
     /// Returns the node of this value.
     pub fn node(self) -> Node<'a> {
         match self.source {
             Source::Tree(tree) => tree.node(self.place),
+            Source::Part(whole) => whole.part(self.place),
+            Source::Present(whole) => Node::Present(Self::part(whole, self.place)),
             Source::Types(_) => Node::List(List(self)),
         }
+    }
+
+    /// Returns the number of bytes that this element of a borrowed list was read from; `None` for
+    /// other values.
+    pub fn encoded_len(self) -> Option<usize> {
+        self.encoded_len
     }
 }
 
@@ -117,24 +234,64 @@ impl fmt::Debug for Child<'_> {
 pub struct List<'a>(Child<'a>);
 
 impl<'a> List<'a> {
-    pub(super) fn new(list: &'a dyn Tree, place: Place) -> Self {
+    pub(super) fn new(list: &'a dyn Tree, place: Place<'a>) -> Self {
         Self(Child::new(list, place))
     }
 
-    /// Returns the elements, in order.
-    pub fn iter(self) -> impl Iterator<Item = Child<'a>> {
-        let Self(Child { source, place }) = self;
-        let elements = (0..).map_while(move |at| match source {
-            Source::Tree(list) => list.element(at),
-            Source::Types(types) => types.get(at).map(|ty| ty as &dyn Tree),
-        });
-        elements.map(move |element| Child::new(element, place))
+    /// Returns `true` if there are no elements. Nothing is read.
+    pub fn is_empty(self) -> bool {
+        match self.0.source {
+            Source::Types(types) => types.is_empty(),
+            Source::Tree(list) | Source::Part(list) | Source::Present(list) => list.is_empty(),
+        }
+    }
+
+    /// Calls a function with each element, in order. Those of a borrowed item are read one by one,
+    /// and each is there during the call.
+    pub fn for_each(self, mut visit: impl FnMut(Child<'_>)) {
+        let visited = self.try_for_each(|child| Ok::<(), Infallible>(visit(child)));
+        visited.unwrap_or_else(|never| match never {});
+    }
+
+    /// Does what [`for_each`](Self::for_each) does, up to the first error.
+    ///
+    /// # Errors
+    ///
+    /// The error that `visit` returns.
+    pub fn try_for_each<E>(
+        self,
+        mut visit: impl FnMut(Child<'_>) -> Result<(), E>,
+    ) -> Result<(), E> {
+        let Self(Child { source, place, .. }) = self;
+        let (place, around) = place.elements();
+        let mut declared = IndexCounts::default();
+        let mut result = Ok(());
+        let mut each = |element: &dyn Tree, encoded_len| {
+            let inner = around.map(|around| around.inner(declared));
+            let place = place.in_scopes(inner.as_ref());
+            result = visit(Child { source: Source::Tree(element), place, encoded_len });
+            if around.is_some() {
+                declared.define(element.defined());
+            }
+            if result.is_ok() { ControlFlow::Continue(()) } else { ControlFlow::Break(()) }
+        };
+        let _ = match source {
+            Source::Types(types) => types.iter().try_for_each(|ty| each(ty, None)),
+            Source::Tree(list) | Source::Part(list) | Source::Present(list) => {
+                list.each_element(&mut each)
+            }
+        };
+        result
     }
 }
 
 impl fmt::Debug for List<'_> {
     fn fmt(&self, f: &mut fmt::Formatter<'_>) -> fmt::Result {
-        f.debug_list().entries(self.iter()).finish()
+        let mut list = f.debug_list();
+        self.for_each(|child| {
+            list.entry(&child);
+        });
+        list.finish()
     }
 }
 
@@ -164,6 +321,50 @@ impl ItemTree {
     /// Returns the item as a node: the variant of this type that it is.
     pub fn node(&self) -> Node<'_> {
         Tree::node(self, Place::default())
+    }
+}
+
+/// Defines the node of a borrowed value.
+macro_rules! nodes {
+    ($($view:ident)+) => {$(
+        impl $view<'_> {
+            /// Returns the value as a [`Node`], which is that of the owned value. Nothing is
+            /// allocated. The scopes of its indices are those that an item's would have.
+            pub fn node(&self) -> Node<'_> {
+                Tree::node(self, Place::default())
+            }
+        }
+    )+};
+}
+
+nodes! {
+    CanonView CaseView ComponentDeclView CoreCompositeView CoreInstanceView CoreSubView
+    CoreTypeView DefinedView GroupView InstanceDeclView InstanceView ItemView ModuleDeclView
+    NameView TypeView
+}
+
+impl ItemView<'_> {
+    /// Returns the item as a [`Node`] in which indices that aren't defined yet are
+    /// [`Node::OutOfRange`], in these components.
+    ///
+    /// ```
+    /// use wenc::tree::{IndexCounts, Node, Scopes, Space};
+    /// use wenc::view::ItemView;
+    /// use wenc::{ComponentTypeRef, ListFault, Sections};
+    ///
+    /// // two types, and an import of a function of the second
+    /// let component = b"\0asm\x0d\0\x01\0\x07\x08\x02\x40\0\x01\0\x40\0\x01\0\x0a\x06\x01\0\x01f\x01\x01";
+    /// let mut counts = [IndexCounts::default()];
+    /// for item in Sections::new(component)?.items() {
+    ///     let (_, item) = item?;
+    ///     let scopes = Scopes::new(&counts);
+    ///     item.node_in(&scopes).each_index(|used| assert_eq!((used.space, used.index), (Space::Types, 1)));
+    ///     counts[0].add(&item);
+    /// }
+    /// # Ok::<(), ListFault>(())
+    /// ```
+    pub fn node_in<'n>(&'n self, scopes: &'n Scopes<'n>) -> Node<'n> {
+        Tree::node(self, Place::of_item(scopes))
     }
 }
 

@@ -9,7 +9,8 @@ mod nested;
 mod nodes;
 mod types;
 
-use wenc::tree::{ItemTree, NameTree, Node, Scope, Space, String};
+use wenc::tree::{ItemTree, NameTree, Node, Scope, Space, String, UsedIndex};
+use wenc::{Component, Error, ItemSection, Sections};
 
 /// A space, how a scope is seen from the item, and an index.
 type Seen = (Space, Scope, u32);
@@ -43,12 +44,46 @@ fn add_indices(node: Node, seen: &mut Vec<Seen>) {
     match node {
         Node::Index { space, scope, index } => seen.push((space, scope, index)),
         Node::Present(child) | Node::Variant(_, child) => add_indices(child.node(), seen),
-        Node::List(list) => list.iter().for_each(|child| add_indices(child.node(), seen)),
+        Node::List(list) => list.for_each(|child| add_indices(child.node(), seen)),
         Node::Tuple(fields) | Node::Record(_, fields) | Node::Struct(_, fields) => {
             fields.iter().for_each(|(_, child)| add_indices(child.node(), seen));
         }
         _ => {}
     }
+}
+
+/// The indices that are visited of a node, in their order.
+fn visited(node: Node) -> Vec<Seen> {
+    let mut seen = Vec::new();
+    node.each_index(|UsedIndex { space, scope, index, count }| {
+        assert_eq!(count, None, "the scopes aren't known");
+        seen.push((space, scope, index));
+    });
+    seen
+}
+
+/// A component with this item.
+fn component_of(item: &ItemTree) -> Vec<u8> {
+    let section = (0..12).find_map(|id| {
+        let mut section = ItemSection::new(id);
+        match section.item(item) {
+            Err(Error::WrongSection) => None,
+            added => Some(added.map(|_| ()).map(|()| section).expect("it is encoded")),
+        }
+    });
+    let mut component = Component::new();
+    component.section(&section.expect("it has a section"));
+    component.finish()
+}
+
+/// The item, encoded and read in place, has the same node, and these indices in this order.
+fn expect_borrowed(tree: &ItemTree, indices: &[Seen]) {
+    let component = component_of(tree);
+    let mut items = Sections::new(&component).expect("a component").items();
+    let (_, item) = items.next().expect("it has an item").expect("it is read");
+    assert_eq!(format!("{:?}", item.node()), format!("{:?}", tree.node()));
+    assert_eq!(visited(item.node()), indices, "{item:?}");
+    assert!(items.next().is_none());
 }
 
 /// The item contains these indices, in this order, and each can be changed. Its node has them too,
@@ -58,6 +93,8 @@ fn expect(mut item: ItemTree, indices: &[Seen]) {
     assert_eq!(seen(&mut item), indices, "{before:?}");
     assert_eq!(item, before, "nothing was changed");
 
+    assert_eq!(visited(item.node()), indices, "{before:?}");
+    expect_borrowed(&item, indices);
     let mut of_node = Vec::new();
     add_indices(item.node(), &mut of_node);
     let [mut of_node, mut sorted] = [of_node, indices.to_vec()];

@@ -16,6 +16,7 @@ mod examples;
 mod features;
 mod interfaces;
 mod names;
+mod out_of_range;
 mod random;
 mod renumbered;
 mod shown;

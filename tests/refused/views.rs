@@ -5,7 +5,7 @@ use crate::spellings::ROWS;
 use crate::{GRANTED, corpus};
 use std::hash::{DefaultHasher, Hash, Hasher};
 use std::hint::black_box;
-use wenc::tree::Space;
+use wenc::tree::{ItemTree, Space, UsedIndex};
 use wenc::view::ItemView;
 use wenc::*;
 
@@ -70,4 +70,59 @@ fn nothing_is_asked_for() {
         walked += u32::from(result.is_ok());
     }
     assert!(walked > 60 && ids.iter().all(|count| *count > 0), "{walked} {ids:?}");
+}
+
+/// The indices of an owned item, in the order in which they are encoded.
+fn indices_of(tree: &mut ItemTree) -> Vec<UsedIndex> {
+    let mut indices = Vec::new();
+    tree.indices_mut(|used| {
+        let (space, scope, index) = (used.space, used.scope, *used.index);
+        indices.push(UsedIndex { space, scope, index, count: None });
+    });
+    indices
+}
+
+/// Expects that the indices of borrowed items and their nodes ask for no memory, and are those of
+/// owned items. Returns the number of items and of indices.
+fn expect_indices(bytes: &[u8]) -> (usize, usize) {
+    let sections = Sections::new(bytes).expect("a component").nested(8);
+    let sections = sections.map_while(Result::ok).map(|(_, section)| section);
+    let mut found = (0, 0);
+    for section in sections {
+        let trees = section.trees().map_while(Result::ok);
+        for ((_, view), (_, mut tree)) in section.items().map_while(Result::ok).zip(trees) {
+            let wanted = indices_of(&mut tree);
+            let mut indices = Vec::with_capacity(wanted.len() + 1);
+            GRANTED.set(Some(0));
+            view.node().each_index(|used| indices.push(used));
+            let asked = GRANTED.take() != Some(0);
+            assert!(!asked && indices == wanted, "{view:?}");
+            assert_eq!(format!("{:?}", view.node()), format!("{:?}", tree.node()));
+            found = (found.0 + 1, found.1 + indices.len());
+        }
+    }
+    found
+}
+
+/// Indices and nodes ask for no memory, and are those of owned items.
+#[test]
+fn indices_are_those_of_owned_items() {
+    let found = components().into_iter().map(|bytes| expect_indices(&bytes));
+    let (items, indices) = found.fold((0, 0), |sum, found| (sum.0 + found.0, sum.1 + found.1));
+    assert!(items > 1500 && indices > 2700, "{items} {indices}");
+}
+
+/// So do those of types as deep as they are read.
+#[test]
+fn indices_in_deep_types_are_those_of_owned_ones() {
+    // at each depth, an outer alias of a type of the component, and of the type around it
+    let mut ty = b"\x42\0".to_vec();
+    for depth in (1..=99).rev() {
+        let mut around = b"\x42\x03\x02\x03\x02".to_vec();
+        around.extend([depth, 5, 2, 3, 2, 1, 7, 1]);
+        ty = [around, ty].concat();
+    }
+    let mut component = Component::new();
+    component.section(&RawSection { id: 7, data: &[&[1][..], &ty].concat() });
+    assert_eq!(expect_indices(&component.finish()), (1, 198));
 }

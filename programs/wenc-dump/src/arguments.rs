@@ -12,6 +12,7 @@ Prints the sections and items of WebAssembly components, and the sections of cor
 modules with their imports and exports. The file - is standard input.
 
   -x, --hex      also print the bytes of items, in hexadecimal
+      --check    also mark indices that are out of range
       --json     print JSON, a line for each file
   -h, --help     print this help
   -V, --version  print the version
@@ -41,6 +42,8 @@ pub struct Options {
     pub files: Vec<OsString>,
     /// Whether the bytes of items are printed.
     pub hex: bool,
+    /// Whether indices that are out of range are marked.
+    pub check: bool,
     /// Whether JSON is printed.
     pub json: bool,
 }
@@ -58,6 +61,7 @@ pub fn request(arguments: impl Iterator<Item = OsString>) -> Result<Request, Str
             Some("-h" | "--help") => return Ok(Request::Help),
             Some("-V" | "--version") => return Ok(Request::Version),
             Some("-x" | "--hex") => options.hex = true,
+            Some("--check") => options.check = true,
             Some("--json") => options.json = true,
             Some("--") => are_files = true,
             _ if !are_files && is_option(&argument) => {

@@ -11,6 +11,8 @@ pub enum Hue {
     Index,
     /// A name.
     Name,
+    /// An index that is out of range.
+    Fault,
     /// Other text, which has no colour.
     Plain,
 }
@@ -22,6 +24,7 @@ impl Hue {
             Self::Place => Some(2),
             Self::Index => Some(36),
             Self::Name => Some(32),
+            Self::Fault => Some(31),
             Self::Plain => None,
         }
     }

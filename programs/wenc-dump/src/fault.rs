@@ -28,6 +28,8 @@ pub enum Fault {
     TooDeep(usize, usize),
     /// Debug names, from this byte offset on.
     Names(usize),
+    /// So many indices that are out of range.
+    OutOfRange(usize),
 }
 
 impl Fault {
@@ -178,6 +180,8 @@ impl Display for Fault {
                 write!(f, "components more than {depth} deep at {place:#x}")
             }
             Self::Names(place) => write!(f, "bad debug names at {place:#x}"),
+            Self::OutOfRange(1) => f.write_str("1 index is out of range"),
+            Self::OutOfRange(count) => write!(f, "{count} indices are out of range"),
         }
     }
 }

@@ -47,9 +47,16 @@ impl Pieces for Room {
     }
 }
 
-/// Returns whether the node fits in that many columns. Looks no further than they reach.
-pub fn fits(node: &Node, names: Names, columns: usize) -> bool {
-    flat(node, names, &mut Room(columns)).is_ok()
+/// The maximum number of bytes that are printed in one column, with room to spare: a number of 64
+/// bits is read from up to 10 bytes, and a character from up to 4.
+const COLUMN: usize = 16;
+
+/// Returns whether the node fits in that many columns. Looks no further than they reach, and not at
+/// all at a node that was read from too many bytes: so what is large isn't read once for each level
+/// around it.
+pub fn fits(node: &Node, encoded_len: Option<usize>, names: Names, columns: usize) -> bool {
+    encoded_len.is_none_or(|len| len / COLUMN <= columns)
+        && flat(node, names, &mut Room(columns)).is_ok()
 }
 
 /// The members of a node.
@@ -66,7 +73,7 @@ impl<'a> Members<'a> {
     /// Returns the members of the innermost brackets of a node; `None` if these are empty.
     pub fn of(node: &Node<'a>) -> Option<Self> {
         match node {
-            Node::List(list) => list.iter().next().map(|_| Self::List(*list)),
+            Node::List(list) => (!list.is_empty()).then_some(Self::List(*list)),
             Node::Tuple(values) => Some(Self::Tuple(*values)),
             Node::Record(name, _) if is_phrase(name) => None,
             Node::Record(_, fields) | Node::Struct(_, fields) => Some(Self::Fields(*fields)),
@@ -78,11 +85,12 @@ impl<'a> Members<'a> {
     /// Calls a function with each member in order, and its name, up to the first error.
     pub fn try_each<E>(
         &self,
-        mut each: impl FnMut(usize, Option<&'static str>, Child<'a>) -> Result<(), E>,
+        mut each: impl FnMut(usize, Option<&'static str>, Child<'_>) -> Result<(), E>,
     ) -> Result<(), E> {
         match self {
             Self::List(list) => {
-                list.iter().enumerate().try_for_each(|(at, part)| each(at, None, part))
+                let mut at = 0..;
+                list.try_for_each(|part| each(at.next().unwrap_or(usize::MAX), None, part))
             }
             Self::Tuple(values) => {
                 let mut values = values.iter().enumerate();
@@ -143,6 +151,7 @@ pub fn flat<P: Pieces>(node: &Node, names: Names, pieces: &mut P) -> Result<(), 
         Node::Text(text) => pieces.piece(Hue::Name, format_args!("{text:?}")),
         Node::Word(word) => pieces.plain(word),
         Node::Index { index, .. } => index_with_name(index, name_of(node, names), pieces),
+        Node::OutOfRange { index, .. } => pieces.piece(Hue::Fault, format_args!("{index}!")),
         Node::Present(part) => flat_variant("Some", &part.node(), names, pieces),
         Node::Variant(name, part) => flat_variant(name, &part.node(), names, pieces),
         Node::Record(name, fields) => flat_phrase(name, *fields, names, pieces),
@@ -203,8 +212,14 @@ fn flat_variant<P: Pieces>(
     names: Names,
     pieces: &mut P,
 ) -> Result<(), P::Stop> {
-    if let Node::Index { index, .. } = part {
-        return index_with_name(format_args!("{name}({index})"), name_of(part, names), pieces);
+    match part {
+        Node::Index { index, .. } => {
+            return index_with_name(format_args!("{name}({index})"), name_of(part, names), pieces);
+        }
+        Node::OutOfRange { index, .. } => {
+            return pieces.piece(Hue::Fault, format_args!("{name}({index})!"));
+        }
+        _ => {}
     }
     pieces.plain(name)?;
     pieces.plain("(")?;

@@ -10,7 +10,7 @@ use std::fmt::{self, Display, Write as _};
 use std::io::{self, Write};
 use std::ops::Range;
 use std::path::Path;
-use wenc::tree::{Child, Node};
+use wenc::tree::{Child, Node, Scope, UsedIndex};
 
 /// The maximum number of open parts: the file, a section and an item for each component that is
 /// nested in it and for a module, and a section and an item of that module.
@@ -193,9 +193,19 @@ impl<'o, W: Write> Json<'o, W> {
             Node::Flag(flag) => write!(self.out, "{flag}"),
             Node::Text(text) => self.text(text),
             Node::Word(word) => self.text(word),
-            Node::Index { index, .. } => write!(self.out, "{index}"),
-            Node::List(list) => self.list(list.iter()),
-            Node::Tuple(values) => self.list(values.iter().map(|(_, value)| value)),
+            Node::Index { index, .. } | Node::OutOfRange { index, .. } => {
+                write!(self.out, "{index}")
+            }
+            Node::List(list) => {
+                let mut lead = "[";
+                list.try_for_each(|value| self.element(&mut lead, value))?;
+                self.put(if list.is_empty() { "[]" } else { "]" })
+            }
+            Node::Tuple(values) => {
+                let mut lead = "[";
+                values.iter().try_for_each(|(_, value)| self.element(&mut lead, value))?;
+                self.put("]")
+            }
             Node::Record(_, fields) => self.fields(fields.iter()),
             Node::Variant(name, part) => self.fields([(*name, *part)]),
             Node::Struct(name, fields) => {
@@ -213,13 +223,11 @@ impl<'o, W: Write> Json<'o, W> {
         self.node(&child.node())
     }
 
-    fn list<'a>(&mut self, values: impl Iterator<Item = Child<'a>>) -> io::Result<()> {
-        self.put("[")?;
-        for (at, value) in values.enumerate() {
-            self.put(if at == 0 { "" } else { "," })?;
-            self.child(value)?;
-        }
-        self.put("]")
+    /// Writes an element of a list after its lead, which is then a comma.
+    fn element(&mut self, lead: &mut &str, value: Child) -> io::Result<()> {
+        self.put(lead)?;
+        *lead = ",";
+        self.child(value)
     }
 
     fn fields<'a>(
@@ -292,6 +300,18 @@ impl<W: Write> Report for Json<'_, W> {
         };
         write!(self.out, "{list},\"unread\":{place}")?;
         self.bytes("unread_hex", bytes)
+    }
+
+    fn out_of_range(&mut self, _: usize, used: &UsedIndex) -> io::Result<()> {
+        let Some(open) = self.open.last_mut() else { return Ok(()) };
+        let lead = if open.list == Some("") { ",\"out_of_range\":[" } else { "," };
+        open.list = Some("]");
+        let (key, scope) = match used.scope {
+            Scope::Component(out) => ("component", out),
+            Scope::Type(depth) => ("type", depth),
+        };
+        write!(self.out, "{lead}{{\"space\":\"{}\",\"{key}\":{scope},", words::space(used.space))?;
+        write!(self.out, "\"index\":{},\"count\":{}}}", used.index, used.count.unwrap_or_default())
     }
 
     fn flush(&mut self) -> io::Result<()> {

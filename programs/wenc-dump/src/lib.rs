@@ -4,6 +4,7 @@
 
 mod arguments;
 mod cause;
+mod check;
 mod colours;
 mod escape;
 mod fault;

@@ -6,8 +6,9 @@ use std::io::{self, BufWriter, IsTerminal};
 use std::process::ExitCode;
 use wenc_dump::{NO_MEMORY, Streams, colours_are_wanted, run};
 
-/// The bytes of stack for nested components and types, with room to spare.
-const STACK: usize = 0xc_0000;
+/// The bytes of stack for nested components and types, with room to spare. Frames that aren't
+/// optimized are larger.
+const STACK: usize = if cfg!(debug_assertions) { 0x28_0000 } else { 0xc_0000 };
 
 /// The other bytes of memory that the program takes before it reads a file.
 const START: usize = 0x4_0000;

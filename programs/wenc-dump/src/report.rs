@@ -5,7 +5,7 @@ use super::fold::Names;
 use std::ffi::OsStr;
 use std::io;
 use std::ops::Range;
-use wenc::tree::{Node, Space};
+use wenc::tree::{Node, Space, UsedIndex};
 
 /// A format of reports.
 pub trait Report {
@@ -18,6 +18,10 @@ pub trait Report {
     /// Notes that nothing is read from this byte offset to the end of the innermost open part, what
     /// can't be read there, and the bytes, unless they were reported before.
     fn unread(&mut self, place: usize, what: &str, bytes: &[u8]) -> io::Result<()>;
+
+    /// Notes an index in the innermost open part that is out of range: the item at this byte offset
+    /// contains it.
+    fn out_of_range(&mut self, place: usize, index: &UsedIndex) -> io::Result<()>;
 
     /// Writes everything that was reported so far.
     fn flush(&mut self) -> io::Result<()>;

@@ -74,11 +74,12 @@ fn dump(
             *status = fault.status().max(*status);
         };
         if options.json {
-            report(&mut Json::new(streams.out, options.hex), file, streams.input, tell)?;
+            let mut json = Json::new(streams.out, options.hex);
+            report(&mut json, (file, options.check), streams.input, tell)?;
         } else {
             let has_titles = options.files.len() > 1;
             let mut text = Text::new(streams.out, has_colours, options.hex, has_titles);
-            report(&mut text, file, streams.input, tell)?;
+            report(&mut text, (file, options.check), streams.input, tell)?;
         }
     }
     Ok(())
@@ -94,10 +95,10 @@ fn bytes_of(file: &OsStr, input: &mut impl Read) -> io::Result<Vec<u8>> {
     Ok(bytes)
 }
 
-/// Reports a file, and passes on each fault.
+/// Reports a file, with indices that are out of range if they are wanted, and passes on each fault.
 fn report(
     report: &mut impl Report,
-    file: &OsStr,
+    (file, has_check): (&OsStr, bool),
     input: &mut impl Read,
     tell: &mut dyn FnMut(&Fault),
 ) -> io::Result<()> {
@@ -107,7 +108,7 @@ fn report(
         first.get_or_insert(fault);
     };
     report.begin(file)?;
-    let fault = match bytes_of(file, input).map(|bytes| walk(&bytes, report, tell)) {
+    let fault = match bytes_of(file, input).map(|bytes| walk(&bytes, has_check, report, tell)) {
         Err(error) => Some(Fault::of_input(error)),
         Ok(Err(Failure::NoMemory)) => Some(Fault::NoMemory),
         Ok(Err(Failure::Write(error))) => return Err(error),

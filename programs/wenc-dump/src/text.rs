@@ -1,5 +1,6 @@
 //! A report as text.
 
+use super::check::OutOfRange;
 use super::colours::Hue;
 use super::escape::Escaped;
 use super::fault::Fault;
@@ -11,7 +12,7 @@ use std::ffi::OsStr;
 use std::fmt::Display;
 use std::io::{self, Write};
 use std::ops::Range;
-use wenc::tree::Node;
+use wenc::tree::{Node, UsedIndex};
 
 /// The number of columns of a line, if it can be folded.
 const COLUMNS: usize = 100;
@@ -172,18 +173,26 @@ impl<'o, W: Write> Text<'o, W> {
             }
             Content::Node(node, names) => {
                 self.plain(if label.is_some() { ": " } else { "" })?;
-                self.node(node, names, self.depth, 0)
+                self.node(node, Some(range.len()), names, self.depth, 0)
             }
         }
     }
 
-    /// Writes a node on a line of this depth, with `after` columns to spare.
-    fn node(&mut self, node: &Node, names: Names, depth: usize, after: usize) -> io::Result<()> {
+    /// Writes a node on a line of this depth, with `after` columns to spare. It was read from so
+    /// many bytes, if that is known.
+    fn node(
+        &mut self,
+        node: &Node,
+        encoded_len: Option<usize>,
+        names: Names,
+        depth: usize,
+        after: usize,
+    ) -> io::Result<()> {
         match node {
             Node::Record(name, fields) if is_phrase(name) => {
                 for (at, (lead, node)) in spoken(name, *fields).enumerate() {
                     clause_lead(at, lead, self)?;
-                    self.node(&node, names, depth, after)?;
+                    self.node(&node, None, names, depth, after)?;
                 }
                 return Ok(());
             }
@@ -191,7 +200,7 @@ impl<'o, W: Write> Text<'o, W> {
         }
         let columns = COLUMNS.saturating_sub(self.columns + after);
         match Members::of(node) {
-            Some(members) if !fits(node, names, columns) => {
+            Some(members) if !fits(node, encoded_len, names, columns) => {
                 self.unfold(node, &members, names, depth)
             }
             _ => flat(node, names, self),
@@ -214,7 +223,7 @@ impl<'o, W: Write> Text<'o, W> {
                 self.plain(key)?;
                 self.plain(": ")?;
             }
-            self.node(&part.node(), names, depth + 1, 1)?;
+            self.node(&part.node(), part.encoded_len(), names, depth + 1, 1)?;
             self.plain(",")?;
             self.end_line()
         })?;
@@ -293,6 +302,13 @@ impl<W: Write> Report for Text<'_, W> {
         self.end_line()?;
         let shown = if self.has_bytes { bytes.len() } else { BYTES.min(bytes.len()) };
         self.bytes(place, &bytes[..shown], shown < bytes.len())
+    }
+
+    fn out_of_range(&mut self, place: usize, index: &UsedIndex) -> io::Result<()> {
+        self.begin_line(self.depth)?;
+        self.place(&(place..place), false)?;
+        self.piece(Hue::Plain, OutOfRange(index))?;
+        self.end_line()
     }
 
     fn flush(&mut self) -> io::Result<()> {

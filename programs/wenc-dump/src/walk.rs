@@ -1,13 +1,15 @@
 //! Walks through a file, part by part.
 
 use super::cause::{self, Bad, Cause};
+use super::check::{Check, node_in};
 use super::fault::{Failure, Fault};
 use super::phrase;
 use super::probe::Place;
 use super::report::{Content, Label, Part, Report};
 use std::io;
 use std::ops::Range;
-use wenc::tree::{ItemTree, Space};
+use wenc::tree::Space;
+use wenc::view::ItemView;
 use wenc::{
     Component, CoreSections, DebugNames, ListFault, NamesFault, SectionReader, Sections, Unread,
 };
@@ -32,6 +34,7 @@ pub struct Walk<'f, 'r, R> {
     names: Vec<DebugNames>,
     /// The number of bytes that may still be read to find causes.
     work: usize,
+    check: Check,
 }
 
 /// The next index of each space.
@@ -64,19 +67,20 @@ impl Indices {
     }
 }
 
-/// Reports the component or the core module with these bytes, and passes on its faults. Before
-/// each, the report is written up to it.
+/// Reports the component or the core module with these bytes, and passes on its faults, with those
+/// of the check of indices if that is wanted. Before each, the report is written up to it.
 ///
 /// # Errors
 ///
 /// Fails if an allocation or a write fails. What comes before is reported.
 pub fn walk(
     bytes: &[u8],
+    has_check: bool,
     report: &mut impl Report,
     tell: &mut dyn FnMut(Fault),
 ) -> Result<(), Failure> {
-    let work = ALL_WORK.saturating_add(bytes.len());
-    let mut walk = Walk { bytes, report, tell, names: Vec::new(), work };
+    let (check, work) = (Check::new(has_check), ALL_WORK.saturating_add(bytes.len()));
+    let mut walk = Walk { bytes, report, tell, names: Vec::new(), work, check };
     if let Ok(sections) = CoreSections::new(bytes) {
         walk.report.open(&Part::File(0..bytes.len(), Content::Module))?;
         walk.core_sections(0..bytes.len(), sections)?;
@@ -94,7 +98,7 @@ fn names_of(sections: Sections) -> Result<DebugNames, Failure> {
 }
 
 /// Returns the byte offset of the first debug names in an item that can't be read, in its data.
-fn unread_names(item: &ItemTree) -> Result<Option<usize>, Failure> {
+fn unread_names(item: &ItemView) -> Result<Option<usize>, Failure> {
     match DebugNames::new().read(item) {
         Ok(()) => Ok(None),
         Err(NamesFault::BadSubsection { place }) => Ok(Some(place)),
@@ -120,6 +124,14 @@ fn framed<'f>(mut sections: Sections<'f>) -> impl Iterator<Item = Framed<'f>> {
 }
 
 impl<'f, R: Report> Walk<'f, '_, R> {
+    /// Notes that an item or a section of the innermost component can't be read.
+    fn note(&mut self, fault: &Fault, next: &mut Indices) {
+        next.note(fault);
+        if next.are_lost {
+            self.check.add_unknown();
+        }
+    }
+
     /// Passes on a fault, after writing what comes before it.
     fn fault(&mut self, fault: Fault) -> io::Result<()> {
         self.report.flush()?;
@@ -195,7 +207,11 @@ impl<'f, R: Report> Walk<'f, '_, R> {
         let range = 0..self.bytes.len();
         self.report.open(&Part::File(range, Content::Component(names.component())))?;
         self.sections(sections, self.bytes.len(), names)?;
-        Ok(self.report.close()?)
+        self.report.close()?;
+        if self.check.found > 0 {
+            self.fault(Fault::OutOfRange(self.check.found))?;
+        }
+        Ok(())
     }
 
     /// Reports the sections of a component that ends at this byte offset and has these debug names.
@@ -207,6 +223,7 @@ impl<'f, R: Report> Walk<'f, '_, R> {
     ) -> Result<(), Failure> {
         self.names.try_reserve(1).map_err(|_| Failure::NoMemory)?;
         self.names.push(names);
+        self.check.enter()?;
         let mut next = Indices::default();
         for (frame, section) in framed(sections) {
             match (section, frame) {
@@ -220,6 +237,7 @@ impl<'f, R: Report> Walk<'f, '_, R> {
                 }
             }
         }
+        self.check.leave();
         self.names.pop();
         Ok(())
     }
@@ -250,7 +268,7 @@ impl<'f, R: Report> Walk<'f, '_, R> {
         };
         let end = range.end;
         self.report.open(&Part::Section { range, id, count: None })?;
-        next.note(&fault);
+        self.note(&fault, next);
         self.unread(fault, end)?;
         Ok(self.report.close()?)
     }
@@ -258,11 +276,9 @@ impl<'f, R: Report> Walk<'f, '_, R> {
     fn section(&mut self, section: SectionReader<'f>, next: &mut Indices) -> Result<(), Failure> {
         let (range, id, count) = (section.range(), section.id(), Some(section.count()));
         self.report.open(&Part::Section { range, id, count })?;
-        for item in section.trees() {
+        for item in section.items() {
             let fault = match item {
-                Ok((range, ItemTree::Component(bytes))) => {
-                    // frees the bytes while the component's sections are reported
-                    drop(bytes);
+                Ok((range, ItemView::Component(_))) => {
                     self.nested(range, section, next)?;
                     continue;
                 }
@@ -272,7 +288,7 @@ impl<'f, R: Report> Walk<'f, '_, R> {
                 }
                 Err(fault) => self.of_item(section, fault)?,
             };
-            next.note(&fault);
+            self.note(&fault, next);
             self.unread(fault, section.range().end)?;
         }
         Ok(self.report.close()?)
@@ -302,30 +318,49 @@ impl<'f, R: Report> Walk<'f, '_, R> {
             Ok(None) => {}
             Err(fault) => self.unread(self.of_header(fault, end), end)?,
         }
+        self.check.add(&ItemView::Component(&[]));
         Ok(self.report.close()?)
+    }
+
+    /// Reports the indices of an item at this byte offset that are out of range, if that is wanted.
+    fn check_item(&mut self, place: usize, item: &ItemView) -> io::Result<()> {
+        let Some(scopes) = self.check.scopes() else { return Ok(()) };
+        let mut found = 0;
+        item.node_in(&scopes).try_each_index(|used| match used.count {
+            None => Ok(()),
+            Some(_) => {
+                found += 1;
+                self.report.out_of_range(place, &used)
+            }
+        })?;
+        self.check.found += found;
+        Ok(())
     }
 
     /// Reports an item that isn't a component.
     fn item(
         &mut self,
         range: Range<usize>,
-        item: &ItemTree,
+        item: &ItemView,
         next: &mut Indices,
     ) -> Result<(), Failure> {
         let names = self.names.last();
         let label = item.indices().map(|(space, count)| next.take(space, count, names));
         let bytes = &self.bytes[range.clone()];
-        let node = phrase::of_item(item.node());
+        let scopes = self.check.scopes();
+        let node = phrase::of_item(node_in(item, scopes.as_ref()));
         let (content, shown) = match item {
-            ItemTree::Module(_) => (Content::Module, &[][..]),
-            ItemTree::Custom { name, data } => (Content::Custom(name, data.len()), bytes),
+            ItemView::Module(_) => (Content::Module, &[][..]),
+            ItemView::Custom { name, data } => (Content::Custom(name, data.len()), bytes),
             _ => (Content::Node(&node, &self.names), bytes),
         };
         let part = Part::Item { range: range.clone(), label, content, bytes: shown };
         self.report.open(&part)?;
+        self.check_item(range.start, item)?;
+        self.check.add(item);
         match item {
-            ItemTree::Module(_) => self.module(range.start, bytes)?,
-            ItemTree::Custom { data, .. } => {
+            ItemView::Module(_) => self.module(range.start, bytes)?,
+            ItemView::Custom { data, .. } => {
                 if let Some(place) = unread_names(item)? {
                     self.unread_as_shown(Fault::Names(range.end - data.len() + place))?;
                 }

@@ -1,18 +1,24 @@
 //! The fields of containers, and of types whose fields can't be reached.
 
-use super::{Child, CoreArrayType, CoreFuncType, CoreValType, Fields, List, Node, Place, Tree};
+use super::{Child, CoreArrayType, CoreFuncType, CoreValType, Fields, List, Node};
+use super::{Place, Tree, TreeMut, Visit};
+use crate::proved::wenc_view::View;
 use crate::tree::indices::{IndexUse, Visitor};
 use crate::tree::{AllocError, Box, CoreHeapType, CoreRefType, Space, String, Vec};
+use crate::view::{ComponentDecls, CoreCompositeView, InstanceDecls, ListOf, NameView};
+use core::ops::ControlFlow;
 
 /// Implements `Tree` for types without indices.
 macro_rules! leaves {
     ($($ty:ty, $value:ident => $node:expr;)+) => {$(
         impl Tree for $ty {
-            fn node(&self, _: Place) -> Node<'_> {
+            fn node<'n>(&'n self, _: Place<'n>) -> Node<'n> {
                 let $value = self;
                 $node
             }
         }
+
+        impl TreeMut for $ty {}
     )+};
 }
 
@@ -22,101 +28,207 @@ leaves! {
     String, text => Node::Text(text);
     &str, text => Node::Text(text);
     Vec<u8>, bytes => Node::Bytes(bytes);
+    &[u8], bytes => Node::Bytes(bytes);
 }
 
 impl Tree for u32 {
-    fn node(&self, place: Place) -> Node<'_> {
-        let index = *self;
-        let number = Node::Number(index.into());
-        place.index_of.map_or(number, |(space, scope)| Node::Index { space, scope, index })
+    fn node<'n>(&'n self, place: Place<'n>) -> Node<'n> {
+        place.number(*self)
     }
+}
 
-    fn each_index(&mut self, place: Place, visitor: &mut Visitor<'_>) {
-        if let Some((space, scope)) = place.index_of {
+impl TreeMut for u32 {
+    fn each_index(&mut self, place: Place<'_>, visitor: &mut Visitor<'_>) {
+        if let Some((space, scope)) = place.index_of() {
             (visitor.visit)(IndexUse { space, scope, index: self });
         }
     }
 }
 
 impl<T: Tree> Tree for Vec<T> {
-    fn node(&self, place: Place) -> Node<'_> {
+    fn node<'n>(&'n self, place: Place<'n>) -> Node<'n> {
         Node::List(List::new(self, place))
     }
 
-    fn each_index(&mut self, place: Place, visitor: &mut Visitor<'_>) {
-        self.iter_mut().for_each(|value| value.each_index(place, visitor));
+    fn is_empty(&self) -> bool {
+        self.as_slice().is_empty()
     }
 
-    fn element(&self, at: usize) -> Option<&dyn Tree> {
-        self.get(at).map(|value| value as &dyn Tree)
+    fn each_element(&self, visit: &mut Visit<'_>) -> ControlFlow<()> {
+        self.iter().try_for_each(|value| visit(value, None))
     }
 }
 
+impl<T: TreeMut> TreeMut for Vec<T> {
+    fn each_index(&mut self, place: Place<'_>, visitor: &mut Visitor<'_>) {
+        self.iter_mut().for_each(|value| value.each_index(place, visitor));
+    }
+}
+
+/// Implements `Tree` for borrowed lists, whose elements are read one by one.
+macro_rules! lists {
+    ($($name:ident $(<$element:ident>)?)+) => {$(
+        impl<'a $(, $element: View<'a> + Tree)?> Tree for $name<'a $(, $element)?> {
+            fn node<'n>(&'n self, place: Place<'n>) -> Node<'n> {
+                Node::List(List::new(self, place))
+            }
+
+            fn is_empty(&self) -> bool {
+                self.left == 0
+            }
+
+            fn each_element(&self, visit: &mut Visit<'_>) -> ControlFlow<()> {
+                let mut list = *self;
+                let mut before = list.bytes.len();
+                while let Some(element) = list.next() {
+                    let after = list.bytes.len();
+                    visit(&element, Some(before - after))?;
+                    before = after;
+                }
+                ControlFlow::Continue(())
+            }
+        }
+    )+};
+}
+
+lists! {
+    ComponentDecls
+    InstanceDecls
+    ListOf<T>
+}
+
 impl<T: Tree> Tree for Option<T> {
-    fn node(&self, place: Place) -> Node<'_> {
+    fn node<'n>(&'n self, place: Place<'n>) -> Node<'n> {
         self.as_ref().map_or(Node::Absent, |value| Node::Present(Child::new(value, place)))
     }
+}
 
-    fn each_index(&mut self, place: Place, visitor: &mut Visitor<'_>) {
+impl<T: TreeMut> TreeMut for Option<T> {
+    fn each_index(&mut self, place: Place<'_>, visitor: &mut Visitor<'_>) {
         self.iter_mut().for_each(|value| value.each_index(place, visitor));
     }
 }
 
 impl<T: Tree> Tree for Box<T> {
-    fn node(&self, place: Place) -> Node<'_> {
+    fn node<'n>(&'n self, place: Place<'n>) -> Node<'n> {
         (**self).node(place)
     }
 
-    fn each_index(&mut self, place: Place, visitor: &mut Visitor<'_>) {
+    fn defined(&self) -> Option<(Space, u32)> {
+        (**self).defined()
+    }
+}
+
+impl<T: TreeMut> TreeMut for Box<T> {
+    fn each_index(&mut self, place: Place<'_>, visitor: &mut Visitor<'_>) {
         (**self).each_index(place, visitor);
     }
 }
 
 /// A name and the named value.
-impl<T: Tree> Tree for (String, T) {
-    fn node(&self, place: Place) -> Node<'_> {
+impl<N: Tree, T: Tree> Tree for (N, T) {
+    fn node<'n>(&'n self, place: Place<'n>) -> Node<'n> {
         let (name, value) = self;
         Node::Tuple(Fields::new([("0", Child::new(name, place)), ("1", Child::new(value, place))]))
     }
+}
 
-    fn each_index(&mut self, place: Place, visitor: &mut Visitor<'_>) {
+impl<N: Tree, T: TreeMut> TreeMut for (N, T) {
+    fn each_index(&mut self, place: Place<'_>, visitor: &mut Visitor<'_>) {
         self.1.each_index(place, visitor);
     }
 }
 
 /// A name, and the kind and the index of the named item.
 impl<N: Tree, K: Tree + Copy + Into<Space>> Tree for (N, K, u32) {
-    fn node(&self, place: Place) -> Node<'_> {
+    fn node<'n>(&'n self, place: Place<'n>) -> Node<'n> {
         let (name, kind, index) = self;
         let index = Child::new(index, place.outer(0, (*kind).into()));
         let [name, kind] = [Child::new(name, place), Child::new(kind, place)];
         Node::Tuple(Fields::new([("0", name), ("1", kind), ("2", index)]))
     }
+}
 
-    fn each_index(&mut self, place: Place, visitor: &mut Visitor<'_>) {
+impl<N: Tree, K: Tree + Copy + Into<Space>> TreeMut for (N, K, u32) {
+    fn each_index(&mut self, place: Place<'_>, visitor: &mut Visitor<'_>) {
         let (_, kind, index) = self;
         index.each_index(place.outer(0, (*kind).into()), visitor);
     }
 }
 
-impl Tree for CoreArrayType {
-    fn node(&self, place: Place) -> Node<'_> {
-        self.0.node(place)
+/// Its node is that of the owned name, whose options are a struct.
+impl Tree for NameView<'_> {
+    fn node<'n>(&'n self, place: Place<'n>) -> Node<'n> {
+        let Self { name, implements, version_suffix, external_id } = self;
+        let options = match (implements, version_suffix, external_id) {
+            (None, None, None) => Child::new(&None::<&str>, place),
+            _ => Child::present(self, place),
+        };
+        let fields = [("name", Child::new(name, place)), ("options", options)];
+        Node::Record("NameTree", Fields::new(fields))
     }
 
-    fn each_index(&mut self, place: Place, visitor: &mut Visitor<'_>) {
+    fn part<'n>(&'n self, place: Place<'n>) -> Node<'n> {
+        let Self { name: _, implements, version_suffix, external_id } = self;
+        let fields = [
+            ("implements", Child::new(implements, place)),
+            ("version_suffix", Child::new(version_suffix, place)),
+            ("external_id", Child::new(external_id, place)),
+        ];
+        Node::Record("NameOptions", Fields::new(fields))
+    }
+}
+
+/// Its node is that of the owned type, whose variants have a struct.
+impl Tree for CoreCompositeView<'_> {
+    fn node<'n>(&'n self, place: Place<'n>) -> Node<'n> {
+        let name = match self {
+            Self::Func { .. } => "Func",
+            Self::Array(_) => "Array",
+            Self::Struct(_) => "Struct",
+        };
+        Node::Variant(name, Child::part(self, place))
+    }
+
+    fn part<'n>(&'n self, place: Place<'n>) -> Node<'n> {
+        match self {
+            Self::Func { params, results } => {
+                function(Child::new(params, place), Child::new(results, place))
+            }
+            Self::Array(ty) => ty.node(place),
+            Self::Struct(fields) => {
+                let fields = [("fields", Child::new(fields, place))];
+                Node::Record("CoreStructType", Fields::new(fields))
+            }
+        }
+    }
+}
+
+/// Returns the node of a core function type.
+fn function<'n>(params: Child<'n>, results: Child<'n>) -> Node<'n> {
+    Node::Record("CoreFuncType", Fields::new([("params", params), ("results", results)]))
+}
+
+impl Tree for CoreArrayType {
+    fn node<'n>(&'n self, place: Place<'n>) -> Node<'n> {
+        self.0.node(place)
+    }
+}
+
+impl TreeMut for CoreArrayType {
+    fn each_index(&mut self, place: Place<'_>, visitor: &mut Visitor<'_>) {
         self.0.each_index(place, visitor);
     }
 }
 
 impl Tree for CoreFuncType {
-    fn node(&self, place: Place) -> Node<'_> {
-        let list = |types| Child::types(types, place);
-        let fields = [("params", list(self.params())), ("results", list(self.results()))];
-        Node::Record("CoreFuncType", Fields::new(fields))
+    fn node<'n>(&'n self, place: Place<'n>) -> Node<'n> {
+        function(Child::types(self.params(), place), Child::types(self.results(), place))
     }
+}
 
-    fn each_index(&mut self, place: Place, visitor: &mut Visitor<'_>) {
+impl TreeMut for CoreFuncType {
+    fn each_index(&mut self, place: Place<'_>, visitor: &mut Visitor<'_>) {
         let types = self.params().iter().chain(self.results());
         if !types.into_iter().any(has_index) {
             return;

@@ -29,7 +29,7 @@ fn digests_are_fnv() {
 }
 
 /// The names of the components.
-fn names() -> Vec<String> {
+pub fn names() -> Vec<String> {
     let files = fs::read_dir(corpus("wasm")).expect("the corpus is there");
     let names = files.map(|file| file.expect("it is there").path());
     let mut names: Vec<String> = names

@@ -25,12 +25,12 @@ fn least() -> usize {
 }
 
 /// In each limit up to one that suffices the program prints the file, or says that memory ran out.
-/// That happens in so many limits, at least.
-fn sweep(file: &Path, refusals: usize) {
+/// Returns in how many limits that happens, the lesser and the greater number of text and JSON.
+fn sweep(file: &Path) -> (usize, usize) {
     let least = least();
     let message = format!("{}: memory ran out\n", file.display());
-    for option in [&[][..], &["--json"]] {
-        let mut refused = 0;
+    let mut refusals = [0; 2];
+    for (option, refused) in [&[][..], &["--json"]].into_iter().zip(&mut refusals) {
         for kib in (least..).step_by(STEP) {
             let output = limited(kib, option, file);
             let err = String::from_utf8_lossy(&output.stderr);
@@ -43,10 +43,25 @@ fn sweep(file: &Path, refusals: usize) {
                 let out = Value::read(std::str::from_utf8(&output.stdout).expect("it is text"));
                 assert_eq!(out.at("fault").at("message").text(), "memory ran out");
             }
-            refused += 1;
+            *refused += 1;
         }
-        assert!(refused >= refusals, "{}: {refused}", file.display());
     }
+    (refusals[0].min(refusals[1]), refusals[0].max(refusals[1]))
+}
+
+/// Expects that memory runs out in so many limits, at least.
+fn expect_refusals(file: &Path, wanted: usize) {
+    let (least, _) = sweep(file);
+    assert!(least >= wanted, "{}: {least}", file.display());
+}
+
+/// Expects that the file takes the memory for its bytes, and no more but two steps.
+fn expect_its_bytes(file: &Path) -> usize {
+    let steps = usize::try_from(file.metadata().expect("it is there").len()).expect("it is small")
+        / (STEP << 10);
+    let (least, most) = sweep(file);
+    assert!(steps <= least + 1 && most <= steps + 2, "{}: {least} to {most}", file.display());
+    least
 }
 
 /// The number, in 5 bytes.
@@ -60,18 +75,19 @@ fn section(id: u8, content: &[u8]) -> Vec<u8> {
     [&[id][..], &padded(content.len()), content].concat()
 }
 
+/// Types of any size are printed as they are read.
 #[test]
 fn a_large_type() {
-    let declared = b"\x01\x7f".repeat(30_000);
-    let ty = [&[1, 0x42][..], &padded(30_000), &declared].concat();
-    sweep(&file("limits_type", &section(7, &ty)), 10);
+    let declared = b"\x01\x7f".repeat(400_000);
+    let ty = [&[1, 0x42][..], &padded(400_000), &declared].concat();
+    assert!(expect_its_bytes(&file("limits_type", &section(7, &ty))) > 10);
 }
 
 #[test]
 fn a_large_custom_section_and_what_is_around_it() {
     let custom = section(0, &[&[1, b'x'][..], &[7; 1 << 20]].concat());
     let nested = section(4, &component(&section(4, &component(&custom))));
-    sweep(&file("limits_custom", &nested), 10);
+    expect_refusals(&file("limits_custom", &nested), 10);
 }
 
 #[test]
@@ -79,7 +95,8 @@ fn long_names_of_a_core_module() {
     let name = [&padded(1 << 19)[..], &[b'n'; 1 << 19]].concat();
     let imports = section(2, &[&[1][..], &name, &name, &[0, 0]].concat());
     let custom = section(0, &name);
-    sweep(&file_of("limits_module", &[b"\0asm\x01\0\0\0", &imports[..], &custom].concat()), 10);
+    let module = [b"\0asm\x01\0\0\0", &imports[..], &custom].concat();
+    expect_refusals(&file_of("limits_module", &module), 10);
 }
 
 #[test]
@@ -89,10 +106,10 @@ fn many_debug_names() {
     (0..20_000).for_each(|index| names.insert(Space::Types, index, "name"));
     let mut bytes = component(b"\x07\x03\x01\x69\0");
     ComponentNameSection::from(&names).append_to_component(&mut bytes);
-    sweep(&file_of("limits_names", &bytes), 10);
+    expect_refusals(&file_of("limits_names", &bytes), 10);
 }
 
-/// The reader has many types at once, and prints them one in the other.
+/// Types in types are printed one in the other.
 #[test]
 fn deep_types() {
     let mut ty = vec![0x42, 0];
@@ -100,15 +117,14 @@ fn deep_types() {
         let aliases = b"\x01\x7f".repeat(100);
         ty = [&[0x42][..], &padded(101), &aliases, &[1], &ty].concat();
     }
-    sweep(&file("limits_deep", &section(7, &[&[1][..], &ty].concat())), 3);
+    expect_its_bytes(&file("limits_deep", &section(7, &[&[1][..], &ty].concat())));
 }
 
 /// The other files are printed, and the status says the worst.
 #[test]
 fn files_after_the_one_that_memory_ran_out_in() {
-    let declared = b"\x01\x7f".repeat(30_000);
-    let ty = [&[1, 0x42][..], &padded(30_000), &declared].concat();
-    let (large, bad) = (file("limits_first", &section(7, &ty)), file_of("limits_bad", b""));
+    let custom = section(0, &[&[1, b'x'][..], &[7; 1 << 20]].concat());
+    let (large, bad) = (file("limits_first", &custom), file_of("limits_bad", b""));
     let empty = file("limits_second", b"");
     let (large, empty) = (large.to_str().expect("text"), empty.to_str().expect("text"));
     let output = limited(least() + STEP, &[large, empty], &bad);

@@ -2,6 +2,7 @@
 //! JSON, and what it says of bad ones.
 
 mod causes;
+mod check;
 mod corpus;
 mod examples;
 mod faults;

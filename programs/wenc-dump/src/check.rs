@@ -1,0 +1,77 @@
+//! The check of indices.
+
+use super::fault::Failure;
+use super::words;
+use std::fmt::{self, Display};
+use wenc::tree::{IndexCounts, Node, Scope, Scopes, UsedIndex};
+use wenc::view::ItemView;
+
+/// The state of the check, if it is wanted.
+pub struct Check {
+    is_on: bool,
+    /// What the components around the next item have so far, the outermost first.
+    counts: Vec<IndexCounts>,
+    /// The number of indices that were out of range.
+    pub found: usize,
+}
+
+impl Check {
+    pub fn new(is_on: bool) -> Self {
+        Self { is_on, counts: Vec::new(), found: 0 }
+    }
+
+    /// Enters a component.
+    pub fn enter(&mut self) -> Result<(), Failure> {
+        self.counts.try_reserve(1).map_err(|_| Failure::NoMemory)?;
+        self.counts.push(IndexCounts::default());
+        Ok(())
+    }
+
+    /// Leaves the innermost component.
+    pub fn leave(&mut self) {
+        self.counts.pop();
+    }
+
+    /// Adds what an item of the innermost component defines.
+    pub fn add(&mut self, item: &ItemView) {
+        if let Some(counts) = self.counts.last_mut() {
+            counts.add(item);
+        }
+    }
+
+    /// Adds an item that can't be read.
+    pub fn add_unknown(&mut self) {
+        if let Some(counts) = self.counts.last_mut() {
+            counts.add_unknown();
+        }
+    }
+
+    /// Returns the scopes of the next item.
+    pub fn scopes(&self) -> Option<Scopes<'_>> {
+        self.is_on.then(|| Scopes::new(&self.counts))
+    }
+}
+
+/// Returns the node of an item in these scopes, if they are known.
+pub fn node_in<'n>(item: &'n ItemView, scopes: Option<&'n Scopes>) -> Node<'n> {
+    scopes.map_or_else(|| item.node(), |scopes| item.node_in(scopes))
+}
+
+/// An index that is out of range, in words.
+pub struct OutOfRange<'a>(pub &'a UsedIndex);
+
+impl Display for OutOfRange<'_> {
+    fn fmt(&self, f: &mut fmt::Formatter<'_>) -> fmt::Result {
+        let UsedIndex { space, scope, index, count } = self.0;
+        let space = words::space(*space);
+        write!(f, "no {space} {index}: {space} space ")?;
+        match scope {
+            Scope::Component(0) => {}
+            Scope::Component(1) => f.write_str("of the component around ")?,
+            Scope::Component(out) => write!(f, "of the component {out} around ")?,
+            Scope::Type(1) => f.write_str("of the type ")?,
+            Scope::Type(depth) => write!(f, "of the type at depth {depth} ")?,
+        }
+        write!(f, "has {}", count.unwrap_or_default())
+    }
+}

@@ -1,0 +1,117 @@
+//! Indices that are out of range, with `--check`.
+
+use crate::corpus::{corpus, names};
+use crate::values::Value;
+use crate::{FUNCTION, FUNCTION_TEXT, component, dump, expect, expect_of, file};
+
+/// A type, and items with indices of which there are too few.
+fn sections() -> Vec<u8> {
+    // an instance type with a list of its type 1, an outer alias of type 1, one of type 0 two
+    // further out, and an export of its type 2, which the second alias defines
+    let ty = b"\x07\x17\x01\x42\x04\x01\x70\x01\x02\x03\x02\x01\x01\x02\x03\x02\x02\0\x04\0\x01e\x03\0\x02";
+    // a component with an outer alias of type 1, and one of component 0, which it is itself
+    let inner = component(b"\x06\x09\x02\x03\x02\x01\x01\x04\x02\x01\0");
+    let nested = [&[4, 19][..], &inner].concat();
+    let import = b"\x0a\x06\x01\0\x01g\x01\x63";
+    [FUNCTION, ty, &nested, import].concat()
+}
+
+const TEXT: &str = "\
+0x0..0x4d component, 77 bytes
+  0x8..0xf type section, 7 bytes, 1 item
+    0xb type 0: Func { is_async: false, params: [], result: None }
+  0xf..0x17 import section, 8 bytes, 1 item
+    0x12 func 0: import \"f\" Func(0)
+  0x17..0x30 type section, 25 bytes, 1 item
+    0x1a type 1: Instance([
+      Type(Defined(List(Type(1)!))),
+      Alias(Outer { kind: Type, count: 1, index: 1! }),
+      Alias(Outer { kind: Type, count: 2, index: 0! }),
+      Export { name: \"e\", ty: Type(Eq(2)) },
+    ])
+      0x1a no type 1: type space of the type has 0
+      0x1a no type 1: type space has 1
+      0x1a no type 0: type space of the component around has 0
+  0x30..0x45 component section, 21 bytes, 1 item
+    0x32..0x45 component 0, 19 bytes
+      0x3a..0x45 alias section, 11 bytes, 2 items
+        0x3d type 0: Outer { kind: Type, count: 1, index: 1 }
+        0x41 component 0: Outer { kind: Component, count: 1, index: 0! }
+          0x41 no component 0: component space of the component around has 0
+  0x45..0x4d import section, 8 bytes, 1 item
+    0x48 func 1: import \"g\" Func(99)!
+      0x48 no type 99: type space has 2
+";
+
+#[test]
+fn indices_out_of_range_are_marked() {
+    let file = file("out_of_range", &sections());
+    expect_of(&["--check"], &file, TEXT, Some("5 indices are out of range"));
+    let lines = TEXT.lines().filter(|line| !line.contains(": type space"));
+    let lines = lines.filter(|line| !line.contains(": component space"));
+    let plain: String = lines.map(|line| line.replace('!', "") + "\n").collect();
+    assert_eq!(plain.lines().count() + 5, TEXT.lines().count());
+    expect("in_any_range", &sections(), &plain, None);
+}
+
+#[test]
+fn one_index_and_none() {
+    let import = b"\x0a\x06\x01\0\x01g\x01\x01";
+    let file_of_one = file("one_out_of_range", &[FUNCTION, import].concat());
+    let why = format!("{}: 1 index is out of range\n", file_of_one.display());
+    let output = dump(&["--check"], &file_of_one);
+    assert_eq!(String::from_utf8_lossy(&output.stderr), why);
+    assert_eq!(output.status.code(), Some(1));
+    expect_of(&["--check"], &file("none_out_of_range", FUNCTION), FUNCTION_TEXT, None);
+}
+
+#[test]
+fn json_has_them_at_their_items() {
+    let output = dump(&["--check", "--json"], &file("out_of_range_json", &sections()));
+    let json = std::str::from_utf8(&output.stdout).expect("it is text");
+    for item in [
+        "\"out_of_range\":[\
+         {\"space\":\"type\",\"type\":1,\"index\":1,\"count\":0},\
+         {\"space\":\"type\",\"component\":0,\"index\":1,\"count\":1},\
+         {\"space\":\"type\",\"component\":1,\"index\":0,\"count\":0}]}",
+        "\"out_of_range\":[{\"space\":\"component\",\"component\":1,\"index\":0,\"count\":0}]}",
+        "\"item\":{\"name\":{\"name\":\"g\",\"options\":null},\"ty\":{\"Func\":99}},\
+         \"out_of_range\":[{\"space\":\"type\",\"component\":0,\"index\":99,\"count\":2}]}",
+    ] {
+        assert_eq!(json.matches(item).count(), 1, "{item} in {json}");
+    }
+    let fault = Value::read(json);
+    let fault = fault.at("fault");
+    assert_eq!(fault.at("message").text(), "5 indices are out of range");
+    assert_eq!((fault.at("place"), output.status.code()), (&Value::Null, Some(1)));
+    let plain = dump(&["--json"], &file("in_any_range_json", &sections()));
+    assert!(!String::from_utf8_lossy(&plain.stdout).contains("out_of_range\":"));
+    assert_eq!(plain.status.code(), Some(0));
+}
+
+/// Behind an item that isn't read, nothing is known of the indices, but of those in other scopes.
+#[test]
+fn indices_after_a_fault_are_not_marked() {
+    let bad = b"\x07\x02\x01\x01";
+    let import = b"\x0a\x06\x01\0\x01g\x01\x63";
+    let ty = b"\x07\x05\x01\x42\x01\x01\x70\x05";
+    let ty = &[&b"\x07\x06"[..], &ty[2..]].concat();
+    let output = dump(&["--check"], &file("after_a_fault", &[bad, &import[..], ty].concat()));
+    let out = String::from_utf8_lossy(&output.stdout);
+    assert!(out.contains("import \"g\" Func(99)\n"), "{out}");
+    assert!(out.contains("Instance([Type(Defined(List(Type(5)!)))])\n"), "{out}");
+    assert!(String::from_utf8_lossy(&output.stderr).contains(": 1 index is out of range\n"));
+}
+
+/// No index of a real component is out of range.
+#[test]
+fn real_components_have_none() {
+    let mut whole = 0;
+    for name in names() {
+        let file = corpus(&format!("wasm/{name}.wasm"));
+        let (plain, checked) = (dump(&[], &file), dump(&["--check"], &file));
+        assert!(plain == checked, "{name}");
+        whole += u32::from(checked.status.success());
+    }
+    assert_eq!(whole, 40);
+}

@@ -1,0 +1,185 @@
+//! Where a value is, which determines what an index is of, and whether there is such an index.
+
+use super::{Scope, Space, Tree};
+use crate::tree::Node;
+use crate::view::ItemView;
+
+/// How many indices each index space of a component has, before one of its items.
+///
+/// ```
+/// use wenc::Sections;
+/// use wenc::tree::{IndexCounts, Space};
+///
+/// // the type of a function, and a function of that type
+/// let component = b"\0asm\x0d\0\x01\0\x07\x05\x01\x40\0\x01\0\x0a\x06\x01\0\x01f\x01\0";
+/// let mut counts = IndexCounts::default();
+/// for item in Sections::new(component)?.items() {
+///     counts.add(&item?.1);
+/// }
+/// assert_eq!([Space::Types, Space::Funcs, Space::Values].map(|space| counts.of(space)), [1, 1, 0]);
+/// # Ok::<(), wenc::ListFault>(())
+/// ```
+#[derive(Clone, Copy, Debug, Default, PartialEq, Eq, Hash)]
+pub struct IndexCounts([u64; Space::ALL.len()]);
+
+impl IndexCounts {
+    /// Returns the number of indices in a space.
+    pub fn of(&self, space: Space) -> u64 {
+        self.0[space.number()]
+    }
+
+    /// Adds the indices that an item defines. A recursion group defines an index for each of its
+    /// types, as in a core module; [`ItemView::indices`] has one for the group, as upstream's
+    /// builder counts.
+    pub fn add(&mut self, item: &ItemView<'_>) {
+        self.define(match item {
+            ItemView::CoreType(ty) => ty.defined(),
+            _ => item.indices(),
+        });
+    }
+
+    /// Makes all indices known, for an item that can't be read: what it defines is unknown.
+    pub fn add_unknown(&mut self) {
+        self.0 = [u64::MAX; Space::ALL.len()];
+    }
+
+    /// Adds indices in a space.
+    pub(in crate::tree) fn define(&mut self, defined: Option<(Space, u32)>) {
+        if let Some((space, count)) = defined {
+            let all = &mut self.0[space.number()];
+            *all = all.saturating_add(count.into());
+        }
+    }
+}
+
+/// The components around an item, and the types around a declaration, each with its
+/// [`IndexCounts`].
+#[derive(Clone, Copy, Debug)]
+pub struct Scopes<'s>(Around<'s>);
+
+#[derive(Clone, Copy, Debug)]
+enum Around<'s> {
+    /// The components, the outermost first.
+    Components(&'s [IndexCounts]),
+    /// The innermost type, and what is around it.
+    Type(IndexCounts, &'s Scopes<'s>),
+}
+
+impl<'s> Scopes<'s> {
+    /// Returns the components around an item, by the numbers of indices that they have before it.
+    /// The outermost is first.
+    pub fn new(components: &'s [IndexCounts]) -> Self {
+        Self(Around::Components(components))
+    }
+
+    /// Returns these with a type within, which has so many indices.
+    pub(in crate::tree) fn inner(&'s self, counts: IndexCounts) -> Self {
+        Self(Around::Type(counts, self))
+    }
+
+    /// Returns the number of indices in a space of the scope that is `count` further out: 0 if
+    /// there is no such scope.
+    fn count(&self, mut count: u32, space: Space) -> u64 {
+        let mut innermost = self;
+        loop {
+            match &innermost.0 {
+                Around::Type(counts, _) if count == 0 => return counts.of(space),
+                Around::Type(_, around) => {
+                    count -= 1;
+                    innermost = around;
+                }
+                Around::Components(all) => {
+                    let out = usize::try_from(count).ok();
+                    let component = out.and_then(|out| all.iter().rev().nth(out));
+                    return component.map_or(0, |counts| counts.of(space));
+                }
+            }
+        }
+    }
+}
+
+/// Where a value is.
+#[derive(Clone, Copy, Default)]
+pub(in crate::tree) struct Place<'s> {
+    /// The number of enclosing types with index spaces of their own.
+    depth: u32,
+    /// The space of the value and how far out its scope is, if it is an index.
+    index_of: Option<(Space, u32)>,
+    /// Whether the value is encoded after the other fields.
+    pub is_last: bool,
+    /// Whether the value is the declarations of a type.
+    is_scope: bool,
+    /// The number of core types that the group around the value defines.
+    group: u32,
+    /// The scopes around the value, if they are known.
+    scopes: Option<&'s Scopes<'s>>,
+}
+
+impl<'s> Place<'s> {
+    /// Returns the place of an item in these scopes.
+    pub fn of_item(scopes: &'s Scopes<'s>) -> Self {
+        Self { scopes: Some(scopes), ..Self::default() }
+    }
+
+    /// Returns the place of the declarations of a type.
+    pub fn inner(self) -> Self {
+        Self { depth: self.depth + 1, is_scope: true, ..self }
+    }
+
+    /// Returns the place of the elements of a list, and the scopes around it if they are the
+    /// declarations of a type.
+    pub fn elements(self) -> (Self, Option<&'s Scopes<'s>>) {
+        (Self { is_scope: false, ..self }, self.scopes.filter(|_| self.is_scope))
+    }
+
+    /// Returns the place in these scopes, if there are any, else in the same.
+    pub fn in_scopes<'n>(self, scopes: Option<&'n Scopes<'n>>) -> Place<'n>
+    where
+        's: 'n,
+    {
+        Place { scopes: scopes.or(self.scopes), ..self }
+    }
+
+    /// Returns the place of this group of core types.
+    pub fn within(self, group: &impl Tree) -> Self {
+        Self { group: group.defined().map_or(0, |(_, count)| count), ..self }
+    }
+
+    /// Returns the place of an index in a space of the scope that is `count` further out.
+    pub fn outer(self, count: u32, space: Space) -> Self {
+        Self { index_of: Some((space, count)), ..self }
+    }
+
+    /// Returns the place of a field that is encoded after the others.
+    pub fn last(self) -> Self {
+        Self { is_last: true, ..self }
+    }
+
+    /// Returns the space and the scope of the value, if it is an index.
+    pub fn index_of(self) -> Option<(Space, Scope)> {
+        let (space, count) = self.index_of?;
+        let scope = match count.checked_sub(self.depth) {
+            Some(out) => Scope::Component(out),
+            None => Scope::Type(self.depth - count),
+        };
+        Some((space, scope))
+    }
+
+    /// Returns the node of a number, which may be an index.
+    pub fn number<'n>(self, index: u32) -> Node<'n> {
+        let Some((space, scope)) = self.index_of() else { return Node::Number(index.into()) };
+        match self.count() {
+            Some(count) if u64::from(index) >= count => {
+                Node::OutOfRange { space, scope, index, count }
+            }
+            _ => Node::Index { space, scope, index },
+        }
+    }
+
+    /// Returns the number of indices in the space of the value, if they are known.
+    fn count(self) -> Option<u64> {
+        let ((space, count), scopes) = (self.index_of?, self.scopes?);
+        let group = if count == 0 && space == Space::CoreTypes { self.group } else { 0 };
+        Some(scopes.count(count, space).saturating_add(group.into()))
+    }
+}
