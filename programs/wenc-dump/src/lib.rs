@@ -15,10 +15,11 @@ mod phrase;
 mod probe;
 mod report;
 mod run;
+mod select;
 mod text;
 mod walk;
 mod words;
 
 pub use colours::are_wanted as colours_are_wanted;
 pub use fault::NO_MEMORY;
-pub use run::{Streams, run};
+pub use run::{Streams, Terminal, run};

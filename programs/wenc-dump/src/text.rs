@@ -14,8 +14,8 @@ use std::io::{self, Write};
 use std::ops::Range;
 use wenc::tree::{Node, UsedIndex};
 
-/// The number of columns of a line, if it can be folded.
-const COLUMNS: usize = 100;
+/// The usual number of columns of a line, if it can be folded.
+pub const COLUMNS: usize = 100;
 
 /// The maximum indentation in columns, so that each line has room for text, and the size of the
 /// output is linear in that of the file.
@@ -24,12 +24,22 @@ const INDENTATION: usize = 40;
 /// The number of bytes in a line of bytes.
 const BYTES: usize = 16;
 
+/// What text is like.
+#[derive(Clone, Copy)]
+pub struct Style {
+    pub has_colours: bool,
+    /// Whether it has the bytes of items.
+    pub has_bytes: bool,
+    /// Whether it has the names of files.
+    pub has_titles: bool,
+    /// The number of columns of a line, if it can be folded.
+    pub columns: usize,
+}
+
 /// Text whose lines are indented by their depth.
 pub struct Text<'o, W> {
     out: &'o mut W,
-    has_colours: bool,
-    has_bytes: bool,
-    has_titles: bool,
+    style: Style,
     /// The number of open parts.
     depth: usize,
     /// The number of columns that are taken on the line.
@@ -60,7 +70,7 @@ impl<W: Write> Pieces for Text<'_, W> {
 
     fn piece(&mut self, hue: Hue, text: impl Display) -> io::Result<()> {
         let mut counted = Counted { out: self.out, columns: &mut self.columns };
-        let Some(colour) = hue.colour().filter(|_| self.has_colours) else {
+        let Some(colour) = hue.colour().filter(|_| self.style.has_colours) else {
             return write!(counted, "{text}");
         };
         write!(counted.out, "\x1b[{colour}m")?;
@@ -74,10 +84,9 @@ impl<W: Write> Pieces for Text<'_, W> {
 }
 
 impl<'o, W: Write> Text<'o, W> {
-    /// Creates a writer of text, with or without colours, the bytes of items, and titles with the
-    /// names of files.
-    pub fn new(out: &'o mut W, has_colours: bool, has_bytes: bool, has_titles: bool) -> Self {
-        Self { out, has_colours, has_bytes, has_titles, depth: 0, columns: 0 }
+    /// Creates a writer of text.
+    pub fn new(out: &'o mut W, style: Style) -> Self {
+        Self { out, style, depth: 0, columns: 0 }
     }
 
     fn begin_line(&mut self, depth: usize) -> io::Result<()> {
@@ -198,7 +207,7 @@ impl<'o, W: Write> Text<'o, W> {
             }
             _ => {}
         }
-        let columns = COLUMNS.saturating_sub(self.columns + after);
+        let columns = self.style.columns.saturating_sub(self.columns + after);
         match Members::of(node) {
             Some(members) if !fits(node, encoded_len, names, columns) => {
                 self.unfold(node, &members, names, depth)
@@ -277,7 +286,7 @@ impl<'o, W: Write> Text<'o, W> {
 impl<W: Write> Report for Text<'_, W> {
     fn begin(&mut self, file: &OsStr) -> io::Result<()> {
         self.depth = 0;
-        if self.has_titles {
+        if self.style.has_titles {
             self.piece(Hue::Plain, format_args!("{}:", Escaped(file)))?;
             self.end_line()?;
         }
@@ -288,7 +297,7 @@ impl<W: Write> Report for Text<'_, W> {
         self.begin_line(self.depth)?;
         let (place, bytes) = self.line(part)?;
         self.end_line()?;
-        if self.has_bytes {
+        if self.style.has_bytes {
             self.bytes(place, bytes, false)?;
         }
         self.depth += 1;
@@ -300,7 +309,7 @@ impl<W: Write> Report for Text<'_, W> {
         self.place(&(place..place), false)?;
         self.plain(what)?;
         self.end_line()?;
-        let shown = if self.has_bytes { bytes.len() } else { BYTES.min(bytes.len()) };
+        let shown = if self.style.has_bytes { bytes.len() } else { BYTES.min(bytes.len()) };
         self.bytes(place, &bytes[..shown], shown < bytes.len())
     }
 

@@ -7,14 +7,14 @@ use std::collections::BTreeSet;
 use std::fs;
 use std::io;
 use wenc::{ComponentSection, ListFault, RawSection, Sections, Unread, list};
-use wenc_dump::Streams;
+use wenc_dump::{Streams, Terminal};
 
 /// Runs the program on these bytes. Returns its status, what it prints and what it says.
 fn run(options: &[&str], mut bytes: &[u8]) -> (u8, String, String) {
     let (mut out, mut err) = (Vec::new(), Vec::new());
     let mut streams = Streams { input: &mut bytes, out: &mut out, err: &mut err };
     let arguments = ["wenc-dump"].iter().chain(options).chain(&["-"]).map(Into::into);
-    let status = wenc_dump::run(arguments, false, &mut streams);
+    let status = wenc_dump::run(arguments, Terminal::default(), &mut streams);
     let [out, err] = [out, err].map(|text| String::from_utf8(text).expect("it is text"));
     (status, out, err)
 }

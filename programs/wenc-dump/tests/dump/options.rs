@@ -6,7 +6,7 @@ use std::fs;
 use std::io::{self, BufRead, BufReader, Write};
 use std::path::Path;
 use std::process::{Command, Output, Stdio};
-use wenc_dump::Streams;
+use wenc_dump::{Streams, Terminal};
 
 const USAGE: &str = "usage: wenc-dump [OPTION]... FILE...\n";
 
@@ -145,7 +145,7 @@ fn a_reader_that_leaves_ends_it_quietly() {
             let arguments = arguments.chain([path.clone()]);
             let (mut out, mut err) = (Left(room), Vec::new());
             let mut streams = Streams { input: &mut io::empty(), out: &mut out, err: &mut err };
-            let status = wenc_dump::run(arguments, false, &mut streams);
+            let status = wenc_dump::run(arguments, Terminal::default(), &mut streams);
             assert_eq!((status, err.len()), (0, 0), "{room}");
         }
     }
