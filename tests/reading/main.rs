@@ -7,6 +7,7 @@ mod large;
 mod listing;
 mod names;
 mod nested;
+mod producers;
 #[path = "../common/seen.rs"]
 mod seen;
 mod views;
