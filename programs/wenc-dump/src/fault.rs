@@ -28,6 +28,8 @@ pub enum Fault {
     TooDeep(usize, usize),
     /// Debug names, from this byte offset on.
     Names(usize),
+    /// Producers, from this byte offset on.
+    Producers(usize),
     /// So many indices that are out of range.
     OutOfRange(usize),
 }
@@ -59,7 +61,8 @@ impl Fault {
             Self::UnknownSection(place, _)
             | Self::NoName(place, _)
             | Self::TooDeep(place, _)
-            | Self::Names(place) => Some(place),
+            | Self::Names(place)
+            | Self::Producers(place) => Some(place),
             _ => None,
         }
     }
@@ -81,6 +84,7 @@ impl Fault {
             Self::NoName(..) => "no name",
             Self::TooDeep(..) => "too deep component",
             Self::Names(_) => "names that aren't read",
+            Self::Producers(_) => "producers that aren't read",
             _ => "items that aren't read",
         }
     }
@@ -180,6 +184,7 @@ impl Display for Fault {
                 write!(f, "components more than {depth} deep at {place:#x}")
             }
             Self::Names(place) => write!(f, "bad debug names at {place:#x}"),
+            Self::Producers(place) => write!(f, "bad producers at {place:#x}"),
             Self::OutOfRange(1) => f.write_str("1 index is out of range"),
             Self::OutOfRange(count) => write!(f, "{count} indices are out of range"),
         }

@@ -2,7 +2,7 @@
 
 use super::cause::Cause;
 use super::fault::Fault;
-use super::report::{Content, Label, Part, Report};
+use super::report::{Content, Contents, Entry, Label, Part, Report};
 use super::walk::DEPTH;
 use super::words;
 use std::ffi::OsStr;
@@ -10,6 +10,7 @@ use std::fmt::{self, Display, Write as _};
 use std::io::{self, Write};
 use std::ops::Range;
 use std::path::Path;
+use wenc::Producer;
 use wenc::tree::{Child, Node, Scope, UsedIndex};
 
 /// The maximum number of open parts: the file, a section and an item for each component that is
@@ -171,11 +172,12 @@ impl<'o, W: Write> Json<'o, W> {
                 self.put(",\"sections\":[")?;
                 Ok(Open { list: Some("]"), has_unread: true, object: "}" })
             }
-            Content::Custom(name, size) => {
+            Content::Custom(name, size, contents) => {
                 self.put("{\"name\":")?;
                 self.text(name)?;
                 write!(self.out, ",\"size\":{size}")?;
-                Ok(Open { list: Some(""), has_unread: true, object: "}" })
+                let list = self.contents(*contents)?;
+                Ok(Open { list: Some(list), has_unread: true, object: "}" })
             }
             Content::Node(node, _) => {
                 self.node(node)?;
@@ -242,6 +244,41 @@ impl<'o, W: Write> Json<'o, W> {
         self.put("}")
     }
 
+    /// Begins the list of what is reported of a custom section. Returns what ends it.
+    fn contents(&mut self, contents: Contents) -> io::Result<&'static str> {
+        let (front, back) = match contents {
+            Contents::Names => (",\"names\":[", "]"),
+            Contents::Producers => (",\"producers\":[", "]"),
+            Contents::Other => ("", ""),
+        };
+        self.put(front)?;
+        Ok(back)
+    }
+
+    /// Writes a part of a custom section, up to the bracket that ends it.
+    fn entry(&mut self, entry: &Entry) -> io::Result<()> {
+        self.put(if self.is_first { "{" } else { ",{" })?;
+        match entry {
+            Entry::Name(of, name) => {
+                let (space, index) = of.unzip();
+                self.put("\"space\":")?;
+                self.text_or_null(space.map(words::space))?;
+                self.put(",\"index\":")?;
+                self.number_or_null(index)?;
+                self.put(",\"name\":")?;
+                self.text(name)
+            }
+            Entry::Tool(Producer { field, name, version }) => {
+                self.put("\"field\":")?;
+                self.text(field)?;
+                self.put(",\"name\":")?;
+                self.text(name)?;
+                self.put(",\"version\":")?;
+                self.text(version)
+            }
+        }
+    }
+
     /// Writes a part up to its contents. Returns what closes it.
     fn front(&mut self, part: &Part) -> io::Result<Open> {
         match part {
@@ -258,7 +295,7 @@ impl<'o, W: Write> Json<'o, W> {
                 self.put(",\"items\":[")?;
                 Ok(Open { list: Some("]"), has_unread: false, object: "}" })
             }
-            Part::CoreSection { range, id, name, count, bytes } => {
+            Part::CoreSection { range, id, name, contents, count, bytes } => {
                 self.member(range)?;
                 self.kind(*id, words::core_section(*id))?;
                 self.put(",\"name\":")?;
@@ -267,7 +304,18 @@ impl<'o, W: Write> Json<'o, W> {
                 self.number_or_null(*count)?;
                 self.bytes("hex", bytes)?;
                 self.put(",\"items\":[")?;
-                Ok(Open { list: Some("]"), has_unread: true, object: "}" })
+                let list = match contents {
+                    Contents::Other => "]",
+                    _ => {
+                        self.put("]")?;
+                        self.contents(*contents)?
+                    }
+                };
+                Ok(Open { list: Some(list), has_unread: true, object: "}" })
+            }
+            Part::Entry(entry) => {
+                self.entry(entry)?;
+                Ok(Open { list: Some(""), has_unread: false, object: "}" })
             }
             Part::Item { range, label, content, bytes } => {
                 self.member(range)?;

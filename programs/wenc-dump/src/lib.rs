@@ -6,6 +6,7 @@ mod arguments;
 mod cause;
 mod check;
 mod colours;
+mod custom;
 mod escape;
 mod fault;
 mod fold;

@@ -4,12 +4,13 @@ use super::cause::{self, Bad, Cause};
 use super::fault::{Failure, Fault};
 use super::phrase;
 use super::probe::Place;
-use super::report::{Content, Part, Report};
+use super::report::{Content, Contents, Part, Report};
 use super::walk::{Indices, Walk};
 use std::ops::Range;
 use wenc::tree::{CoreEntityType, Space};
 use wenc::{
-    Component, CoreItem, CoreSection, CoreSections, ModuleFault, RawSection, SectionId, Unread,
+    Component, CoreItem, CoreSection, CoreSections, ModuleFault, ProducersReader, RawSection, SectionId,
+    Unread,
 };
 
 /// The number of bytes of a header.
@@ -145,7 +146,14 @@ impl<R: Report> Walk<'_, '_, R> {
         let range = at + range.start..at + range.end;
         let (place, content) = (range.start, range.end - data.len());
         let cause = self.core_cause(at, id, content..content, content..range.end)?;
-        self.report.open(&Part::CoreSection { range, id, name: None, count: None, bytes: data })?;
+        self.report.open(&Part::CoreSection {
+            range,
+            id,
+            name: None,
+            contents: Contents::Other,
+            count: None,
+            bytes: data,
+        })?;
         self.unread_as_shown(Fault::NoName(place, cause))?;
         Ok(self.report.close()?)
     }
@@ -157,16 +165,24 @@ impl<R: Report> Walk<'_, '_, R> {
         next: &mut Indices,
     ) -> Result<(), Failure> {
         let are_shown = are_shown(section);
+        let contents = match section.name {
+            Some(ProducersReader::SECTION) => Contents::Producers,
+            _ => Contents::Other,
+        };
         let range = at + section.range.start..at + section.range.end;
         self.report.open(&Part::CoreSection {
             range: range.clone(),
             id: section.id,
             name: section.name,
+            contents,
             count: section.count(),
             bytes: if are_shown { &[] } else { section.data },
         })?;
         if section.kind().is_none() {
             self.unread_as_shown(Fault::UnknownSection(range.start, section.id))?;
+        }
+        if contents == Contents::Producers {
+            self.producers(section.data, range.end - section.data.len())?;
         }
         for item in section.items() {
             match item {

@@ -5,6 +5,7 @@ use super::fold::Names;
 use std::ffi::OsStr;
 use std::io;
 use std::ops::Range;
+use wenc::Producer;
 use wenc::tree::{Node, Space, UsedIndex};
 
 /// A format of reports.
@@ -54,6 +55,8 @@ pub enum Part<'a> {
         id: u8,
         /// The name of a custom section.
         name: Option<&'a str>,
+        /// What is reported of its content besides its items.
+        contents: Contents,
         /// The number of its items, if it is a section of items.
         count: Option<u32>,
         /// Its content; empty if its items are reported.
@@ -70,6 +73,27 @@ pub enum Part<'a> {
         /// Its bytes; empty if parts of it are reported.
         bytes: &'a [u8],
     },
+    /// A part of a custom section.
+    Entry(Entry<'a>),
+}
+
+/// What is reported of a custom section.
+#[derive(Clone, Copy, PartialEq, Eq)]
+pub enum Contents {
+    /// Debug names.
+    Names,
+    /// Tools.
+    Producers,
+    /// Nothing.
+    Other,
+}
+
+/// A part of a custom section.
+pub enum Entry<'a> {
+    /// The debug name of the item with this index in this space, or of the component.
+    Name(Option<(Space, u32)>, &'a str),
+    /// A tool.
+    Tool(Producer<'a>),
 }
 
 /// The indices of an item.
@@ -90,8 +114,8 @@ pub enum Content<'a> {
     Component(Option<&'a str>),
     /// A core module, whose sections are reported.
     Module,
-    /// A custom section with this name, and the number of bytes after it.
-    Custom(&'a str, usize),
+    /// A custom section with this name, the number of bytes after it, and what is reported of them.
+    Custom(&'a str, usize, Contents),
     /// Another item, with the debug names that its indices may have.
     Node(&'a Node<'a>, Names<'a>),
 }

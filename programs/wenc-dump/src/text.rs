@@ -6,12 +6,13 @@ use super::escape::Escaped;
 use super::fault::Fault;
 use super::fold::{Members, Names, Pieces, clause_lead, closing, fits, flat, opening};
 use super::phrase::{is_phrase, spoken};
-use super::report::{Content, Label, Part, Report};
+use super::report::{Content, Entry, Label, Part, Report};
 use super::words;
 use std::ffi::OsStr;
 use std::fmt::Display;
 use std::io::{self, Write};
 use std::ops::Range;
+use wenc::Producer;
 use wenc::tree::{Node, UsedIndex};
 
 /// The usual number of columns of a line, if it can be folded.
@@ -176,13 +177,29 @@ impl<'o, W: Write> Text<'o, W> {
                 self.size(range.len())
             }
             Content::Module => self.size(range.len()),
-            Content::Custom(name, size) => {
+            Content::Custom(name, size, _) => {
                 self.named("custom ", Some(name))?;
                 self.size(*size)
             }
             Content::Node(node, names) => {
                 self.plain(if label.is_some() { ": " } else { "" })?;
                 self.node(node, Some(range.len()), names, self.depth, 0)
+            }
+        }
+    }
+
+    /// Writes a part of a custom section.
+    fn entry(&mut self, entry: &Entry) -> io::Result<()> {
+        match entry {
+            Entry::Name(None, name) => self.named("component ", Some(name)),
+            Entry::Name(Some((space, index)), name) => {
+                self.piece(Hue::Index, format_args!("{} {index}", words::space(*space)))?;
+                self.named(" ", Some(name))
+            }
+            Entry::Tool(Producer { field, name, version }) => {
+                self.piece(Hue::Name, format_args!("{field:?}"))?;
+                self.named(" ", Some(name))?;
+                self.named(" ", Some(version))
             }
         }
     }
@@ -267,7 +284,7 @@ impl<'o, W: Write> Text<'o, W> {
                 self.items(*count)?;
                 Ok((0, &[]))
             }
-            Part::CoreSection { range, id, name, count, bytes } => {
+            Part::CoreSection { range, id, name, count, bytes, .. } => {
                 self.place(range, true)?;
                 self.section(words::core_section(*id), *id)?;
                 self.named(" ", *name)?;
@@ -278,6 +295,10 @@ impl<'o, W: Write> Text<'o, W> {
             Part::Item { range, label, content, bytes } => {
                 self.item(range, label.as_ref(), content)?;
                 Ok((range.start, bytes))
+            }
+            Part::Entry(entry) => {
+                self.entry(entry)?;
+                Ok((0, &[]))
             }
         }
     }

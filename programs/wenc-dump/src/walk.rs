@@ -5,13 +5,13 @@ use super::check::{Check, node_in};
 use super::fault::{Failure, Fault};
 use super::phrase;
 use super::probe::Place;
-use super::report::{Content, Label, Part, Report};
+use super::report::{Content, Contents, Label, Part, Report};
 use std::io;
 use std::ops::Range;
 use wenc::tree::Space;
 use wenc::view::ItemView;
 use wenc::{
-    Component, CoreSections, DebugNames, ListFault, NamesFault, SectionReader, Sections, Unread,
+    Component, CoreSections, DebugNames, ListFault, SectionReader, Sections, Unread,
 };
 
 /// The maximum nesting depth of components, which is that of types.
@@ -95,15 +95,6 @@ pub fn walk(
 /// Returns the debug names of a component.
 fn names_of(sections: Sections) -> Result<DebugNames, Failure> {
     sections.try_names().map_err(|_| Failure::NoMemory)
-}
-
-/// Returns the byte offset of the first debug names in an item that can't be read, in its data.
-fn unread_names(item: &ItemView) -> Result<Option<usize>, Failure> {
-    match DebugNames::new().read(item) {
-        Ok(()) => Ok(None),
-        Err(NamesFault::BadSubsection { place }) => Ok(Some(place)),
-        Err(_) => Err(Failure::NoMemory),
-    }
 }
 
 /// The byte offsets and the id of a section, if it has a size within bounds, and its items.
@@ -351,7 +342,9 @@ impl<'f, R: Report> Walk<'f, '_, R> {
         let node = phrase::of_item(node_in(item, scopes.as_ref()));
         let (content, shown) = match item {
             ItemView::Module(_) => (Content::Module, &[][..]),
-            ItemView::Custom { name, data } => (Content::Custom(name, data.len()), bytes),
+            ItemView::Custom { name, data } => {
+                (Content::Custom(name, data.len(), Contents::of(name)), bytes)
+            }
             _ => (Content::Node(&node, &self.names), bytes),
         };
         let part = Part::Item { range: range.clone(), label, content, bytes: shown };
@@ -360,11 +353,7 @@ impl<'f, R: Report> Walk<'f, '_, R> {
         self.check.add(item);
         match item {
             ItemView::Module(_) => self.module(range.start, bytes)?,
-            ItemView::Custom { data, .. } => {
-                if let Some(place) = unread_names(item)? {
-                    self.unread_as_shown(Fault::Names(range.end - data.len() + place))?;
-                }
-            }
+            ItemView::Custom { .. } => self.custom(item, range.end)?,
             _ => {}
         }
         Ok(self.report.close()?)

@@ -1,7 +1,7 @@
 //! Text of worked components and core modules.
 
 use crate::{FUNCTION, FUNCTION_TEXT, component, expect, expect_of, file, file_of};
-use wenc_dump::{Streams, colours_are_wanted, run as dump};
+use wenc_dump::{Streams, Terminal, colours_are_wanted, run as dump};
 
 #[test]
 fn sections_and_items() {
@@ -239,7 +239,8 @@ fn a_terminal_has_colours() {
     let arguments = ["wenc-dump".into(), file("coloured", FUNCTION).into_os_string()];
     let (mut out, mut err) = (Vec::new(), Vec::new());
     let mut streams = Streams { input: &mut &b""[..], out: &mut out, err: &mut err };
-    let status = dump(arguments.into_iter(), true, &mut streams);
+    let terminal = Terminal { has_colours: true, columns: None };
+    let status = dump(arguments.into_iter(), terminal, &mut streams);
     let wanted = "\
 \x1b[2m0x0..0x17\x1b[0m component, 23 bytes
   \x1b[2m0x8..0xf\x1b[0m type section, 7 bytes, 1 item
@@ -257,7 +258,8 @@ fn printed(sections: &[u8], options: &[&str], has_colours: bool) -> (String, u8)
     let arguments = ["wenc-dump"].iter().chain(options).chain(&["-"]).map(Into::into);
     let (mut out, mut err) = (Vec::new(), Vec::new());
     let mut streams = Streams { input: &mut &bytes[..], out: &mut out, err: &mut err };
-    let status = dump(arguments, has_colours, &mut streams);
+    let terminal = Terminal { has_colours, columns: None };
+    let status = dump(arguments, terminal, &mut streams);
     (String::from_utf8(out).expect("it is text"), status)
 }
 
