@@ -3,6 +3,7 @@
 use super::fault::{Failure, Fault};
 use super::report::{Contents, Entry, Part, Report};
 use super::walk::Walk;
+use std::ops::Range;
 use wenc::view::ItemView;
 use wenc::{DebugNames, NamesFault, ProducersReader};
 
@@ -27,14 +28,14 @@ impl<R: Report> Walk<'_, '_, R> {
     pub(super) fn custom(&mut self, item: &ItemView, end: usize) -> Result<(), Failure> {
         let ItemView::Custom { name, data } = *item else { return Ok(()) };
         match Contents::of(name) {
-            Contents::Names => self.debug_names(item, end - data.len()),
+            Contents::Names => self.debug_names(item, end - data.len()..end),
             Contents::Producers => self.producers(data, end - data.len()),
             Contents::Other => Ok(()),
         }
     }
 
-    /// Reports the debug names in an item, whose data begins at this byte offset.
-    fn debug_names(&mut self, item: &ItemView, start: usize) -> Result<(), Failure> {
+    /// Reports the debug names in an item, whose data has these byte offsets.
+    fn debug_names(&mut self, item: &ItemView, data: Range<usize>) -> Result<(), Failure> {
         let mut names = DebugNames::new();
         let read = names.read(item);
         if let Some(name) = names.component() {
@@ -46,7 +47,7 @@ impl<R: Report> Walk<'_, '_, R> {
         match read {
             Ok(()) => Ok(()),
             Err(NamesFault::BadSubsection { place }) => {
-                Ok(self.unread_as_shown(Fault::Names(start + place))?)
+                Ok(self.unread_reported(Fault::Names(data.start + place), data.end)?)
             }
             Err(_) => Err(Failure::NoMemory),
         }
@@ -58,7 +59,8 @@ impl<R: Report> Walk<'_, '_, R> {
             match tool {
                 Ok(tool) => self.entry(Entry::Tool(tool))?,
                 Err(fault) => {
-                    self.unread_as_shown(Fault::Producers(start + fault.place))?;
+                    let end = start + data.len();
+                    self.unread_reported(Fault::Producers(start + fault.place), end)?;
                 }
             }
         }

@@ -2,7 +2,7 @@
 
 use super::cause::Cause;
 use super::fault::Fault;
-use super::report::{Content, Contents, Entry, Label, Part, Report};
+use super::report::{Content, Contents, Entry, Label, Part, Report, Rest};
 use super::walk::DEPTH;
 use super::words;
 use std::ffi::OsStr;
@@ -342,12 +342,12 @@ impl<W: Write> Report for Json<'_, W> {
         Ok(())
     }
 
-    fn unread(&mut self, place: usize, _: &str, bytes: &[u8]) -> io::Result<()> {
+    fn unread(&mut self, place: usize, _: &str, rest: Rest) -> io::Result<()> {
         let Some(list) = self.open.last_mut().and_then(|open| open.list.take()) else {
             return Ok(());
         };
         write!(self.out, "{list},\"unread\":{place}")?;
-        self.bytes("unread_hex", bytes)
+        self.bytes("unread_hex", if rest.are_reported { &[] } else { rest.bytes })
     }
 
     fn out_of_range(&mut self, _: usize, used: &UsedIndex) -> io::Result<()> {

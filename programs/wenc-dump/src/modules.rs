@@ -144,7 +144,7 @@ impl<R: Report> Walk<'_, '_, R> {
         RawSection { id, data }: RawSection,
     ) -> Result<(), Failure> {
         let range = at + range.start..at + range.end;
-        let (place, content) = (range.start, range.end - data.len());
+        let (place, content, end) = (range.start, range.end - data.len(), range.end);
         let cause = self.core_cause(at, id, content..content, content..range.end)?;
         self.report.open(&Part::CoreSection {
             range,
@@ -154,7 +154,7 @@ impl<R: Report> Walk<'_, '_, R> {
             count: None,
             bytes: data,
         })?;
-        self.unread_as_shown(Fault::NoName(place, cause))?;
+        self.unread_reported(Fault::NoName(place, cause), end)?;
         Ok(self.report.close()?)
     }
 
@@ -179,7 +179,7 @@ impl<R: Report> Walk<'_, '_, R> {
             bytes: if are_shown { &[] } else { section.data },
         })?;
         if section.kind().is_none() {
-            self.unread_as_shown(Fault::UnknownSection(range.start, section.id))?;
+            self.unread_reported(Fault::UnknownSection(range.start, section.id), range.end)?;
         }
         if contents == Contents::Producers {
             self.producers(section.data, range.end - section.data.len())?;
@@ -193,7 +193,7 @@ impl<R: Report> Walk<'_, '_, R> {
                     if are_shown {
                         self.unread(fault, range.end)?;
                     } else {
-                        self.unread_as_shown(fault)?;
+                        self.unread_reported(fault, range.end)?;
                     }
                 }
             }

@@ -17,8 +17,8 @@ pub trait Report {
     fn open(&mut self, part: &Part) -> io::Result<()>;
 
     /// Notes that nothing is read from this byte offset to the end of the innermost open part, what
-    /// can't be read there, and the bytes, unless they were reported before.
-    fn unread(&mut self, place: usize, what: &str, bytes: &[u8]) -> io::Result<()>;
+    /// can't be read there, and the bytes.
+    fn unread(&mut self, place: usize, what: &str, rest: Rest) -> io::Result<()>;
 
     /// Notes an index in the innermost open part that is out of range: the item at this byte offset
     /// contains it.
@@ -32,6 +32,15 @@ pub trait Report {
 
     /// Ends the file with its first fault, if any, and closes all open parts.
     fn end(&mut self, fault: Option<&Fault>) -> io::Result<()>;
+}
+
+/// The bytes of the innermost open part that aren't read.
+#[derive(Clone, Copy)]
+pub struct Rest<'a> {
+    /// The bytes.
+    pub bytes: &'a [u8],
+    /// Whether they are among those of an open part, or are those of many parts.
+    pub are_reported: bool,
 }
 
 /// A part of a file. Byte offsets are those of the file.

@@ -1,7 +1,7 @@
 //! Reports of some sections only.
 
 use super::fault::Fault;
-use super::report::{Part, Report};
+use super::report::{Part, Report, Rest};
 use super::words;
 use std::ffi::OsStr;
 use std::io;
@@ -82,8 +82,8 @@ impl<R: Report> Report for Selected<'_, R> {
         self.pass(|report| report.open(part))
     }
 
-    fn unread(&mut self, place: usize, what: &str, bytes: &[u8]) -> io::Result<()> {
-        self.pass(|report| report.unread(place, what, bytes))
+    fn unread(&mut self, place: usize, what: &str, rest: Rest) -> io::Result<()> {
+        self.pass(|report| report.unread(place, what, rest))
     }
 
     fn out_of_range(&mut self, place: usize, index: &UsedIndex) -> io::Result<()> {

@@ -6,7 +6,7 @@ use super::escape::Escaped;
 use super::fault::Fault;
 use super::fold::{Members, Names, Pieces, clause_lead, closing, fits, flat, opening};
 use super::phrase::{is_phrase, spoken};
-use super::report::{Content, Entry, Label, Part, Report};
+use super::report::{Content, Entry, Label, Part, Report, Rest};
 use super::words;
 use std::ffi::OsStr;
 use std::fmt::Display;
@@ -325,12 +325,17 @@ impl<W: Write> Report for Text<'_, W> {
         Ok(())
     }
 
-    fn unread(&mut self, place: usize, what: &str, bytes: &[u8]) -> io::Result<()> {
+    fn unread(&mut self, place: usize, what: &str, rest: Rest) -> io::Result<()> {
         self.begin_line(self.depth)?;
         self.place(&(place..place), false)?;
         self.plain(what)?;
         self.end_line()?;
-        let shown = if self.style.has_bytes { bytes.len() } else { BYTES.min(bytes.len()) };
+        let Rest { bytes, are_reported } = rest;
+        let shown = match (self.style.has_bytes, are_reported) {
+            (true, true) => return Ok(()),
+            (true, false) => bytes.len(),
+            (false, _) => BYTES.min(bytes.len()),
+        };
         self.bytes(place, &bytes[..shown], shown < bytes.len())
     }
 

@@ -5,7 +5,7 @@ use super::check::{Check, node_in};
 use super::fault::{Failure, Fault};
 use super::phrase;
 use super::probe::Place;
-use super::report::{Content, Contents, Label, Part, Report};
+use super::report::{Content, Contents, Label, Part, Report, Rest};
 use std::io;
 use std::ops::Range;
 use wenc::tree::Space;
@@ -132,17 +132,21 @@ impl<'f, R: Report> Walk<'f, '_, R> {
 
     /// Reports that nothing more is read of the innermost open part, which ends at this byte offset.
     pub(super) fn unread(&mut self, fault: Fault, end: usize) -> io::Result<()> {
-        if let Some(place) = fault.place() {
-            let bytes = self.bytes.get(place..end).unwrap_or(&[]);
-            self.report.unread(place, fault.words(), bytes)?;
-        }
-        self.fault(fault)
+        self.unread_of(fault, end, false)
     }
 
-    /// Reports that nothing more is read of the innermost open part, whose bytes are shown already
-    /// or are many.
-    pub(super) fn unread_as_shown(&mut self, fault: Fault) -> io::Result<()> {
-        self.unread(fault, 0)
+    /// Reports that nothing more is read of the innermost open part, which ends at this byte offset
+    /// and whose bytes were reported, or are those of many parts.
+    pub(super) fn unread_reported(&mut self, fault: Fault, end: usize) -> io::Result<()> {
+        self.unread_of(fault, end, true)
+    }
+
+    fn unread_of(&mut self, fault: Fault, end: usize, are_reported: bool) -> io::Result<()> {
+        if let Some(place) = fault.place() {
+            let rest = Rest { bytes: self.bytes.get(place..end).unwrap_or(&[]), are_reported };
+            self.report.unread(place, fault.words(), rest)?;
+        }
+        self.fault(fault)
     }
 
     /// Returns the fault of the header of a component that ends at this byte offset.
@@ -303,7 +307,7 @@ impl<'f, R: Report> Walk<'f, '_, R> {
         self.report.open(&Part::Item { range, label, content, bytes: &[] })?;
         match sections {
             _ if self.names.len() == DEPTH => {
-                self.unread_as_shown(Fault::TooDeep(place, DEPTH))?;
+                self.unread_reported(Fault::TooDeep(place, DEPTH), end)?;
             }
             Ok(Some(sections)) => self.sections(sections, end, own)?,
             Ok(None) => {}
