@@ -113,10 +113,10 @@ impl Bad<'_> {
         let Some(byte) = self.bytes.get(front).copied() else {
             let len = self.bytes.len();
             let needed = probe.missing().map(|missing| len + missing);
-            return Some(Cause::Few { place: self.at, needed, len });
+            let few = Some(Cause::Few { place: self.at, needed, len });
+            return if needed.is_some() { few } else { self.too_few(probe, len).or(few) };
         };
-        // a text of too many bytes isn't looked at
-        if let Some(few) = probe.front_within(front).and_then(|size| self.too_many(probe, size)) {
+        if let Some(few) = self.too_few(probe, front) {
             return Some(few);
         }
         let (place, (accepted, is_all)) = (self.at + front, probe.accepted(front));
@@ -132,6 +132,12 @@ impl Bad<'_> {
         self.too_many(probe, front).or(Some(Cause::Byte { place, byte, expected }))
     }
 
+    /// Returns the fault of a text with more bytes than the section, in the front with this length:
+    /// its bytes aren't looked at.
+    fn too_few(&self, probe: &mut Probe, front: usize) -> Option<Cause> {
+        probe.front_within(front).and_then(|size| self.too_many(probe, size))
+    }
+
     /// Returns whether all bytes before the last of a number with so many bytes are there.
     fn is_number_before(&self, probe: &mut Probe, last: usize, bytes: usize) -> bool {
         last.checked_sub(bytes - 1).is_some_and(|first| {
@@ -139,17 +145,17 @@ impl Bad<'_> {
         })
     }
 
-    /// Returns the fault of a number that is the size of a text or the length of a list, and more
-    /// than the bytes that are left.
-    fn too_many(&self, probe: &mut Probe, last: usize) -> Option<Cause> {
-        let before = self.bytes[..last].iter().rev().take(NUMBER - 1);
+    /// Returns the fault of a number with this byte that is the size of a text or the length of a
+    /// list, and more than the bytes that are left.
+    fn too_many(&self, probe: &mut Probe, at: usize) -> Option<Cause> {
+        let before = self.bytes[..at].iter().rev().take(NUMBER - 1);
         let before = before.take_while(|byte| **byte > 0x7f).count();
-        let first = (last - before..=last).find(|first| begins_number(probe, *first))?;
+        let first = (at - before..=at).find(|first| begins_number(probe, *first))?;
         let (number, len) = number(&self.bytes[first..]).ok()??;
-        let (end, number) = (last + 1, usize::try_from(number).ok()?);
+        let (end, number) = (first + len, usize::try_from(number).ok()?);
         let left = self.bytes.len() - end;
         let few = Cause::Few { place: self.at + end, needed: Some(number), len: left };
-        (first + len == end && number > left).then_some(few)
+        (end > at && number > left).then_some(few)
     }
 }
 

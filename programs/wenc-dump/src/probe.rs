@@ -359,28 +359,38 @@ impl<'a> Probe<'a> {
 
     /// Returns how many bytes are missing behind the item, at least; `None` if that isn't found.
     pub fn missing(&mut self) -> Option<usize> {
-        let len = self.item.len();
         let mut least = None;
-        for byte in 0..=u8::MAX {
-            self.load(len);
-            self.bytes[self.start + len] = byte;
-            if self.outcome(len) == Outcome::Read {
-                least = least.into_iter().chain(self.needed(byte)).min();
+        for zeros in 0..=Effort::large(self.item.len()).zeros {
+            if least.is_some_and(|least| least <= zeros) {
+                break;
+            }
+            let ones = (0..=u8::MAX).filter_map(|byte| self.needed(zeros, &[byte]));
+            least = least.into_iter().chain(ones.min()).min();
+            for number in 0..EXAMPLES_OF_ONE {
+                let example = self.examples[number];
+                let ends = (0..ENDS.min(example.len())).map(|from| &example[from..]);
+                let ends = ends.filter_map(|end| self.needed(zeros, end));
+                least = least.into_iter().chain(ends.min()).min();
             }
         }
         least
     }
 
-    /// Returns how many bytes are needed behind the item: this one and then zeros.
-    fn needed(&mut self, byte: u8) -> Option<usize> {
+    /// Returns how many bytes are needed behind the item: of these after some zeros, and then zeros.
+    fn needed(&mut self, zeros: usize, end: &[u8]) -> Option<usize> {
         let len = self.item.len();
-        let room = self.bytes.len() - self.start - len;
-        (1..=room.min(1 << 10)).find(|needed| {
-            self.load(len);
-            self.bytes[self.start + len] = byte;
-            self.bytes[self.start + len + needed..].fill(NEVER);
-            self.outcome(len) == Outcome::Read
-        })
+        self.load(len);
+        self.bytes[self.start + len + zeros..][..end.len()].copy_from_slice(end);
+        if self.outcome(len) != Outcome::Read {
+            return None;
+        }
+        let mut needed = zeros + ENDS;
+        self.bytes[self.start + len + needed..].fill(NEVER);
+        while self.outcome(len) == Outcome::Read {
+            needed -= 1;
+            self.bytes[self.start + len + needed] = NEVER;
+        }
+        Some(needed + 1).filter(|needed| *needed < zeros + ENDS)
     }
 
     /// Returns the number of nested types, at most, after which the item is too deep: the length of

@@ -5,9 +5,12 @@ use crate::corpus::corpus;
 use crate::values::Value;
 use std::collections::BTreeSet;
 use std::fs;
-use std::io;
+use std::ops::Range;
 use wenc::{ComponentSection, ListFault, RawSection, Sections, Unread, list};
 use wenc_dump::{Streams, Terminal};
+
+/// One in so many damages is tried. Programs that aren't optimized are slow.
+const STEP: usize = if cfg!(debug_assertions) { 9 } else { 3 };
 
 /// Runs the program on these bytes. Returns its status, what it prints and what it says.
 fn run(options: &[&str], mut bytes: &[u8]) -> (u8, String, String) {
@@ -23,10 +26,8 @@ fn run(options: &[&str], mut bytes: &[u8]) -> (u8, String, String) {
 fn cause(bytes: &[u8]) -> Option<(usize, String)> {
     let (_, out, _) = run(&["--json"], bytes);
     let json = Value::read(&out);
-    let cause = json.at("fault").at("cause");
-    if cause == &Value::Null {
-        return None;
-    }
+    let Value::Object(fault) = json.at("fault") else { return None };
+    let cause = fault.get("cause")?;
     let place = usize::try_from(cause.at("place").number()).expect("it is small");
     Some((place, cause.at("message").text().to_string()))
 }
@@ -58,13 +59,13 @@ fn alone(id: u8, item: &[u8]) -> Vec<u8> {
 
 /// The bytes that the words of a cause expect.
 fn expected(message: &str) -> Vec<u8> {
-    let Some((_, ranges)) = message.split_once(", where ") else { return Vec::new() };
-    let ranges = ranges.trim_end_matches(" is expected").replace(" or ", ", ");
+    let ranges = message.strip_suffix(" is expected").and_then(|text| text.split_once(", where "));
+    let Some((_, ranges)) = ranges else { return Vec::new() };
+    let ranges = ranges.replace(" or ", ", ");
     let byte = |text: &str| {
         u8::from_str_radix(text.trim_start_matches("0x"), 16).expect("it is a byte")
     };
     let mut bytes = Vec::new();
-    if ranges.is_empty() { eprintln!("EMPTY {message}"); return bytes; }
     for range in ranges.split(", ") {
         let (from, to) = range.split_once(" to ").unwrap_or((range, range));
         bytes.extend(byte(from)..=byte(to));
@@ -72,64 +73,191 @@ fn expected(message: &str) -> Vec<u8> {
     bytes
 }
 
+/// A component with these sections, or a core module if they begin with its header.
+fn file_of(sections: &[u8]) -> Vec<u8> {
+    if sections.starts_with(b"\0asm") { sections.to_vec() } else { component(sections) }
+}
+
+/// Kinds of damage, each with a file and what is said of it.
+const KINDS: [(&[u8], &str); 20] = [
+    // a name of an import, of a nested item, and of a custom section
+    (
+        b"\x0a\x07\x01\0\x02a\xff\x01\0",
+        "bad item 0 at 0xb in the section at 0x8: 0xff at 0xe isn't UTF-8",
+    ),
+    (
+        b"\x07\x0c\x01\x42\x01\x04\0\x04a\xc3\x28c\x01\0",
+        "bad item 0 at 0xb in the section at 0x8: 0x28 at 0x12 isn't UTF-8",
+    ),
+    (b"\0\x03\x02a\x80", "custom section without a name at 0x8: 0x80 at 0xc isn't UTF-8"),
+    // unknown kinds and opcodes
+    (
+        b"\x0a\x06\x01\0\x01f\x09\x63",
+        "bad item 0 at 0xb in the section at 0x8: 0x09 at 0xe, where 0x00 to 0x05 is expected",
+    ),
+    (b"\x06\x02\x01\x09", "bad item 0 at 0xb in the section at 0x8: 0x09 where an alias is expected"),
+    (
+        b"\x08\x04\x01\0\0\x33",
+        "bad item 0 at 0xb in the section at 0x8: needs 5 bytes or more from 0xb on, where 3 are left",
+    ),
+    // too few bytes for a name, for a size and for a count
+    (
+        b"\x0a\x0a\x01\0\xc8\x01file\x01\0",
+        "bad item 0 at 0xb in the section at 0x8: needs 200 bytes or more from 0xe on, where 6 are left",
+    ),
+    (
+        b"\x0a\x08\x01\0\x64file\xff",
+        "bad item 0 at 0xb in the section at 0x8: needs 100 bytes or more from 0xd on, where 5 are left",
+    ),
+    (
+        b"\x0a\x08\x01\0\x09file\x03",
+        "bad item 0 at 0xb in the section at 0x8: needs 13 bytes or more from 0xb on, where 7 are left",
+    ),
+    (b"\x06\x05\x01", "bad section at 0x8: needs 5 bytes or more from 0xa on, where 1 is left"),
+    (
+        b"\x06\x01\x80",
+        "bad count at 0xa in the section at 0x8: needs 2 bytes or more from 0xa on, where 1 is left",
+    ),
+    // numbers that are too large or too long
+    (b"\x07\xff\xff\xff\xff\xff\x01", "bad section at 0x8: the number at 0x9 has more than 32 bits"),
+    (
+        b"\x03\x12\x01\x50\x01\0\0\0\x02\0\xff\xff\xff\xff\xff\xff\xff\xff\xff\x02",
+        "bad item 0 at 0xb in the section at 0x8: the number at 0x12 has more than 64 bits",
+    ),
+    (
+        b"\x09\x08\xff\xff\xff\xff\x1f\0\0\0",
+        "bad item 0 at 0xa in the section at 0x8: the number at 0xa has more than 32 bits",
+    ),
+    // an unknown section; bytes behind items; more items than there are
+    (b"\x0c\x01\0", "unknown section 12 at 0x8"),
+    (b"\x06\x02\0\0", "bytes behind the last item at 0xb in the section at 0x8"),
+    (
+        b"\x0a\x06\x02\0\x01f\x01\0",
+        "bad item 1 at 0x10 in the section at 0x8: the section ends where an import is expected",
+    ),
+    // a core module
+    (
+        b"\0asm\x01\0\0\0\x02\x06\x01\x01m\x01f\x05",
+        "bad item 0 at 0xb: 0x05 at 0xf, where 0x00 to 0x04 is expected",
+    ),
+    (
+        b"\0asm\x01\0\0\0\x0b\x02\x07\0",
+        "bad item 0 at 0xb: needs 7 bytes or more from 0xb on, where 1 is left",
+    ),
+    // headers
+    (b"\0asm\x0c\0\x01\0", "no component's header at 0x0: found another version of the format: version 0x1000c"),
+];
+
 #[test]
-fn adhoc2() {
-    let size = std::env::var("SIZE").map_or(16, |size| size.parse().unwrap());
-    let step = std::env::var("STEP").map_or(16, |size| size.parse().unwrap());
-    let items = items(size);
-    let mut kinds = std::collections::BTreeMap::<String, usize>::new();
-    for (id, item) in items.iter().step_by(step) {
-        for at in 0..item.len() {
-            for change in [1, 0x80, 0x40, 0xff, item[at], 0x10, 3] {
-                let mut item = item.clone();
-                item[at] ^= change;
-                let bytes = alone(*id, &item);
-                let start = bytes.len() - item.len();
-                match list(&bytes) {
-                    Ok(_) => continue,
-                    Err(ListFault::BadItem { unread: Some(Unread::Item { .. }), .. }) => {}
-                    Err(_) => continue,
-                }
-                let Some((place, message)) = cause(&bytes) else {
-                    eprintln!("NONE {id} {item:02x?}");
-                    continue;
-                };
-                let kind = message.split(' ').filter(|word| !word.starts_with("0x") && word.parse::<u64>().is_err()).collect::<Vec<_>>().join(" ");
-                *kinds.entry(kind).or_default() += 1;
-                if place < start || place > bytes.len() { eprintln!("OUT {id} {item:02x?} {place} {message}"); }
-                if message.contains("is expected") {
-                    if message.contains("where  is") { eprintln!("EMPTY {id} {item:02x?} {message}"); }
-                    let expected = expected(&message);
-                    for byte in 0..=255_u8 {
-                        if !expected.contains(&byte) && byte % 16 != 3 { continue; }
-                        if expected.len() > 20 && byte % 8 != 1 { continue; }
-                        let mut bytes = bytes.clone();
-                        bytes[place] = byte;
-                        let new = match list(&bytes) { Ok(_) => None, Err(ListFault::BadItem { unread: Some(Unread::Item { .. }), .. }) => cause(&bytes).map(|(place, _)| place), Err(_) => None };
-                        let moved = new != Some(place);
-                        if moved != expected.contains(&byte) { eprintln!("WRONG {id} {item:02x?} start {start} {place} {message}: {byte:#x} gives {new:?}"); }
-                    }
-                } else if !message.contains("needs") && !message.contains("UTF-8") {
-                    eprintln!("OTHER {id} {item:02x?} start {start} {place} {message}");
-                }
-            }
-        }
+fn kinds_of_damage_are_told_apart() {
+    for (sections, wanted) in KINDS {
+        let (status, _, err) = run(&[], &file_of(sections));
+        assert_eq!((err.as_str(), status), (&*format!("-: {wanted}\n"), 1), "{sections:02x?}");
     }
-    eprintln!("{kinds:#?}");
+}
+
+/// The components of the corpus that are shorter than this, without faults.
+fn small_components(size: usize) -> Vec<Vec<u8>> {
+    let files = fs::read_dir(corpus("wasm")).expect("the corpus is there");
+    let all = files.map(|file| fs::read(file.expect("it is there").path()).expect("it is there"));
+    all.filter(|bytes| bytes.len() < size && list(bytes).is_ok()).collect()
+}
+
+/// The byte offset of the fault of `list`, as the program tells it, and the bytes in which its cause
+/// is: the item and what follows it in its section.
+fn fault_of(bytes: &[u8]) -> Option<(usize, Range<usize>)> {
+    let fault = list(bytes).err()?;
+    let section = |place: usize| {
+        let mut sections = Sections::new(bytes).expect("it has a header");
+        let frames = std::iter::from_fn(|| sections.next_raw());
+        let ends: Vec<_> = frames.filter(|(range, _)| range.start == place).collect();
+        ends.first().map_or(bytes.len(), |(range, _)| range.end)
+    };
+    match fault {
+        ListFault::BadSection { place } => Some((place, place..section(place))),
+        ListFault::BadItem { place, unread: Some(unread), .. } => match unread {
+            Unread::Count { place: at } | Unread::Item { place: at, .. } => {
+                Some((at, at..section(place)))
+            }
+            Unread::Behind { .. } => None,
+        },
+        _ => None,
+    }
+}
+
+/// The first fault is that of `list`, and its cause is in the bytes that `list` names, or it is told
+/// by the fault itself.
+fn is_fault_of_list(bytes: &[u8]) -> bool {
+    let Some((place, within)) = fault_of(bytes) else { return false };
+    let (status, out, _) = run(&["--json"], bytes);
+    let json = Value::read(&out);
+    let fault = json.at("fault");
+    // faults of nested modules come before that of a later section
+    if fault.at("place").number() != place as u128 {
+        return false;
+    }
+    let message = fault.at("message").text();
+    match cause(bytes) {
+        Some((cause, _)) => assert!(within.start <= cause && cause <= within.end, "{message}"),
+        None => assert!(message.starts_with("unknown section "), "{message}"),
+    }
+    assert_eq!(status, 1, "{message}");
+    true
 }
 
 #[test]
-fn adhoc() {
-    let size = std::env::var("SIZE").map_or(16, |size| size.parse().unwrap());
-    let items = items(size);
-    eprintln!("{} items", items.len());
-    for (id, item) in &items {
+fn causes_are_in_what_the_reader_names() {
+    let (mut faults, mut compared) = (0, 0);
+    for bytes in small_components(640) {
+        for at in (8..bytes.len()).step_by(STEP) {
+            let mut changed = bytes.clone();
+            changed[at] ^= 0xff;
+            faults += usize::from(fault_of(&changed).is_some());
+            compared += usize::from(is_fault_of_list(&changed));
+            faults += usize::from(fault_of(&bytes[..at]).is_some());
+            compared += usize::from(is_fault_of_list(&bytes[..at]));
+        }
+    }
+    assert!(compared > 100 && compared > faults / 2, "{compared} of {faults}");
+}
+
+/// Each item that was cut needs more bytes: as many as are left, and more.
+#[test]
+fn items_that_are_cut_need_bytes() {
+    let mut cut = 0;
+    for (id, item) in items(24).iter().step_by(5 * STEP) {
         for len in 1..item.len() {
             let bytes = alone(*id, &item[..len]);
-            let (_, _, err) = run(&[], &bytes);
-            if !err.contains("needs") {
-                eprintln!("CUT {id} {:02x?} of {:02x?}: {err}", &item[..len], item);
+            let (_, message) = cause(&bytes).expect("a cause");
+            assert!(message.starts_with("needs "), "{:02x?}: {message}", &item[..len]);
+            assert!(message.ends_with(if len == 1 { " 1 is left" } else { " are left" }));
+            cut += 1;
+        }
+    }
+    assert!(cut > 100, "{cut}");
+}
+
+/// A byte in place of which others are expected keeps the item from being read, whatever follows;
+/// with one of these the cause is a later one, and with any other it isn't.
+#[test]
+fn expected_bytes_are_those_that_go_on() {
+    let (mut causes, mut compared) = (0, 0);
+    for (id, item) in items(14).iter().step_by(12 * STEP) {
+        for at in 0..item.len() {
+            let mut item = item.clone();
+            item[at] ^= 0x91;
+            let bytes = alone(*id, &item);
+            let Some((place, message)) = cause(&bytes) else { continue };
+            let expected = expected(&message);
+            causes += usize::from(!expected.is_empty());
+            for byte in (0..=u8::MAX).step_by(27).filter(|_| !expected.is_empty()) {
+                let mut bytes = bytes.clone();
+                bytes[place] = byte;
+                let is_same = cause(&bytes).is_some_and(|(later, _)| later == place);
+                assert_eq!(is_same, !expected.contains(&byte), "{item:02x?}: {message}, {byte:#x}");
+                compared += 1;
             }
         }
     }
+    assert!(causes > 10 && compared > 100, "{causes} causes, {compared} bytes");
 }
