@@ -4,6 +4,7 @@
 mod causes;
 mod check;
 mod corpus;
+mod custom;
 mod examples;
 mod faults;
 mod json;
