@@ -173,8 +173,12 @@ impl<'a> Probe<'a> {
         *self.left == 0
     }
 
-    /// Restores this many bytes of the item, and sets the others to zero.
+    /// Restores this many bytes of the item, and sets the others to zero. After the limit that isn't
+    /// needed.
     fn load(&mut self, len: usize) {
+        if self.is_over() {
+            return;
+        }
         let copy = &mut self.bytes[self.start..];
         copy[..len].copy_from_slice(&self.item[..len]);
         copy[len..].fill(0);
@@ -186,6 +190,9 @@ impl<'a> Probe<'a> {
 
     /// Restores the bytes of the item from here on, at this byte offset.
     fn restore(&mut self, at: usize, from: usize) {
+        if self.is_over() {
+            return;
+        }
         let rest = self.item.get(from..).unwrap_or(&[]);
         self.bytes[self.start + at..][..rest.len()].copy_from_slice(rest);
         *self.left = self.left.saturating_sub(rest.len() / 16);
