@@ -82,8 +82,8 @@
 //! The crate is `no_std` and needs `alloc`. None of its features is on by default:
 //!
 //! - `reader` adds the reading of components, and items as values: [`list`], [`Sections`],
-//!   [`CoreSections`], [`DebugNames`], [`ItemSection`], [`tree`] and [`view`]. The crate then takes
-//!   longer to compile.
+//!   [`CoreSections`], [`DebugNames`], [`ProducersReader`], [`ItemSection`], [`tree`] and [`view`].
+//!   The crate then takes longer to compile.
 //! - `capi` adds the functions of `c/wenc.h`, for C. In a profile that aborts on panic, the library
 //!   allocates by C's `malloc` alone; any other profile needs `std` too.
 //! - `std` links Rust's `std`, which nothing else here needs.
@@ -95,6 +95,7 @@
 #![cfg_attr(not(feature = "reader"), doc = "[`ItemSection`]: #features")]
 #![cfg_attr(not(feature = "reader"), doc = "[`CoreSections`]: #features")]
 #![cfg_attr(not(feature = "reader"), doc = "[`DebugNames`]: #features")]
+#![cfg_attr(not(feature = "reader"), doc = "[`ProducersReader`]: #features")]
 #![cfg_attr(not(feature = "reader"), doc = "[`tree`]: #features")]
 #![cfg_attr(not(feature = "reader"), doc = "[`view`]: #features")]
 #![no_std]
@@ -126,6 +127,8 @@ mod list;
 mod lists;
 #[cfg(feature = "reader")]
 mod names;
+#[cfg(feature = "reader")]
+mod producers;
 mod proved;
 mod raw;
 #[cfg(feature = "reader")]
@@ -153,6 +156,8 @@ pub use error::{Error, Unsupported};
 pub use list::{Definitions, Found, ListFault, ListedSection, Listing, Unread, list};
 #[cfg(feature = "reader")]
 pub use names::{DebugNames, NamesFault};
+#[cfg(feature = "reader")]
+pub use producers::{Producer, ProducersFault, ProducersReader};
 pub use raw::RawSection;
 #[cfg(feature = "reader")]
 pub use rewrite::{ItemSection, SectionItem};

@@ -6,33 +6,18 @@
 // What sweeps takes closures of many kinds.
 #![allow(clippy::type_complexity)]
 
-#[path = "refused/builder.rs"]
-mod builder;
 #[allow(dead_code, reason = "some are for others")]
 #[path = "real/corpus.rs"]
 mod corpus;
-#[path = "common/counts.rs"]
-mod counts;
 #[path = "refused/cursors.rs"]
 mod cursors;
-#[path = "refused/declarations.rs"]
-mod declarations;
-#[path = "refused/members.rs"]
-mod members;
-#[path = "refused/names.rs"]
-mod names;
 #[path = "refused/reading.rs"]
 mod reading;
 #[allow(dead_code, reason = "some are for others")]
 #[path = "common/seen.rs"]
 mod seen;
-#[allow(dead_code, reason = "some are for others")]
-#[path = "core_types/shapes.rs"]
-mod shapes;
 #[path = "proved/listing/spellings.rs"]
 mod spellings;
-#[path = "refused/types.rs"]
-mod types;
 #[path = "refused/views.rs"]
 mod views;
 
@@ -46,9 +31,6 @@ thread_local! {
 
     /// How many there were since one was refused.
     static SINCE: Cell<Option<u32>> = const { Cell::new(None) };
-
-    /// How many there may be.
-    static MORE: Cell<u32> = const { Cell::new(0) };
 }
 
 /// The system's allocator, which refuses one request where it is told to.
@@ -90,16 +72,8 @@ fn refusing<T>(n: u32, call: impl FnOnce() -> T) -> (T, bool) {
     SINCE.set(None);
     GRANTED.set(Some(n));
     let result = call();
-    assert!(SINCE.take() <= Some(MORE.get()), "requests after the refused one");
+    assert!(SINCE.take().is_none_or(|since| since == 0), "requests after the refused one");
     (result, GRANTED.take().is_none())
-}
-
-/// In this work a type of functions is converted: room for its results is asked for too, where that
-/// for its parameters was refused.
-fn converting(work: impl FnOnce()) {
-    MORE.set(1);
-    work();
-    MORE.set(0);
 }
 
 /// Makes what can't fail, or what is none of the requests, while none is to come.

@@ -1,16 +1,12 @@
-//! Types of components: their bytes, and what is left when one isn't ended.
+//! Types of components: the order of their calls, and what is left when one isn't ended.
 #![cfg(feature = "reader")]
 
-#[path = "types/indexed.rs"]
-mod indexed;
 #[path = "types/panicking.rs"]
 mod panicking;
 #[path = "types/stages.rs"]
 mod stages;
 #[path = "types/unfinished.rs"]
 mod unfinished;
-#[path = "types/written.rs"]
-mod written;
 
 use wenc::Encode;
 

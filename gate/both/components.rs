@@ -16,7 +16,7 @@ const MOST_VALUES: &[u8] = b"\x09\x07\0\0\xff\xff\xff\xff\x0f";
 /// The components that upstream's builder wrote.
 pub fn upstream() -> Vec<Vec<u8>> {
     let byte = |digits: &[u8]| {
-        let digits = str::from_utf8(digits).expect("digits are ASCII");
+        let digits = std::str::from_utf8(digits).expect("digits are ASCII");
         u8::from_str_radix(digits, 16).expect("two digits")
     };
     UPSTREAM.lines().map(|line| line.as_bytes().chunks(2).map(byte).collect()).collect()

@@ -131,9 +131,8 @@ macro_rules! borrowed {
 
 borrowed! {
     FuncType to FuncType, ty => {
-        let [params, results] = [ty.params(), ty.results()]
-            .map(|types| converted(types, |ty| (*ty).try_into()));
-        Ok(Self::from_lists(params?, results?))
+        let types = |types: &[ValType]| converted(types, |ty| (*ty).try_into());
+        Ok(Self::from_lists(types(ty.params())?, types(ty.results())?))
     };
     StructType to StructType, ty => {
         Ok(Self { fields: converted(&ty.fields, |field| (*field).try_into())? })

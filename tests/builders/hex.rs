@@ -5,9 +5,6 @@ use wenc::{Component, ComponentBuilder, ComponentSection};
 /// What all components begin with.
 pub const HEADER: &str = "00 61 73 6d 0d 00 01 00";
 
-/// The text "component-name", with its length.
-pub const COMPONENT_NAME: &str = "0e 63 6f 6d 70 6f 6e 65 6e 74 2d 6e 61 6d 65";
-
 /// The bytes in hexadecimal, two digits each, with a space between.
 pub fn hex(bytes: &[u8]) -> String {
     let bytes: Vec<String> = bytes.iter().map(|byte| format!("{byte:02x}")).collect();

@@ -1,16 +1,12 @@
-//! The builder and the section of canonical functions, over what is public. Each expected byte is
-//! worked out from the format or comes from upstream.
+//! Builders as values: panics, index spaces, listings, traits and threads. `calls` has each call.
 #![cfg(feature = "reader")]
 
-mod canonicals;
-mod components;
 #[path = "../common/counts.rs"]
 mod counts;
 mod hex;
 mod listed;
 #[cfg(panic = "unwind")]
 mod panics;
-mod provided;
 mod spaces;
 mod traits;
 mod values;

@@ -110,3 +110,32 @@ fn groups() {
         &[0x4e, 3, 0x60, 1, 0x7f, 0, 0x60, 1, 0x7e, 0, 0x60, 1, 0x7d, 0],
     );
 }
+
+/// An iterator whose `size_hint` says nothing that can be reserved. Its `len` is right.
+struct Unsized<I>(I);
+
+impl<I: ExactSizeIterator> Iterator for Unsized<I> {
+    type Item = I::Item;
+
+    fn next(&mut self) -> Option<I::Item> {
+        self.0.next()
+    }
+
+    fn size_hint(&self) -> (usize, Option<usize>) {
+        (usize::MAX, None)
+    }
+}
+
+impl<I: ExactSizeIterator> ExactSizeIterator for Unsized<I> {
+    fn len(&self) -> usize {
+        self.0.len()
+    }
+}
+
+#[test]
+fn the_length_of_an_iterator_is_its_len() {
+    let mut types = CoreTypeSection::new();
+    let params = Unsized([ValType::I32, ValType::I64].into_iter());
+    types.ty().core().function(params, Unsized([ValType::I32].into_iter()));
+    assert_eq!(text(&types), [0x07, 0x01, 0x60, 0x02, 0x7f, 0x7e, 0x01, 0x7f]);
+}

@@ -1,22 +1,14 @@
 //! Core types of WebAssembly 3.0, without what proposals add to their fields.
 
 use wenc::{
-    AbstractHeapType, CompositeInnerType, CompositeType, Encode, FieldType, FuncType, GlobalType,
-    HeapType, MemoryType, RefType, StorageType, StructType, SubType, TableType, TagKind, TagType,
-    ValType,
+    CompositeInnerType, CompositeType, Encode, FieldType, FuncType, GlobalType, MemoryType,
+    RefType, StorageType, StructType, SubType, TableType, TagKind, TagType, ValType,
 };
-
-pub const FUNCREF: RefType = RefType::FUNCREF;
-pub const EXTERNREF: RefType = RefType::EXTERNREF;
 
 pub fn text(value: &(impl Encode + ?Sized)) -> Vec<u8> {
     let mut sink = Vec::new();
     value.encode(&mut sink);
     sink
-}
-
-pub const fn heap(ty: AbstractHeapType) -> HeapType {
-    HeapType::Abstract { shared: false, ty }
 }
 
 pub fn composite(inner: CompositeInnerType) -> CompositeType {

@@ -4,10 +4,11 @@ use crate::shapes::{composite, field, function, global, memory, structure, sub, 
 use std::panic::{AssertUnwindSafe, catch_unwind};
 use wenc::Unsupported::{self, *};
 use wenc::{
-    AbstractHeapType, ArrayType, ComponentBuilder, ComponentType, ComponentTypeSection,
-    CompositeInnerType, CompositeType, ContType, CoreTypeEncoder, CoreTypeSection, Encode,
-    EntityType, Error, FieldType, FuncType, GlobalType, HeapType, InstanceType, MemoryType,
-    ModuleType, RefType, StorageType, StructType, SubType, TableType, ValType,
+    AbstractHeapType, ArrayType, CanonicalFunctionSection, Component, ComponentBuilder,
+    ComponentType, ComponentTypeSection, CompositeInnerType, CompositeType, ContType,
+    CoreTypeEncoder, CoreTypeSection, Encode, EntityType, Error, FieldType, FuncType, GlobalType,
+    HeapType, InstanceType, MemoryType, ModuleType, RefType, StorageType, StructType, SubType,
+    TableType, ValType,
 };
 
 const SHARED: HeapType = HeapType::Abstract { shared: true, ty: AbstractHeapType::Func };
@@ -179,4 +180,22 @@ fn default_values() {
     assert!(!StorageType::Val(never_null).is_defaultable());
     assert_eq!(RefType::new_abstract(AbstractHeapType::Func, true, false), RefType::FUNCREF);
     assert_eq!(text(&ValType::EXNREF), [0x63, 0x69]);
+}
+
+#[test]
+fn a_slot_of_a_type_that_is_not_supported_is_refused() {
+    let exact = RefType { nullable: true, heap_type: HeapType::Exact(0) };
+    let ty = ValType::Ref(exact);
+    let error = Error::Unsupported(Unsupported::ExactReference);
+    let mut b = ComponentBuilder::default();
+    assert_eq!(b.try_context_get(ty, 0), Err(error));
+    assert_eq!(b.try_context_set(ty, 0), Err(error));
+    assert_eq!(b.try_type_resource(None, ty, None), Err(error));
+    assert_eq!((b.core_func_count(), b.type_count()), (0, 0));
+    assert_eq!(b.finish(), Component::HEADER);
+
+    let mut functions = CanonicalFunctionSection::new();
+    assert_eq!(functions.try_context_get(ty, 0).err(), Some(error));
+    assert_eq!(functions.try_context_set(ty, 0).err(), Some(error));
+    assert_eq!(text(&functions), [0x01, 0x00]);
 }

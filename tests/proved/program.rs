@@ -9,3 +9,5 @@ mod pieces;
 mod streams;
 mod transfers;
 mod vectors;
+#[path = "../worked/runs.rs"]
+mod worked;

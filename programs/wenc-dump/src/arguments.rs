@@ -1,6 +1,7 @@
 //! Parsing of the arguments.
 
 use super::escape::Escaped;
+use super::select::Kind;
 use std::ffi::{OsStr, OsString};
 
 /// The usage of the program.
@@ -11,11 +12,14 @@ pub const HELP: &str = "\
 Prints the sections and items of WebAssembly components, and the sections of core
 modules with their imports and exports. The file - is standard input.
 
-  -x, --hex      also print the bytes of items, in hexadecimal
-      --check    also mark indices that are out of range
-      --json     print JSON, a line for each file
-  -h, --help     print this help
-  -V, --version  print the version
+  -x, --hex           also print the bytes of items, in hexadecimal
+      --check         also mark indices that are out of range
+      --section=KIND  print only sections of this kind: a word as in the output, or an id
+      --json          print JSON, a line for each file
+      --color=WHEN    colour the output: always, never or auto, on a terminal
+      --width=N       fold items that don't fit in N columns
+  -h, --help          print this help
+  -V, --version       print the version
 
 Exit status: 0 all was read and printed, 1 something wasn't, 2 bad arguments,
 3 memory ran out.
@@ -46,18 +50,65 @@ pub struct Options {
     pub check: bool,
     /// Whether JSON is printed.
     pub json: bool,
+    /// The kinds of the sections that are printed; none for all.
+    pub sections: Vec<Kind>,
+    /// Whether the output is coloured; `None` if it is on a terminal.
+    pub colours: Option<bool>,
+    /// The number of columns of a line.
+    pub columns: Option<usize>,
+}
+
+impl Options {
+    /// Sets an option with a value.
+    ///
+    /// # Errors
+    ///
+    /// A message, if there is no such option or it can't have this value.
+    fn set(&mut self, option: &str, value: &str) -> Result<(), String> {
+        let bad = || format!("no value of {option}: {}", Escaped(value.as_ref()));
+        match option {
+            "--section" => self.sections.push(Kind::parse(value).ok_or_else(bad)?),
+            "--color" => {
+                self.colours = match value {
+                    "always" => Some(true),
+                    "never" => Some(false),
+                    "auto" => None,
+                    _ => return Err(bad()),
+                }
+            }
+            "--width" => self.columns = Some(value.parse().map_err(|_| bad())?),
+            _ => return Err(format!("no option {}", Escaped(option.as_ref()))),
+        }
+        Ok(())
+    }
+}
+
+/// Returns the option with a value that the argument is, with the value if it has it.
+fn valued(argument: &str) -> Option<(&str, Option<&str>)> {
+    let (option, value) = match argument.split_once('=') {
+        Some((option, value)) => (option, Some(value)),
+        None => (argument, None),
+    };
+    matches!(option, "--section" | "--color" | "--width").then_some((option, value))
 }
 
 /// Parses the arguments after the program's name.
 ///
 /// # Errors
 ///
-/// A message about the first unknown option, or about missing files.
-pub fn request(arguments: impl Iterator<Item = OsString>) -> Result<Request, String> {
+/// A message about the first unknown option or bad value, or about missing files.
+pub fn request(mut arguments: impl Iterator<Item = OsString>) -> Result<Request, String> {
     let mut options = Options::default();
     let mut are_files = false;
-    for argument in arguments {
-        match argument.to_str().filter(|_| !are_files) {
+    while let Some(argument) = arguments.next() {
+        let text = argument.to_str().filter(|_| !are_files);
+        if let Some((option, value)) = text.and_then(valued) {
+            let value = value.map(OsString::from).or_else(|| arguments.next());
+            let value = value.ok_or_else(|| format!("no value of {option}"))?;
+            options.set(option, &value.to_string_lossy())?;
+            continue;
+        }
+        match text {
             Some("-h" | "--help") => return Ok(Request::Help),
             Some("-V" | "--version") => return Ok(Request::Version),
             Some("-x" | "--hex") => options.hex = true,

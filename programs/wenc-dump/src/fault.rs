@@ -1,5 +1,7 @@
 //! Parts of a file that can't be read.
 
+use super::cause::Cause;
+use std::collections::TryReserveError;
 use std::fmt::{self, Display};
 use std::io;
 use wenc::{ListFault, ModuleFault, Unread};
@@ -14,18 +16,20 @@ pub enum Fault {
     Input(io::Error),
     /// The part for which an allocation failed, and all that follows.
     NoMemory,
-    /// A section, an item or a nested component, in a component.
-    List(ListFault),
-    /// A core module at this byte offset, or a section or an item of it.
-    Module(usize, ModuleFault),
+    /// A section, an item or a nested component, in a component, and why.
+    List(ListFault, Option<Cause>),
+    /// A core module at this byte offset, or a section or an item of it, and why.
+    Module(usize, ModuleFault, Option<Cause>),
     /// A section at this byte offset with this id, which is unknown.
     UnknownSection(usize, u8),
-    /// A custom section without a name, at this byte offset.
-    NoName(usize),
+    /// A custom section without a name, at this byte offset, and why.
+    NoName(usize, Option<Cause>),
     /// The component at this byte offset, which is nested in that many others.
     TooDeep(usize, usize),
     /// Debug names, from this byte offset on.
     Names(usize),
+    /// Producers, from this byte offset on.
+    Producers(usize),
     /// So many indices that are out of range.
     OutOfRange(usize),
 }
@@ -42,20 +46,23 @@ impl Fault {
             Self::List(
                 ListFault::BadItem { unread: Some(unread), .. }
                 | ListFault::TooDeep { unread: Some(unread), .. },
+                _,
             ) => Some(place_of(unread)),
             Self::List(
                 ListFault::NotAComponent { place, .. }
                 | ListFault::BadSection { place }
                 | ListFault::BadItem { place, .. }
                 | ListFault::TooDeep { place, .. },
+                _,
             ) => Some(place),
-            Self::Module(at, ModuleFault::NotAModule { .. }) => Some(at),
-            Self::Module(at, ModuleFault::BadSection { place }) => Some(at + place),
-            Self::Module(at, ModuleFault::BadItem { unread }) => Some(at + place_of(unread)),
+            Self::Module(at, ModuleFault::NotAModule { .. }, _) => Some(at),
+            Self::Module(at, ModuleFault::BadSection { place }, _) => Some(at + place),
+            Self::Module(at, ModuleFault::BadItem { unread }, _) => Some(at + place_of(unread)),
             Self::UnknownSection(place, _)
-            | Self::NoName(place)
+            | Self::NoName(place, _)
             | Self::TooDeep(place, _)
-            | Self::Names(place) => Some(place),
+            | Self::Names(place)
+            | Self::Producers(place) => Some(place),
             _ => None,
         }
     }
@@ -63,20 +70,21 @@ impl Fault {
     /// Returns the words for the part in text, where they follow its byte offset.
     pub fn words(&self) -> &'static str {
         match self {
-            Self::List(ListFault::BadItem { unread: Some(unread), .. })
-            | Self::Module(_, ModuleFault::BadItem { unread }) => match unread {
+            Self::List(ListFault::BadItem { unread: Some(unread), .. }, _)
+            | Self::Module(_, ModuleFault::BadItem { unread }, _) => match unread {
                 Unread::Count { .. } => "no count",
                 Unread::Item { .. } => "items that aren't read",
                 Unread::Behind { .. } => "bytes behind the last item",
             },
-            Self::List(ListFault::NotAComponent { .. }) => "no component's header",
-            Self::List(ListFault::BadSection { .. }) => "no section",
-            Self::Module(_, ModuleFault::NotAModule { .. }) => "no core module's header",
-            Self::Module(_, ModuleFault::BadSection { .. }) => "no core section",
+            Self::List(ListFault::NotAComponent { .. }, _) => "no component's header",
+            Self::List(ListFault::BadSection { .. }, _) => "no section",
+            Self::Module(_, ModuleFault::NotAModule { .. }, _) => "no core module's header",
+            Self::Module(_, ModuleFault::BadSection { .. }, _) => "no core section",
             Self::UnknownSection(..) => "unknown section",
-            Self::NoName(_) => "no name",
+            Self::NoName(..) => "no name",
             Self::TooDeep(..) => "too deep component",
             Self::Names(_) => "names that aren't read",
+            Self::Producers(_) => "producers that aren't read",
             _ => "items that aren't read",
         }
     }
@@ -85,9 +93,19 @@ impl Fault {
     pub fn is_behind_items(&self) -> bool {
         let behind = |unread| matches!(unread, Unread::Behind { .. });
         match *self {
-            Self::List(ListFault::BadItem { unread, .. }) => unread.is_some_and(behind),
-            Self::Module(_, ModuleFault::BadItem { unread }) => behind(unread),
+            Self::List(ListFault::BadItem { unread, .. }, _) => unread.is_some_and(behind),
+            Self::Module(_, ModuleFault::BadItem { unread }, _) => behind(unread),
             _ => false,
+        }
+    }
+
+    /// Returns why the part can't be read, and from which byte on.
+    pub fn cause(&self) -> Option<&Cause> {
+        match self {
+            Self::List(_, cause) | Self::Module(_, _, cause) | Self::NoName(_, cause) => {
+                cause.as_ref()
+            }
+            _ => None,
         }
     }
 
@@ -113,28 +131,60 @@ fn moved(unread: Unread, by: usize) -> Unread {
     }
 }
 
+/// Writes the cause in a list of items, unless the fault's own words say it: what is in place of the
+/// first byte.
+fn write_list(f: &mut fmt::Formatter<'_>, fault: ListFault, cause: Cause) -> fmt::Result {
+    match fault {
+        ListFault::BadItem { place, unread: Some(Unread::Item { number, place: item }), .. }
+            if !cause.is_at_first(item) =>
+        {
+            write!(f, "bad item {number} at {item:#x} in the section at {place:#x}: {cause}")
+        }
+        ListFault::BadItem { unread: Some(Unread::Item { .. }), .. } => fault.fmt(f),
+        _ => write!(f, "{fault}: {cause}"),
+    }
+}
+
+/// Writes a fault of the core module at this byte offset.
+fn write_module(f: &mut fmt::Formatter<'_>, at: usize, fault: ModuleFault) -> fmt::Result {
+    match fault {
+        ModuleFault::NotAModule { found } => {
+            write!(f, "no core module's header at {at:#x}: found {found}")
+        }
+        ModuleFault::BadSection { place } => ModuleFault::BadSection { place: at + place }.fmt(f),
+        ModuleFault::BadItem { unread } => {
+            ModuleFault::BadItem { unread: moved(unread, at) }.fmt(f)
+        }
+        fault => fault.fmt(f),
+    }
+}
+
+/// Writes the cause behind a fault.
+fn write_cause(f: &mut fmt::Formatter<'_>, cause: Option<Cause>) -> fmt::Result {
+    cause.map_or(Ok(()), |cause| write!(f, ": {cause}"))
+}
+
 impl Display for Fault {
     fn fmt(&self, f: &mut fmt::Formatter<'_>) -> fmt::Result {
         match *self {
             Self::Input(ref error) => error.fmt(f),
             Self::NoMemory => f.write_str("memory ran out"),
-            Self::List(fault) => fault.fmt(f),
-            Self::Module(at, ModuleFault::NotAModule { found }) => {
-                write!(f, "no core module's header at {at:#x}: found {found}")
+            Self::List(fault, None) => fault.fmt(f),
+            Self::List(fault, Some(cause)) => write_list(f, fault, cause),
+            Self::Module(at, fault, cause) => {
+                write_module(f, at, fault)?;
+                write_cause(f, cause)
             }
-            Self::Module(at, ModuleFault::BadSection { place }) => {
-                ModuleFault::BadSection { place: at + place }.fmt(f)
-            }
-            Self::Module(at, ModuleFault::BadItem { unread }) => {
-                ModuleFault::BadItem { unread: moved(unread, at) }.fmt(f)
-            }
-            Self::Module(_, fault) => fault.fmt(f),
             Self::UnknownSection(place, id) => write!(f, "unknown section {id} at {place:#x}"),
-            Self::NoName(place) => write!(f, "custom section without a name at {place:#x}"),
+            Self::NoName(place, cause) => {
+                write!(f, "custom section without a name at {place:#x}")?;
+                write_cause(f, cause)
+            }
             Self::TooDeep(place, depth) => {
                 write!(f, "components more than {depth} deep at {place:#x}")
             }
             Self::Names(place) => write!(f, "bad debug names at {place:#x}"),
+            Self::Producers(place) => write!(f, "bad producers at {place:#x}"),
             Self::OutOfRange(1) => f.write_str("1 index is out of range"),
             Self::OutOfRange(count) => write!(f, "{count} indices are out of range"),
         }
@@ -152,5 +202,11 @@ pub enum Failure {
 impl From<io::Error> for Failure {
     fn from(error: io::Error) -> Self {
         Self::Write(error)
+    }
+}
+
+impl From<TryReserveError> for Failure {
+    fn from(_: TryReserveError) -> Self {
+        Self::NoMemory
     }
 }

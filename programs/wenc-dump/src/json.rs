@@ -1,7 +1,8 @@
 //! A report as JSON: a line for each file.
 
+use super::cause::Cause;
 use super::fault::Fault;
-use super::report::{Content, Label, Part, Report};
+use super::report::{Content, Contents, Entry, Label, Part, Report, Rest};
 use super::walk::DEPTH;
 use super::words;
 use std::ffi::OsStr;
@@ -9,6 +10,7 @@ use std::fmt::{self, Display, Write as _};
 use std::io::{self, Write};
 use std::ops::Range;
 use std::path::Path;
+use wenc::Producer;
 use wenc::tree::{Child, Node, Scope, UsedIndex};
 
 /// The maximum number of open parts: the file, a section and an item for each component that is
@@ -27,10 +29,8 @@ pub struct Json<'o, W> {
 
 /// The text that closes a part.
 struct Open {
-    /// The text before the byte offset from which on nothing is read.
-    list: &'static str,
-    /// That byte offset.
-    unread: Option<usize>,
+    /// The text before the byte offset from which on nothing is read; `None` once both are written.
+    list: Option<&'static str>,
     /// Whether the part has a field for it even if all is read.
     has_unread: bool,
     /// The text after it.
@@ -137,12 +137,20 @@ impl<'o, W: Write> Json<'o, W> {
         self.text_or_null(*name)
     }
 
-    /// Writes the bytes in hexadecimal, if they are wanted and there are any.
-    fn bytes(&mut self, bytes: &[u8]) -> io::Result<()> {
+    /// Writes the cause of a fault, if it is known.
+    fn cause(&mut self, cause: Option<&Cause>) -> io::Result<()> {
+        let Some(cause) = cause else { return Ok(()) };
+        write!(self.out, ",\"cause\":{{\"place\":{},\"message\":", cause.place())?;
+        self.text(cause)?;
+        self.put("}")
+    }
+
+    /// Writes a field with bytes in hexadecimal, if they are wanted and there are any.
+    fn bytes(&mut self, key: &str, bytes: &[u8]) -> io::Result<()> {
         if !self.has_bytes || bytes.is_empty() {
             return Ok(());
         }
-        self.put(",\"hex\":\"")?;
+        write!(self.out, ",\"{key}\":\"")?;
         for byte in bytes {
             write!(self.out, "{byte:02x}")?;
         }
@@ -157,22 +165,23 @@ impl<'o, W: Write> Json<'o, W> {
                 self.put(",\"name\":")?;
                 self.text_or_null(*name)?;
                 self.put(",\"sections\":[")?;
-                Ok(Open { list: "]", unread: None, has_unread: false, object: "}" })
+                Ok(Open { list: Some("]"), has_unread: false, object: "}" })
             }
             Content::Module => {
                 self.range(range)?;
                 self.put(",\"sections\":[")?;
-                Ok(Open { list: "]", unread: None, has_unread: true, object: "}" })
+                Ok(Open { list: Some("]"), has_unread: true, object: "}" })
             }
-            Content::Custom(name, size) => {
+            Content::Custom(name, size, contents) => {
                 self.put("{\"name\":")?;
                 self.text(name)?;
                 write!(self.out, ",\"size\":{size}")?;
-                Ok(Open { list: "", unread: None, has_unread: true, object: "}" })
+                let list = self.contents(*contents)?;
+                Ok(Open { list: Some(list), has_unread: true, object: "}" })
             }
             Content::Node(node, _) => {
                 self.node(node)?;
-                Ok(Open { list: "", unread: None, has_unread: false, object: "" })
+                Ok(Open { list: Some(""), has_unread: false, object: "" })
             }
         }
     }
@@ -235,6 +244,41 @@ impl<'o, W: Write> Json<'o, W> {
         self.put("}")
     }
 
+    /// Begins the list of what is reported of a custom section. Returns what ends it.
+    fn contents(&mut self, contents: Contents) -> io::Result<&'static str> {
+        let (front, back) = match contents {
+            Contents::Names => (",\"names\":[", "]"),
+            Contents::Producers => (",\"producers\":[", "]"),
+            Contents::Other => ("", ""),
+        };
+        self.put(front)?;
+        Ok(back)
+    }
+
+    /// Writes a part of a custom section, up to the bracket that ends it.
+    fn entry(&mut self, entry: &Entry) -> io::Result<()> {
+        self.put(if self.is_first { "{" } else { ",{" })?;
+        match entry {
+            Entry::Name(of, name) => {
+                let (space, index) = of.unzip();
+                self.put("\"space\":")?;
+                self.text_or_null(space.map(words::space))?;
+                self.put(",\"index\":")?;
+                self.number_or_null(index)?;
+                self.put(",\"name\":")?;
+                self.text(name)
+            }
+            Entry::Tool(Producer { field, name, version }) => {
+                self.put("\"field\":")?;
+                self.text(field)?;
+                self.put(",\"name\":")?;
+                self.text(name)?;
+                self.put(",\"version\":")?;
+                self.text(version)
+            }
+        }
+    }
+
     /// Writes a part up to its contents. Returns what closes it.
     fn front(&mut self, part: &Part) -> io::Result<Open> {
         match part {
@@ -249,23 +293,34 @@ impl<'o, W: Write> Json<'o, W> {
                 self.put(",\"count\":")?;
                 self.number_or_null(*count)?;
                 self.put(",\"items\":[")?;
-                Ok(Open { list: "]", unread: None, has_unread: false, object: "}" })
+                Ok(Open { list: Some("]"), has_unread: false, object: "}" })
             }
-            Part::CoreSection { range, id, name, count, bytes } => {
+            Part::CoreSection { range, id, name, contents, count, bytes } => {
                 self.member(range)?;
                 self.kind(*id, words::core_section(*id))?;
                 self.put(",\"name\":")?;
                 self.text_or_null(*name)?;
                 self.put(",\"count\":")?;
                 self.number_or_null(*count)?;
-                self.bytes(bytes)?;
+                self.bytes("hex", bytes)?;
                 self.put(",\"items\":[")?;
-                Ok(Open { list: "]", unread: None, has_unread: true, object: "}" })
+                let list = match contents {
+                    Contents::Other => "]",
+                    _ => {
+                        self.put("]")?;
+                        self.contents(*contents)?
+                    }
+                };
+                Ok(Open { list: Some(list), has_unread: true, object: "}" })
+            }
+            Part::Entry(entry) => {
+                self.entry(entry)?;
+                Ok(Open { list: Some(""), has_unread: false, object: "}" })
             }
             Part::Item { range, label, content, bytes } => {
                 self.member(range)?;
                 self.label(label.as_ref())?;
-                self.bytes(bytes)?;
+                self.bytes("hex", bytes)?;
                 self.put(",\"item\":")?;
                 let open = self.content(range, content)?;
                 Ok(Open { object: if open.object.is_empty() { "}" } else { "}}" }, ..open })
@@ -287,17 +342,18 @@ impl<W: Write> Report for Json<'_, W> {
         Ok(())
     }
 
-    fn unread(&mut self, place: usize, _: &str) -> io::Result<()> {
-        if let Some(open) = self.open.last_mut() {
-            open.unread = Some(place);
-        }
-        Ok(())
+    fn unread(&mut self, place: usize, _: &str, rest: Rest) -> io::Result<()> {
+        let Some(list) = self.open.last_mut().and_then(|open| open.list.take()) else {
+            return Ok(());
+        };
+        write!(self.out, "{list},\"unread\":{place}")?;
+        self.bytes("unread_hex", if rest.are_reported { &[] } else { rest.bytes })
     }
 
     fn out_of_range(&mut self, _: usize, used: &UsedIndex) -> io::Result<()> {
         let Some(open) = self.open.last_mut() else { return Ok(()) };
-        let lead = if open.list.is_empty() { ",\"out_of_range\":[" } else { "," };
-        open.list = "]";
+        let lead = if open.list == Some("") { ",\"out_of_range\":[" } else { "," };
+        open.list = Some("]");
         let (key, scope) = match used.scope {
             Scope::Component(out) => ("component", out),
             Scope::Type(depth) => ("type", depth),
@@ -311,13 +367,12 @@ impl<W: Write> Report for Json<'_, W> {
     }
 
     fn close(&mut self) -> io::Result<()> {
-        let Some(Open { list, unread, has_unread, object }) = self.open.pop() else {
+        let Some(Open { list, has_unread, object }) = self.open.pop() else {
             return Ok(());
         };
-        self.put(list)?;
-        if has_unread || unread.is_some() {
-            self.put(",\"unread\":")?;
-            self.number_or_null(unread)?;
+        if let Some(list) = list {
+            self.put(list)?;
+            self.put(if has_unread { ",\"unread\":null" } else { "" })?;
         }
         self.is_first = false;
         self.put(object)
@@ -335,6 +390,7 @@ impl<W: Write> Report for Json<'_, W> {
                 self.number_or_null(fault.place())?;
                 self.put(",\"message\":")?;
                 self.text(fault)?;
+                self.cause(fault.cause())?;
                 self.put("}")?;
             }
         }

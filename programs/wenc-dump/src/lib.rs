@@ -3,20 +3,24 @@
 #![forbid(unsafe_code)]
 
 mod arguments;
+mod cause;
 mod check;
 mod colours;
+mod custom;
 mod escape;
 mod fault;
 mod fold;
 mod json;
 mod modules;
 mod phrase;
+mod probe;
 mod report;
 mod run;
+mod select;
 mod text;
 mod walk;
 mod words;
 
 pub use colours::are_wanted as colours_are_wanted;
 pub use fault::NO_MEMORY;
-pub use run::{Streams, run};
+pub use run::{Streams, Terminal, run};

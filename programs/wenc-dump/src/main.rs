@@ -4,7 +4,7 @@ use std::env;
 use std::hint::black_box;
 use std::io::{self, BufWriter, IsTerminal};
 use std::process::ExitCode;
-use wenc_dump::{NO_MEMORY, Streams, colours_are_wanted, run};
+use wenc_dump::{NO_MEMORY, Streams, Terminal, colours_are_wanted, run};
 
 /// The bytes of stack for nested components and types, with room to spare. Frames that aren't
 /// optimized are larger.
@@ -39,10 +39,12 @@ fn main() -> ExitCode {
     let out = io::stdout();
     let (no_color, term) = (env::var_os("NO_COLOR"), env::var_os("TERM"));
     let has_colours = colours_are_wanted(out.is_terminal(), no_color.as_deref(), term.as_deref());
+    let columns = env::var("COLUMNS").ok().filter(|_| out.is_terminal());
+    let terminal = Terminal { has_colours, columns: columns.and_then(|text| text.parse().ok()) };
     let mut streams = Streams {
         input: &mut io::stdin(),
         out: &mut BufWriter::new(out.lock()),
         err: &mut BufWriter::new(io::stderr()),
     };
-    ExitCode::from(run(env::args_os(), has_colours, &mut streams))
+    ExitCode::from(run(env::args_os(), terminal, &mut streams))
 }

@@ -1,12 +1,20 @@
 //! Walks through a core module, part by part.
 
+use super::cause::{self, Bad, Cause};
 use super::fault::{Failure, Fault};
 use super::phrase;
-use super::report::{Content, Part, Report};
+use super::probe::Place;
+use super::report::{Content, Contents, Part, Report};
 use super::walk::{Indices, Walk};
 use std::ops::Range;
 use wenc::tree::{CoreEntityType, Space};
-use wenc::{CoreItem, CoreSection, CoreSections, RawSection, SectionId};
+use wenc::{
+    Component, CoreItem, CoreSection, CoreSections, ModuleFault, ProducersReader, RawSection, SectionId,
+    Unread,
+};
+
+/// The number of bytes of a header.
+const HEADER: usize = Component::HEADER.len();
 
 /// Returns the space in which an item has an index, if any.
 fn space(item: &CoreItem) -> Option<Space> {
@@ -20,22 +28,34 @@ fn space(item: &CoreItem) -> Option<Space> {
     })
 }
 
+/// Returns whether the items of a section are reported.
+fn are_shown(section: &CoreSection) -> bool {
+    matches!(section.kind(), Some(SectionId::Import | SectionId::Export | SectionId::Start))
+}
+
 impl<R: Report> Walk<'_, '_, R> {
     /// Reports the sections of a core module, which begins at this byte offset in a component.
     pub(super) fn module(&mut self, at: usize, bytes: &[u8]) -> Result<(), Failure> {
         match CoreSections::new(bytes) {
-            Ok(sections) => self.core_sections(at, sections),
-            Err(fault) => Ok(self.unread(Fault::Module(at, fault))?),
+            Ok(sections) => self.core_sections(at..at + bytes.len(), sections),
+            Err(fault) => {
+                let cause = match fault {
+                    ModuleFault::NotAModule { found } => cause::of_header(at, found, bytes),
+                    _ => None,
+                };
+                Ok(self.unread(Fault::Module(at, fault, cause), at + bytes.len())?)
+            }
         }
     }
 
-    /// Reports the sections of a core module, which begins at this byte offset, up to the first
-    /// without a size within bounds.
+    /// Reports the sections of the core module with these byte offsets, up to the first without a
+    /// size within bounds.
     pub(super) fn core_sections(
         &mut self,
-        at: usize,
+        module: Range<usize>,
         mut sections: CoreSections,
     ) -> Result<(), Failure> {
+        let at = module.start;
         let mut next = Indices::default();
         let mut here = sections.clone();
         while let Some(section) = sections.next() {
@@ -46,10 +66,74 @@ impl<R: Report> Walk<'_, '_, R> {
                     self.without_name(at, range, raw)?;
                     sections = here.clone();
                 }
-                (Err(fault), None) => self.unread(Fault::Module(at, fault))?,
+                (Err(fault), None) => {
+                    let fault = self.of_core_frame(at, module.end, fault)?;
+                    self.unread(fault, module.end)?;
+                }
             }
         }
         Ok(())
+    }
+
+    /// Returns the fault of a section without a size within a core module with these bounds.
+    fn of_core_frame(&self, at: usize, end: usize, fault: ModuleFault) -> Result<Fault, Failure> {
+        let ModuleFault::BadSection { place } = fault else {
+            return Ok(Fault::Module(at, fault, None));
+        };
+        let size = at + place + 1;
+        let cause = cause::of_number(size, &self.bytes[size..end])?;
+        Ok(Fault::Module(at, fault, Some(cause)))
+    }
+
+    /// Adds why it can't be read to the fault of a count or of an item in the content of a section,
+    /// which begins at this byte offset.
+    fn of_core_item(
+        &mut self,
+        at: usize,
+        section: &CoreSection,
+        fault: ModuleFault,
+    ) -> Result<Fault, Failure> {
+        let end = at + section.range.end;
+        let content = end - section.data.len();
+        let place = match fault {
+            ModuleFault::BadItem { unread: Unread::Count { place } } => {
+                let cause = cause::of_number(at + place, &self.bytes[at + place..end])?;
+                return Ok(Fault::Module(at, fault, Some(cause)));
+            }
+            ModuleFault::BadItem { unread: Unread::Item { place, .. } } => at + place,
+            fault => return Ok(Fault::Module(at, fault, None)),
+        };
+        if !are_shown(section) {
+            // there are fewer bytes than items
+            let needed = section.count().and_then(|count| usize::try_from(count).ok());
+            return Ok(Fault::Module(at, fault, Some(Cause::Few { place, needed, len: end - place })));
+        }
+        let first = match section.items().next() {
+            Some(Ok((range, _))) => at + range.start,
+            _ => place,
+        };
+        let cause = self.core_cause(at, section.id, content..first, place..end)?;
+        Ok(Fault::Module(at, fault, cause))
+    }
+
+    /// Returns why an item of a core module can't be read, if that is found: by the byte offsets of
+    /// the module, the section's count and the item.
+    fn core_cause(
+        &mut self,
+        at: usize,
+        id: u8,
+        count: Range<usize>,
+        item: Range<usize>,
+    ) -> Result<Option<Cause>, Failure> {
+        self.cause(&Bad {
+            place: Place::Module,
+            header: &self.bytes[at..at + HEADER],
+            id,
+            count: &self.bytes[count],
+            at: item.start,
+            bytes: &self.bytes[item],
+            is_too_deep: false,
+        })
     }
 
     /// Reports a custom section without a name.
@@ -60,9 +144,17 @@ impl<R: Report> Walk<'_, '_, R> {
         RawSection { id, data }: RawSection,
     ) -> Result<(), Failure> {
         let range = at + range.start..at + range.end;
-        let place = range.start;
-        self.report.open(&Part::CoreSection { range, id, name: None, count: None, bytes: data })?;
-        self.unread(Fault::NoName(place))?;
+        let (place, content, end) = (range.start, range.end - data.len(), range.end);
+        let cause = self.core_cause(at, id, content..content, content..range.end)?;
+        self.report.open(&Part::CoreSection {
+            range,
+            id,
+            name: None,
+            contents: Contents::Other,
+            count: None,
+            bytes: data,
+        })?;
+        self.unread_reported(Fault::NoName(place, cause), end)?;
         Ok(self.report.close()?)
     }
 
@@ -72,28 +164,37 @@ impl<R: Report> Walk<'_, '_, R> {
         section: &CoreSection,
         next: &mut Indices,
     ) -> Result<(), Failure> {
-        let are_shown = matches!(
-            section.kind(),
-            Some(SectionId::Import | SectionId::Export | SectionId::Start)
-        );
+        let are_shown = are_shown(section);
+        let contents = match section.name {
+            Some(ProducersReader::SECTION) => Contents::Producers,
+            _ => Contents::Other,
+        };
         let range = at + section.range.start..at + section.range.end;
         self.report.open(&Part::CoreSection {
             range: range.clone(),
             id: section.id,
             name: section.name,
+            contents,
             count: section.count(),
             bytes: if are_shown { &[] } else { section.data },
         })?;
         if section.kind().is_none() {
-            self.unread(Fault::UnknownSection(range.start, section.id))?;
+            self.unread_reported(Fault::UnknownSection(range.start, section.id), range.end)?;
+        }
+        if contents == Contents::Producers {
+            self.producers(section.data, range.end - section.data.len())?;
         }
         for item in section.items() {
             match item {
                 Ok((range, item)) => self.core_item(at, section, range, &item, next)?,
                 Err(fault) => {
-                    let fault = Fault::Module(at, fault);
+                    let fault = self.of_core_item(at, section, fault)?;
                     next.note(&fault);
-                    self.unread(fault)?;
+                    if are_shown {
+                        self.unread(fault, range.end)?;
+                    } else {
+                        self.unread_reported(fault, range.end)?;
+                    }
                 }
             }
         }

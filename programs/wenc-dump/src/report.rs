@@ -5,6 +5,7 @@ use super::fold::Names;
 use std::ffi::OsStr;
 use std::io;
 use std::ops::Range;
+use wenc::Producer;
 use wenc::tree::{Node, Space, UsedIndex};
 
 /// A format of reports.
@@ -15,9 +16,9 @@ pub trait Report {
     /// Opens a part, within the innermost open part.
     fn open(&mut self, part: &Part) -> io::Result<()>;
 
-    /// Notes that nothing is read from this byte offset to the end of the innermost open part, and
-    /// what can't be read there.
-    fn unread(&mut self, place: usize, what: &str) -> io::Result<()>;
+    /// Notes that nothing is read from this byte offset to the end of the innermost open part, what
+    /// can't be read there, and the bytes.
+    fn unread(&mut self, place: usize, what: &str, rest: Rest) -> io::Result<()>;
 
     /// Notes an index in the innermost open part that is out of range: the item at this byte offset
     /// contains it.
@@ -31,6 +32,15 @@ pub trait Report {
 
     /// Ends the file with its first fault, if any, and closes all open parts.
     fn end(&mut self, fault: Option<&Fault>) -> io::Result<()>;
+}
+
+/// The bytes of the innermost open part that aren't read.
+#[derive(Clone, Copy)]
+pub struct Rest<'a> {
+    /// The bytes.
+    pub bytes: &'a [u8],
+    /// Whether they are among those of an open part, or are those of many parts.
+    pub are_reported: bool,
 }
 
 /// A part of a file. Byte offsets are those of the file.
@@ -54,6 +64,8 @@ pub enum Part<'a> {
         id: u8,
         /// The name of a custom section.
         name: Option<&'a str>,
+        /// What is reported of its content besides its items.
+        contents: Contents,
         /// The number of its items, if it is a section of items.
         count: Option<u32>,
         /// Its content; empty if its items are reported.
@@ -70,6 +82,27 @@ pub enum Part<'a> {
         /// Its bytes; empty if parts of it are reported.
         bytes: &'a [u8],
     },
+    /// A part of a custom section.
+    Entry(Entry<'a>),
+}
+
+/// What is reported of a custom section.
+#[derive(Clone, Copy, PartialEq, Eq)]
+pub enum Contents {
+    /// Debug names.
+    Names,
+    /// Tools.
+    Producers,
+    /// Nothing.
+    Other,
+}
+
+/// A part of a custom section.
+pub enum Entry<'a> {
+    /// The debug name of the item with this index in this space, or of the component.
+    Name(Option<(Space, u32)>, &'a str),
+    /// A tool.
+    Tool(Producer<'a>),
 }
 
 /// The indices of an item.
@@ -90,8 +123,8 @@ pub enum Content<'a> {
     Component(Option<&'a str>),
     /// A core module, whose sections are reported.
     Module,
-    /// A custom section with this name, and the number of bytes after it.
-    Custom(&'a str, usize),
+    /// A custom section with this name, the number of bytes after it, and what is reported of them.
+    Custom(&'a str, usize, Contents),
     /// Another item, with the debug names that its indices may have.
     Node(&'a Node<'a>, Names<'a>),
 }

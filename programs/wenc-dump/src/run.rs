@@ -5,7 +5,8 @@ use super::escape::Escaped;
 use super::fault::{Failure, Fault};
 use super::json::Json;
 use super::report::Report;
-use super::text::Text;
+use super::select::Selected;
+use super::text::{COLUMNS, Style, Text};
 use super::walk::walk;
 use std::ffi::{OsStr, OsString};
 use std::io::{self, Read, Write};
@@ -21,13 +22,22 @@ pub struct Streams<'s, I, O, E> {
     pub err: &'s mut E,
 }
 
+/// Where the output goes.
+#[derive(Clone, Copy, Default)]
+pub struct Terminal {
+    /// Whether it has colours.
+    pub has_colours: bool,
+    /// The number of its columns, if it is known.
+    pub columns: Option<usize>,
+}
+
 /// Runs `wenc-dump` with these arguments, of which the first is the program's name, and returns the
 /// exit status: 0 if all was read and printed, 1 if a part of a file can't be read or a write
 /// failed, 2 if the arguments are bad, 3 if memory ran out. It is no failure if the reader of the
 /// output closes it.
 pub fn run(
     arguments_with_name: impl Iterator<Item = OsString>,
-    has_colours: bool,
+    terminal: Terminal,
     streams: &mut Streams<'_, impl Read, impl Write, impl Write>,
 ) -> u8 {
     let mut status = 0;
@@ -36,7 +46,7 @@ pub fn run(
         Ok(Request::Version) => {
             print(streams.out, concat!("wenc-dump ", env!("CARGO_PKG_VERSION"), "\n"))
         }
-        Ok(Request::Dump(options)) => dump(&options, has_colours, streams, &mut status),
+        Ok(Request::Dump(options)) => dump(&options, terminal, streams, &mut status),
         Err(why) => {
             complain(streams.err, format_args!("wenc-dump: {why}\n{USAGE}"));
             return 2;
@@ -64,7 +74,7 @@ fn complain(err: &mut impl Write, message: fmt::Arguments) {
 /// Prints all files, and raises the exit status.
 fn dump(
     options: &Options,
-    has_colours: bool,
+    terminal: Terminal,
     streams: &mut Streams<'_, impl Read, impl Write, impl Write>,
     status: &mut u8,
 ) -> io::Result<()> {
@@ -75,14 +85,26 @@ fn dump(
         };
         if options.json {
             let mut json = Json::new(streams.out, options.hex);
+            let mut json = Selected::new(&mut json, &options.sections);
             report(&mut json, (file, options.check), streams.input, tell)?;
         } else {
-            let has_titles = options.files.len() > 1;
-            let mut text = Text::new(streams.out, has_colours, options.hex, has_titles);
+            let mut text = Text::new(streams.out, Style::of(options, terminal));
+            let mut text = Selected::new(&mut text, &options.sections);
             report(&mut text, (file, options.check), streams.input, tell)?;
         }
     }
     Ok(())
+}
+
+impl Style {
+    fn of(options: &Options, terminal: Terminal) -> Self {
+        Self {
+            has_colours: options.colours.unwrap_or(terminal.has_colours),
+            has_bytes: options.hex,
+            has_titles: options.files.len() > 1,
+            columns: options.columns.or(terminal.columns).unwrap_or(COLUMNS),
+        }
+    }
 }
 
 /// Returns the bytes of a file.

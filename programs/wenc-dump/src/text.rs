@@ -6,16 +6,17 @@ use super::escape::Escaped;
 use super::fault::Fault;
 use super::fold::{Members, Names, Pieces, clause_lead, closing, fits, flat, opening};
 use super::phrase::{is_phrase, spoken};
-use super::report::{Content, Label, Part, Report};
+use super::report::{Content, Entry, Label, Part, Report, Rest};
 use super::words;
 use std::ffi::OsStr;
 use std::fmt::Display;
 use std::io::{self, Write};
 use std::ops::Range;
+use wenc::Producer;
 use wenc::tree::{Node, UsedIndex};
 
-/// The number of columns of a line, if it can be folded.
-const COLUMNS: usize = 100;
+/// The usual number of columns of a line, if it can be folded.
+pub const COLUMNS: usize = 100;
 
 /// The maximum indentation in columns, so that each line has room for text, and the size of the
 /// output is linear in that of the file.
@@ -24,12 +25,22 @@ const INDENTATION: usize = 40;
 /// The number of bytes in a line of bytes.
 const BYTES: usize = 16;
 
+/// What text is like.
+#[derive(Clone, Copy)]
+pub struct Style {
+    pub has_colours: bool,
+    /// Whether it has the bytes of items.
+    pub has_bytes: bool,
+    /// Whether it has the names of files.
+    pub has_titles: bool,
+    /// The number of columns of a line, if it can be folded.
+    pub columns: usize,
+}
+
 /// Text whose lines are indented by their depth.
 pub struct Text<'o, W> {
     out: &'o mut W,
-    has_colours: bool,
-    has_bytes: bool,
-    has_titles: bool,
+    style: Style,
     /// The number of open parts.
     depth: usize,
     /// The number of columns that are taken on the line.
@@ -60,7 +71,7 @@ impl<W: Write> Pieces for Text<'_, W> {
 
     fn piece(&mut self, hue: Hue, text: impl Display) -> io::Result<()> {
         let mut counted = Counted { out: self.out, columns: &mut self.columns };
-        let Some(colour) = hue.colour().filter(|_| self.has_colours) else {
+        let Some(colour) = hue.colour().filter(|_| self.style.has_colours) else {
             return write!(counted, "{text}");
         };
         write!(counted.out, "\x1b[{colour}m")?;
@@ -74,10 +85,9 @@ impl<W: Write> Pieces for Text<'_, W> {
 }
 
 impl<'o, W: Write> Text<'o, W> {
-    /// Creates a writer of text, with or without colours, the bytes of items, and titles with the
-    /// names of files.
-    pub fn new(out: &'o mut W, has_colours: bool, has_bytes: bool, has_titles: bool) -> Self {
-        Self { out, has_colours, has_bytes, has_titles, depth: 0, columns: 0 }
+    /// Creates a writer of text.
+    pub fn new(out: &'o mut W, style: Style) -> Self {
+        Self { out, style, depth: 0, columns: 0 }
     }
 
     fn begin_line(&mut self, depth: usize) -> io::Result<()> {
@@ -167,13 +177,29 @@ impl<'o, W: Write> Text<'o, W> {
                 self.size(range.len())
             }
             Content::Module => self.size(range.len()),
-            Content::Custom(name, size) => {
+            Content::Custom(name, size, _) => {
                 self.named("custom ", Some(name))?;
                 self.size(*size)
             }
             Content::Node(node, names) => {
                 self.plain(if label.is_some() { ": " } else { "" })?;
                 self.node(node, Some(range.len()), names, self.depth, 0)
+            }
+        }
+    }
+
+    /// Writes a part of a custom section.
+    fn entry(&mut self, entry: &Entry) -> io::Result<()> {
+        match entry {
+            Entry::Name(None, name) => self.named("component ", Some(name)),
+            Entry::Name(Some((space, index)), name) => {
+                self.piece(Hue::Index, format_args!("{} {index}", words::space(*space)))?;
+                self.named(" ", Some(name))
+            }
+            Entry::Tool(Producer { field, name, version }) => {
+                self.piece(Hue::Name, format_args!("{field:?}"))?;
+                self.named(" ", Some(name))?;
+                self.named(" ", Some(version))
             }
         }
     }
@@ -198,7 +224,7 @@ impl<'o, W: Write> Text<'o, W> {
             }
             _ => {}
         }
-        let columns = COLUMNS.saturating_sub(self.columns + after);
+        let columns = self.style.columns.saturating_sub(self.columns + after);
         match Members::of(node) {
             Some(members) if !fits(node, encoded_len, names, columns) => {
                 self.unfold(node, &members, names, depth)
@@ -231,15 +257,13 @@ impl<'o, W: Write> Text<'o, W> {
         closing(node, self)
     }
 
-    /// Writes the bytes, which begin at this byte offset, if they are wanted.
-    fn bytes(&mut self, mut place: usize, bytes: &[u8]) -> io::Result<()> {
-        if !self.has_bytes {
-            return Ok(());
-        }
+    /// Writes bytes, which begin at this byte offset, and after which others may be left out.
+    fn bytes(&mut self, mut place: usize, bytes: &[u8], has_more: bool) -> io::Result<()> {
         for some in bytes.chunks(BYTES) {
             self.begin_line(self.depth + 1)?;
             self.piece(Hue::Place, format_args!("{place:#x}:"))?;
             some.iter().try_for_each(|byte| self.piece(Hue::Plain, format_args!(" {byte:02x}")))?;
+            self.plain(if has_more { " ..." } else { "" })?;
             self.end_line()?;
             place += some.len();
         }
@@ -260,7 +284,7 @@ impl<'o, W: Write> Text<'o, W> {
                 self.items(*count)?;
                 Ok((0, &[]))
             }
-            Part::CoreSection { range, id, name, count, bytes } => {
+            Part::CoreSection { range, id, name, count, bytes, .. } => {
                 self.place(range, true)?;
                 self.section(words::core_section(*id), *id)?;
                 self.named(" ", *name)?;
@@ -272,6 +296,10 @@ impl<'o, W: Write> Text<'o, W> {
                 self.item(range, label.as_ref(), content)?;
                 Ok((range.start, bytes))
             }
+            Part::Entry(entry) => {
+                self.entry(entry)?;
+                Ok((0, &[]))
+            }
         }
     }
 }
@@ -279,7 +307,7 @@ impl<'o, W: Write> Text<'o, W> {
 impl<W: Write> Report for Text<'_, W> {
     fn begin(&mut self, file: &OsStr) -> io::Result<()> {
         self.depth = 0;
-        if self.has_titles {
+        if self.style.has_titles {
             self.piece(Hue::Plain, format_args!("{}:", Escaped(file)))?;
             self.end_line()?;
         }
@@ -290,16 +318,25 @@ impl<W: Write> Report for Text<'_, W> {
         self.begin_line(self.depth)?;
         let (place, bytes) = self.line(part)?;
         self.end_line()?;
-        self.bytes(place, bytes)?;
+        if self.style.has_bytes {
+            self.bytes(place, bytes, false)?;
+        }
         self.depth += 1;
         Ok(())
     }
 
-    fn unread(&mut self, place: usize, what: &str) -> io::Result<()> {
+    fn unread(&mut self, place: usize, what: &str, rest: Rest) -> io::Result<()> {
         self.begin_line(self.depth)?;
         self.place(&(place..place), false)?;
         self.plain(what)?;
-        self.end_line()
+        self.end_line()?;
+        let Rest { bytes, are_reported } = rest;
+        let shown = match (self.style.has_bytes, are_reported) {
+            (true, true) => return Ok(()),
+            (true, false) => bytes.len(),
+            (false, _) => BYTES.min(bytes.len()),
+        };
+        self.bytes(place, &bytes[..shown], shown < bytes.len())
     }
 
     fn out_of_range(&mut self, place: usize, index: &UsedIndex) -> io::Result<()> {

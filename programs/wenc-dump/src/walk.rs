@@ -1,17 +1,27 @@
 //! Walks through a file, part by part.
 
+use super::cause::{self, Bad, Cause};
 use super::check::{Check, node_in};
 use super::fault::{Failure, Fault};
 use super::phrase;
-use super::report::{Content, Label, Part, Report};
+use super::probe::Place;
+use super::report::{Content, Contents, Label, Part, Report, Rest};
 use std::io;
 use std::ops::Range;
 use wenc::tree::Space;
 use wenc::view::ItemView;
-use wenc::{CoreSections, DebugNames, ListFault, NamesFault, SectionReader, Sections};
+use wenc::{
+    Component, CoreSections, DebugNames, ListFault, SectionReader, Sections, Unread,
+};
 
 /// The maximum nesting depth of components, which is that of types.
 pub const DEPTH: usize = 100;
+
+/// The number of bytes that are read, at most, to find the cause of one fault.
+const WORK: usize = 1 << 26;
+
+/// The same for all faults of a file, besides its size.
+const ALL_WORK: usize = 1 << 28;
 
 /// A walk through a file.
 pub struct Walk<'f, 'r, R> {
@@ -22,6 +32,8 @@ pub struct Walk<'f, 'r, R> {
     tell: &'r mut dyn FnMut(Fault),
     /// The debug names of the components around the next part, the outermost first.
     names: Vec<DebugNames>,
+    /// The number of bytes that may still be read to find causes.
+    work: usize,
     check: Check,
 }
 
@@ -67,31 +79,22 @@ pub fn walk(
     report: &mut impl Report,
     tell: &mut dyn FnMut(Fault),
 ) -> Result<(), Failure> {
-    let check = Check::new(has_check);
-    let mut walk = Walk { bytes, report, tell, names: Vec::new(), check };
+    let (check, work) = (Check::new(has_check), ALL_WORK.saturating_add(bytes.len()));
+    let mut walk = Walk { bytes, report, tell, names: Vec::new(), work, check };
     if let Ok(sections) = CoreSections::new(bytes) {
         walk.report.open(&Part::File(0..bytes.len(), Content::Module))?;
-        walk.core_sections(0, sections)?;
+        walk.core_sections(0..bytes.len(), sections)?;
         return Ok(walk.report.close()?);
     }
     match Sections::new(bytes) {
         Ok(sections) => walk.component(sections),
-        Err(fault) => Ok(walk.fault(Fault::List(fault))?),
+        Err(fault) => Ok(walk.fault(walk.of_header(fault, bytes.len()))?),
     }
 }
 
 /// Returns the debug names of a component.
 fn names_of(sections: Sections) -> Result<DebugNames, Failure> {
     sections.try_names().map_err(|_| Failure::NoMemory)
-}
-
-/// Returns the byte offset of the first debug names in an item that can't be read, in its data.
-fn unread_names(item: &ItemView) -> Result<Option<usize>, Failure> {
-    match DebugNames::new().read(item) {
-        Ok(()) => Ok(None),
-        Err(NamesFault::BadSubsection { place }) => Ok(Some(place)),
-        Err(_) => Err(Failure::NoMemory),
-    }
 }
 
 /// The byte offsets and the id of a section, if it has a size within bounds, and its items.
@@ -127,12 +130,70 @@ impl<'f, R: Report> Walk<'f, '_, R> {
         Ok(())
     }
 
-    /// Reports that nothing more is read of the innermost open part.
-    pub(super) fn unread(&mut self, fault: Fault) -> io::Result<()> {
+    /// Reports that nothing more is read of the innermost open part, which ends at this byte offset.
+    pub(super) fn unread(&mut self, fault: Fault, end: usize) -> io::Result<()> {
+        self.unread_of(fault, end, false)
+    }
+
+    /// Reports that nothing more is read of the innermost open part, which ends at this byte offset
+    /// and whose bytes were reported, or are those of many parts.
+    pub(super) fn unread_reported(&mut self, fault: Fault, end: usize) -> io::Result<()> {
+        self.unread_of(fault, end, true)
+    }
+
+    fn unread_of(&mut self, fault: Fault, end: usize, are_reported: bool) -> io::Result<()> {
         if let Some(place) = fault.place() {
-            self.report.unread(place, fault.words())?;
+            let rest = Rest { bytes: self.bytes.get(place..end).unwrap_or(&[]), are_reported };
+            self.report.unread(place, fault.words(), rest)?;
         }
         self.fault(fault)
+    }
+
+    /// Returns the fault of the header of a component that ends at this byte offset.
+    fn of_header(&self, fault: ListFault, end: usize) -> Fault {
+        let ListFault::NotAComponent { place, found } = fault else {
+            return Fault::List(fault, None);
+        };
+        Fault::List(fault, cause::of_header(place, found, &self.bytes[place..end]))
+    }
+
+    /// Returns why an item can't be read, if that is found.
+    pub(super) fn cause(&mut self, bad: &Bad) -> Result<Option<Cause>, Failure> {
+        let limit = self.work.min(WORK);
+        let mut left = limit;
+        let cause = bad.cause(&mut left)?;
+        self.work -= limit - left;
+        Ok(cause)
+    }
+
+    /// Adds why it can't be read to the fault of an item of a section.
+    fn of_item(&mut self, section: SectionReader<'f>, fault: ListFault) -> Result<Fault, Failure> {
+        let range = section.range();
+        let content = range.end - section.raw().data.len();
+        let (at, is_too_deep) = match fault {
+            ListFault::NoMemory => return Err(Failure::NoMemory),
+            ListFault::BadItem { unread: Some(Unread::Item { place, .. }), .. } => (place, false),
+            ListFault::TooDeep { unread: Some(Unread::Item { place, .. }), .. } => (place, true),
+            ListFault::BadSection { .. } => (content, false),
+            fault => return Ok(Fault::List(fault, None)),
+        };
+        let first = match section.items().next() {
+            Some(Ok((range, _))) => range.start,
+            _ => at,
+        };
+        let cause = self.cause(&Bad {
+            place: Place::Component,
+            header: &Component::HEADER,
+            id: section.id(),
+            count: &self.bytes[content..first],
+            bytes: &self.bytes[at..range.end],
+            at,
+            is_too_deep,
+        })?;
+        Ok(match fault {
+            ListFault::BadSection { place } => Fault::NoName(place, cause),
+            fault => Fault::List(fault, cause),
+        })
     }
 
     /// Reports the component that the file is.
@@ -140,7 +201,7 @@ impl<'f, R: Report> Walk<'f, '_, R> {
         let names = names_of(sections)?;
         let range = 0..self.bytes.len();
         self.report.open(&Part::File(range, Content::Component(names.component())))?;
-        self.sections(sections, names)?;
+        self.sections(sections, self.bytes.len(), names)?;
         self.report.close()?;
         if self.check.found > 0 {
             self.fault(Fault::OutOfRange(self.check.found))?;
@@ -148,8 +209,13 @@ impl<'f, R: Report> Walk<'f, '_, R> {
         Ok(())
     }
 
-    /// Reports the sections of a component with these debug names.
-    fn sections(&mut self, sections: Sections<'f>, names: DebugNames) -> Result<(), Failure> {
+    /// Reports the sections of a component that ends at this byte offset and has these debug names.
+    fn sections(
+        &mut self,
+        sections: Sections<'f>,
+        end: usize,
+        names: DebugNames,
+    ) -> Result<(), Failure> {
         self.names.try_reserve(1).map_err(|_| Failure::NoMemory)?;
         self.names.push(names);
         self.check.enter()?;
@@ -157,7 +223,10 @@ impl<'f, R: Report> Walk<'f, '_, R> {
         for (frame, section) in framed(sections) {
             match (section, frame) {
                 (Ok(section), _) => self.section(section, &mut next)?,
-                (Err(fault), None) => self.unread(Fault::List(fault))?,
+                (Err(fault), None) => {
+                    let fault = self.of_frame(fault, end)?;
+                    self.unread(fault, end)?;
+                }
                 (Err(fault), Some((range, id))) => {
                     self.unread_section(range, id, fault, &mut next)?;
                 }
@@ -166,6 +235,14 @@ impl<'f, R: Report> Walk<'f, '_, R> {
         self.check.leave();
         self.names.pop();
         Ok(())
+    }
+
+    /// Returns the fault of a section without a size within the component, which ends at this byte
+    /// offset.
+    fn of_frame(&self, fault: ListFault, end: usize) -> Result<Fault, Failure> {
+        let ListFault::BadSection { place } = fault else { return Ok(Fault::List(fault, None)) };
+        let size = place + 1;
+        Ok(Fault::List(fault, Some(cause::of_number(size, &self.bytes[size..end])?)))
     }
 
     /// Reports a section whose items can't be read.
@@ -178,11 +255,16 @@ impl<'f, R: Report> Walk<'f, '_, R> {
     ) -> Result<(), Failure> {
         let fault = match fault {
             ListFault::BadSection { place } => Fault::UnknownSection(place, id),
-            fault => Fault::List(fault),
+            ListFault::BadItem { unread: Some(Unread::Count { place }), .. } => {
+                let cause = cause::of_number(place, &self.bytes[place..range.end])?;
+                Fault::List(fault, Some(cause))
+            }
+            fault => Fault::List(fault, None),
         };
+        let end = range.end;
         self.report.open(&Part::Section { range, id, count: None })?;
         self.note(&fault, next);
-        self.unread(fault)?;
+        self.unread(fault, end)?;
         Ok(self.report.close()?)
     }
 
@@ -199,11 +281,10 @@ impl<'f, R: Report> Walk<'f, '_, R> {
                     self.item(range, &item, next)?;
                     continue;
                 }
-                Err(ListFault::BadSection { place }) => Fault::NoName(place),
-                Err(fault) => Fault::List(fault),
+                Err(fault) => self.of_item(section, fault)?,
             };
             self.note(&fault, next);
-            self.unread(fault)?;
+            self.unread(fault, section.range().end)?;
         }
         Ok(self.report.close()?)
     }
@@ -222,13 +303,15 @@ impl<'f, R: Report> Walk<'f, '_, R> {
             _ => DebugNames::new(),
         };
         let label = Some(next.take(Space::Components, 1, self.names.last()));
-        let content = Content::Component(own.component());
+        let (content, end) = (Content::Component(own.component()), range.end);
         self.report.open(&Part::Item { range, label, content, bytes: &[] })?;
         match sections {
-            _ if self.names.len() == DEPTH => self.unread(Fault::TooDeep(place, DEPTH))?,
-            Ok(Some(sections)) => self.sections(sections, own)?,
+            _ if self.names.len() == DEPTH => {
+                self.unread_reported(Fault::TooDeep(place, DEPTH), end)?;
+            }
+            Ok(Some(sections)) => self.sections(sections, end, own)?,
             Ok(None) => {}
-            Err(fault) => self.unread(Fault::List(fault))?,
+            Err(fault) => self.unread(self.of_header(fault, end), end)?,
         }
         self.check.add(&ItemView::Component(&[]));
         Ok(self.report.close()?)
@@ -263,7 +346,9 @@ impl<'f, R: Report> Walk<'f, '_, R> {
         let node = phrase::of_item(node_in(item, scopes.as_ref()));
         let (content, shown) = match item {
             ItemView::Module(_) => (Content::Module, &[][..]),
-            ItemView::Custom { name, data } => (Content::Custom(name, data.len()), bytes),
+            ItemView::Custom { name, data } => {
+                (Content::Custom(name, data.len(), Contents::of(name)), bytes)
+            }
             _ => (Content::Node(&node, &self.names), bytes),
         };
         let part = Part::Item { range: range.clone(), label, content, bytes: shown };
@@ -272,11 +357,7 @@ impl<'f, R: Report> Walk<'f, '_, R> {
         self.check.add(item);
         match item {
             ItemView::Module(_) => self.module(range.start, bytes)?,
-            ItemView::Custom { data, .. } => {
-                if let Some(place) = unread_names(item)? {
-                    self.unread(Fault::Names(range.end - data.len() + place))?;
-                }
-            }
+            ItemView::Custom { .. } => self.custom(item, range.end)?,
             _ => {}
         }
         Ok(self.report.close()?)

@@ -50,6 +50,16 @@ fn scripts_are_run() {
     }
 }
 
+/// A carriage return before the end of a line belongs to the last word.
+#[test]
+fn a_carriage_return_is_in_the_last_word() {
+    let out = "0\n0061736d0d000100060a01010000056e616d650d\n";
+    expect(NO_ARGUMENTS, b"alias-export 0 func name\r\n", (0, out, ""));
+    for bad in [&b"import f func 0\r\n"[..], b"append-names\r\n", b"core-module -\r\n", b"\r\n"] {
+        expect(NO_ARGUMENTS, bad, (1, "", "line 1\n"));
+    }
+}
+
 #[test]
 fn bad_scripts_are_told_by_their_line() {
     for (script, line) in BAD {

@@ -1,60 +1,24 @@
 //! The use `list`: what is printed of components, and of texts that say none.
 
 use super::outcome::{End, USAGE, expect};
+use super::worked::{LISTED, UNLISTED, hex};
+use crate::proved::tests::hex::digits;
 use crate::proved::wenc::list::list_text;
 use crate::proved::wenc::unlisted::Unlisted;
 use crate::proved::wenc_list::ListFault;
 use crate::shim::alloc::Global;
 use std::format;
+use std::string::String;
 
-/// Types of instances in one another, 100 and 101 of them, the innermost empty.
-const DEEP: &str = "0061736d0d00010007ac0201420101420101420101420101420101420101420101420101420101420101420101\
-    420101420101420101420101420101420101420101420101420101420101420101420101420101420101420101\
-    420101420101420101420101420101420101420101420101420101420101420101420101420101420101420101\
-    420101420101420101420101420101420101420101420101420101420101420101420101420101420101420101\
-    420101420101420101420101420101420101420101420101420101420101420101420101420101420101420101\
-    420101420101420101420101420101420101420101420101420101420101420101420101420101420101420101\
-    4201014201014201014201014201014201014201014201014201014201014201014201014201014200";
+/// A text in hexadecimal, and how its listing ends.
+type Text = (String, u8, &'static str, &'static str);
 
-const TOO_DEEP: &str = "0061736d0d00010007af0201420101420101420101420101420101420101420101420101420101420101420101\
-    420101420101420101420101420101420101420101420101420101420101420101420101420101420101420101\
-    420101420101420101420101420101420101420101420101420101420101420101420101420101420101420101\
-    420101420101420101420101420101420101420101420101420101420101420101420101420101420101420101\
-    420101420101420101420101420101420101420101420101420101420101420101420101420101420101420101\
-    420101420101420101420101420101420101420101420101420101420101420101420101420101420101420101\
-    4201014201014201014201014201014201014201014201014201014201014201014201014201014201014200";
-
-/// Texts, and how their listing ends.
-const TEXTS: &[(&str, End)] = &[
-    ("0061736d0d000100", (0, b"0 0 0 0 0 0 0 0 0 0 0 0 0\n", b"")),
-    (
-        "0061736d0d0001000a060100016601000b0701000167010000",
-        (0, b"10 1\n11 1\n0 0 0 0 0 0 0 0 2 0 0 0 0\n", b""),
-    ),
-    (
-        "0061736d0d0001000a8a8080800081808080000101660100",
-        (0, b"10 1\n0 0 0 0 0 0 0 0 1 0 0 0 0\n", b""),
-    ),
-    ("0061736d0d000100060100", (0, b"6 0\n0 0 0 0 0 0 0 0 0 0 0 0 0\n", b"")),
-    ("0061736d0d00010000020178", (0, b"0 1\n0 0 0 0 0 0 0 0 0 0 0 0 0\n", b"")),
-    (
-        "0061736d0d00010009070700ffffffff0f09070700ffffffff0f",
-        (0, b"9 1\n9 1\n0 0 0 0 0 0 0 0 0 0 8589934590 0 0\n", b""),
-    ),
-    ("0061736d0d000100080401410102", (0, b"8 1\n0 1 0 0 0 0 0 0 0 0 0 0 0\n", b"")),
-    ("", (3, b"", b"NotAComponent at 0\n")),
-    ("0061736d01000000", (3, b"", b"NotAComponent at 0\n")),
-    ("0061736d0d000100060501", (3, b"", b"BadSection at 8\n")),
-    ("0061736d0d0001000000", (3, b"", b"BadSection at 8\n")),
-    ("0061736d0d0001000c00", (3, b"", b"BadSection at 8\n")),
-    ("0061736d0d0001000681808080800000", (3, b"", b"BadSection at 8\n")),
-    ("0061736d0d0001000a060100016601000b07010001670100", (3, b"", b"BadSection at 16\n")),
-    ("0061736d0d00010006020109", (3, b"", b"BadItem at 8\n")),
-    ("0061736d0d0001000a0701000166010000", (3, b"", b"BadItem at 8\n")),
-    ("0061736d0d0001000606808080808000", (3, b"", b"BadItem at 8\n")),
-    (DEEP, (0, b"7 1\n0 0 0 0 0 0 0 0 0 0 0 0 1\n", b"")),
-    (TOO_DEEP, (3, b"", b"TooDeep at 8\n")),
-];
+fn texts() -> impl Iterator<Item = Text> {
+    let listed =
+        LISTED.map(|(bytes, out)| (format!("0061736d0d000100{}", digits(&hex(bytes))), 0, out, ""));
+    let unlisted = UNLISTED.map(|(bytes, err)| (digits(&hex(bytes)), 3, "", err));
+    listed.into_iter().chain(unlisted)
+}
 
 /// Texts that aren't hexadecimal digits, an even number of them, followed by at most one LF.
 const BAD: &[&[u8]] = &[
@@ -73,46 +37,36 @@ const BAD: &[&[u8]] = &[
     b"\xff\xff",
 ];
 
-/// The text as it is, and followed by LF.
-fn check(text: &str, end: &End) {
-    expect(text, &["list"], text.as_bytes(), end);
-    let line = format!("{text}\n");
-    expect(text, &["list"], line.as_bytes(), end);
-}
-
 #[test]
 fn texts_are_listed() {
-    for (text, end) in TEXTS {
-        check(text, end);
-        let upper = text.to_ascii_uppercase();
-        check(upper.as_str(), end);
+    for (text, status, out, err) in texts() {
+        let end = (status, out.as_bytes(), err.as_bytes());
+        for text in [text.clone(), text.to_ascii_uppercase(), format!("{text}\n")] {
+            expect(&text, &["list"], text.as_bytes(), &end);
+        }
     }
 }
 
-/// Texts that say no component, and why.
-const FAULTS: &[(&str, ListFault)] = &[
-    ("", ListFault::NotAComponent { place: 0 }),
-    ("0061736d01000000", ListFault::NotAComponent { place: 0 }),
-    ("0061736d0d000100060501", ListFault::BadSection { place: 8 }),
-    ("0061736d0d0001000a060100016601000b07010001670100", ListFault::BadSection { place: 16 }),
-    ("0061736d0d00010006020109", ListFault::BadItem { place: 8 }),
-    (TOO_DEEP, ListFault::TooDeep { place: 8 }),
-];
+/// Whether the program says this of the fault.
+fn is_said(fault: ListFault, said: &str) -> bool {
+    let (name, place) = match fault {
+        ListFault::NotAComponent { place } => ("NotAComponent", place),
+        ListFault::BadSection { place } => ("BadSection", place),
+        ListFault::BadItem { place } => ("BadItem", place),
+        ListFault::TooDeep { place } => ("TooDeep", place),
+        ListFault::Memory => return false,
+    };
+    said == format!("{name} at {place}\n")
+}
 
 /// `list_text` answers what the program prints, or why it prints nothing.
 #[test]
 fn texts_are_listed_by_a_call() {
-    for (text, (status, out, _)) in TEXTS {
-        let printed = list_text(Global, text.as_bytes());
-        assert_eq!(printed.is_ok(), *status == 0, "{text}");
-        if let Ok(printed) = printed {
-            assert_eq!(printed.as_slice(), *out, "{text}");
-        }
-    }
-    for (text, wanted) in FAULTS {
+    for (text, _, out, err) in texts() {
         match list_text(Global, text.as_bytes()) {
-            Err(Unlisted::Fault(fault)) => assert_eq!(fault, *wanted, "{text}"),
-            _ => panic!("{text}"),
+            Ok(printed) => assert_eq!((printed.as_slice(), err), (out.as_bytes(), "")),
+            Err(Unlisted::Fault(fault)) => assert!(is_said(fault, err), "{text}"),
+            Err(_) => panic!("{text}"),
         }
     }
     for text in BAD {

@@ -1,7 +1,8 @@
-//! Scripts, and what has to come out of them. But for those by hand they are outside answers, made
-//! with the Rust crate `wasm-encoder` 0.263.0.
+//! Scripts, and what has to come out of them: worked rows, and outside answers, made with the Rust
+//! crate `wasm-encoder` 0.263.0.
 
 use super::outcome::expect;
+use super::worked::{SCRIPTS, hex};
 use crate::proved::tests::hex::digits;
 use crate::proved::tests::listing::built::is_listed;
 use crate::proved::wenc::failure::Failure;
@@ -11,7 +12,6 @@ use crate::shim::vec::Vec;
 use std::format;
 
 mod bad;
-mod by_hand;
 mod edges;
 mod long;
 mod long_words;
@@ -42,24 +42,31 @@ fn is_translated(vector: &Vector) {
     }
 }
 
+/// The script has this run.
+fn is_run(vector: &Vector) {
+    let end = (vector.status, vector.out, vector.err);
+    expect(vector.name, &[], vector.script, &end);
+    is_translated(vector);
+    if vector.status != 1 {
+        is_listed(vector.out);
+    }
+}
+
 #[test]
 fn scripts() {
     for vectors in [
         bad::VECTORS,
-        by_hand::VECTORS,
         edges::VECTORS,
         short::VECTORS,
         long::VECTORS,
         words::VECTORS,
         long_words::VECTORS,
     ] {
-        for vector in vectors {
-            let end = (vector.status, vector.out, vector.err);
-            expect(vector.name, &[], vector.script, &end);
-            is_translated(vector);
-            if vector.status != 1 {
-                is_listed(vector.out);
-            }
-        }
+        vectors.iter().for_each(is_run);
+    }
+    for (script, status, lines, bytes) in SCRIPTS {
+        let out = format!("{lines}0061736d0d000100{}\n", digits(&hex(bytes)));
+        let (script, out) = (script.as_bytes(), out.leak().as_bytes());
+        is_run(&Vector { name: "worked", script, status, out, err: b"" });
     }
 }

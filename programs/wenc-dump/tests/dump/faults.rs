@@ -14,13 +14,16 @@ bad item 1 at 0x10 in the section at 0x8: the section ends where an import is ex
     0x10 items that aren't read
 ";
     expect("bad_item", b"\x0a\x06\x02\0\x01f\x01\0", out, Some(bad));
-    let out = "0x0..0xb component, 11 bytes\n  0x8 no section\n";
-    expect("bad_section", b"\x06\x05\x01", out, Some("bad section at 0x8"));
-    let bad = "bad count at 0xa in the section at 0x8";
+    let out = "0x0..0xb component, 11 bytes\n  0x8 no section\n    0x8: 06 05 01\n";
+    let bad = "bad section at 0x8: needs 5 bytes or more from 0xa on, where 1 is left";
+    expect("bad_section", b"\x06\x05\x01", out, Some(bad));
+    let bad = "\
+bad count at 0xa in the section at 0x8: needs 2 bytes or more from 0xa on, where 1 is left";
     let out = "\
 0x0..0xb component, 11 bytes
   0x8..0xb alias section, 3 bytes
     0xa no count
+      0xa: 80
 ";
     expect("bad_count", b"\x06\x01\x80", out, Some(bad));
     let bad = "bytes behind the last item at 0xb in the section at 0x8";
@@ -28,6 +31,7 @@ bad item 1 at 0x10 in the section at 0x8: the section ends where an import is ex
 0x0..0xc component, 12 bytes
   0x8..0xc alias section, 4 bytes, 0 items
     0xb bytes behind the last item
+      0xb: 00
 ";
     expect("behind", b"\x06\x02\0\0", out, Some(bad));
 }
@@ -44,8 +48,10 @@ fn types_too_deep_are_a_fault() {
 0x0..0x13a component, 314 bytes
   0x8..0x13a type section, 306 bytes, 1 item
     0xc items that aren't read
+      0xc: 42 01 01 42 01 01 42 01 01 42 01 01 42 01 01 42 ...
 ";
-    let bad = "too deep item 0 at 0xc in the section at 0x8";
+    let bad = "\
+too deep item 0 at 0xc in the section at 0x8: the type at 0x138 is in more than 100 others";
     expect("too_deep_type", &section, out, Some(bad));
 }
 
@@ -57,6 +63,7 @@ fn faults_of_nested_components() {
     0xa..0x16 component 0, 12 bytes
       0x12..0x16 alias section, 4 bytes, 1 item
         0x15 items that aren't read
+          0x15: 09
 ";
     let nested = b"\x04\x0c\0asm\x0d\0\x01\0\x06\x02\x01\x09";
     let bad = "\
@@ -67,14 +74,16 @@ bad item 0 at 0x15 in the section at 0x12: 0x09 where an alias is expected";
   0x8..0xd component section, 5 bytes, 1 item
     0xa..0xd component 0, 3 bytes
       0xa no component's header
+        0xa: 00 61 73
 ";
-    let bad = "no component's header at 0xa: found other bytes";
+    let bad = "no component's header at 0xa: found other bytes: 00 61 73";
     expect("no_component", b"\x04\x03\0as", out, Some(bad));
     let out = "\
 0x0..0x12 component, 18 bytes
   0x8..0x12 component section, 10 bytes, 1 item
     0xa..0x12 component 0, 8 bytes
       0xa no component's header
+        0xa: 00 61 73 6d 01 00 00 00
 ";
     let bad = "no component's header at 0xa: found a core module";
     expect("module_as_component", b"\x04\x08\0asm\x01\0\0\0", out, Some(bad));
@@ -85,8 +94,8 @@ fn files_that_are_none_of_both() {
     let none = [
         (&b""[..], "nothing"),
         (b"(component)", "WebAssembly text"),
-        (b"\0asm\x0c\0\x01\0", "another version of the format"),
-        (b"hello", "other bytes"),
+        (b"\0asm\x0c\0\x01\0", "another version of the format: version 0x1000c"),
+        (b"hello", "other bytes: 68 65 6c 6c 6f"),
     ];
     for (bytes, found) in none {
         let bad = format!("no component's header at 0x0: found {found}");
@@ -104,8 +113,10 @@ fn core_modules_are_printed_as_far_as_they_are_read() {
 0x0..0xe core module, 14 bytes
   0x8..0xc custom section \"x\", 4 bytes
   0xc no core section
+    0xc: 01 01
 ";
-    expect_of(&[], &file, out, Some("bad core section at 0xc"));
+    let bad = "bad core section at 0xc: needs 1 byte or more from 0xe on, where 0 are left";
+    expect_of(&[], &file, out, Some(bad));
     // the second import has no kind; there is one export less than bytes; no start
     let module = b"\0asm\x01\0\0\0\
         \x02\x0c\x02\x01m\x01f\0\0\x01m\x01f\x05\
@@ -116,13 +127,18 @@ fn core_modules_are_printed_as_far_as_they_are_read() {
   0x8..0x16 import section, 14 bytes, 2 items
     0xb core func 0: import \"m\" \"f\" Function(0)
     0x11 items that aren't read
+      0x11: 01 6d 01 66 05
   0x16..0x1e export section, 8 bytes, 1 item
     0x19 export \"f\" Func 0
     0x1d bytes behind the last item
+      0x1d: 09
   0x1e..0x20 start section, 2 bytes, 1 item
     0x20 items that aren't read
 ";
-    let bad = "bad item 1 at 0x11\nbytes behind the last item at 0x1d\nbad item 0 at 0x20";
+    let bad = "\
+bad item 1 at 0x11: 0x05 at 0x15, where 0x00 to 0x04 is expected
+bytes behind the last item at 0x1d
+bad item 0 at 0x20: needs 1 byte or more from 0x20 on, where 0 are left";
     expect_of(&[], &file_of("bad_entries", module), out, Some(bad));
 }
 
@@ -138,19 +154,23 @@ fn sections_of_core_modules_are_faults() {
     0xa no count
   0xa..0xc section 65, 2 bytes
     0xa unknown section
+      0xa: 41 00
   0xc..0xf custom section, 3 bytes
     0xc no name
+      0xc: 00 01 07
   0xf..0x13 function section, 4 bytes, 0 items
     0x12 bytes behind the last item
+      0x12: 00
   0x13..0x16 data section, 3 bytes, 0 items
   0x16 no core section
+    0x16: 01 7f
 ";
     let bad = "\
-bad count at 0xa
+bad count at 0xa: needs 1 byte or more from 0xa on, where 0 are left
 unknown section 65 at 0xa
-custom section without a name at 0xc
+custom section without a name at 0xc: needs 8 bytes or more from 0xe on, where 1 is left
 bytes behind the last item at 0x12
-bad core section at 0x16";
+bad core section at 0x16: needs 127 bytes or more from 0x18 on, where 0 are left";
     expect_of(&[], &file_of("bad_sections", BAD_SECTIONS), out, Some(bad));
 }
 
@@ -165,20 +185,24 @@ fn sections_of_core_modules_in_components_are_faults() {
         0x14 no count
       0x14..0x16 section 65, 2 bytes
         0x14 unknown section
+          0x14: 41 00
       0x16..0x19 custom section, 3 bytes
         0x16 no name
+          0x16: 00 01 07
       0x19..0x1d function section, 4 bytes, 0 items
         0x1c bytes behind the last item
+          0x1c: 00
       0x1d..0x20 data section, 3 bytes, 0 items
       0x20 no core section
+        0x20: 01 7f
   0x22..0x25 alias section, 3 bytes, 0 items
 ";
     let bad = "\
-bad count at 0x14
+bad count at 0x14: needs 1 byte or more from 0x14 on, where 0 are left
 unknown section 65 at 0x14
-custom section without a name at 0x16
+custom section without a name at 0x16: needs 8 bytes or more from 0x18 on, where 1 is left
 bytes behind the last item at 0x1c
-bad core section at 0x20";
+bad core section at 0x20: needs 127 bytes or more from 0x22 on, where 0 are left";
     let sections = [b"\x01\x18", BAD_SECTIONS, b"\x06\x01\0"].concat();
     expect("bad_sections_nested", &sections, out, Some(bad));
 }
@@ -190,9 +214,10 @@ fn nested_modules_that_are_none_are_faults() {
   0x8..0xf core module section, 7 bytes, 1 item
     0xa..0xf core module 0, 5 bytes
       0xa no core module's header
+        0xa: 68 65 6c 6c 6f
   0xf..0x12 alias section, 3 bytes, 0 items
 ";
-    let bad = "no core module's header at 0xa: found other bytes";
+    let bad = "no core module's header at 0xa: found other bytes: 68 65 6c 6c 6f";
     expect("no_module", b"\x01\x05hello\x06\x01\0", out, Some(bad));
 }
 
@@ -216,22 +241,30 @@ const FAULTY_TEXT: &str = "\
     0x10 items that aren't read
   0x10..0x13 section 12, 3 bytes
     0x10 unknown section
+      0x10: 0c 01 07
   0x13..0x16 alias section, 3 bytes
     0x15 no count
+      0x15: 80
   0x16..0x19 custom section, 3 bytes, 1 item
     0x16 no name
+      0x16: 00 01 07
   0x19..0x1e type section, 5 bytes, 1 item
     0x1c type ?: Defined(Own(0) \"t\")
   0x1e..0x2c component section, 14 bytes, 1 item
     0x20..0x2c component ?, 12 bytes
       0x28..0x2c alias section, 4 bytes, 1 item
         0x2b items that aren't read
+          0x2b: 09
   0x2c..0x31 component section, 5 bytes, 1 item
     0x2e..0x31 component ?, 3 bytes
       0x2e no component's header
+        0x2e: 00 61 73
   0x31..0x4d custom section, 28 bytes, 1 item
     0x33 custom \"component-name\", 11 bytes
+      component \"c\"
+      type 0 \"t\"
   0x4d no section
+    0x4d: 06 05 01
 ";
 
 /// A section that isn't read is followed by the next, as long as they are framed.
@@ -240,11 +273,11 @@ fn what_follows_a_fault_is_printed() {
     let bad = "\
 bad item 1 at 0x10 in the section at 0x8: the section ends where an import is expected
 unknown section 12 at 0x10
-bad count at 0x15 in the section at 0x13
-custom section without a name at 0x16
+bad count at 0x15 in the section at 0x13: needs 2 bytes or more from 0x15 on, where 1 is left
+custom section without a name at 0x16: needs 8 bytes or more from 0x18 on, where 1 is left
 bad item 0 at 0x2b in the section at 0x28: 0x09 where an alias is expected
-no component's header at 0x2e: found other bytes
-bad section at 0x4d";
+no component's header at 0x2e: found other bytes: 00 61 73
+bad section at 0x4d: needs 5 bytes or more from 0x4f on, where 1 is left";
     expect("goes_on", FAULTY, FAULTY_TEXT, Some(bad));
 }
 
@@ -255,6 +288,7 @@ fn indices_behind_bytes_behind_items_are_known() {
 0x0..0x11 component, 17 bytes
   0x8..0xc alias section, 4 bytes, 0 items
     0xb bytes behind the last item
+      0xb: 00
   0xc..0x11 type section, 5 bytes, 1 item
     0xf type 0: Defined(Own(0))
 ";

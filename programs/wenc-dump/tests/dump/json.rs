@@ -86,7 +86,8 @@ fn debug_names_custom_sections_and_nested_components() {
         {\"start\":18,\"end\":21,\"id\":6,\"kind\":\"alias\",\"count\":0,\"items\":[]}]}}]},\
         {\"start\":21,\"end\":52,\"id\":0,\"kind\":\"custom\",\"count\":1,\"items\":[\
         {\"start\":23,\"end\":52,\"space\":null,\"index\":null,\"count\":0,\"name\":null,\"item\":\
-        {\"name\":\"component-name\",\"size\":14,\"unread\":49}}]}]},\
+        {\"name\":\"component-name\",\"size\":14,\"names\":[{\"space\":null,\"index\":null,\"name\":\"c\"},\
+        {\"space\":\"component\",\"index\":0,\"name\":\"n\"}],\"unread\":49}}]}]},\
         \"fault\":{\"place\":49,\"message\":\"bad debug names at 0x31\"}";
     expect(&[], &file("json_names", &[&nested[..], names].concat()), 1, out);
 }
@@ -112,7 +113,9 @@ fn core_modules() {
         \"item\":{\"start\":10,\"end\":24,\"sections\":[\
         {\"start\":18,\"end\":22,\"id\":2,\"kind\":\"import\",\"name\":null,\"count\":1,\
         \"items\":[],\"unread\":21}],\"unread\":22}}]}]},\
-        \"fault\":{\"place\":21,\"message\":\"bad item 0 at 0x15\"}";
+        \"fault\":{\"place\":21,\"message\":\"bad item 0 at 0x15: \
+        needs 5 bytes or more from 0x15 on, where 1 is left\",\"cause\":{\"place\":22,\
+        \"message\":\"needs 5 bytes or more from 0x15 on, where 1 is left\"}}";
     expect(&[], &file("json_unread", sections), 1, out);
 }
 
@@ -127,17 +130,22 @@ fn faults() {
         {\"start\":18,\"end\":22,\"id\":6,\"kind\":\"alias\",\"count\":1,\"items\":[],\
         \"unread\":21}]}}]}]},\
         \"fault\":{\"place\":21,\"message\":\"bad item 0 at 0x15 in the section at 0x12: 0x09 \
-        where an alias is expected\"}";
+        where an alias is expected\",\"cause\":{\"place\":21,\
+        \"message\":\"0x09 at 0x15, where 0x00 to 0x05 is expected\"}}";
     expect(&[], &file("json_fault", nested), 1, out);
     let out = "\"fault\":{\"place\":0,\"message\":\"no component's header at 0x0: found nothing\"}";
     expect(&[], &file_of("json_empty", b""), 1, out);
     let module = file_of("json_bad_module", b"\0asm\x01\0\0\0\x01");
     let out = "\"module\":{\"start\":0,\"end\":9,\"sections\":[],\"unread\":8},\
-        \"fault\":{\"place\":8,\"message\":\"bad core section at 0x8\"}";
+        \"fault\":{\"place\":8,\"message\":\"bad core section at 0x8: \
+        needs 1 byte or more from 0x9 on, where 0 are left\",\"cause\":{\"place\":9,\
+        \"message\":\"needs 1 byte or more from 0x9 on, where 0 are left\"}}";
     expect(&[], &module, 1, out);
     // no section; a section with an unknown id, and one whose type has no known index
     let out = "\"component\":{\"start\":0,\"end\":10,\"name\":null,\"sections\":[],\"unread\":8},\
-        \"fault\":{\"place\":8,\"message\":\"bad section at 0x8\"}";
+        \"fault\":{\"place\":8,\"message\":\"bad section at 0x8: \
+        needs 5 bytes or more from 0xa on, where 0 are left\",\"cause\":{\"place\":10,\
+        \"message\":\"needs 5 bytes or more from 0xa on, where 0 are left\"}}";
     expect(&[], &file("json_no_section", b"\x06\x05"), 1, out);
     let out = "\"component\":{\"start\":0,\"end\":16,\"name\":null,\"sections\":[\
         {\"start\":8,\"end\":11,\"id\":12,\"kind\":null,\"count\":null,\"items\":[],\"unread\":8},\

@@ -109,6 +109,32 @@ fn many_debug_names() {
     expect_refusals(&file_of("limits_names", &bytes), 10);
 }
 
+/// To find its cause, the bytes behind a fault are copied.
+#[test]
+fn a_fault_before_many_bytes() {
+    let imports = [&b"\x01\0\x01f\x09"[..], &[0; 1 << 20]].concat();
+    let file = file("limits_fault", &section(10, &imports));
+    let ample = crate::dump(&[], &file);
+    assert_eq!(ample.status.code(), Some(1));
+    let cause = String::from_utf8_lossy(&ample.stderr).into_owned();
+    assert!(cause.ends_with(": 0x09 at 0x12, where 0x00 to 0x05 is expected\n"), "{cause}");
+    let mut refused = 0;
+    for kib in (least()..).step_by(STEP) {
+        let output = limited(kib, &[], &file);
+        let err = String::from_utf8_lossy(&output.stderr);
+        match output.status.code() {
+            Some(1) => {
+                assert_eq!(err, cause);
+                break;
+            }
+            Some(3) => assert_eq!(err, format!("{}: memory ran out\n", file.display()), "{kib}"),
+            _ => panic!("{} in {kib} KiB: {err}", output.status),
+        }
+        refused += 1;
+    }
+    assert!(refused >= 10, "{refused}");
+}
+
 /// Types in types are printed one in the other.
 #[test]
 fn deep_types() {

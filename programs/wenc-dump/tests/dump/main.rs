@@ -1,8 +1,11 @@
 //! The program `wenc-dump`: what it prints of worked components and of the corpus, as text and as
 //! JSON, and what it says of bad ones.
 
+mod causes;
 mod check;
 mod corpus;
+mod custom;
+mod examples;
 mod faults;
 mod json;
 #[cfg(target_os = "linux")]

@@ -6,7 +6,7 @@ use std::fs;
 use std::io::{self, BufRead, BufReader, Write};
 use std::path::Path;
 use std::process::{Command, Output, Stdio};
-use wenc_dump::Streams;
+use wenc_dump::{Streams, Terminal};
 
 const USAGE: &str = "usage: wenc-dump [OPTION]... FILE...\n";
 
@@ -37,13 +37,118 @@ fn bad_arguments_have_the_usage_printed() {
 }
 
 #[test]
+fn bad_values_have_the_usage_printed() {
+    for (arguments, bad) in [
+        (&["--color=blue", "-"][..], "no value of --color: blue"),
+        (&["--color", "--", "-"], "no value of --color: --"),
+        (&["--width=-1", "-"], "no value of --width: -1"),
+        (&["--width=", "-"], "no value of --width: "),
+        (&["--section=imports", "-"], "no value of --section: imports"),
+        (&["--section=256", "-"], "no value of --section: 256"),
+        (&["-", "--section"], "no value of --section"),
+        (&["--json=1", "-"], "no option --json=1"),
+    ] {
+        expect_run(arguments, b"", (2, "", &format!("wenc-dump: {bad}\n{USAGE}")));
+    }
+}
+
+#[test]
+fn some_sections_are_printed() {
+    let types = "\
+0x0..0x17 component, 23 bytes
+  0x8..0xf type section, 7 bytes, 1 item
+    0xb type 0: Func { is_async: false, params: [], result: None }
+";
+    let imports = "\
+0x0..0x17 component, 23 bytes
+  0xf..0x17 import section, 8 bytes, 1 item
+    0x12 func 0: import \"f\" Func(0)
+";
+    let component = component(FUNCTION);
+    for arguments in [&["--section=type", "-"][..], &["--section", "7", "-"]] {
+        expect_run(arguments, &component, (0, types, ""));
+    }
+    expect_run(&["-", "--section=import"], &component, (0, imports, ""));
+    let both = ["--section=import", "--section=7", "-"];
+    expect_run(&both, &component, (0, FUNCTION_TEXT, ""));
+    expect_run(&["--section=core-module", "-"], &component, (0, &imports[..30], ""));
+    let json = "{\"file\":\"-\",\"component\":{\"start\":0,\"end\":23,\"name\":null,\"sections\":[]},\
+        \"fault\":null}\n";
+    expect_run(&["--section=start", "--json", "-"], &component, (0, json, ""));
+}
+
+/// What is in a section that is printed is printed, and what is in others isn't, but for its faults.
+#[test]
+fn sections_are_those_of_the_file() {
+    let nested = b"\x04\x13\0asm\x0d\0\x01\0\x06\x01\0\0\x02\x01x\x06\x02\x01\x09";
+    let bytes = component(&[&nested[..], b"\x06\x01\0"].concat());
+    let out = "\
+0x0..0x20 component, 32 bytes
+  0x1d..0x20 alias section, 3 bytes, 0 items
+";
+    let err = "-: bad item 0 at 0x1c in the section at 0x19: 0x09 where an alias is expected\n";
+    expect_run(&["--section=alias", "-"], &bytes, (1, out, err));
+    let out = "\
+0x0..0x20 component, 32 bytes
+  0x8..0x1d component section, 21 bytes, 1 item
+    0xa..0x1d component 0, 19 bytes
+      0x12..0x15 alias section, 3 bytes, 0 items
+      0x15..0x19 custom section, 4 bytes, 1 item
+        0x17 custom \"x\", 0 bytes
+      0x19..0x1d alias section, 4 bytes, 1 item
+        0x1c items that aren't read
+          0x1c: 09
+";
+    expect_run(&["--section=component", "-"], &bytes, (1, out, err));
+    let module = b"\0asm\x01\0\0\0\x01\x01\0\x08\x01\x07";
+    let out = "\
+0x0..0xe core module, 14 bytes
+  0xb..0xe start section, 3 bytes, 1 item
+    0xd start of 7
+";
+    expect_run(&["--section=start", "-"], module, (0, out, ""));
+}
+
+#[test]
+fn output_is_coloured_always_or_never() {
+    let component = component(FUNCTION);
+    let output = run(&["--color=always", "-"], &component);
+    let out = String::from_utf8(output.stdout).expect("it is text");
+    assert!(out.starts_with("\x1b[2m0x0..0x17\x1b[0m component, 23 bytes\n"), "{out}");
+    for never in ["--color=never", "--color=auto"] {
+        expect_run(&[never, "-"], &component, (0, FUNCTION_TEXT, ""));
+    }
+    let terminal = Terminal { has_colours: true, columns: Some(40) };
+    let (mut out, mut err) = (Vec::new(), Vec::new());
+    let mut input = &component[..];
+    let mut streams = Streams { input: &mut input, out: &mut out, err: &mut err };
+    let arguments = ["wenc-dump", "--color=never", "--width=100", "-"].map(Into::into);
+    assert_eq!(wenc_dump::run(arguments.into_iter(), terminal, &mut streams), 0);
+    assert_eq!((String::from_utf8_lossy(&out).as_ref(), err.len()), (FUNCTION_TEXT, 0));
+}
+
+#[test]
+fn lines_have_so_many_columns() {
+    let component = component(FUNCTION);
+    let line = "    0xb type 0: Func { is_async: false, params: [], result: None }\n";
+    let lines = "    0xb type 0: Func {\n      is_async: false,\n      params: [],\n      \
+        result: None,\n    }\n";
+    let folded = FUNCTION_TEXT.replace(line, lines);
+    let len = line.len() - 1;
+    expect_run(&["--width", &len.to_string(), "-"], &component, (0, FUNCTION_TEXT, ""));
+    for len in [0, 1, len - 1] {
+        expect_run(&["-", &format!("--width={len}")], &component, (0, &folded, ""));
+    }
+}
+
+#[test]
 fn help_and_version() {
     for help in [&["--help"][..], &["-h"], &["-x", "-", "-h"]] {
         let output = run(help, b"");
         let out = String::from_utf8(output.stdout).expect("it is text");
         assert!(output.status.success() && output.stderr.is_empty());
         assert!(out.starts_with(USAGE) && out.lines().all(|line| line.len() < 100));
-        for word in ["--hex", "--json", "--help", "--version", "standard input", "\"fault\""] {
+        for word in ["--hex", "--section", "--color", "--width", "--json", "--help", "--version", "standard input", "\"fault\""] {
             assert!(out.contains(word), "{word}");
         }
     }
@@ -145,7 +250,7 @@ fn a_reader_that_leaves_ends_it_quietly() {
             let arguments = arguments.chain([path.clone()]);
             let (mut out, mut err) = (Left(room), Vec::new());
             let mut streams = Streams { input: &mut io::empty(), out: &mut out, err: &mut err };
-            let status = wenc_dump::run(arguments, false, &mut streams);
+            let status = wenc_dump::run(arguments, Terminal::default(), &mut streams);
             assert_eq!((status, err.len()), (0, 0), "{room}");
         }
     }

@@ -1,7 +1,7 @@
 //! Text of worked components and core modules.
 
 use crate::{FUNCTION, FUNCTION_TEXT, component, expect, expect_of, file, file_of};
-use wenc_dump::{Streams, colours_are_wanted, run as dump};
+use wenc_dump::{Streams, Terminal, colours_are_wanted, run as dump};
 
 #[test]
 fn sections_and_items() {
@@ -36,6 +36,9 @@ fn debug_names() {
     0x12 func 0 \"g\": import \"f\" Func(0) \"t\"
   0x17..0x3a custom section, 35 bytes, 1 item
     0x19 custom \"component-name\", 18 bytes
+      component \"c\"
+      func 0 \"g\"
+      type 0 \"t\"
 ";
     expect("names", &[FUNCTION, NAMES].concat(), out, None);
     // Another subsection, and after it what is none.
@@ -48,7 +51,9 @@ fn debug_names() {
     0x12 func 0 \"g\": import \"f\" Func(0)
   0x17..0x38 custom section, 33 bytes, 1 item
     0x19 custom \"component-name\", 16 bytes
+      func 0 \"g\"
       0x33 names that aren't read
+        0x33: 01 03 01 01 00
 ";
     expect("bad_names", &[FUNCTION, names].concat(), out, Some("bad debug names at 0x33"));
 }
@@ -82,6 +87,9 @@ fn names_of_what_indices_refer_to() {
         0x3e type 1: Defined(Own(0))
   0x40..0x63 custom section, 35 bytes, 1 item
     0x42 custom \"component-name\", 18 bytes
+      component \"c\"
+      func 0 \"g\"
+      type 0 \"t\"
 ";
     expect("referred", &sections, out, None);
 }
@@ -107,6 +115,7 @@ fn a_long_name_after_an_index_is_cut() {
     0x12 func 0: import \"f\" Func(0) \"{}\"...
   0x17..0xf9 custom section, 226 bytes, 1 item
     0x1a custom \"component-name\", 208 bytes
+      type 0 \"{long}\"
 ",
         "é".repeat(80)
     );
@@ -125,17 +134,19 @@ fn modules_and_nested_components() {
       0x15..0x18 data count section, 3 bytes
         0x18 no count
       0x18 no core section
+        0x18: 0b
   0x19..0x26 component section, 13 bytes, 1 item
     0x1b..0x26 component 0, 11 bytes
       0x23..0x26 alias section, 3 bytes, 0 items
   0x26..0x29 core module section, 3 bytes, 1 item
     0x28..0x29 core module 1, 1 byte
       0x28 no core module's header
+        0x28: 07
 ";
     let bad = "\
-bad count at 0x18
-bad core section at 0x18
-no core module's header at 0x28: found other bytes";
+bad count at 0x18: needs 1 byte or more from 0x18 on, where 0 are left
+bad core section at 0x18: needs 1 byte or more from 0x19 on, where 0 are left
+no core module's header at 0x28: found other bytes: 07";
     expect("nested", &[&module[..], nested].concat(), out, Some(bad));
 }
 
@@ -168,6 +179,7 @@ const CORE_TEXT: &str = "\
   0x46..0x49 data count section, 3 bytes, 2 items
   0x49..0x4c section 14, 3 bytes
     0x49 unknown section
+      0x49: 0e 01 02
 ";
 
 /// Sections of all ids, of a module that is by itself.
@@ -239,7 +251,8 @@ fn a_terminal_has_colours() {
     let arguments = ["wenc-dump".into(), file("coloured", FUNCTION).into_os_string()];
     let (mut out, mut err) = (Vec::new(), Vec::new());
     let mut streams = Streams { input: &mut &b""[..], out: &mut out, err: &mut err };
-    let status = dump(arguments.into_iter(), true, &mut streams);
+    let terminal = Terminal { has_colours: true, columns: None };
+    let status = dump(arguments.into_iter(), terminal, &mut streams);
     let wanted = "\
 \x1b[2m0x0..0x17\x1b[0m component, 23 bytes
   \x1b[2m0x8..0xf\x1b[0m type section, 7 bytes, 1 item
@@ -257,7 +270,8 @@ fn printed(sections: &[u8], options: &[&str], has_colours: bool) -> (String, u8)
     let arguments = ["wenc-dump"].iter().chain(options).chain(&["-"]).map(Into::into);
     let (mut out, mut err) = (Vec::new(), Vec::new());
     let mut streams = Streams { input: &mut &bytes[..], out: &mut out, err: &mut err };
-    let status = dump(arguments, has_colours, &mut streams);
+    let terminal = Terminal { has_colours, columns: None };
+    let status = dump(arguments, terminal, &mut streams);
     (String::from_utf8(out).expect("it is text"), status)
 }
 
@@ -278,7 +292,9 @@ fn names_texts_and_places_have_colours() {
     Defined(Enum([\x1b[32m\"a\"\x1b[0m, \x1b[32m\"bc\"\x1b[0m]))
   \x1b[2m0x14..0x7c\x1b[0m custom section, 104 bytes, 1 item
     \x1b[2m0x16\x1b[0m custom \x1b[32m\"component-name\"\x1b[0m, 87 bytes
+      \x1b[36mtype 0\x1b[0m \x1b[32m\"{long}\"\x1b[0m
   \x1b[2m0x7c\x1b[0m no section
+    \x1b[2m0x7c:\x1b[0m 06 05 01
 "
     );
     assert_eq!((out, status), (wanted, 1));
@@ -337,6 +353,8 @@ fn names_of_the_component_and_of_a_function() {
     0x12 func 0 \"g\": import \"f\" Func(0)
   0x17..0x33 custom section, 28 bytes, 1 item
     0x19 custom \"component-name\", 11 bytes
+      component \"c\"
+      func 0 \"g\"
 ";
     expect("debug_names", &[FUNCTION, names].concat(), out, None);
 }

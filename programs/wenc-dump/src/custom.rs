@@ -1,0 +1,69 @@
+//! Walks through custom sections.
+
+use super::fault::{Failure, Fault};
+use super::report::{Contents, Entry, Part, Report};
+use super::walk::Walk;
+use std::ops::Range;
+use wenc::view::ItemView;
+use wenc::{DebugNames, NamesFault, ProducersReader};
+
+impl Contents {
+    /// Returns what is reported of a custom section with this name.
+    pub fn of(name: &str) -> Self {
+        match name {
+            DebugNames::SECTION => Self::Names,
+            ProducersReader::SECTION => Self::Producers,
+            _ => Self::Other,
+        }
+    }
+}
+
+impl<R: Report> Walk<'_, '_, R> {
+    fn entry(&mut self, entry: Entry) -> Result<(), Failure> {
+        self.report.open(&Part::Entry(entry))?;
+        Ok(self.report.close()?)
+    }
+
+    /// Reports what a custom section contains, whose data ends at this byte offset.
+    pub(super) fn custom(&mut self, item: &ItemView, end: usize) -> Result<(), Failure> {
+        let ItemView::Custom { name, data } = *item else { return Ok(()) };
+        match Contents::of(name) {
+            Contents::Names => self.debug_names(item, end - data.len()..end),
+            Contents::Producers => self.producers(data, end - data.len()),
+            Contents::Other => Ok(()),
+        }
+    }
+
+    /// Reports the debug names in an item, whose data has these byte offsets.
+    fn debug_names(&mut self, item: &ItemView, data: Range<usize>) -> Result<(), Failure> {
+        let mut names = DebugNames::new();
+        let read = names.read(item);
+        if let Some(name) = names.component() {
+            self.entry(Entry::Name(None, name))?;
+        }
+        for (space, index, name) in names.iter() {
+            self.entry(Entry::Name(Some((space, index)), name))?;
+        }
+        match read {
+            Ok(()) => Ok(()),
+            Err(NamesFault::BadSubsection { place }) => {
+                Ok(self.unread_reported(Fault::Names(data.start + place), data.end)?)
+            }
+            Err(_) => Err(Failure::NoMemory),
+        }
+    }
+
+    /// Reports the tools in the data of a section, which begins at this byte offset.
+    pub(super) fn producers(&mut self, data: &[u8], start: usize) -> Result<(), Failure> {
+        for tool in ProducersReader::new(data) {
+            match tool {
+                Ok(tool) => self.entry(Entry::Tool(tool))?,
+                Err(fault) => {
+                    let end = start + data.len();
+                    self.unread_reported(Fault::Producers(start + fault.place), end)?;
+                }
+            }
+        }
+        Ok(())
+    }
+}

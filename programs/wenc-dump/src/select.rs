@@ -1,0 +1,108 @@
+//! Reports of some sections only.
+
+use super::fault::Fault;
+use super::report::{Part, Report, Rest};
+use super::words;
+use std::ffi::OsStr;
+use std::io;
+use wenc::tree::UsedIndex;
+
+/// The kind of sections, by its word or its id.
+#[derive(Clone, Copy, PartialEq, Eq)]
+pub enum Kind {
+    /// A word for sections of components, of core modules or of both.
+    Word(&'static str),
+    /// An id.
+    Id(u8),
+}
+
+impl Kind {
+    /// Parses a word, with hyphens or spaces, or a decimal id; `None` if there are no such sections.
+    pub fn parse(text: &str) -> Option<Self> {
+        if let Ok(id) = text.parse() {
+            return Some(Self::Id(id));
+        }
+        let text = text.replace('-', " ");
+        let words = (0..=u8::MAX).flat_map(|id| [words::section(id), words::core_section(id)]);
+        words.flatten().find(|word| *word == text).map(Self::Word)
+    }
+
+    /// Returns whether a section with this id and this word is of the kind.
+    fn has(self, id: u8, word: Option<&str>) -> bool {
+        match self {
+            Self::Word(kind) => word == Some(kind),
+            Self::Id(kind) => id == kind,
+        }
+    }
+}
+
+/// A report without the sections of the file that aren't of these kinds. Without kinds it has all.
+pub struct Selected<'r, R> {
+    report: &'r mut R,
+    kinds: &'r [Kind],
+    /// The number of open parts.
+    depth: usize,
+    /// The number of parts around the open section that is left out.
+    left_out: Option<usize>,
+}
+
+impl<'r, R: Report> Selected<'r, R> {
+    /// Creates a report of sections of these kinds.
+    pub fn new(report: &'r mut R, kinds: &'r [Kind]) -> Self {
+        Self { report, kinds, depth: 0, left_out: None }
+    }
+
+    /// Returns whether a part is reported.
+    fn has(&self, part: &Part) -> bool {
+        let (id, word) = match part {
+            _ if self.depth != 1 || self.kinds.is_empty() => return true,
+            Part::Section { id, .. } => (*id, words::section(*id)),
+            Part::CoreSection { id, .. } => (*id, words::core_section(*id)),
+            _ => return true,
+        };
+        self.kinds.iter().any(|kind| kind.has(id, word))
+    }
+
+    /// Passes something on, unless it is left out.
+    fn pass(&mut self, to: impl FnOnce(&mut R) -> io::Result<()>) -> io::Result<()> {
+        if self.left_out.is_none() { to(self.report) } else { Ok(()) }
+    }
+}
+
+impl<R: Report> Report for Selected<'_, R> {
+    fn begin(&mut self, file: &OsStr) -> io::Result<()> {
+        self.report.begin(file)
+    }
+
+    fn open(&mut self, part: &Part) -> io::Result<()> {
+        if self.left_out.is_none() && !self.has(part) {
+            self.left_out = Some(self.depth);
+        }
+        self.depth += 1;
+        self.pass(|report| report.open(part))
+    }
+
+    fn unread(&mut self, place: usize, what: &str, rest: Rest) -> io::Result<()> {
+        self.pass(|report| report.unread(place, what, rest))
+    }
+
+    fn out_of_range(&mut self, place: usize, index: &UsedIndex) -> io::Result<()> {
+        self.pass(|report| report.out_of_range(place, index))
+    }
+
+    fn flush(&mut self) -> io::Result<()> {
+        self.report.flush()
+    }
+
+    fn close(&mut self) -> io::Result<()> {
+        self.depth -= 1;
+        if self.left_out.take_if(|depth| *depth == self.depth).is_some() {
+            return Ok(());
+        }
+        self.pass(Report::close)
+    }
+
+    fn end(&mut self, fault: Option<&Fault>) -> io::Result<()> {
+        self.report.end(fault)
+    }
+}

@@ -1,0 +1,263 @@
+//! Why items and sections can't be read, and from which byte on.
+
+use crate::component;
+use crate::corpus::corpus;
+use crate::values::Value;
+use std::collections::BTreeSet;
+use std::fs;
+use std::ops::Range;
+use wenc::{ComponentSection, ListFault, RawSection, Sections, Unread, list};
+use wenc_dump::{Streams, Terminal};
+
+/// One in so many damages is tried. Programs that aren't optimized are slow.
+const STEP: usize = if cfg!(debug_assertions) { 9 } else { 3 };
+
+/// Runs the program on these bytes. Returns its status, what it prints and what it says.
+fn run(options: &[&str], mut bytes: &[u8]) -> (u8, String, String) {
+    let (mut out, mut err) = (Vec::new(), Vec::new());
+    let mut streams = Streams { input: &mut bytes, out: &mut out, err: &mut err };
+    let arguments = ["wenc-dump"].iter().chain(options).chain(&["-"]).map(Into::into);
+    let status = wenc_dump::run(arguments, Terminal::default(), &mut streams);
+    let [out, err] = [out, err].map(|text| String::from_utf8(text).expect("it is text"));
+    (status, out, err)
+}
+
+/// The byte offset of the first fault's cause, and its words.
+fn cause(bytes: &[u8]) -> Option<(usize, String)> {
+    let (_, out, _) = run(&["--json"], bytes);
+    let json = Value::read(&out);
+    let Value::Object(fault) = json.at("fault") else { return None };
+    let cause = fault.get("cause")?;
+    let place = usize::try_from(cause.at("place").number()).expect("it is small");
+    Some((place, cause.at("message").text().to_string()))
+}
+
+/// Items of the corpus, each with its section's id, up to this size; all different.
+fn items(size: usize) -> BTreeSet<(u8, Vec<u8>)> {
+    let mut items = BTreeSet::new();
+    for file in fs::read_dir(corpus("wasm")).expect("the corpus is there") {
+        let bytes = fs::read(file.expect("it is there").path()).expect("it is there");
+        for section in Sections::new(&bytes).into_iter().flatten().flatten() {
+            if matches!(section.id(), 0 | 1 | 4) {
+                continue;
+            }
+            for (range, _) in section.items().flatten().filter(|(range, _)| range.len() <= size) {
+                items.insert((section.id(), bytes[range].to_vec()));
+            }
+        }
+    }
+    items
+}
+
+/// A component with a section of this item.
+fn alone(id: u8, item: &[u8]) -> Vec<u8> {
+    let count: &[u8] = if id == 9 { &[] } else { &[1] };
+    let mut sections = Vec::new();
+    RawSection { id, data: &[count, item].concat() }.append_to_component(&mut sections);
+    component(&sections)
+}
+
+/// The bytes that the words of a cause expect.
+fn expected(message: &str) -> Vec<u8> {
+    let ranges = message.strip_suffix(" is expected").and_then(|text| text.split_once(", where "));
+    let Some((_, ranges)) = ranges else { return Vec::new() };
+    let ranges = ranges.replace(" or ", ", ");
+    let byte = |text: &str| {
+        u8::from_str_radix(text.trim_start_matches("0x"), 16).expect("it is a byte")
+    };
+    let mut bytes = Vec::new();
+    for range in ranges.split(", ") {
+        let (from, to) = range.split_once(" to ").unwrap_or((range, range));
+        bytes.extend(byte(from)..=byte(to));
+    }
+    bytes
+}
+
+/// A component with these sections, or a core module if they begin with its header.
+fn file_of(sections: &[u8]) -> Vec<u8> {
+    if sections.starts_with(b"\0asm") { sections.to_vec() } else { component(sections) }
+}
+
+/// Kinds of damage, each with a file and what is said of it.
+const KINDS: [(&[u8], &str); 20] = [
+    // a name of an import, of a nested item, and of a custom section
+    (
+        b"\x0a\x07\x01\0\x02a\xff\x01\0",
+        "bad item 0 at 0xb in the section at 0x8: 0xff at 0xe isn't UTF-8",
+    ),
+    (
+        b"\x07\x0c\x01\x42\x01\x04\0\x04a\xc3\x28c\x01\0",
+        "bad item 0 at 0xb in the section at 0x8: 0x28 at 0x12 isn't UTF-8",
+    ),
+    (b"\0\x03\x02a\x80", "custom section without a name at 0x8: 0x80 at 0xc isn't UTF-8"),
+    // unknown kinds and opcodes
+    (
+        b"\x0a\x06\x01\0\x01f\x09\x63",
+        "bad item 0 at 0xb in the section at 0x8: 0x09 at 0xe, where 0x00 to 0x05 is expected",
+    ),
+    (b"\x06\x02\x01\x09", "bad item 0 at 0xb in the section at 0x8: 0x09 where an alias is expected"),
+    (
+        b"\x08\x04\x01\0\0\x33",
+        "bad item 0 at 0xb in the section at 0x8: needs 5 bytes or more from 0xb on, where 3 are left",
+    ),
+    // too few bytes for a name, for a size and for a count
+    (
+        b"\x0a\x0a\x01\0\xc8\x01file\x01\0",
+        "bad item 0 at 0xb in the section at 0x8: needs 200 bytes or more from 0xe on, where 6 are left",
+    ),
+    (
+        b"\x0a\x08\x01\0\x64file\xff",
+        "bad item 0 at 0xb in the section at 0x8: needs 100 bytes or more from 0xd on, where 5 are left",
+    ),
+    (
+        b"\x0a\x08\x01\0\x09file\x03",
+        "bad item 0 at 0xb in the section at 0x8: needs 13 bytes or more from 0xb on, where 7 are left",
+    ),
+    (b"\x06\x05\x01", "bad section at 0x8: needs 5 bytes or more from 0xa on, where 1 is left"),
+    (
+        b"\x06\x01\x80",
+        "bad count at 0xa in the section at 0x8: needs 2 bytes or more from 0xa on, where 1 is left",
+    ),
+    // numbers that are too large or too long
+    (b"\x07\xff\xff\xff\xff\xff\x01", "bad section at 0x8: the number at 0x9 has more than 32 bits"),
+    (
+        b"\x03\x12\x01\x50\x01\0\0\0\x02\0\xff\xff\xff\xff\xff\xff\xff\xff\xff\x02",
+        "bad item 0 at 0xb in the section at 0x8: the number at 0x12 has more than 64 bits",
+    ),
+    (
+        b"\x09\x08\xff\xff\xff\xff\x1f\0\0\0",
+        "bad item 0 at 0xa in the section at 0x8: the number at 0xa has more than 32 bits",
+    ),
+    // an unknown section; bytes behind items; more items than there are
+    (b"\x0c\x01\0", "unknown section 12 at 0x8"),
+    (b"\x06\x02\0\0", "bytes behind the last item at 0xb in the section at 0x8"),
+    (
+        b"\x0a\x06\x02\0\x01f\x01\0",
+        "bad item 1 at 0x10 in the section at 0x8: the section ends where an import is expected",
+    ),
+    // a core module
+    (
+        b"\0asm\x01\0\0\0\x02\x06\x01\x01m\x01f\x05",
+        "bad item 0 at 0xb: 0x05 at 0xf, where 0x00 to 0x04 is expected",
+    ),
+    (
+        b"\0asm\x01\0\0\0\x0b\x02\x07\0",
+        "bad item 0 at 0xb: needs 7 bytes or more from 0xb on, where 1 is left",
+    ),
+    // headers
+    (b"\0asm\x0c\0\x01\0", "no component's header at 0x0: found another version of the format: version 0x1000c"),
+];
+
+#[test]
+fn kinds_of_damage_are_told_apart() {
+    for (sections, wanted) in KINDS {
+        let (status, _, err) = run(&[], &file_of(sections));
+        assert_eq!((err.as_str(), status), (&*format!("-: {wanted}\n"), 1), "{sections:02x?}");
+    }
+}
+
+/// The components of the corpus that are shorter than this, without faults.
+fn small_components(size: usize) -> Vec<Vec<u8>> {
+    let files = fs::read_dir(corpus("wasm")).expect("the corpus is there");
+    let all = files.map(|file| fs::read(file.expect("it is there").path()).expect("it is there"));
+    all.filter(|bytes| bytes.len() < size && list(bytes).is_ok()).collect()
+}
+
+/// The byte offset of the fault of `list`, as the program tells it, and the bytes in which its cause
+/// is: the item and what follows it in its section.
+fn fault_of(bytes: &[u8]) -> Option<(usize, Range<usize>)> {
+    let fault = list(bytes).err()?;
+    let section = |place: usize| {
+        let mut sections = Sections::new(bytes).expect("it has a header");
+        let frames = std::iter::from_fn(|| sections.next_raw());
+        let ends: Vec<_> = frames.filter(|(range, _)| range.start == place).collect();
+        ends.first().map_or(bytes.len(), |(range, _)| range.end)
+    };
+    match fault {
+        ListFault::BadSection { place } => Some((place, place..section(place))),
+        ListFault::BadItem { place, unread: Some(unread), .. } => match unread {
+            Unread::Count { place: at } | Unread::Item { place: at, .. } => {
+                Some((at, at..section(place)))
+            }
+            Unread::Behind { .. } => None,
+        },
+        _ => None,
+    }
+}
+
+/// The first fault is that of `list`, and its cause is in the bytes that `list` names, or it is told
+/// by the fault itself.
+fn is_fault_of_list(bytes: &[u8]) -> bool {
+    let Some((place, within)) = fault_of(bytes) else { return false };
+    let (status, out, _) = run(&["--json"], bytes);
+    let json = Value::read(&out);
+    let fault = json.at("fault");
+    // faults of nested modules come before that of a later section
+    if fault.at("place").number() != place as u128 {
+        return false;
+    }
+    let message = fault.at("message").text();
+    match cause(bytes) {
+        Some((cause, _)) => assert!(within.start <= cause && cause <= within.end, "{message}"),
+        None => assert!(message.starts_with("unknown section "), "{message}"),
+    }
+    assert_eq!(status, 1, "{message}");
+    true
+}
+
+#[test]
+fn causes_are_in_what_the_reader_names() {
+    let (mut faults, mut compared) = (0, 0);
+    for bytes in small_components(640) {
+        for at in (8..bytes.len()).step_by(STEP) {
+            let mut changed = bytes.clone();
+            changed[at] ^= 0xff;
+            faults += usize::from(fault_of(&changed).is_some());
+            compared += usize::from(is_fault_of_list(&changed));
+            faults += usize::from(fault_of(&bytes[..at]).is_some());
+            compared += usize::from(is_fault_of_list(&bytes[..at]));
+        }
+    }
+    assert!(compared > 100 && compared > faults / 2, "{compared} of {faults}");
+}
+
+/// Each item that was cut needs more bytes: as many as are left, and more.
+#[test]
+fn items_that_are_cut_need_bytes() {
+    let mut cut = 0;
+    for (id, item) in items(24).iter().step_by(5 * STEP) {
+        for len in 1..item.len() {
+            let bytes = alone(*id, &item[..len]);
+            let (_, message) = cause(&bytes).expect("a cause");
+            assert!(message.starts_with("needs "), "{:02x?}: {message}", &item[..len]);
+            assert!(message.ends_with(if len == 1 { " 1 is left" } else { " are left" }));
+            cut += 1;
+        }
+    }
+    assert!(cut > 100, "{cut}");
+}
+
+/// A byte in place of which others are expected keeps the item from being read, whatever follows;
+/// with one of these the cause is a later one, and with any other it isn't.
+#[test]
+fn expected_bytes_are_those_that_go_on() {
+    let (mut causes, mut compared) = (0, 0);
+    for (id, item) in items(14).iter().step_by(12 * STEP) {
+        for at in 0..item.len() {
+            let mut item = item.clone();
+            item[at] ^= 0x91;
+            let bytes = alone(*id, &item);
+            let Some((place, message)) = cause(&bytes) else { continue };
+            let expected = expected(&message);
+            causes += usize::from(!expected.is_empty());
+            for byte in (0..=u8::MAX).step_by(27).filter(|_| !expected.is_empty()) {
+                let mut bytes = bytes.clone();
+                bytes[place] = byte;
+                let is_same = cause(&bytes).is_some_and(|(later, _)| later == place);
+                assert_eq!(is_same, !expected.contains(&byte), "{item:02x?}: {message}, {byte:#x}");
+                compared += 1;
+            }
+        }
+    }
+    assert!(causes > 10 && compared > 100, "{causes} causes, {compared} bytes");
+}

@@ -1,0 +1,131 @@
+//! Each item is read as the value that its command has, and written and built again; and the
+//! indices that it has are visited.
+
+use super::same;
+use crate::call::{Call, Seen};
+use crate::format::Model;
+use crate::seen::is_same;
+use crate::size::{Size, cases};
+use crate::table::calls;
+use wenc::tree::{Command, ItemTree, Node, Scope, build};
+use wenc::*;
+
+/// The command without a debug name.
+fn unnamed(command: Command) -> Command {
+    match command {
+        Command::Alias { alias, .. } => Command::Alias { debug_name: None, alias },
+        command => command,
+    }
+}
+
+/// Visits the indices of an item.
+fn seen(item: &mut ItemTree, by: u32) -> Vec<Seen> {
+    let mut seen = Vec::new();
+    item.indices_mut(|used| {
+        seen.push((used.space, used.scope, *used.index));
+        *used.index = used.index.wrapping_add(by);
+    });
+    seen
+}
+
+/// Adds the indices in the node.
+fn add_indices(node: Node, seen: &mut Vec<Seen>) {
+    match node {
+        Node::Index { space, scope, index } => seen.push((space, scope, index)),
+        Node::Present(child) | Node::Variant(_, child) => add_indices(child.node(), seen),
+        Node::List(list) => list.iter().for_each(|child| add_indices(child.node(), seen)),
+        Node::Tuple(fields) | Node::Record(_, fields) | Node::Struct(_, fields) => {
+            fields.iter().for_each(|(_, child)| add_indices(child.node(), seen));
+        }
+        _ => {}
+    }
+}
+
+/// The node has the same indices, in the order of its fields.
+fn is_node(call: &Call, node: Node, wanted: &[Seen]) {
+    let (mut seen, mut wanted) = (Vec::new(), wanted.to_vec());
+    add_indices(node, &mut seen);
+    let key = |(space, scope, index): &Seen| {
+        let scope = match scope {
+            Scope::Component(count) => (0, *count),
+            Scope::Type(depth) => (1, *depth),
+        };
+        (space.number(), scope, *index)
+    };
+    seen.sort_by_key(key);
+    wanted.sort_by_key(key);
+    assert!(seen == wanted, "{}: the node", call.name);
+}
+
+fn is_visited(call: &Call, size: &Size, mut item: ItemTree) {
+    let (before, wanted) = (item.clone(), (call.indices)(size));
+    is_node(call, item.node(), &wanted);
+    assert!(seen(&mut item, 1000) == wanted, "{}", call.name);
+    let raised: Vec<_> =
+        wanted.iter().map(|(of, from, at)| (*of, *from, at.wrapping_add(1000))).collect();
+    assert_eq!(item != before, !wanted.is_empty());
+    assert!(seen(&mut item, 1000_u32.wrapping_neg()) == raised, "{}", call.name);
+    assert!(item == before, "{}", call.name);
+}
+
+fn is_read(call: &Call, size: &Size) {
+    let mut model = Model::new();
+    model.add(call.id, (call.bytes)(size));
+    let bytes = model.finish();
+    let listing = list(&bytes).unwrap_or_else(|fault| panic!("{}: {fault:?}", call.name));
+    let [listed] = listing.sections.as_slice() else { panic!("there is one section") };
+    let [tree] = listed.items.as_slice() else { panic!("there is one item") };
+    assert!(Command::from(tree.clone()) == unnamed((call.command)(None, size)), "{}", call.name);
+    let mut counts = [0; 13];
+    call.space.into_iter().for_each(|space| counts[space.number()] = u128::from(call.takes));
+    assert_eq!(listing.counts, counts, "{}", call.name);
+    is_visited(call, size, tree.clone());
+    let mut sections = Sections::new(&bytes).expect("a component");
+    let reader = sections.next().expect("a section").expect("it is read");
+    assert!(sections.next().is_none());
+    let (place, view) = reader.items().next().expect("an item").expect("it is read");
+    let (_, read) = reader.trees().next().expect("an item").expect("it is read");
+    assert!(is_same(view, tree) && view.to_tree() == *tree && read == *tree, "{}", call.name);
+    assert!(bytes[place] == (call.bytes)(size), "{}", call.name);
+    let (mut anew, mut kept) = (ItemSection::new(call.id), ItemSection::new(call.id));
+    anew.item(tree).expect("it is added");
+    kept.raw(&(call.bytes)(size)).expect("it is added");
+    let in_component = |section: &dyn Fn(&mut Component)| {
+        let mut whole = Component::new();
+        section(&mut whole);
+        same(whole.as_slice(), &bytes, call, "what was read");
+    };
+    in_component(&|whole| _ = whole.section(&anew));
+    in_component(&|whole| _ = whole.section(&anew.clone()));
+    in_component(&|whole| _ = whole.section(&kept));
+    in_component(&|whole| _ = whole.section(listed));
+    in_component(&|whole| _ = whole.section(&reader));
+    in_component(&|whole| _ = whole.section(&reader.raw()));
+}
+
+#[test]
+fn each_item() {
+    for call in calls() {
+        cases(&call).for_each(|size| is_read(&call, &size));
+    }
+}
+
+/// All items in one component.
+#[test]
+fn all_items() {
+    for size in [1, 2, 127, 128].map(Size::small) {
+        let (mut b, mut model) = (ComponentBuilder::default(), Model::new());
+        let calls = calls();
+        for call in calls.iter().chain(calls.iter().rev()) {
+            let index = call.model(&mut model, None, &size);
+            assert_eq!(call.builds[0](&mut b, None, &size), Ok(index), "{}", call.name);
+        }
+        let bytes = b.finish();
+        same(&bytes, &model.clone().finish(), &calls[0], "all");
+        let listing = list(&bytes).expect("it is listed");
+        assert_eq!(listing.counts, model.counts.map(u128::from));
+        let commands: Vec<_> = listing.into_items().map(Command::from).collect();
+        let built = build(&commands).expect("it is built");
+        same(&built.bytes, &bytes, &calls[0], "all again");
+    }
+}

@@ -1,0 +1,119 @@
+//! Tools in producers sections.
+
+use crate::{component, corpus};
+use wenc::view::ItemView;
+use wenc::{
+    ComponentSection, CoreSections, Producer, ProducersFault, ProducersReader, ProducersSection,
+    Sections,
+};
+
+fn tools(data: &[u8]) -> Vec<Result<Producer<'_>, ProducersFault>> {
+    ProducersReader::new(data).collect()
+}
+
+fn tool<'a>(field: &'a str, name: &'a str, version: &'a str) -> Producer<'a> {
+    Producer { field, name, version }
+}
+
+#[test]
+fn tools_are_read_field_by_field() {
+    assert_eq!(tools(b"\0"), []);
+    let data = b"\x04\x08language\x02\x01C\0\x04Rust\x042024\x01e\0\x03sdk\x01\x02\xc3\xa9\x011\0\0";
+    let all = [
+        tool("language", "C", ""),
+        tool("language", "Rust", "2024"),
+        tool("sdk", "é", "1"),
+    ];
+    assert_eq!(tools(data), all.map(Ok));
+    // numbers in more bytes than they need
+    let data = b"\x81\0\x83\x80\0sdk\x81\0\x81\0A\x80\0";
+    assert_eq!(tools(data), [Ok(tool("sdk", "A", ""))]);
+}
+
+#[test]
+fn long_texts_and_many_tools_are_read() {
+    for size in [126, 127, 128, 16_383, 16_384] {
+        let name = "x".repeat(size);
+        let mut section = ProducersSection::new();
+        let mut field = wenc::ProducersField::new();
+        (0..size).for_each(|_| _ = field.value("a", "1"));
+        section.field(&name, &field);
+        let mut bytes = component(&[]);
+        section.append_to_component(&mut bytes);
+        let items = Sections::new(&bytes).expect("a component").items();
+        let [(_, ItemView::Custom { name: label, data })] =
+            &items.collect::<Result<Vec<_>, _>>().expect("they are read")[..]
+        else {
+            panic!("one section")
+        };
+        assert_eq!(*label, ProducersReader::SECTION);
+        assert_eq!(tools(data), vec![Ok(tool(&name, "a", "1")); size]);
+    }
+}
+
+/// The tools up to an error, and its byte offset.
+#[test]
+fn what_is_not_read_is_a_fault() {
+    let first = tool("sdk", "A", "1");
+    let data = b"\x02\x03sdk\x02\x01A\x011\x01B\x012\x01e\0";
+    assert_eq!(tools(data), [Ok(first), Ok(tool("sdk", "B", "2"))]);
+    let faults: [(&[u8], usize, usize); 8] = [
+        (b"", 0, 0),
+        (b"\x80", 0, 0),
+        // a field that is cut, in its name and before the number of its tools
+        (&data[..3], 0, 1),
+        (&data[..5], 0, 1),
+        // a tool that is cut
+        (&data[..9], 0, 6),
+        (&data[..10], 1, 10),
+        (b"\x01\x03sdk\x01\x01\xff\x011", 0, 6),
+        // bytes after the last tool
+        (b"\x01\x03sdk\x01\x01A\x011\0", 1, 10),
+    ];
+    for (data, read, place) in faults {
+        let found = tools(data);
+        let whole = found.iter().filter(|tool| tool.is_ok()).count();
+        assert_eq!(found.last(), Some(&Err(ProducersFault { place })), "{data:02x?}");
+        assert_eq!((whole, found.len()), (read, read + 1), "{data:02x?}");
+    }
+    let fault = ProducersFault { place: 10 };
+    assert_eq!(fault.to_string(), "bad producers at 0xa");
+}
+
+/// The section that has the same tools is the one of the component or of the module.
+fn is_written_again(data: &[u8]) -> usize {
+    let mut section = ProducersSection::new();
+    let tools: Vec<_> =
+        ProducersReader::new(data).collect::<Result<_, _>>().expect("they are read");
+    for field in tools.chunk_by(|one, other| one.field == other.field) {
+        let mut values = wenc::ProducersField::new();
+        field.iter().for_each(|tool| _ = values.value(tool.name, tool.version));
+        section.field(field[0].field, &values);
+    }
+    let mut bytes = component(&[]);
+    section.append_to_component(&mut bytes);
+    assert!(bytes.ends_with(data), "{tools:?}");
+    tools.len()
+}
+
+#[test]
+fn tools_of_real_components_are_read() {
+    let (mut sections, mut tools) = (0, 0);
+    for (_, bytes) in corpus() {
+        let Ok(all) = Sections::new(&bytes) else { continue };
+        for (_, item) in all.items().flatten() {
+            let custom = match item {
+                ItemView::Custom { name: ProducersReader::SECTION, data } => vec![data],
+                ItemView::Module(module) => {
+                    let sections = CoreSections::new(module).expect("a module").flatten();
+                    let named = sections.filter(|one| one.name == Some(ProducersReader::SECTION));
+                    named.map(|section| section.data).collect()
+                }
+                _ => continue,
+            };
+            sections += custom.len();
+            tools += custom.into_iter().map(is_written_again).sum::<usize>();
+        }
+    }
+    assert!(sections > 100 && tools > sections, "{tools} tools in {sections} sections");
+}

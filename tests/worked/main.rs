@@ -1,0 +1,50 @@
+//! Rows of calls and the bytes that they write, in hexadecimal: literals that were worked out from
+//! the text of the format. `tests/calls` puts its bytes together instead.
+#![cfg(feature = "reader")]
+#![allow(unsafe_code, reason = "a global allocator is unsafe")]
+
+mod builder;
+mod listed;
+#[allow(dead_code, reason = "some are for others")]
+#[path = "../calls/refuse.rs"]
+mod refuse;
+mod refused;
+mod runs;
+mod sections;
+#[allow(dead_code, reason = "some are for others")]
+#[path = "../common/seen.rs"]
+mod seen;
+mod types;
+mod values;
+
+use runs::hex;
+use seen::is_same;
+use wenc::tree::{Command, build};
+use wenc::*;
+
+/// What follows the header.
+#[track_caller]
+fn is_behind(bytes: &[u8], wanted: &str) {
+    let wanted = hex(wanted);
+    assert!(bytes == [&Component::HEADER[..], &wanted].concat(), "{bytes:x?}, not {wanted:x?}");
+}
+
+/// Reads the component, by values and borrowed, and writes its sections and commands again.
+#[track_caller]
+fn is_listed(bytes: &[u8]) {
+    let listing = list(bytes).expect("it is listed");
+    let mut views = Sections::new(bytes).expect("a component").items();
+    for item in listing.items() {
+        let (_, view) = views.next().expect("an item").expect("it is read");
+        assert!(is_same(view, item), "{view:?} is not {item:?}");
+    }
+    assert!(views.next().is_none());
+    let mut again = Component::new();
+    listing.sections.iter().for_each(|section| _ = again.section(section));
+    assert_eq!(again.as_slice(), bytes);
+    let is_empty = |section: &ListedSection| section.items.is_empty();
+    if !listing.sections.iter().any(is_empty) {
+        let commands: Vec<_> = listing.into_items().map(Command::from).collect();
+        assert_eq!(build(&commands).expect("it is built").bytes.as_slice(), bytes);
+    }
+}
