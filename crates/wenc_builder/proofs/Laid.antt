@@ -1,6 +1,6 @@
 -- What keeps a buffer's layout.
-use Rattle.std.proofs.Common.{◌≡◌, ℕ, ◌+◌, ◌-◌, ◌<◌, ◌≤◌, ◌^◌, inl, inr, false, List, [], ◌++◌, length, take, drop, Option, Some, None}
-use Rattle.std.proofs.Common.{Result, Ok, Err, is_none, refl, sym, arith, append_assoc, length-append, length-drop, length-take-le}
+use Rattle.std.proofs.Common.{◌≡◌, ℕ, ◌+◌, ◌-◌, ◌<◌, ◌≤◌, ◌^◌, inl, inr, false, List, [], ◌∷◌, ◌++◌, length, take, drop, Option, Some, None}
+use Rattle.std.proofs.Common.{Result, Ok, Err, is_none, is_some, refl, sym, arith, append_assoc, length-append, length-drop, length-take-le}
 use Rattle.std.proofs.Common.{take-append-drop, ap, subst, ◌∙◌}
 use Rattle.std.proofs.lemmas.List.{append-nil, take_at, drop_at, take_all, take-append-le, drop-append-le}
 use Rattle.std.proofs.lemmas.Bool.{ne_eqb, eq-eqb}
@@ -365,6 +365,23 @@ stood h kept new text first more head gap end closed_len new_len kind earlier no
     is ∙ rw (whole, gap_filled (before ++ text) first more head gap end room size) (ap (λ (b : List ℕ). holding b 0 []) (append_assoc before text bytes)) in
     let closed = before ++ (text ++ bytes) in
     rw (n, all, idle.0) (rw (← view, idle.0, idle.1, take_all (length closed) closed (omega arith)) refl)
+
+pub no_kind : (kind : Option Kind) → false ≡ is_some kind → kind ≡ None
+no_kind None e = refl
+no_kind (Some k) e = cc
+
+-- bytes whose gap is empty, with nothing behind them
+pub without_gap : (first head more : List ℕ) (gap : ℕ) → gap ≡ 0 → length head ≤ gap → length more ≡ 0
+    → take (length first - gap) first ++ (head ++ more) ≡ first
+without_gap first head more gap g h m =
+    let no_head : head ≡ [] = nil_of_length head (omega (arith, g, h)) in
+    let no_more : more ≡ [] = nil_of_length more m in
+    let size : length first - gap ≡ length first = omega (arith, g) in
+    rw (no_head, no_more, size, take_all (length first) first (omega arith), append-nil first) refl
+  where
+    nil_of_length : (xs : List ℕ) → length xs ≡ 0 → xs ≡ []
+    nil_of_length [] e = refl
+    nil_of_length (x ∷ xs) e = cc
 
 -- where no section is open, what is written after all bytes is closed
 pub stood_alone : (h new : HolderState) (text : List ℕ) (closed_len new_len : ℕ) (earlier : Option Earlier) (now : Buffered)

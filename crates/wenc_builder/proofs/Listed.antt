@@ -19,7 +19,7 @@ use Rattle.wenc_builder.specs.Builder.{BegunItem, State, builder_is_finished, co
 use Rattle.wenc_builder.specs.Cause.{SectionCause}
 use Rattle.wenc_builder.specs.Enters.{EntersListed}
 use Rattle.wenc_builder.specs.Adds.{AddsItem, AddsWholeItem}
-use Rattle.wenc_builder.specs.inside.Adds.{AppendsListed, AddsListedItem}
+use Rattle.wenc_builder.specs.inside.Adds.{AddsListedItem}
 use Rattle.wenc_builder.specs.inside.Layout.{kind_id, new_item_of}
 use Rattle.wenc_builder.specs.ParentState.{no_room_in_section}
 use Rattle.wenc_builder.specs.declared.builder.kind.Kind.TheVariants as kinds
@@ -27,7 +27,6 @@ use Rattle.wenc_sections.specs.declared.space.Space.{Space}
 use Rattle.wenc_builder.specs.laws.ParentState.{still_begun, item_appended_twice}
 use Rattle.wenc_builder.specs.laws.Caused.{section_grows}
 use Rattle.wenc_builder.proofs.Entered.{IsNewItemOf, new_item_enters}
-use Rattle.wenc_builder.proofs.Taken.{not_begun, added, partly_written}
 
 -- what an iterator's values make is entered, where each list of values makes an entry
 pub listed_enters : {S B : Type 0} (steps : S → Option B → S → Type 0) (values : S) (old new : State) (result : Result ℕ Fault)

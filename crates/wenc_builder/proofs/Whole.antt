@@ -1,16 +1,18 @@
 -- A whole item: it is written, then takes its index, and is ended; or it is given up.
-use Rattle.std.proofs.Common.{◌≡◌, ℕ, true, is_none, List, [], length, Option, Some, None, Result, Ok, Err, OnOk, OnErr, inl, inr, refl, ◌∙◌}
+use Rattle.std.proofs.Common.{◌≡◌, ℕ, true, false, is_none, List, [], length, Option, Some, None, Result, Ok, Err, OnOk, OnErr, inl, inr, refl, sym, subst, ◌∙◌}
 use Rattle.std.specs.Prelude.{IfOk, IfErr}
+use Rattle.std.specs.Iterator.Runs.{WholeRun}
 use Rattle.wenc_base.specs.Fault.{IsWarranted, NoCause, either}
 use Rattle.wenc_base.specs.Parent.{Extends, Extended}
 use Rattle.wenc_base.specs.Piece.{Piece, nothing}
 use Rattle.wenc_base.specs.declared.fault.Fault.{Fault}
 use Rattle.wenc_base.specs.declared.fault.Fault.TheVariants.{Unfinished}
 use Rattle.wenc_base.specs.laws.Serves.{still_warranted}
-use Rattle.wenc_builder.specs.Builder.{State, namespace_at, NewItem, new_item, new_item_indices, content_of, item_begun}
+use Rattle.wenc_base.proofs.Runs.{no_run}
+use Rattle.wenc_builder.specs.Builder.{State, builder_is_finished, entered, namespace_at, NewItem, new_item, new_item_indices, content_of, item_begun}
 use Rattle.wenc_builder.specs.Cause.{SectionCause, SpaceCause, CallCause, NoRoom}
 use Rattle.wenc_builder.specs.Adds.{AddsItem, AddsWholeItem}
-use Rattle.wenc_builder.specs.inside.Adds.{IsItemPiece}
+use Rattle.wenc_builder.specs.inside.Adds.{AddsListedItem, IsItemPiece}
 use Rattle.wenc_builder.specs.inside.Layout.{Buffered, section_begun, section_appended, buffer_begun, buffer_appended, buffer_ended, buffer_given_up}
 use Rattle.wenc_builder.specs.inside.Spaces.{Spaced, space_begun, spaces_begun, spaces_ended}
 use Rattle.wenc_builder.specs.inside.View.{builder_view, IsBuilder}
@@ -71,10 +73,12 @@ module _ (b : Buffered) (s : Spaced) (i : IsBuilder b s) (old : State) (view : b
       (λ f c. beginning_refuses old id space name p.text p.Cause f
       (space_refuses old (New []) (λ _. ⊥) (rw (← view) all) f (rw (← view) c))) w same
 
-  text_refused : (new next : State) (fault : Fault) (p : Piece) → IsWarranted (either p.Cause (NoRoom (section_appended first p.text))) fault
-      → new ≡ old → AddsItem old new next (Err fault) (New p.text) p
-  text_refused new next fault p w same = refused new next fault p (either p.Cause (NoRoom (section_appended first p.text)))
-      (λ f c. text_refuses old (New p.text) p.Cause f (rw (← view) c)) w same
+  pub text_refused : (new next : State) (fault : Fault) (p : Piece) (opened : Buffered) → opened ≡ first
+      → IsWarranted (either p.Cause (NoRoom (section_appended opened p.text))) fault → new ≡ old → AddsItem old new next (Err fault) (New p.text) p
+  text_refused new next fault p opened e w same = refused new next fault p (either p.Cause (NoRoom (section_appended opened p.text)))
+      (λ f c. text_refuses old (New p.text) p.Cause f
+      (subst (λ (x : State). either p.Cause (NoRoom (entered x.settled.sections id p.text).current) f) view
+      (subst (λ (o : Buffered). either p.Cause (NoRoom (section_appended o p.text)) f) e c))) w same
 
   -- ---- it is written
 
@@ -82,7 +86,11 @@ module _ (b : Buffered) (s : Spaced) (i : IsBuilder b s) (old : State) (view : b
     stands : IsBuilder first taking
     stands = begun_stands b s i finished id space name room
 
-    module _ (p : Piece) (a : Extends first written (buffer_appended first p.text) (Ok tt) p (NoRoom (section_appended first p.text))) where
+    module _ (opened : Buffered) (opening : opened ≡ first) (p : Piece)
+        (more : Extends opened written (buffer_appended opened p.text) (Ok tt) p (NoRoom (section_appended opened p.text))) where
+      a : Extends first written (buffer_appended first p.text) (Ok tt) p (NoRoom (section_appended first p.text))
+      a = subst (λ (o : Buffered). Extends o written (buffer_appended o p.text) (Ok tt) p (NoRoom (section_appended o p.text))) opening more
+
       longer : IsBuilder written taking
       longer = value_stands first taking stands written (Ok tt) p a
 
@@ -93,11 +101,11 @@ module _ (b : Buffered) (s : Spaced) (i : IsBuilder b s) (old : State) (view : b
           → NoCause (SpaceCause (space_begun s space 1 name))
           → new ≡ builder_view (buffer_ended written) (spaces_ended taking) → AddsWholeItem old new (Ok index) New p
       value_added new index counted all free is =
-          let more = appended_value first taking begun stands.agree refl written (Ok tt) p a in
+          let text = appended_value first taking begun stands.agree refl written (Ok tt) p a in
           added old begun (builder_view written taking) new index id space name p
           (begins b s old begun (item_begun old (New [])) index (New []) i.agree view finished begun_is (rw (← view) counted) (rw (← view) all)
           (rw (← view) free) (rw (← view) room))
-          more.ok more.fits more.free (is ∙ ended_is written taking longer.agree)
+          text.ok text.fits text.free (is ∙ ended_is written taking longer.agree)
 
       -- ---- it takes its index and is ended, or it is given up
 
@@ -110,7 +118,7 @@ module _ (b : Buffered) (s : Spaced) (i : IsBuilder b s) (old : State) (view : b
             at : (r : Result ℕ Fault) → OnOk r (spaces ≡ spaces_ended taking) → OnOk r (new ≡ buffer_ended written) → OnErr r (spaces ≡ s)
                 → OnErr r (new ≡ buffer_given_up written) → IsBuilder new spaces
             at (Ok index) k e r g = rw (k, e) (value_stays whole)
-            at (Err fault) k e r g = rw (r, g, back written (rw a.ok refl)) i
+            at (Err fault) k e r g = let same : new ≡ b = g ∙ back written (rw a.ok refl) in rw (r, same) i
 
         pub whole_added : (state : State) → builder_view new spaces ≡ state → IfOk result (λ i. i ≡ (namespace_at s.settled space).count)
             → length s.settled ≡ 13 → OnOk result (NoCause (SpaceCause (space_begun s space 1 name)))
@@ -121,11 +129,40 @@ module _ (b : Buffered) (s : Spaced) (i : IsBuilder b s) (old : State) (view : b
                 → OnErr r (new ≡ buffer_given_up written) → IfOk r (λ i. i ≡ (namespace_at s.settled space).count)
                 → OnOk r (NoCause (SpaceCause (space_begun s space 1 name))) → IfErr r (IsWarranted (SpaceCause (space_begun s space 1 name)))
                 → AddsWholeItem old state r New p
-            at (Ok index) k e r g counted none w = value_added state index counted all none (rw (← is, k, e) refl)
-            at (Err fault) k e r g counted none w =
-                space_refused state _ fault p all w (rw (← is, r, g, back written (rw a.ok refl)) view)
+            at (Ok index) k e r g counted f w = value_added state index counted all f (rw (← is, k, e) refl)
+            at (Err fault) k e r g counted f w =
+                let same : new ≡ b = g ∙ back written (rw a.ok refl) in
+                space_refused state _ fault p all w (sym is ∙ rw (r, same) view)
 
 -- what was made of the values of an iterator is a value
 pub as_value : (b new : Buffered) (p : Piece) → Extended new (buffer_appended b) (λ bytes. NoRoom (section_appended b bytes)) p
     → Extends b new (buffer_appended b p.text) (Ok tt) p (NoRoom (section_appended b p.text))
 as_value b new p e = record { ok = e.state; fits = e.fits; free = e.free; err = tt; warranted = tt }
+
+-- an item is added that is made of all values of an iterator, or it is given up after them
+pub listed_added : {S B : Type 0} (steps : S → Option B → S → Type 0) (values : S) (old new : State) (result : Result ℕ Fault)
+    (d : List ℕ → NewItem) (piece : List B → Piece) → WholeRun steps values (λ run. AddsWholeItem old new result d (piece run.items))
+    → AddsListedItem steps values old new result d piece
+listed_added steps values old new (Ok index) d piece h = record { ok = h; refused = tt }
+listed_added steps values old new (Err fault) d piece h = record { ok = tt; refused = (h.0, h.1, h.3) }
+
+pub unfinished_refused : (old next : State) (id : ℕ) (space : Space) (name : Option (List ℕ)) (p : Piece) → builder_is_finished old ≡ false
+    → AddsItem old old next (Err Unfinished) (new_item id space name p.text) p
+unfinished_refused old next id space name p e = record {
+  returned = tt;
+  ok = tt;
+  fits = tt;
+  free = tt;
+  err = refl;
+  warranted = inr (refl, e);
+  unfinished_first = λ u. refl;
+}
+
+-- an item that is made of the values of an iterator is refused before any of them came
+pub listed_refused : {S B : Type 0} (steps : S → Option B → S → Type 0) (values : S) (old new : State) (fault : Fault)
+    (d : List ℕ → NewItem) (piece : List B → Piece) → AddsWholeItem old new (Err fault) d (piece [])
+    → AddsListedItem steps values old new (Err fault) d piece
+listed_refused steps values old new fault d piece h = record {
+  ok = tt;
+  refused = no_run steps values (λ vs. AddsWholeItem old new (Err fault) d (piece vs)) h;
+}

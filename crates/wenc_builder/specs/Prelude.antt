@@ -34,7 +34,7 @@ pub use Rattle.wenc_builder.specs.inside.Spaces.{CanUndo, NamesFit, Spaced, coun
 pub use Rattle.wenc_builder.specs.inside.Spaces.{space_begun, space_view, spaced_view, spaces_begun}
 pub use Rattle.wenc_builder.specs.inside.Spaces.{spaces_ended, spaces_given_up}
 pub use Rattle.wenc_builder.specs.inside.Adds.{AddsListedItem, AddsSection, AddsUnindexedSection}
-pub use Rattle.wenc_builder.specs.inside.Adds.{AppendsListed, IsItemPiece}
+pub use Rattle.wenc_builder.specs.inside.Adds.{IsItemPiece}
 pub use Rattle.wenc_builder.specs.inside.View.{IsBuilder, builder_view}
 pub use Rattle.wenc_builder.specs.laws.ParentState.{item_appended_twice, opened_is_begun}
 pub use Rattle.wenc_builder.specs.laws.ParentState.{still_begun}

@@ -286,7 +286,9 @@ impl<A: Allocator> ComponentBuilder<A> {
         if !self.buffer.is_finished() {
             return Err(Fault::Unfinished);
         }
-        self.buffer.open(kind)?;
+        if let Err(fault) = self.buffer.open(kind) {
+            return Err(fault);
+        }
         match self.buffer.append_between(lead, values, tail) {
             Ok(()) => index_and_end(&mut self.buffer, &mut self.spaces, space, name),
             Err(fault) => {

@@ -32,20 +32,6 @@ AddsUnindexedSection old new result p =
     AddsPiece old new (settled_in (content_with_section old.settled None None p.text)) result
     (content_with_section old.settled None None p.text) None p (λ r. Unit {0})
 
--- A call appends a piece to the item that is being written, which is made of the values that an
--- iterator gives; where it is refused, it may have appended a part.
-pub record AppendsListed {S B : Type 0} (steps : S → Option B → S → Type 0) (values : S)
-    (old new : State) (outcome : Result (Unit {0}) Fault) (piece : List B → Piece) : Type 0 where
-  pub ok : OnOk outcome
-      (WholeRun steps values (λ run.
-      Extended new (item_appended old) (no_room_in_section old) (piece run.items)))
-  pub settled : OnErr outcome (new.settled ≡ old.settled)
-  pub still : builder_is_finished new ≡ false
-  pub warranted : IfErr outcome
-      (λ fault. SomeRun steps values (λ run.
-      IsWarranted
-      (either (piece run.items).Cause (no_room_in_section old (piece run.items).text)) fault))
-
 -- A call adds an item that is made of the values that an iterator gives: of all of them, or of
 -- those that came before it was refused.
 pub record AddsListedItem {S B : Type 0} (steps : S → Option B → S → Type 0) (values : S)
