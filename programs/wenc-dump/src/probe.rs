@@ -89,6 +89,8 @@ pub struct Probe<'a> {
     start: usize,
     /// The item, and what follows it in its section.
     item: &'a [u8],
+    /// The length of the front that ends with the last text that was found to be in it.
+    text_end: usize,
     /// Whether bytes are tried only as far as the section goes.
     is_bounded: bool,
     /// The number of bytes that may still be read.
@@ -165,7 +167,7 @@ impl<'a> Probe<'a> {
         let of = if place == Place::Module { ComponentSectionId::CoreType.into() } else { id };
         let mut examples = [&[][..]; EXAMPLES_OF_ONE];
         examples.iter_mut().zip(examples_of(of)).for_each(|(one, example)| *one = example);
-        Ok(Self { place, examples, bytes, start, item, is_bounded: false, left })
+        Ok(Self { place, examples, bytes, start, item, text_end: 0, is_bounded: false, left })
     }
 
     /// Returns whether the limit was reached, so that nothing that was found counts.
@@ -241,17 +243,47 @@ impl<'a> Probe<'a> {
         })
     }
 
-    /// Returns whether the front that is loaded, which ends in the size of a text, can go on with
-    /// that many zeros and an end of the first example.
+    /// Returns whether the front that is loaded can go on with zeros up to this length, and then an
+    /// end of the first example.
+    fn goes_on_from(&mut self, end: usize) -> bool {
+        let example = self.examples[0];
+        (0..ENDS.min(example.len())).any(|from| self.is_read_with(end, &example[from..]))
+    }
+
+    /// Returns the length of the front that ends with a text, if its size is here in the front with
+    /// this length, which is loaded.
+    fn end_of_text(&self, size: usize, len: usize) -> Option<usize> {
+        let bytes = &self.bytes[self.start..][size..len];
+        let (text, bytes) = number(bytes).ok()??;
+        (size + bytes).checked_add(usize::try_from(text).ok()?)
+    }
+
+    /// Returns whether the front that is loaded can go on behind the text in which it ends, if that
+    /// was found before or if the front ends in its size.
     fn goes_on_after_text(&mut self, len: usize) -> bool {
-        (len.saturating_sub(NUMBER)..len).any(|first| {
-            let size = number(&self.bytes[self.start + first..self.start + len]);
-            let Ok(Some((size, bytes))) = size else { return false };
-            let (example, size) = (self.examples[0], usize::try_from(size).unwrap_or(usize::MAX));
-            first + bytes == len
-                && (0..ENDS.min(example.len()))
-                    .any(|from| self.is_read_with(len.saturating_add(size), &example[from..]))
+        if self.text_end > len && self.goes_on_from(self.text_end) {
+            return true;
+        }
+        (len.saturating_sub(NUMBER)..len).any(|size| {
+            let end = self.end_of_text(size, len);
+            end.is_some_and(|end| end >= len && self.goes_on_from(end))
         })
+    }
+
+    /// Returns whether the front that is loaded can go on behind a text that has its size anywhere
+    /// in it.
+    fn goes_on_after_any_text(&mut self, len: usize) -> bool {
+        let sizes = (0..len.min(16)).chain(len.saturating_sub(256)..len);
+        for size in sizes {
+            match self.end_of_text(size, len) {
+                Some(end) if end > len && self.goes_on_from(end) => {
+                    self.text_end = end;
+                    return true;
+                }
+                _ => {}
+            }
+        }
+        false
     }
 
     /// Returns whether a front can go on.
@@ -263,7 +295,10 @@ impl<'a> Probe<'a> {
     /// Returns whether a front can go on, after more attempts.
     fn front_goes_on_at_all(&mut self, len: usize) -> bool {
         self.load(len);
-        if self.goes_on(len, Effort::large(len)) || self.is_read_with_any(len) {
+        if self.goes_on_after_any_text(len)
+            || self.goes_on(len, Effort::large(len))
+            || self.is_read_with_any(len)
+        {
             return true;
         }
         // the rest, in place of a byte, after another one, and without one
@@ -446,7 +481,8 @@ impl Accepted {
     /// Returns the ranges of the bytes, each by its first and its last.
     fn ranges(&self) -> impl Iterator<Item = (u8, u8)> {
         let is_in = |byte: Option<u8>| byte.is_some_and(|byte| self.has(byte));
-        let starts = (0..=u8::MAX).filter(move |byte| self.has(*byte) && !is_in(byte.checked_sub(1)));
+        let starts =
+            (0..=u8::MAX).filter(move |byte| self.has(*byte) && !is_in(byte.checked_sub(1)));
         let ends = (0..=u8::MAX).filter(move |byte| self.has(*byte) && !is_in(byte.checked_add(1)));
         starts.zip(ends)
     }

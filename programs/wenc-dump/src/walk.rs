@@ -10,9 +10,7 @@ use std::io;
 use std::ops::Range;
 use wenc::tree::Space;
 use wenc::view::ItemView;
-use wenc::{
-    Component, CoreSections, DebugNames, ListFault, SectionReader, Sections, Unread,
-};
+use wenc::{Component, CoreSections, DebugNames, ListFault, SectionReader, Sections, Unread};
 
 /// The maximum nesting depth of components, which is that of types.
 pub const DEPTH: usize = 100;

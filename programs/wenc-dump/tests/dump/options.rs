@@ -148,7 +148,17 @@ fn help_and_version() {
         let out = String::from_utf8(output.stdout).expect("it is text");
         assert!(output.status.success() && output.stderr.is_empty());
         assert!(out.starts_with(USAGE) && out.lines().all(|line| line.len() < 100));
-        for word in ["--hex", "--section", "--color", "--width", "--json", "--help", "--version", "standard input", "\"fault\""] {
+        for word in [
+            "--hex",
+            "--section",
+            "--color",
+            "--width",
+            "--json",
+            "--help",
+            "--version",
+            "standard input",
+            "\"fault\"",
+        ] {
             assert!(out.contains(word), "{word}");
         }
     }
