@@ -131,8 +131,8 @@ fn moved(unread: Unread, by: usize) -> Unread {
     }
 }
 
-/// Writes the cause in a list of items, unless the fault's own words say it: what is in place of the
-/// first byte.
+/// Writes the cause in a list of items, unless the fault's own words say it: what is in place of
+/// the first byte.
 fn write_list(f: &mut fmt::Formatter<'_>, fault: ListFault, cause: Cause) -> fmt::Result {
     match fault {
         ListFault::BadItem {

@@ -1,8 +1,8 @@
 //! Changed copies of an item, which are read to find the byte that makes it unreadable.
 //!
 //! A front of an item *can go on* if some bytes after it make it an item that the proved readers
-//! read. The first byte after the longest such front is the cause of a fault: no bytes after it help.
-//! The bytes that are tried are zeros, the rest of the item, and ends of the items of
+//! read. The first byte after the longest such front is the cause of a fault: no bytes after it
+//! help. The bytes that are tried are zeros, the rest of the item, and ends of the items of
 //! `examples.wasm`.
 
 use super::cause::{NUMBER, number};
@@ -175,8 +175,8 @@ impl<'a> Probe<'a> {
         *self.left == 0
     }
 
-    /// Restores this many bytes of the item, and sets the others to zero. After the limit that isn't
-    /// needed.
+    /// Restores this many bytes of the item, and sets the others to zero. After the limit that
+    /// isn't needed.
     fn load(&mut self, len: usize) {
         if self.is_over() {
             return;
@@ -351,8 +351,8 @@ impl<'a> Probe<'a> {
         front
     }
 
-    /// Returns the length of a longer front that can go on and that can't with one more byte, as far
-    /// as few attempts show; `good` is the length of one that can.
+    /// Returns the length of a front that can go on and that can't with one more byte, as far as few
+    /// attempts show; `good` is the length of one that can.
     fn front_from(&mut self, mut good: usize) -> usize {
         let mut bad = self.item.len() + 1;
         let mut step = 1;
@@ -418,7 +418,8 @@ impl<'a> Probe<'a> {
         least
     }
 
-    /// Returns how many bytes are needed behind the item: of these after some zeros, and then zeros.
+    /// Returns how many bytes are needed behind the item: of these after some zeros, and then
+    /// zeros.
     fn needed(&mut self, zeros: usize, end: &[u8]) -> Option<usize> {
         let len = self.item.len();
         self.load(len);

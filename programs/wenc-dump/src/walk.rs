@@ -128,7 +128,8 @@ impl<'f, R: Report> Walk<'f, '_, R> {
         Ok(())
     }
 
-    /// Reports that nothing more is read of the innermost open part, which ends at this byte offset.
+    /// Reports that nothing more is read of the innermost open part, which ends at this byte
+    /// offset.
     pub(super) fn unread(&mut self, fault: Fault, end: usize) -> io::Result<()> {
         self.unread_of(fault, end, false)
     }

@@ -116,25 +116,30 @@ const KINDS: [(&[u8], &str); 20] = [
     ),
     (
         b"\x08\x04\x01\0\0\x33",
-        "bad item 0 at 0xb in the section at 0x8: needs 5 bytes or more from 0xb on, where 3 are left",
+        "bad item 0 at 0xb in the section at 0x8: \
+         needs 5 bytes or more from 0xb on, where 3 are left",
     ),
     // too few bytes for a name, for a size and for a count
     (
         b"\x0a\x0a\x01\0\xc8\x01file\x01\0",
-        "bad item 0 at 0xb in the section at 0x8: needs 200 bytes or more from 0xe on, where 6 are left",
+        "bad item 0 at 0xb in the section at 0x8: \
+         needs 200 bytes or more from 0xe on, where 6 are left",
     ),
     (
         b"\x0a\x08\x01\0\x64file\xff",
-        "bad item 0 at 0xb in the section at 0x8: needs 100 bytes or more from 0xd on, where 5 are left",
+        "bad item 0 at 0xb in the section at 0x8: \
+         needs 100 bytes or more from 0xd on, where 5 are left",
     ),
     (
         b"\x0a\x08\x01\0\x09file\x03",
-        "bad item 0 at 0xb in the section at 0x8: needs 13 bytes or more from 0xb on, where 7 are left",
+        "bad item 0 at 0xb in the section at 0x8: \
+         needs 13 bytes or more from 0xb on, where 7 are left",
     ),
     (b"\x06\x05\x01", "bad section at 0x8: needs 5 bytes or more from 0xa on, where 1 is left"),
     (
         b"\x06\x01\x80",
-        "bad count at 0xa in the section at 0x8: needs 2 bytes or more from 0xa on, where 1 is left",
+        "bad count at 0xa in the section at 0x8: \
+         needs 2 bytes or more from 0xa on, where 1 is left",
     ),
     // numbers that are too large or too long
     (
@@ -163,7 +168,8 @@ const KINDS: [(&[u8], &str); 20] = [
     ),
     (
         b"\0asm\x01\0\0\0\x0b\x02\x07\0",
-        "bad item 0 at 0xb: needs 7 bytes or more from 0xb on, where 1 is left",
+        "bad item 0 at 0xb: \
+         needs 7 bytes or more from 0xb on, where 1 is left",
     ),
     // headers
     (
@@ -187,8 +193,8 @@ fn small_components(size: usize) -> Vec<Vec<u8>> {
     all.filter(|bytes| bytes.len() < size && list(bytes).is_ok()).collect()
 }
 
-/// The byte offset of the fault of `list`, as the program tells it, and the bytes in which its cause
-/// is: the item and what follows it in its section.
+/// The byte offset of the fault of `list`, as the program tells it, and the bytes in which its
+/// cause is: the item and what follows it in its section.
 fn fault_of(bytes: &[u8]) -> Option<(usize, Range<usize>)> {
     let fault = list(bytes).err()?;
     let section = |place: usize| {
@@ -209,8 +215,8 @@ fn fault_of(bytes: &[u8]) -> Option<(usize, Range<usize>)> {
     }
 }
 
-/// The first fault is that of `list`, and its cause is in the bytes that `list` names, or it is told
-/// by the fault itself.
+/// The first fault is that of `list`, and its cause is in the bytes that `list` names, or it is
+/// told by the fault itself.
 fn is_fault_of_list(bytes: &[u8]) -> bool {
     let Some((place, within)) = fault_of(bytes) else { return false };
     let (status, out, _) = run(&["--json"], bytes);
