@@ -70,6 +70,8 @@ fn printed(item: &ItemTree, indices: &[Seen]) -> String {
     assert_eq!(status, matches!(item, ItemTree::Module(_) | ItemTree::Custom { .. }).into());
     let text = String::from_utf8(out).expect("it is text");
     let (_, item) = text.split_once("        0x").expect("the item is there");
+    // the sections of names, which are printed too, come after it
+    let item = item.split(" custom section, ").next().unwrap_or_default();
     item.split_once(": ").map(|(_, item)| item.to_owned()).unwrap_or_default()
 }
 
