@@ -505,7 +505,7 @@ fn relisted(bytes: &[u8]) -> Vec<u8> {
     let listing = crate::list(bytes).expect("a component");
     let items = listing.sections.into_iter().flat_map(|section| section.items);
     let commands: Vec<crate::tree::Command> = items.map(Into::into).collect();
-    crate::tree::build(&commands).expect("there is memory").bytes.into()
+    crate::tree::build(&commands).expect("there is memory").bytes
 }
 
 /// Real components, and debug names in them, beside what Rust reads.
