@@ -159,7 +159,8 @@ impl Bad<'_> {
         let (end, number) = (first + len, usize::try_from(number).ok()?);
         let left = self.bytes.len() - end;
         let few = Cause::Few { place: self.at + end, needed: Some(number), len: left };
-        (end > at && number > left).then_some(few)
+        // an index isn't followed by so many bytes
+        (end > at && number > left && !probe.goes_on_in_fewer(end, number)).then_some(few)
     }
 }
 

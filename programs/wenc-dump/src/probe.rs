@@ -91,8 +91,8 @@ pub struct Probe<'a> {
     item: &'a [u8],
     /// The length of the front that ends with the last text that was found to be in it.
     text_end: usize,
-    /// Whether bytes are tried only as far as the section goes.
-    is_bounded: bool,
+    /// The length up to which bytes are tried.
+    bound: usize,
     /// The number of bytes that may still be read.
     left: &'a mut usize,
 }
@@ -167,7 +167,7 @@ impl<'a> Probe<'a> {
         let of = if place == Place::Module { ComponentSectionId::CoreType.into() } else { id };
         let mut examples = [&[][..]; EXAMPLES_OF_ONE];
         examples.iter_mut().zip(examples_of(of)).for_each(|(one, example)| *one = example);
-        Ok(Self { place, examples, bytes, start, item, text_end: 0, is_bounded: false, left })
+        Ok(Self { place, examples, bytes, start, item, text_end: 0, bound: usize::MAX, left })
     }
 
     /// Returns whether the limit was reached, so that nothing that was found counts.
@@ -184,8 +184,8 @@ impl<'a> Probe<'a> {
         let copy = &mut self.bytes[self.start..];
         copy[..len].copy_from_slice(&self.item[..len]);
         copy[len..].fill(0);
-        if self.is_bounded {
-            copy[self.item.len()..].fill(NEVER);
+        if let Some(rest) = copy.get_mut(self.bound..) {
+            rest.fill(NEVER);
         }
         *self.left = self.left.saturating_sub(copy.len() / 16);
     }
@@ -217,7 +217,7 @@ impl<'a> Probe<'a> {
 
     /// Returns whether the item can be read with these bytes in it, after which it has zeros again.
     fn is_read_with(&mut self, at: usize, bytes: &[u8]) -> bool {
-        let end = if self.is_bounded { self.start + self.item.len() } else { self.bytes.len() };
+        let end = self.bytes.len().min(self.start.saturating_add(self.bound));
         let from = self.start.saturating_add(at);
         let Some(room) = self.bytes.get_mut(from..end) else { return false };
         let len = room.len().min(bytes.len());
@@ -342,13 +342,26 @@ impl<'a> Probe<'a> {
         }
     }
 
+    /// Returns what is found if bytes are tried only up to this length.
+    fn within<T>(&mut self, bound: usize, find: impl FnOnce(&mut Self) -> T) -> T {
+        self.bound = bound;
+        let found = find(self);
+        self.bound = usize::MAX;
+        found
+    }
+
     /// Returns the length of the longest front that can go on in as many bytes as the section has;
     /// `None` if the one with this length can.
     pub fn front_within(&mut self, longest: usize) -> Option<usize> {
-        self.is_bounded = true;
-        let front = if self.front_goes_on(longest) { None } else { Some(self.front()) };
-        self.is_bounded = false;
-        front
+        self.within(self.item.len(), |probe| {
+            if probe.front_goes_on(longest) { None } else { Some(probe.front()) }
+        })
+    }
+
+    /// Returns whether the front with this length can go on in fewer bytes than this.
+    pub fn goes_on_in_fewer(&mut self, len: usize, bytes: usize) -> bool {
+        let bound = len.saturating_add(bytes).saturating_sub(1);
+        self.within(bound, |probe| probe.front_goes_on(len))
     }
 
     /// Returns the length of a front that can go on and that can't with one more byte, as far as few
