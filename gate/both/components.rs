@@ -4,14 +4,17 @@ use crate::random::Random;
 use std::fs;
 use std::path::Path;
 
-/// Components that upstream's builder wrote, each in a line, in hexadecimal.
+/// Components that upstream's builder wrote, each in a line, in hexadecimal. Together they have each
+/// kind of item, type and builtin.
 const UPSTREAM: &str = include_str!("upstream.txt");
 
 /// The number of bytes before the first section.
 const HEADER: usize = 8;
 
-/// A start section of function 0 with as many results as there may be values.
-const MOST_VALUES: &[u8] = b"\x09\x07\0\0\xff\xff\xff\xff\x0f";
+/// A start section of function 0 with as many results as there may be values, and imports of a
+/// function, a value, which is one too many, and a function.
+const TOO_MANY_VALUES: &[u8] = b"\x09\x07\0\0\xff\xff\xff\xff\x0f\
+    \x0a\x10\x03\0\x01f\x01\0\0\x01v\x02\0\0\x01g\x01\0";
 
 /// The components that upstream's builder wrote.
 pub fn upstream() -> Vec<Vec<u8>> {
@@ -49,7 +52,7 @@ impl Pool {
     pub fn component(&self, random: &mut Random) -> Vec<u8> {
         let mut bytes = self.header.clone();
         if random.one_in(10) {
-            bytes.extend(MOST_VALUES);
+            bytes.extend(TOO_MANY_VALUES);
         }
         for _ in 0..random.length(5) {
             let section = &self.sections[random.below(self.sections.len())];

@@ -92,7 +92,13 @@ impl<T, A: Allocator> Vec<T, A> {
     #[inline]
     pub fn push(&mut self, value: T) -> Result<(), AllocFailed<T>> {
         if self.inner.len() == self.inner.capacity() {
-            return self.push_growing(value);
+            // A larger value would be copied for the call, even where there is room.
+            if size_of::<T>() <= size_of::<usize>() {
+                return self.push_growing(value);
+            }
+            if self.grow(1).is_err() {
+                return Err(AllocFailed { value });
+            }
         }
         self.inner.push(value);
         Ok(())

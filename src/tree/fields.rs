@@ -79,6 +79,11 @@ fn one(space: impl Into<Space>) -> Option<(Space, u32)> {
     Some((space.into(), 1))
 }
 
+/// Returns the indices in which a group with so many core types is defined.
+fn group(len: impl TryInto<u32>) -> Option<(Space, u32)> {
+    Some((Space::CoreTypes, len.try_into().unwrap_or(u32::MAX)))
+}
+
 /// Returns the place of a field.
 macro_rules! place {
     ($place:ident $field:ident) => {
@@ -323,7 +328,7 @@ enums! {
 
     GroupTree = GroupView {
         Sub(ty) => one(Space::CoreTypes),
-        Rec(types) => Some((Space::CoreTypes, u32::try_from(types.len()).unwrap_or(u32::MAX))),
+        Rec(types) => group(types.len()),
     }
 
     InstanceDecl = InstanceDeclView {

@@ -127,8 +127,10 @@ impl Node<'_> {
     /// # Ok::<(), wenc::ListFault>(())
     /// ```
     pub fn each_index(self, mut visit: impl FnMut(UsedIndex)) {
-        let visited = self.try_each_index(|used| Ok::<(), Infallible>(visit(used)));
-        visited.unwrap_or_else(|never| match never {});
+        let Ok(()) = self.try_each_index(|used| {
+            visit(used);
+            Ok::<(), Infallible>(())
+        });
     }
 
     /// Does what [`each_index`](Self::each_index) does, up to the first error.
@@ -251,8 +253,10 @@ impl<'a> List<'a> {
     /// Calls a function with each element, in order. Those of a borrowed item are read one by one,
     /// and each is there during the call.
     pub fn for_each(self, mut visit: impl FnMut(Child<'_>)) {
-        let visited = self.try_for_each(|child| Ok::<(), Infallible>(visit(child)));
-        visited.unwrap_or_else(|never| match never {});
+        let Ok(()) = self.try_for_each(|child| {
+            visit(child);
+            Ok::<(), Infallible>(())
+        });
     }
 
     /// Does what [`for_each`](Self::for_each) does, up to the first error.

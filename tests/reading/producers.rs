@@ -18,12 +18,9 @@ fn tool<'a>(field: &'a str, name: &'a str, version: &'a str) -> Producer<'a> {
 #[test]
 fn tools_are_read_field_by_field() {
     assert_eq!(tools(b"\0"), []);
-    let data = b"\x04\x08language\x02\x01C\0\x04Rust\x042024\x01e\0\x03sdk\x01\x02\xc3\xa9\x011\0\0";
-    let all = [
-        tool("language", "C", ""),
-        tool("language", "Rust", "2024"),
-        tool("sdk", "é", "1"),
-    ];
+    let data =
+        b"\x04\x08language\x02\x01C\0\x04Rust\x042024\x01e\0\x03sdk\x01\x02\xc3\xa9\x011\0\0";
+    let all = [tool("language", "C", ""), tool("language", "Rust", "2024"), tool("sdk", "é", "1")];
     assert_eq!(tools(data), all.map(Ok));
     // numbers in more bytes than they need
     let data = b"\x81\0\x83\x80\0sdk\x81\0\x81\0A\x80\0";

@@ -128,8 +128,12 @@ impl Bad<'_> {
         if accepted.is_of_text() {
             return Some(Cause::Text { place, byte });
         }
-        let expected = Some(accepted).filter(|accepted| is_all && !accepted.is_empty());
-        self.too_many(probe, front).or(Some(Cause::Byte { place, byte, expected }))
+        if let Some(few) = self.too_many(probe, front) {
+            return Some(few);
+        }
+        // without a byte that goes on, what goes on behind it isn't known
+        let expected = Some(accepted).filter(|_| is_all);
+        (!accepted.is_empty()).then_some(Cause::Byte { place, byte, expected })
     }
 
     /// Returns the fault of a text with more bytes than the section, in the front with this length:
@@ -155,7 +159,8 @@ impl Bad<'_> {
         let (end, number) = (first + len, usize::try_from(number).ok()?);
         let left = self.bytes.len() - end;
         let few = Cause::Few { place: self.at + end, needed: Some(number), len: left };
-        (end > at && number > left).then_some(few)
+        // an index isn't followed by so many bytes
+        (end > at && number > left && !probe.goes_on_in_fewer(end, number)).then_some(few)
     }
 }
 
@@ -264,7 +269,11 @@ impl Display for Cause {
                     Some(needed) => write!(f, "needs {} or more", Counted(needed, "byte"))?,
                     None => f.write_str("needs more bytes")?,
                 }
-                write!(f, " from {place:#x} on, where {len} {} left", if len == 1 { "is" } else { "are" })
+                write!(
+                    f,
+                    " from {place:#x} on, where {len} {} left",
+                    if len == 1 { "is" } else { "are" }
+                )
             }
             Self::Version { version, .. } => write!(f, "version {version:#x}"),
             Self::Start { bytes, len, .. } => {
@@ -273,7 +282,9 @@ impl Display for Cause {
                     write!(f, "{}{byte:02x}", if at == 0 { "" } else { " " })
                 })
             }
-            Self::Deep { place } => write!(f, "the type at {place:#x} is in more than {DEPTH} others"),
+            Self::Deep { place } => {
+                write!(f, "the type at {place:#x} is in more than {DEPTH} others")
+            }
         }
     }
 }

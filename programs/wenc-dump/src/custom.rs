@@ -16,6 +16,12 @@ impl Contents {
             _ => Self::Other,
         }
     }
+
+    /// Returns what is reported of a custom section with this name in a core module: the names
+    /// there are other ones.
+    pub fn of_core(name: &str) -> Self {
+        if name == ProducersReader::SECTION { Self::Producers } else { Self::Other }
+    }
 }
 
 impl<R: Report> Walk<'_, '_, R> {

@@ -131,13 +131,13 @@ fn moved(unread: Unread, by: usize) -> Unread {
     }
 }
 
-/// Writes the cause in a list of items, unless the fault's own words say it: what is in place of the
-/// first byte.
+/// Writes the cause in a list of items, unless the fault's own words say it: what is in place of
+/// the first byte.
 fn write_list(f: &mut fmt::Formatter<'_>, fault: ListFault, cause: Cause) -> fmt::Result {
     match fault {
-        ListFault::BadItem { place, unread: Some(Unread::Item { number, place: item }), .. }
-            if !cause.is_at_first(item) =>
-        {
+        ListFault::BadItem {
+            place, unread: Some(Unread::Item { number, place: item }), ..
+        } if !cause.is_at_first(item) => {
             write!(f, "bad item {number} at {item:#x} in the section at {place:#x}: {cause}")
         }
         ListFault::BadItem { unread: Some(Unread::Item { .. }), .. } => fault.fmt(f),

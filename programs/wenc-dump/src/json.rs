@@ -255,6 +255,18 @@ impl<'o, W: Write> Json<'o, W> {
         Ok(back)
     }
 
+    /// Begins the lists of a section of a core module. Returns what closes them.
+    fn core_contents(&mut self, contents: Contents) -> io::Result<Open> {
+        self.put(",\"items\":[")?;
+        let list = if contents == Contents::Other {
+            "]"
+        } else {
+            self.put("]")?;
+            self.contents(contents)?
+        };
+        Ok(Open { list: Some(list), has_unread: true, object: "}" })
+    }
+
     /// Writes a part of a custom section, up to the bracket that ends it.
     fn entry(&mut self, entry: &Entry) -> io::Result<()> {
         self.put(if self.is_first { "{" } else { ",{" })?;
@@ -303,15 +315,7 @@ impl<'o, W: Write> Json<'o, W> {
                 self.put(",\"count\":")?;
                 self.number_or_null(*count)?;
                 self.bytes("hex", bytes)?;
-                self.put(",\"items\":[")?;
-                let list = match contents {
-                    Contents::Other => "]",
-                    _ => {
-                        self.put("]")?;
-                        self.contents(*contents)?
-                    }
-                };
-                Ok(Open { list: Some(list), has_unread: true, object: "}" })
+                self.core_contents(*contents)
             }
             Part::Entry(entry) => {
                 self.entry(entry)?;

@@ -9,8 +9,7 @@ use super::walk::{Indices, Walk};
 use std::ops::Range;
 use wenc::tree::{CoreEntityType, Space};
 use wenc::{
-    Component, CoreItem, CoreSection, CoreSections, ModuleFault, ProducersReader, RawSection, SectionId,
-    Unread,
+    Component, CoreItem, CoreSection, CoreSections, ModuleFault, RawSection, SectionId, Unread,
 };
 
 /// The number of bytes of a header.
@@ -106,7 +105,11 @@ impl<R: Report> Walk<'_, '_, R> {
         if !are_shown(section) {
             // there are fewer bytes than items
             let needed = section.count().and_then(|count| usize::try_from(count).ok());
-            return Ok(Fault::Module(at, fault, Some(Cause::Few { place, needed, len: end - place })));
+            return Ok(Fault::Module(
+                at,
+                fault,
+                Some(Cause::Few { place, needed, len: end - place }),
+            ));
         }
         let first = match section.items().next() {
             Some(Ok((range, _))) => at + range.start,
@@ -165,10 +168,7 @@ impl<R: Report> Walk<'_, '_, R> {
         next: &mut Indices,
     ) -> Result<(), Failure> {
         let are_shown = are_shown(section);
-        let contents = match section.name {
-            Some(ProducersReader::SECTION) => Contents::Producers,
-            _ => Contents::Other,
-        };
+        let contents = section.name.map_or(Contents::Other, Contents::of_core);
         let range = at + section.range.start..at + section.range.end;
         self.report.open(&Part::CoreSection {
             range: range.clone(),

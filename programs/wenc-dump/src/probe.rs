@@ -1,8 +1,8 @@
 //! Changed copies of an item, which are read to find the byte that makes it unreadable.
 //!
 //! A front of an item *can go on* if some bytes after it make it an item that the proved readers
-//! read. The first byte after the longest such front is the cause of a fault: no bytes after it help.
-//! The bytes that are tried are zeros, the rest of the item, and ends of the items of
+//! read. The first byte after the longest such front is the cause of a fault: no bytes after it
+//! help. The bytes that are tried are zeros, the rest of the item, and ends of the items of
 //! `examples.wasm`.
 
 use super::cause::{NUMBER, number};
@@ -89,8 +89,10 @@ pub struct Probe<'a> {
     start: usize,
     /// The item, and what follows it in its section.
     item: &'a [u8],
-    /// Whether bytes are tried only as far as the section goes.
-    is_bounded: bool,
+    /// The length of the front that ends with the last text that was found to be in it.
+    text_end: usize,
+    /// The length up to which bytes are tried.
+    bound: usize,
     /// The number of bytes that may still be read.
     left: &'a mut usize,
 }
@@ -165,7 +167,7 @@ impl<'a> Probe<'a> {
         let of = if place == Place::Module { ComponentSectionId::CoreType.into() } else { id };
         let mut examples = [&[][..]; EXAMPLES_OF_ONE];
         examples.iter_mut().zip(examples_of(of)).for_each(|(one, example)| *one = example);
-        Ok(Self { place, examples, bytes, start, item, is_bounded: false, left })
+        Ok(Self { place, examples, bytes, start, item, text_end: 0, bound: usize::MAX, left })
     }
 
     /// Returns whether the limit was reached, so that nothing that was found counts.
@@ -173,8 +175,8 @@ impl<'a> Probe<'a> {
         *self.left == 0
     }
 
-    /// Restores this many bytes of the item, and sets the others to zero. After the limit that isn't
-    /// needed.
+    /// Restores this many bytes of the item, and sets the others to zero. After the limit that
+    /// isn't needed.
     fn load(&mut self, len: usize) {
         if self.is_over() {
             return;
@@ -182,8 +184,8 @@ impl<'a> Probe<'a> {
         let copy = &mut self.bytes[self.start..];
         copy[..len].copy_from_slice(&self.item[..len]);
         copy[len..].fill(0);
-        if self.is_bounded {
-            copy[self.item.len()..].fill(NEVER);
+        if let Some(rest) = copy.get_mut(self.bound..) {
+            rest.fill(NEVER);
         }
         *self.left = self.left.saturating_sub(copy.len() / 16);
     }
@@ -215,7 +217,7 @@ impl<'a> Probe<'a> {
 
     /// Returns whether the item can be read with these bytes in it, after which it has zeros again.
     fn is_read_with(&mut self, at: usize, bytes: &[u8]) -> bool {
-        let end = if self.is_bounded { self.start + self.item.len() } else { self.bytes.len() };
+        let end = self.bytes.len().min(self.start.saturating_add(self.bound));
         let from = self.start.saturating_add(at);
         let Some(room) = self.bytes.get_mut(from..end) else { return false };
         let len = room.len().min(bytes.len());
@@ -241,17 +243,47 @@ impl<'a> Probe<'a> {
         })
     }
 
-    /// Returns whether the front that is loaded, which ends in the size of a text, can go on with
-    /// that many zeros and an end of the first example.
+    /// Returns whether the front that is loaded can go on with zeros up to this length, and then an
+    /// end of the first example.
+    fn goes_on_from(&mut self, end: usize) -> bool {
+        let example = self.examples[0];
+        (0..ENDS.min(example.len())).any(|from| self.is_read_with(end, &example[from..]))
+    }
+
+    /// Returns the length of the front that ends with a text, if its size is here in the front with
+    /// this length, which is loaded.
+    fn end_of_text(&self, size: usize, len: usize) -> Option<usize> {
+        let bytes = &self.bytes[self.start..][size..len];
+        let (text, bytes) = number(bytes).ok()??;
+        (size + bytes).checked_add(usize::try_from(text).ok()?)
+    }
+
+    /// Returns whether the front that is loaded can go on behind the text in which it ends, if that
+    /// was found before or if the front ends in its size.
     fn goes_on_after_text(&mut self, len: usize) -> bool {
-        (len.saturating_sub(NUMBER)..len).any(|first| {
-            let size = number(&self.bytes[self.start + first..self.start + len]);
-            let Ok(Some((size, bytes))) = size else { return false };
-            let (example, size) = (self.examples[0], usize::try_from(size).unwrap_or(usize::MAX));
-            first + bytes == len
-                && (0..ENDS.min(example.len()))
-                    .any(|from| self.is_read_with(len.saturating_add(size), &example[from..]))
+        if self.text_end > len && self.goes_on_from(self.text_end) {
+            return true;
+        }
+        (len.saturating_sub(NUMBER)..len).any(|size| {
+            let end = self.end_of_text(size, len);
+            end.is_some_and(|end| end >= len && self.goes_on_from(end))
         })
+    }
+
+    /// Returns whether the front that is loaded can go on behind a text that has its size anywhere
+    /// in it.
+    fn goes_on_after_any_text(&mut self, len: usize) -> bool {
+        let sizes = (0..len.min(16)).chain(len.saturating_sub(256)..len);
+        for size in sizes {
+            match self.end_of_text(size, len) {
+                Some(end) if end > len && self.goes_on_from(end) => {
+                    self.text_end = end;
+                    return true;
+                }
+                _ => {}
+            }
+        }
+        false
     }
 
     /// Returns whether a front can go on.
@@ -263,7 +295,10 @@ impl<'a> Probe<'a> {
     /// Returns whether a front can go on, after more attempts.
     fn front_goes_on_at_all(&mut self, len: usize) -> bool {
         self.load(len);
-        if self.goes_on(len, Effort::large(len)) || self.is_read_with_any(len) {
+        if self.goes_on_after_any_text(len)
+            || self.goes_on(len, Effort::large(len))
+            || self.is_read_with_any(len)
+        {
             return true;
         }
         // the rest, in place of a byte, after another one, and without one
@@ -307,17 +342,30 @@ impl<'a> Probe<'a> {
         }
     }
 
+    /// Returns what is found if bytes are tried only up to this length.
+    fn within<T>(&mut self, bound: usize, find: impl FnOnce(&mut Self) -> T) -> T {
+        self.bound = bound;
+        let found = find(self);
+        self.bound = usize::MAX;
+        found
+    }
+
     /// Returns the length of the longest front that can go on in as many bytes as the section has;
     /// `None` if the one with this length can.
     pub fn front_within(&mut self, longest: usize) -> Option<usize> {
-        self.is_bounded = true;
-        let front = if self.front_goes_on(longest) { None } else { Some(self.front()) };
-        self.is_bounded = false;
-        front
+        self.within(self.item.len(), |probe| {
+            if probe.front_goes_on(longest) { None } else { Some(probe.front()) }
+        })
     }
 
-    /// Returns the length of a longer front that can go on and that can't with one more byte, as far
-    /// as few attempts show; `good` is the length of one that can.
+    /// Returns whether the front with this length can go on in fewer bytes than this.
+    pub fn goes_on_in_fewer(&mut self, len: usize, bytes: usize) -> bool {
+        let bound = len.saturating_add(bytes).saturating_sub(1);
+        self.within(bound, |probe| probe.front_goes_on(len))
+    }
+
+    /// Returns the length of a front that can go on and that can't with one more byte, as far as few
+    /// attempts show; `good` is the length of one that can.
     fn front_from(&mut self, mut good: usize) -> usize {
         let mut bad = self.item.len() + 1;
         let mut step = 1;
@@ -383,7 +431,8 @@ impl<'a> Probe<'a> {
         least
     }
 
-    /// Returns how many bytes are needed behind the item: of these after some zeros, and then zeros.
+    /// Returns how many bytes are needed behind the item: of these after some zeros, and then
+    /// zeros.
     fn needed(&mut self, zeros: usize, end: &[u8]) -> Option<usize> {
         let len = self.item.len();
         self.load(len);
@@ -446,7 +495,8 @@ impl Accepted {
     /// Returns the ranges of the bytes, each by its first and its last.
     fn ranges(&self) -> impl Iterator<Item = (u8, u8)> {
         let is_in = |byte: Option<u8>| byte.is_some_and(|byte| self.has(byte));
-        let starts = (0..=u8::MAX).filter(move |byte| self.has(*byte) && !is_in(byte.checked_sub(1)));
+        let starts =
+            (0..=u8::MAX).filter(move |byte| self.has(*byte) && !is_in(byte.checked_sub(1)));
         let ends = (0..=u8::MAX).filter(move |byte| self.has(*byte) && !is_in(byte.checked_add(1)));
         starts.zip(ends)
     }

@@ -17,7 +17,8 @@ pub enum Kind {
 }
 
 impl Kind {
-    /// Parses a word, with hyphens or spaces, or a decimal id; `None` if there are no such sections.
+    /// Parses a word, with hyphens or spaces, or a decimal id; `None` if there are no such
+    /// sections.
     pub fn parse(text: &str) -> Option<Self> {
         if let Ok(id) = text.parse() {
             return Some(Self::Id(id));

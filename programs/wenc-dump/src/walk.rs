@@ -10,9 +10,7 @@ use std::io;
 use std::ops::Range;
 use wenc::tree::Space;
 use wenc::view::ItemView;
-use wenc::{
-    Component, CoreSections, DebugNames, ListFault, SectionReader, Sections, Unread,
-};
+use wenc::{Component, CoreSections, DebugNames, ListFault, SectionReader, Sections, Unread};
 
 /// The maximum nesting depth of components, which is that of types.
 pub const DEPTH: usize = 100;
@@ -130,7 +128,8 @@ impl<'f, R: Report> Walk<'f, '_, R> {
         Ok(())
     }
 
-    /// Reports that nothing more is read of the innermost open part, which ends at this byte offset.
+    /// Reports that nothing more is read of the innermost open part, which ends at this byte
+    /// offset.
     pub(super) fn unread(&mut self, fault: Fault, end: usize) -> io::Result<()> {
         self.unread_of(fault, end, false)
     }

@@ -14,7 +14,7 @@ use wenc::tree::{Command, ItemTree, NameTree, Scope, Space, String as Text, buil
 use wenc::{
     Component, ComponentNameSection, ComponentSection, ComponentSectionId, DebugNames, RawSection,
 };
-use wenc_dump::{Streams, run as dump};
+use wenc_dump::{Streams, Terminal, run as dump};
 
 /// A space, how a scope is seen from the item, and an index.
 type Seen = (Space, Scope, u32);
@@ -65,11 +65,13 @@ fn printed(item: &ItemTree, indices: &[Seen]) -> String {
     let (mut out, mut err) = (Vec::new(), Vec::new());
     let mut streams = Streams { input: &mut &outer[..], out: &mut out, err: &mut err };
     let arguments = ["wenc-dump", "-"].map(Into::into);
-    let status = dump(arguments.into_iter(), false, &mut streams);
+    let status = dump(arguments.into_iter(), Terminal::default(), &mut streams);
     // the bytes of these are no module and no names
     assert_eq!(status, matches!(item, ItemTree::Module(_) | ItemTree::Custom { .. }).into());
     let text = String::from_utf8(out).expect("it is text");
     let (_, item) = text.split_once("        0x").expect("the item is there");
+    // the sections of names, which are printed too, come after it
+    let item = item.split(" custom section, ").next().unwrap_or_default();
     item.split_once(": ").map(|(_, item)| item.to_owned()).unwrap_or_default()
 }
 

@@ -33,7 +33,7 @@ fn add_indices(node: Node, seen: &mut Vec<Seen>) {
     match node {
         Node::Index { space, scope, index } => seen.push((space, scope, index)),
         Node::Present(child) | Node::Variant(_, child) => add_indices(child.node(), seen),
-        Node::List(list) => list.iter().for_each(|child| add_indices(child.node(), seen)),
+        Node::List(list) => list.for_each(|child| add_indices(child.node(), seen)),
         Node::Tuple(fields) | Node::Record(_, fields) | Node::Struct(_, fields) => {
             fields.iter().for_each(|(_, child)| add_indices(child.node(), seen));
         }

@@ -6,7 +6,7 @@ use crate::values::Value;
 use std::collections::BTreeSet;
 use std::fs;
 use std::ops::Range;
-use wenc::{ComponentSection, ListFault, RawSection, Sections, Unread, list};
+use wenc::{ComponentSection, Encode, ListFault, RawSection, Sections, Unread, list};
 use wenc_dump::{Streams, Terminal};
 
 /// One in so many damages is tried. Programs that aren't optimized are slow.
@@ -30,6 +30,22 @@ fn cause(bytes: &[u8]) -> Option<(usize, String)> {
     let cause = fault.get("cause")?;
     let place = usize::try_from(cause.at("place").number()).expect("it is small");
     Some((place, cause.at("message").text().to_string()))
+}
+
+/// In a text of any size the byte that isn't UTF-8 is found.
+#[test]
+fn long_texts_are_looked_at() {
+    for (size, at) in [(127, 100), (128, 5), (1_000, 333), (16_384, 12_345)] {
+        let mut item = vec![0];
+        size.encode(&mut item);
+        let start = item.len();
+        item.extend(vec![b'a'; size]);
+        item.extend([1, 0]);
+        item[start + at] = 0xff;
+        let bytes = alone(10, &item);
+        let place = bytes.len() - item.len() + start + at;
+        assert_eq!(cause(&bytes), Some((place, format!("0xff at {place:#x} isn't UTF-8"))));
+    }
 }
 
 /// Items of the corpus, each with its section's id, up to this size; all different.
@@ -62,9 +78,8 @@ fn expected(message: &str) -> Vec<u8> {
     let ranges = message.strip_suffix(" is expected").and_then(|text| text.split_once(", where "));
     let Some((_, ranges)) = ranges else { return Vec::new() };
     let ranges = ranges.replace(" or ", ", ");
-    let byte = |text: &str| {
-        u8::from_str_radix(text.trim_start_matches("0x"), 16).expect("it is a byte")
-    };
+    let byte =
+        |text: &str| u8::from_str_radix(text.trim_start_matches("0x"), 16).expect("it is a byte");
     let mut bytes = Vec::new();
     for range in ranges.split(", ") {
         let (from, to) = range.split_once(" to ").unwrap_or((range, range));
@@ -95,31 +110,42 @@ const KINDS: [(&[u8], &str); 20] = [
         b"\x0a\x06\x01\0\x01f\x09\x63",
         "bad item 0 at 0xb in the section at 0x8: 0x09 at 0xe, where 0x00 to 0x05 is expected",
     ),
-    (b"\x06\x02\x01\x09", "bad item 0 at 0xb in the section at 0x8: 0x09 where an alias is expected"),
+    (
+        b"\x06\x02\x01\x09",
+        "bad item 0 at 0xb in the section at 0x8: 0x09 where an alias is expected",
+    ),
     (
         b"\x08\x04\x01\0\0\x33",
-        "bad item 0 at 0xb in the section at 0x8: needs 5 bytes or more from 0xb on, where 3 are left",
+        "bad item 0 at 0xb in the section at 0x8: \
+         needs 5 bytes or more from 0xb on, where 3 are left",
     ),
     // too few bytes for a name, for a size and for a count
     (
         b"\x0a\x0a\x01\0\xc8\x01file\x01\0",
-        "bad item 0 at 0xb in the section at 0x8: needs 200 bytes or more from 0xe on, where 6 are left",
+        "bad item 0 at 0xb in the section at 0x8: \
+         needs 200 bytes or more from 0xe on, where 6 are left",
     ),
     (
         b"\x0a\x08\x01\0\x64file\xff",
-        "bad item 0 at 0xb in the section at 0x8: needs 100 bytes or more from 0xd on, where 5 are left",
+        "bad item 0 at 0xb in the section at 0x8: \
+         needs 100 bytes or more from 0xd on, where 5 are left",
     ),
     (
         b"\x0a\x08\x01\0\x09file\x03",
-        "bad item 0 at 0xb in the section at 0x8: needs 13 bytes or more from 0xb on, where 7 are left",
+        "bad item 0 at 0xb in the section at 0x8: \
+         needs 13 bytes or more from 0xb on, where 7 are left",
     ),
     (b"\x06\x05\x01", "bad section at 0x8: needs 5 bytes or more from 0xa on, where 1 is left"),
     (
         b"\x06\x01\x80",
-        "bad count at 0xa in the section at 0x8: needs 2 bytes or more from 0xa on, where 1 is left",
+        "bad count at 0xa in the section at 0x8: \
+         needs 2 bytes or more from 0xa on, where 1 is left",
     ),
     // numbers that are too large or too long
-    (b"\x07\xff\xff\xff\xff\xff\x01", "bad section at 0x8: the number at 0x9 has more than 32 bits"),
+    (
+        b"\x07\xff\xff\xff\xff\xff\x01",
+        "bad section at 0x8: the number at 0x9 has more than 32 bits",
+    ),
     (
         b"\x03\x12\x01\x50\x01\0\0\0\x02\0\xff\xff\xff\xff\xff\xff\xff\xff\xff\x02",
         "bad item 0 at 0xb in the section at 0x8: the number at 0x12 has more than 64 bits",
@@ -142,10 +168,14 @@ const KINDS: [(&[u8], &str); 20] = [
     ),
     (
         b"\0asm\x01\0\0\0\x0b\x02\x07\0",
-        "bad item 0 at 0xb: needs 7 bytes or more from 0xb on, where 1 is left",
+        "bad item 0 at 0xb: \
+         needs 7 bytes or more from 0xb on, where 1 is left",
     ),
     // headers
-    (b"\0asm\x0c\0\x01\0", "no component's header at 0x0: found another version of the format: version 0x1000c"),
+    (
+        b"\0asm\x0c\0\x01\0",
+        "no component's header at 0x0: found another version of the format: version 0x1000c",
+    ),
 ];
 
 #[test]
@@ -163,8 +193,8 @@ fn small_components(size: usize) -> Vec<Vec<u8>> {
     all.filter(|bytes| bytes.len() < size && list(bytes).is_ok()).collect()
 }
 
-/// The byte offset of the fault of `list`, as the program tells it, and the bytes in which its cause
-/// is: the item and what follows it in its section.
+/// The byte offset of the fault of `list`, as the program tells it, and the bytes in which its
+/// cause is: the item and what follows it in its section.
 fn fault_of(bytes: &[u8]) -> Option<(usize, Range<usize>)> {
     let fault = list(bytes).err()?;
     let section = |place: usize| {
@@ -185,8 +215,8 @@ fn fault_of(bytes: &[u8]) -> Option<(usize, Range<usize>)> {
     }
 }
 
-/// The first fault is that of `list`, and its cause is in the bytes that `list` names, or it is told
-/// by the fault itself.
+/// The first fault is that of `list`, and its cause is in the bytes that `list` names, or it is
+/// told by the fault itself.
 fn is_fault_of_list(bytes: &[u8]) -> bool {
     let Some((place, within)) = fault_of(bytes) else { return false };
     let (status, out, _) = run(&["--json"], bytes);

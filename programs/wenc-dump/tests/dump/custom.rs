@@ -3,8 +3,7 @@
 use crate::{expect, expect_of, file, file_of};
 
 /// A section with the producers `C` and `Rust`, the second with a version.
-const PRODUCERS: &[u8] =
-    b"\0\x22\x09producers\x01\x08language\x02\x01C\0\x04Rust\x042024";
+const PRODUCERS: &[u8] = b"\0\x22\x09producers\x01\x08language\x02\x01C\0\x04Rust\x042024";
 
 #[test]
 fn producers() {

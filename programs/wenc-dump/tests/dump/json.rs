@@ -86,7 +86,8 @@ fn debug_names_custom_sections_and_nested_components() {
         {\"start\":18,\"end\":21,\"id\":6,\"kind\":\"alias\",\"count\":0,\"items\":[]}]}}]},\
         {\"start\":21,\"end\":52,\"id\":0,\"kind\":\"custom\",\"count\":1,\"items\":[\
         {\"start\":23,\"end\":52,\"space\":null,\"index\":null,\"count\":0,\"name\":null,\"item\":\
-        {\"name\":\"component-name\",\"size\":14,\"names\":[{\"space\":null,\"index\":null,\"name\":\"c\"},\
+        {\"name\":\"component-name\",\"size\":14,\"names\":[\
+        {\"space\":null,\"index\":null,\"name\":\"c\"},\
         {\"space\":\"component\",\"index\":0,\"name\":\"n\"}],\"unread\":49}}]}]},\
         \"fault\":{\"place\":49,\"message\":\"bad debug names at 0x31\"}";
     expect(&[], &file("json_names", &[&nested[..], names].concat()), 1, out);

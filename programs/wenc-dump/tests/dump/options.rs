@@ -72,12 +72,13 @@ fn some_sections_are_printed() {
     let both = ["--section=import", "--section=7", "-"];
     expect_run(&both, &component, (0, FUNCTION_TEXT, ""));
     expect_run(&["--section=core-module", "-"], &component, (0, &imports[..30], ""));
-    let json = "{\"file\":\"-\",\"component\":{\"start\":0,\"end\":23,\"name\":null,\"sections\":[]},\
+    let json = "{\"file\":\"-\",\"component\":{\"start\":0,\"end\":23,\"name\":null,\
+        \"sections\":[]},\
         \"fault\":null}\n";
     expect_run(&["--section=start", "--json", "-"], &component, (0, json, ""));
 }
 
-/// What is in a section that is printed is printed, and what is in others isn't, but for its faults.
+/// What is in a section that is printed is printed; of others only faults are told.
 #[test]
 fn sections_are_those_of_the_file() {
     let nested = b"\x04\x13\0asm\x0d\0\x01\0\x06\x01\0\0\x02\x01x\x06\x02\x01\x09";
@@ -148,7 +149,17 @@ fn help_and_version() {
         let out = String::from_utf8(output.stdout).expect("it is text");
         assert!(output.status.success() && output.stderr.is_empty());
         assert!(out.starts_with(USAGE) && out.lines().all(|line| line.len() < 100));
-        for word in ["--hex", "--section", "--color", "--width", "--json", "--help", "--version", "standard input", "\"fault\""] {
+        for word in [
+            "--hex",
+            "--section",
+            "--color",
+            "--width",
+            "--json",
+            "--help",
+            "--version",
+            "standard input",
+            "\"fault\"",
+        ] {
             assert!(out.contains(word), "{word}");
         }
     }

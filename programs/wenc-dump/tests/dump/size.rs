@@ -46,10 +46,11 @@ fn components_more_than_100_deep_are_a_fault() {
     // the file, a section and a component for each of the others, and what isn't read
     let out = String::from_utf8(output.stdout).expect("it is text");
     let lines: Vec<&str> = out.lines().collect();
-    assert_eq!(lines.len(), 1 + 2 * 100 + 1);
+    assert_eq!(lines.len(), 1 + 2 * 100 + 2);
     let last = format!("{:40}{place:#x}..{:#x} component 0, 8 bytes", "", component.len());
     assert_eq!(lines[200], last);
     assert_eq!(lines[201], format!("{:40}{place:#x} too deep component", ""));
+    assert_eq!(lines[202], format!("{:40}{place:#x}: 00 61 73 6d 0d 00 01 00", ""));
 }
 
 #[test]
