@@ -170,7 +170,7 @@ fn without_memory(fault: OuterFault) -> Error {
 
 #[test]
 fn outer_indices_are_visited() {
-    let changed = each_is_refused(20, |refusals| {
+    let changed = each_is_refused(15, |refusals| {
         let mut item = calmly(|| nested(0));
         refusals.call(|| {
             let visited = item.outer_indices_mut(1, |used| *used.index = 1);
