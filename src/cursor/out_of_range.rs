@@ -47,6 +47,7 @@ impl<'a> Finder<'a> {
             self.enter_component()?;
         }
         // a nested component is defined where it ends
+        // 32 bits: each component in another has 8 bytes at least.
         while self.counts.len() > depth + 1 {
             self.counts.pop();
             self.define(&ItemView::Component(&[]));
