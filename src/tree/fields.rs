@@ -14,6 +14,8 @@
 //! What follows `=>` are the indices that a variant defines, if it is a declaration.
 
 mod place;
+#[cfg(test)]
+mod random;
 mod values;
 
 use super::indices::Visitor;
@@ -192,7 +194,7 @@ macro_rules! indices_of_enum {
     };
 }
 
-/// Implements `Tree` and `TreeMut` for enums.
+/// Implements `Tree` and `TreeMut` for enums, and in tests `Random`.
 macro_rules! enums {
     () => {};
     ($tree:ident = $view:ident $variants:tt $($rest:tt)*) => {
@@ -202,6 +204,8 @@ macro_rules! enums {
     ($tree:ident $variants:tt $($rest:tt)*) => {
         node_of_enum! { $tree, $variants }
         indices_of_enum! { $tree, $variants }
+        #[cfg(test)]
+        random::random_enum! { $tree, $variants }
         enums! { $($rest)* }
     };
 }
@@ -218,7 +222,7 @@ macro_rules! node_of_struct {
     };
 }
 
-/// Implements `Tree` and `TreeMut` for structs.
+/// Implements `Tree` and `TreeMut` for structs, and in tests `Random`.
 macro_rules! structs {
     () => {};
     ($tree:ident = $view:ident $fields:tt $($rest:tt)*) => {
@@ -235,6 +239,8 @@ macro_rules! structs {
             }
         }
 
+        #[cfg(test)]
+        random::random_struct! { $tree, $($field)+ }
         structs! { $($rest)* }
     };
 }
