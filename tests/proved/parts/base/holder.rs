@@ -123,6 +123,10 @@ fn refused_pieces() {
     assert_eq!(to.append_encoded(&("f", LARGE)), MANY);
     assert_eq!(to.append_encoded(&OPEN), UNFINISHED);
     assert_eq!(append_list(to, &[2], &[3, LARGE]), MANY);
+    assert_eq!(to.append_between(&LARGE, [3usize].into_iter(), &()), MANY);
+    assert_eq!(to.append_between(&2u32, [3, LARGE].into_iter(), &()), MANY);
+    assert_eq!(to.append_between(&2u32, [3usize].into_iter(), &LARGE), MANY);
+    assert_eq!(to.append_between(&OPEN, [3usize].into_iter(), &()), UNFINISHED);
     assert_eq!(to.end_with(&LARGE), MANY);
     assert_eq!(end_with_list(to, &[2], &[3, LARGE]), MANY);
     is_begun(to, 1, &[1], true);
@@ -160,6 +164,11 @@ fn piece_by_piece() {
     append_list(&mut holder, &[], &[]).unwrap();
     holder.end_member();
     is_whole(&holder, 2, &[8, 2, 9, 8, 1, 1, 0x66, 7, 0]);
+    holder = Holder::new(Global);
+    holder.open(&[1]).unwrap();
+    holder.append_between(&7u32, ["f"].into_iter(), &Verbatim(&[8, 9])).unwrap();
+    holder.end_member();
+    is_whole(&holder, 1, &[8, 1, 1, 7, 1, 1, 0x66, 8, 9]);
     holder = Holder::new(Global);
     holder.open(&[]).unwrap();
     is_begun(&holder, 1, &[], true);
