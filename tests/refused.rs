@@ -13,6 +13,8 @@ mod corpus;
 mod cursors;
 #[path = "refused/reading.rs"]
 mod reading;
+#[path = "common/refuse.rs"]
+mod refuse;
 #[allow(dead_code, reason = "some are for others")]
 #[path = "common/seen.rs"]
 mod seen;
@@ -21,69 +23,8 @@ mod spellings;
 #[path = "refused/views.rs"]
 mod views;
 
-use std::alloc::{GlobalAlloc, Layout, System};
-use std::cell::Cell;
+use refuse::{GRANTED, SINCE, calmly, refusing};
 use wenc::*;
-
-thread_local! {
-    /// How many allocations of this thread are granted before one is refused.
-    static GRANTED: Cell<Option<u32>> = const { Cell::new(None) };
-
-    /// How many there were since one was refused.
-    static SINCE: Cell<Option<u32>> = const { Cell::new(None) };
-}
-
-/// The system's allocator, which refuses one request where it is told to.
-struct Refusing;
-
-#[global_allocator]
-static ALLOCATOR: Refusing = Refusing;
-
-fn is_refused() -> bool {
-    let granted = GRANTED.get();
-    GRANTED.set(granted.and_then(|granted| granted.checked_sub(1)));
-    let is_refused = granted == Some(0);
-    SINCE.set(if is_refused { Some(0) } else { SINCE.get().map(|since| since + 1) });
-    is_refused
-}
-
-// SAFETY: each is the system's, or returns null.
-unsafe impl GlobalAlloc for Refusing {
-    unsafe fn alloc(&self, layout: Layout) -> *mut u8 {
-        if is_refused() { std::ptr::null_mut() } else { unsafe { System.alloc(layout) } }
-    }
-
-    unsafe fn dealloc(&self, at: *mut u8, layout: Layout) {
-        unsafe { System.dealloc(at, layout) }
-    }
-
-    unsafe fn realloc(&self, at: *mut u8, layout: Layout, size: usize) -> *mut u8 {
-        if is_refused() {
-            std::ptr::null_mut()
-        } else {
-            unsafe { System.realloc(at, layout, size) }
-        }
-    }
-}
-
-/// Makes the call with the request number `n` refused, counted from 0, which is its last. Returns
-/// its result, and whether there was such a request.
-fn refusing<T>(n: u32, call: impl FnOnce() -> T) -> (T, bool) {
-    SINCE.set(None);
-    GRANTED.set(Some(n));
-    let result = call();
-    assert!(SINCE.take().is_none_or(|since| since == 0), "requests after the refused one");
-    (result, GRANTED.take().is_none())
-}
-
-/// Makes what can't fail, or what is none of the requests, while none is to come.
-fn calmly<T>(make: impl FnOnce() -> T) -> T {
-    let (granted, since) = (GRANTED.take(), SINCE.take());
-    let made = make();
-    GRANTED.set(granted);
-    SINCE.set(since);
-    made
-}
 
 /// How many calls were refused.
 #[derive(Default)]

@@ -9,6 +9,7 @@ mod call;
 #[path = "../common/counts.rs"]
 mod counts;
 mod format;
+#[path = "../common/refuse.rs"]
 mod refuse;
 #[allow(dead_code, reason = "some are for others")]
 #[path = "../common/seen.rs"]

@@ -6,7 +6,7 @@
 mod builder;
 mod listed;
 #[allow(dead_code, reason = "some are for others")]
-#[path = "../calls/refuse.rs"]
+#[path = "../common/refuse.rs"]
 mod refuse;
 mod refused;
 mod runs;
