@@ -1,6 +1,7 @@
 -- Module, component and instance types: their declarations, one by one, and what is counted.
 use Rattle.std.specs.Prelude.{◌≡◌, ℕ, ◌+◌, ◌-◌, List, [], ◌∷◌, ◌++◌, Option, Some, None, Result}
 use Rattle.std.specs.Prelude.{Ok, Err, OnOk, OnErr, true}
+use Rattle.wenc_base.specs.Encode.{Serves}
 use Rattle.wenc_base.specs.Holder.{HolderState, no_members, is_finished, Contains, AddsMember}
 use Rattle.wenc_base.specs.Piece.{Form}
 use Rattle.wenc_base.specs.Openings.{member_begun, member_appended, member_ended, member_given_up}
@@ -132,6 +133,19 @@ pub record AddsDeclaration {D : Type 0} (form : Form D) (space : D → Option In
   pub declared : OnOk outcome
       ((ds : List D) → Declares form space old ds → Declares form space new (ds ++ d ∷ []))
   pub err : OnErr outcome (new ≡ old)
+
+-- A call adds the declaration of a type that a declaration of an instance type is there.
+abbrev pub AddsDeclared : {D : Type 0} → Form D → (D → Option IndexSpace) → TypeState → TypeState
+    → Result (Unit {0}) Fault → Option D → Type 0
+AddsDeclared form space old new outcome None = ⊥
+AddsDeclared form space old new outcome (Some d) = AddsDeclaration form space old new outcome d
+
+-- A declaration of a type is this one of an instance type: it has its text and its space.
+abbrev pub DeclaredAs : {D : Type 0} → Form D → (D → Option IndexSpace) → Option D
+    → InstanceDeclaration → Type 0
+DeclaredAs form space None own = ⊥
+DeclaredAs form space (Some d) own =
+    Serves (instance_declaration own) (form d) × (instance_space own ≡ space d)
 
 -- a call adds this declaration to the type of a module, of an instance or of a component
 abbrev pub AddsToModule : TypeState → TypeState → Result (Unit {0}) Fault → ModuleDeclaration

@@ -15,7 +15,8 @@ pub use Rattle.wenc_types.specs.ComponentTypes.{InstanceType, ResourceType, Type
 pub use Rattle.wenc_types.specs.ComponentTypes.{and_instance, component_declaration, components_of}
 pub use Rattle.wenc_types.specs.ComponentTypes.{def_type, depth, instance_declaration, instances_of}
 pub use Rattle.wenc_types.specs.ComponentTypes.{no_component, no_instance}
-pub use Rattle.wenc_types.specs.Declarations.{AddsDeclaration, AddsToComponent, AddsToInstance}
+pub use Rattle.wenc_types.specs.Declarations.{AddsDeclaration, AddsDeclared, AddsToComponent}
+pub use Rattle.wenc_types.specs.Declarations.{AddsToInstance, DeclaredAs}
 pub use Rattle.wenc_types.specs.Declarations.{AddsToModule, ComponentDeclares, DeclaresSome}
 pub use Rattle.wenc_types.specs.Declarations.{InstanceDeclares, IsDeclaration, ModuleDeclares}
 pub use Rattle.wenc_types.specs.Declarations.{NoneBegun, TypeState, component_space, indexed_outcome}

@@ -7,8 +7,13 @@ ghost use Rattle.wenc_base.specs.Prelude.{is_finished, held_members, held_text, 
 ghost use Rattle.wenc_base.specs.Prelude.{AddCause, Borrows, GivesUp, ◌▸◌, Form, no_room_in_holder};
 ghost use Rattle.wenc_base.specs.Prelude.{is_opened, member_text, opened_is_unfinished};
 ghost use Rattle.wenc_base.specs.declared.fault.Fault.TheVariants.{Unfinished};
-ghost use Rattle.wenc_types.specs.Prelude.{InstanceDeclaration, instance_declaration};
-ghost use Rattle.wenc_types.specs.Prelude.{instance_space, no_declarations, lead_of, type_begun};
+ghost use Rattle.wenc_parts.specs.Prelude.{alias_view, InstanceExport, Outer, extern_name_view};
+ghost use Rattle.wenc_parts.specs.declared.aliases.ComponentOuterAliasKind.TheVariants as outers;
+ghost use Rattle.wenc_parts.specs.declared.exports.ComponentExportKind.TheVariants as kinds;
+ghost use Rattle.wenc_parts.specs.declared.imports.ComponentTypeRef.TheVariants as references;
+ghost use Rattle.wenc_types.specs.Prelude.{InstanceDeclaration, DeclaredAs, AddsDeclared};
+ghost use Rattle.wenc_types.specs.Prelude.{Aliased, Exported, indexed_outcome};
+ghost use Rattle.wenc_types.specs.Prelude.{no_declarations, lead_of, type_begun};
 ghost use Rattle.wenc_types.specs.Prelude.{type_given_up, NoneBegun, DeclaresSome, IsDeclaration};
 ghost use Rattle.wenc_types.specs.Prelude.{AddsDeclaration, unchanged_on_err};
 ghost use Rattle.wenc_types.specs.Prelude.{IndexSpace as SpaceSpec, type_appended, type_ended};
@@ -16,7 +21,7 @@ ghost use Rattle.wenc_types.specs.Prelude.{type_appended_twice};
 ghost use Rattle.wenc_types.specs.declared.counts.IndexSpace.TheVariants as spaces;
 ghost use Rattle.wenc_types.specs.declared.encoders.func_type.FuncStage.TheVariants as stages;
 
-use crate::counts::{Counts, IndexSpace};
+use crate::counts::{Counts, IndexSpace, space_of_alias, space_of_kind};
 use crate::encoders::core_type::ComponentCoreTypeEncoder;
 use crate::encoders::defined_type::ComponentDefinedTypeEncoder;
 use crate::encoders::func_type::ComponentFuncTypeEncoder;
@@ -24,6 +29,10 @@ use crate::encoders::ty::ComponentTypeEncoder;
 use std::alloc::{Allocator, Global};
 use std::marker::{Model, PhantomData};
 use wenc_base::{Encode, Fault, Holder, Parent, Tagged};
+use wenc_parts::{
+    Alias, ComponentExportKind, ComponentExternName, ComponentOuterAliasKind, ComponentTypeRef,
+    TypeBounds,
+};
 
 /// The kinds of types that consist of declarations: those of modules, components and instances
 /// (component model, binary format, "Core Definitions" and "Type Definitions").
@@ -44,15 +53,17 @@ pub trait DeclaredKind {
 
     /// The space of a declaration, if it takes an index.
     ghost space: { Declaration → Optional SpaceSpec };
+
+    /// A declaration of an instance type as one of such a type, if it can be.
+    ghost declared: { InstanceDeclaration → Optional Declaration };
 }
 
 /// The kinds of types that allow all declarations of instance types: those of components and
 /// instances (component model, binary format, "Type Definitions").
 pub trait DeclaringKind: DeclaredKind {
-    /// The encoding of a declaration of an instance type is that of a declaration of such a type,
-    /// of the same space.
-    ghost declares: { (d : InstanceDeclaration) → (instance_declaration d).Fits
-        → IsDeclaration Self.form Self.space (instance_declaration d).text (instance_space d) };
+    /// Each declaration of an instance type is one of such a type, with the same encoding and space.
+    ghost declares: { (d : InstanceDeclaration) → DeclaredAs Self.form Self.space
+        (Self.declared d) d };
 }
 
 /// The type of a module, a component or an instance, as its declarations (component model, binary
@@ -276,6 +287,156 @@ impl<K: DeclaringKind, A: Allocator> Declarations<K, A> {
         let index = self.type_count();
         self.begin(0x01, IndexSpace::Type)?;
         Ok((index, ComponentFuncTypeEncoder::new(self)))
+    }
+
+    /// Declares an alias.
+    ///
+    /// # Errors
+    ///
+    /// Fails as `core_type` does, and with `TooLarge` if the bytes of the alias's name would exceed
+    /// 4294967295.
+    pub fn alias(&mut self, alias: Alias<'_>) -> Result<(), Fault>
+        ensures { AddsDeclared K.form K.space self.old self.new result
+            (K.declared (Aliased (alias_view alias.entry))) }
+    {
+        let space = space_of_alias(&alias);
+        self.add(&Tagged(0x02, &alias), space)
+    }
+
+    /// Declares an export with this name.
+    ///
+    /// # Errors
+    ///
+    /// Fails as `alias` does.
+    pub fn export<B: Allocator>(
+        &mut self,
+        name: ComponentExternName<'_, B>,
+        ty: ComponentTypeRef,
+    ) -> Result<(), Fault>
+        ensures { AddsDeclared K.form K.space self.old self.new result
+            (K.declared (Exported (extern_name_view name.entry) ty)) }
+    {
+        self.add(&Tagged(0x04, &(name, ty)), space_of_kind(ty.kind()))
+    }
+
+    /// Declares an alias of a type, which the instance with the index `instance` exports under this
+    /// name. Returns the alias's index in the index space of types.
+    ///
+    /// # Errors
+    ///
+    /// Fails as `alias` does.
+    pub fn alias_export_type(&mut self, instance: u32, name: &str) -> Result<u32, Fault>
+        ensures added { AddsDeclared K.form K.space self.old self.new (indexed_outcome result)
+            (K.declared (Aliased (InstanceExport instance kinds.«Type» name.now))) }
+        ensures index { IfOk result (λ index. index ≡ self.old.counts.types) }
+    {
+        let index = self.type_count();
+        self.alias(Alias::InstanceExport {
+            instance,
+            kind: ComponentExportKind::Type,
+            name,
+        })?;
+        Ok(index)
+    }
+
+    /// Declares an alias of an instance, which the instance with the index `instance` exports under
+    /// this name. Returns the alias's index in the index space of instances.
+    ///
+    /// # Errors
+    ///
+    /// Fails as `alias` does.
+    pub fn alias_export_instance(&mut self, instance: u32, name: &str) -> Result<u32, Fault>
+        ensures added { AddsDeclared K.form K.space self.old self.new (indexed_outcome result)
+            (K.declared (Aliased (InstanceExport instance kinds.Instance name.now))) }
+        ensures index { IfOk result (λ index. index ≡ self.old.counts.instances) }
+    {
+        let index = self.instance_count();
+        self.alias(Alias::InstanceExport {
+            instance,
+            kind: ComponentExportKind::Instance,
+            name,
+        })?;
+        Ok(index)
+    }
+
+    /// Declares an alias of the type with the index `outer` in the scope that is `count` scopes
+    /// outwards, where 0 is this type. Returns the alias's index in the index space of types.
+    ///
+    /// # Errors
+    ///
+    /// Fails as `alias` does.
+    pub fn alias_outer_type(&mut self, count: u32, outer: u32) -> Result<u32, Fault>
+        ensures added { AddsDeclared K.form K.space self.old self.new (indexed_outcome result)
+            (K.declared (Aliased (Outer outers.«Type» count outer))) }
+        ensures index { IfOk result (λ index. index ≡ self.old.counts.types) }
+    {
+        let index = self.type_count();
+        self.alias(Alias::Outer {
+            kind: ComponentOuterAliasKind::Type,
+            count,
+            index: outer,
+        })?;
+        Ok(index)
+    }
+
+    /// Declares an alias of the core type with the index `outer` in the scope that is `count`
+    /// scopes outwards, where 0 is this type. Returns the alias's index in the index space of core
+    /// types.
+    ///
+    /// # Errors
+    ///
+    /// Fails as `alias` does.
+    pub fn alias_core_type(&mut self, count: u32, outer: u32) -> Result<u32, Fault>
+        ensures added { AddsDeclared K.form K.space self.old self.new (indexed_outcome result)
+            (K.declared (Aliased (Outer outers.CoreType count outer))) }
+        ensures index { IfOk result (λ index. index ≡ self.old.counts.core_types) }
+    {
+        let index = self.core_type_count();
+        self.alias(Alias::Outer {
+            kind: ComponentOuterAliasKind::CoreType,
+            count,
+            index: outer,
+        })?;
+        Ok(index)
+    }
+
+    /// Declares an export of a type with this name. Returns its index in the index space of types.
+    ///
+    /// # Errors
+    ///
+    /// Fails as `alias` does.
+    pub fn export_type<B: Allocator>(
+        &mut self,
+        name: ComponentExternName<'_, B>,
+        bounds: TypeBounds,
+    ) -> Result<u32, Fault>
+        ensures added { AddsDeclared K.form K.space self.old self.new (indexed_outcome result)
+            (K.declared (Exported (extern_name_view name.entry) (references.«Type» bounds))) }
+        ensures index { IfOk result (λ index. index ≡ self.old.counts.types) }
+    {
+        let index = self.type_count();
+        self.export(name, ComponentTypeRef::Type(bounds))?;
+        Ok(index)
+    }
+
+    /// Declares an export, with this name, of an instance whose type has the index `ty`. Returns
+    /// its index in the index space of instances.
+    ///
+    /// # Errors
+    ///
+    /// Fails as `alias` does.
+    pub fn export_instance<B: Allocator>(
+        &mut self,
+        name: ComponentExternName<'_, B>,
+        ty: u32,
+    ) -> Result<u32, Fault>
+        ensures added { AddsDeclared K.form K.space self.old self.new (indexed_outcome result)
+            (K.declared (Exported (extern_name_view name.entry) (references.Instance ty))) }
+        ensures index { IfOk result (λ index. index ≡ self.old.counts.instances) }
+    {
+        let index = self.instance_count();
+        self.export(name, ComponentTypeRef::Instance(ty))?;
+        Ok(index)
     }
 
     /// Returns the number of declarations, one that is being written included.

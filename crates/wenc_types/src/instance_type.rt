@@ -1,22 +1,10 @@
 //! Types of instances.
-ghost use Rattle.std.specs.Prelude.{◌≡◌, IfOk};
-ghost use Rattle.wenc_base.specs.Prelude.{serves_itself};
-ghost use Rattle.wenc_parts.specs.Prelude.{alias_view, InstanceExport, Outer, extern_name_view};
-ghost use Rattle.wenc_parts.specs.declared.aliases.ComponentOuterAliasKind.TheVariants as outers;
-ghost use Rattle.wenc_parts.specs.declared.exports.ComponentExportKind.TheVariants as kinds;
-ghost use Rattle.wenc_parts.specs.declared.imports.ComponentTypeRef.TheVariants as references;
-ghost use Rattle.wenc_types.specs.Prelude.{Aliased, Exported, AddsToInstance, indexed_outcome};
+ghost use Rattle.std.specs.Prelude.{Some};
 ghost use Rattle.wenc_types.specs.Prelude.{InstanceDeclaration, instance_declaration};
-ghost use Rattle.wenc_types.specs.Prelude.{instance_space, is_declaration};
+ghost use Rattle.wenc_types.specs.Prelude.{instance_space};
 
-use crate::counts::{space_of_alias, space_of_kind};
 use crate::declarations::{Declarations, DeclaredKind, DeclaringKind};
-use std::alloc::{Allocator, Global};
-use wenc_base::{Fault, Tagged};
-use wenc_parts::{
-    Alias, ComponentExportKind, ComponentExternName, ComponentOuterAliasKind, ComponentTypeRef,
-    TypeBounds,
-};
+use std::alloc::Global;
 
 /// The kind of instance types.
 pub struct InstanceTypes;
@@ -31,13 +19,15 @@ impl DeclaredKind for InstanceTypes {
     ghost form = { instance_declaration };
 
     ghost space = { instance_space };
+
+    ghost declared = { Some };
 }
 
 impl DeclaringKind for InstanceTypes {
     ghost use Rattle.std.proofs.Common.{refl};
+    ghost use Rattle.wenc_base.specs.Prelude.{serves_itself};
 
-    ghost declares = { λ d. is_declaration instance_declaration instance_space d
-        serves_itself refl };
+    ghost declares = { λ _. (serves_itself, refl) };
 }
 
 /// The type of an instance: its exports, and the types that these refer to (component model, binary
@@ -53,156 +43,3 @@ impl DeclaringKind for InstanceTypes {
 /// types.instance(&ty)?;
 /// ```
 pub type InstanceType<A = Global> = Declarations<InstanceTypes, A>;
-
-impl<A: Allocator> Declarations<InstanceTypes, A> {
-    /// Declares an alias.
-    ///
-    /// # Errors
-    ///
-    /// Fails with `Unfinished` while a type is being written, with `TooMany` if the number of
-    /// declarations would exceed 4294967295, and with `TooLarge` if their bytes or those of the
-    /// alias's name would.
-    pub fn alias(&mut self, alias: Alias<'_>) -> Result<(), Fault>
-        ensures { AddsToInstance self.old self.new result
-            (Aliased (alias_view alias.entry)) }
-    {
-        let space = space_of_alias(&alias);
-        self.add(&Tagged(0x02, &alias), space)
-    }
-
-    /// Declares an export with this name.
-    ///
-    /// # Errors
-    ///
-    /// Fails as `alias` does.
-    pub fn export<B: Allocator>(
-        &mut self,
-        name: ComponentExternName<'_, B>,
-        ty: ComponentTypeRef,
-    ) -> Result<(), Fault>
-        ensures { AddsToInstance self.old self.new result
-            (Exported (extern_name_view name.entry) ty) }
-    {
-        self.add(&Tagged(0x04, &(name, ty)), space_of_kind(ty.kind()))
-    }
-
-    /// Declares an alias of a type, which the instance with the index `instance` exports under this
-    /// name. Returns the alias's index in the index space of types.
-    ///
-    /// # Errors
-    ///
-    /// Fails as `alias` does.
-    pub fn alias_export_type(&mut self, instance: u32, name: &str) -> Result<u32, Fault>
-        ensures added { AddsToInstance self.old self.new (indexed_outcome result)
-            (Aliased (InstanceExport instance kinds.«Type» name.now)) }
-        ensures index { IfOk result (λ index. index ≡ self.old.counts.types) }
-    {
-        let index = self.type_count();
-        self.alias(Alias::InstanceExport {
-            instance,
-            kind: ComponentExportKind::Type,
-            name,
-        })?;
-        Ok(index)
-    }
-
-    /// Declares an alias of an instance, which the instance with the index `instance` exports under
-    /// this name. Returns the alias's index in the index space of instances.
-    ///
-    /// # Errors
-    ///
-    /// Fails as `alias` does.
-    pub fn alias_export_instance(&mut self, instance: u32, name: &str) -> Result<u32, Fault>
-        ensures added { AddsToInstance self.old self.new (indexed_outcome result)
-            (Aliased (InstanceExport instance kinds.Instance name.now)) }
-        ensures index { IfOk result (λ index. index ≡ self.old.counts.instances) }
-    {
-        let index = self.instance_count();
-        self.alias(Alias::InstanceExport {
-            instance,
-            kind: ComponentExportKind::Instance,
-            name,
-        })?;
-        Ok(index)
-    }
-
-    /// Declares an alias of the type with the index `outer` in the scope that is `count` scopes
-    /// outwards, where 0 is this type. Returns the alias's index in the index space of types.
-    ///
-    /// # Errors
-    ///
-    /// Fails as `alias` does.
-    pub fn alias_outer_type(&mut self, count: u32, outer: u32) -> Result<u32, Fault>
-        ensures added { AddsToInstance self.old self.new (indexed_outcome result)
-            (Aliased (Outer outers.«Type» count outer)) }
-        ensures index { IfOk result (λ index. index ≡ self.old.counts.types) }
-    {
-        let index = self.type_count();
-        self.alias(Alias::Outer {
-            kind: ComponentOuterAliasKind::Type,
-            count,
-            index: outer,
-        })?;
-        Ok(index)
-    }
-
-    /// Declares an alias of the core type with the index `outer` in the scope that is `count`
-    /// scopes outwards, where 0 is this type. Returns the alias's index in the index space of core
-    /// types.
-    ///
-    /// # Errors
-    ///
-    /// Fails as `alias` does.
-    pub fn alias_core_type(&mut self, count: u32, outer: u32) -> Result<u32, Fault>
-        ensures added { AddsToInstance self.old self.new (indexed_outcome result)
-            (Aliased (Outer outers.CoreType count outer)) }
-        ensures index { IfOk result (λ index. index ≡ self.old.counts.core_types) }
-    {
-        let index = self.core_type_count();
-        self.alias(Alias::Outer {
-            kind: ComponentOuterAliasKind::CoreType,
-            count,
-            index: outer,
-        })?;
-        Ok(index)
-    }
-
-    /// Declares an export of a type with this name. Returns its index in the index space of types.
-    ///
-    /// # Errors
-    ///
-    /// Fails as `alias` does.
-    pub fn export_type<B: Allocator>(
-        &mut self,
-        name: ComponentExternName<'_, B>,
-        bounds: TypeBounds,
-    ) -> Result<u32, Fault>
-        ensures added { AddsToInstance self.old self.new (indexed_outcome result)
-            (Exported (extern_name_view name.entry) (references.«Type» bounds)) }
-        ensures index { IfOk result (λ index. index ≡ self.old.counts.types) }
-    {
-        let index = self.type_count();
-        self.export(name, ComponentTypeRef::Type(bounds))?;
-        Ok(index)
-    }
-
-    /// Declares an export, with this name, of an instance whose type has the index `ty`. Returns
-    /// its index in the index space of instances.
-    ///
-    /// # Errors
-    ///
-    /// Fails as `alias` does.
-    pub fn export_instance<B: Allocator>(
-        &mut self,
-        name: ComponentExternName<'_, B>,
-        ty: u32,
-    ) -> Result<u32, Fault>
-        ensures added { AddsToInstance self.old self.new (indexed_outcome result)
-            (Exported (extern_name_view name.entry) (references.Instance ty)) }
-        ensures index { IfOk result (λ index. index ≡ self.old.counts.instances) }
-    {
-        let index = self.instance_count();
-        self.export(name, ComponentTypeRef::Instance(ty))?;
-        Ok(index)
-    }
-}

@@ -1,6 +1,6 @@
 //! Types of core modules.
 ghost use Rattle.std.specs.Borrow.{sem};
-ghost use Rattle.std.specs.Prelude.{◌≡◌, false, OnOk, IfOk};
+ghost use Rattle.std.specs.Prelude.{◌≡◌, false, OnOk, IfOk, None};
 ghost use Rattle.wenc_base.specs.Prelude.{is_finished, AddCause, Borrows};
 ghost use Rattle.wenc_types.specs.Prelude.{ModuleImport, ModuleOuter, ModuleExport, AddsToModule};
 ghost use Rattle.wenc_types.specs.Prelude.{NoneBegun, indexed_outcome, lead_of, type_begun};
@@ -26,6 +26,8 @@ impl DeclaredKind for ModuleTypes {
     ghost form = { module_declaration };
 
     ghost space = { module_space };
+
+    ghost declared = { λ _. None };
 }
 
 /// The type of a core module: its imports and exports, and the types that these refer to (component

@@ -1,11 +1,12 @@
 -- What follows for the declarations of module types, component types and instance types.
-use Rattle.std.proofs.Common.{◌≡◌, ℕ, ◌+◌, ◌-◌, List, [], ◌∷◌, ◌++◌, Option, Some, None, refl, ap, sym, ◌∙◌, arith}
+use Rattle.std.proofs.Common.{◌≡◌, ℕ, ◌+◌, ◌-◌, List, [], ◌∷◌, ◌++◌, Option, Some, None, refl, ap, Result, sym, ◌∙◌, arith}
 use Rattle.wenc_base.specs.Encode.{Serves}
+use Rattle.wenc_base.specs.declared.fault.Fault.{Fault}
 use Rattle.wenc_base.specs.Forms.{list}
 use Rattle.wenc_base.specs.Holder.{HolderState, held_members, with_member, EncodeCause}
 use Rattle.wenc_base.specs.Piece.{Piece, Form, ◌▸◌, refused_for}
 use Rattle.wenc_base.specs.laws.Holders.{contains_next, contains_opened, given_up_is_before, member_appended_twice}
-use Rattle.wenc_base.specs.laws.Serves.{serves_itself}
+use Rattle.wenc_base.specs.laws.Serves.{serves_itself, serves_then}
 use Rattle.wenc_types.specs.ComponentTypes.{InstanceDeclaration, ComponentDeclaration}
 use Rattle.wenc_types.specs.ComponentTypes.{ComponentType, InstanceType, instances_of}
 use Rattle.wenc_types.specs.ComponentTypes.{components_of, def_type, instance_declaration}
@@ -15,7 +16,8 @@ use Rattle.wenc_types.specs.laws.ComponentTypes.{instances_serve, components_ser
 use Rattle.wenc_types.specs.Declarations.{ModuleDeclares, InstanceDeclares, ComponentDeclares}
 use Rattle.wenc_types.specs.Declarations.{one_more, one_less, counts_of, module_space}
 use Rattle.wenc_types.specs.Declarations.{instance_space, component_space, TypeState, NoneBegun}
-use Rattle.wenc_types.specs.Declarations.{Declares, IsDeclaration, lead_of, with_held, type_begun}
+use Rattle.wenc_types.specs.Declarations.{Declares, DeclaredAs, IsDeclaration, AddsDeclaration}
+use Rattle.wenc_types.specs.Declarations.{AddsDeclared, lead_of, with_held, type_begun}
 use Rattle.wenc_types.specs.Declarations.{type_appended, type_ended, type_given_up}
 use Rattle.wenc_types.specs.declared.counts.Counts.{Counts}
 use Rattle.wenc_types.specs.declared.counts.IndexSpace.{IndexSpace}
@@ -47,6 +49,23 @@ pub is_declaration : {D : Type 0} (form : Form D) (space : D → Option IndexSpa
     → IsDeclaration form space p.text s
 is_declaration form space d serves e fits =
     record { declaration = d; fits = serves.fits fits; text_is = serves.text; space_is = e }
+
+module _ {D : Type 0} (form : Form D) (space : D → Option IndexSpace) (own : InstanceDeclaration)
+    {p : Piece} {s : Option IndexSpace} (serves : Serves p (instance_declaration own))
+    (e : s ≡ instance_space own) where
+  -- What is written of a declaration of an instance type is its text in another type.
+  pub is_declared : (o : Option D) → DeclaredAs form space o own → p.Fits
+      → IsDeclaration form space p.text s
+  is_declared None same = absurd same
+  is_declared (Some d) same = is_declaration form space d (serves_then serves same.0) (e ∙ same.1)
+
+  -- A call that adds what is written adds it as a declaration of the other type.
+  pub adds_declared : (old new : TypeState) (outcome : Result (Unit {0}) Fault) (o : Option D)
+      → DeclaredAs form space o own → ((d : D) → Serves p (form d) → s ≡ space d
+      → AddsDeclaration form space old new outcome d) → AddsDeclared form space old new outcome o
+  adds_declared old new outcome None same adds = absurd same
+  adds_declared old new outcome (Some d) same adds =
+      adds d (serves_then serves same.0) (e ∙ same.1)
 
 -- a member more is a declaration more
 pub declares_next : {D : Type 0} (form : Form D) (space : D → Option IndexSpace) (t : TypeState)

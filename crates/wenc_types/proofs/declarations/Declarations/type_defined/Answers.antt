@@ -1,10 +1,13 @@
-use Rattle.std.proofs.Common.{◌∷◌, []}
+use Rattle.std.proofs.Common.{◌∷◌, [], refl}
+use Rattle.wenc_base.specs.laws.Serves.{serves_itself}
 use Rattle.wenc_base.specs.laws.Members.{written_text}
 use Rattle.wenc_types.specs.ComponentTypes.{Typed, DefinedType}
 use Rattle.wenc_types.specs.DefinedTypes.{def_val_type}
+use Rattle.wenc_types.specs.laws.Declarations.{is_declared}
 use Rattle.wenc_types.proofs.declarations.Declarations.type_defined.Goals as goal
 
 pub new-requires-clause-whole : goal.new-requires-clause-whole
 new-requires-clause-whole g c t = λ fits.
-    rw (c.in_ok-begin.ensures.ok, written_text c.args.self.now.held (0x01 ∷ []) (def_val_type t).text)
-    (∣ g.met.K.DeclaringKind.declares (Typed (DefinedType t)) fits ∣₁)
+    let d = Typed (DefinedType t) in
+    let is = is_declared g.K.DeclaredKind.form g.K.DeclaredKind.space d serves_itself refl _ (g.met.K.DeclaringKind.declares d) fits in
+    rw (c.in_ok-begin.ensures.ok, written_text c.args.self.now.held (0x01 ∷ []) (def_val_type t).text) (∣ is ∣₁)
