@@ -9,3 +9,4 @@ pub mod Produced
 mod Composites
 pub mod ShortNames
 pub mod Bytes
+pub mod ByteTypes

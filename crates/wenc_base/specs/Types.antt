@@ -1,6 +1,7 @@
 -- Value types of core modules (WebAssembly 3.0, binary format, "Heap Types", "Reference Types" and
 -- "Value Types").
-use Rattle.std.specs.Prelude.{ℕ, Bool, true, false}
+use Rattle.std.specs.Prelude.{ℕ, Bool, true, false, nat_eq, if◌then◌else◌}
+use Rattle.wenc_base.specs.Encode.{Serves}
 use Rattle.wenc_base.specs.Piece.{Form, byte, ◌▸◌, or_widely}
 use Rattle.wenc_base.specs.Number.{index}
 use Rattle.wenc_base.specs.declared.types.ValType.{ValType}
@@ -61,3 +62,13 @@ val_type F32 = byte 0x7d
 val_type F64 = byte 0x7c
 val_type V128 = byte 0x7b
 val_type (Ref r) = reference r
+
+-- the number type or vector type with this byte
+abbrev pub of_byte : ℕ → ValType
+of_byte b =
+    if nat_eq b 0x7f then I32 else if nat_eq b 0x7e then I64 else if nat_eq b 0x7d then F32
+    else if nat_eq b 0x7c then F64 else V128
+
+-- A number type or a vector type is this byte.
+abbrev pub IsByteType : ℕ → Type 0
+IsByteType b = Serves (byte b) (val_type (of_byte b))

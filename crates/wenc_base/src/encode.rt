@@ -285,7 +285,7 @@ fn encode_any<A: Allocator>(n: u64, sink: &mut Vec<u8, A>) -> Result<(), Fault>
 
 /// Appends the encoding of a number within the capacity, without allocating.
 #[tactic(auto, using(crate::proofs::Groups::size_of_u32, crate::proofs::Groups::unsigned_texts))]
-#[inline(always)]
+#[inline(never)]
 pub(crate) fn number_in_room<A: Allocator>(n: u32, sink: &mut Vec<u8, A>)
     requires { vec_len sink.old + number_size n ≤ vec_capacity sink.old }
     ensures items { sink.new.items ≡ sink.old.items ++ unsigned_text n }
@@ -353,7 +353,7 @@ fn encode_byte_apart<A: Allocator>(byte: u8, sink: &mut Vec<u8, A>) -> Result<()
 /// Appends the encodings of two numbers within the capacity: of `n`, which has at most three bytes,
 /// and of `last`, which has one.
 #[tactic(auto, using(crate::proofs::Groups::unsigned_texts))]
-#[inline]
+#[inline(always)]
 pub(crate) fn short_numbers_in_room<A: Allocator>(n: u32, last: u8, sink: &mut Vec<u8, A>)
     requires first { n < 2097152 }
     requires last { last < 128 }

@@ -1,12 +1,14 @@
 //! Core types: value types, reference types and heap types. The submodules have the types that core
 //! modules define.
-ghost use Rattle.std.specs.Prelude.{◌≡◌};
+ghost use Rattle.std.specs.Prelude.{◌≡◌, IfOk, IfErr};
 ghost use Rattle.wenc_base.specs.Prelude.{itself, serves_itself, val_type, val_type_lawful};
 ghost use Rattle.wenc_base.specs.Prelude.{read_val_type, reference, reference_lawful};
 ghost use Rattle.wenc_base.specs.Prelude.{read_reference, heap_type_lawful, read_heap_type};
 ghost use Rattle.wenc_base.specs.Prelude.{abstract_byte, abstract_type, abstract_type_lawful};
-ghost use Rattle.wenc_base.specs.Prelude.{read_abstract};
+ghost use Rattle.wenc_base.specs.Prelude.{read_abstract, of_byte, IsByteType};
+ghost use Rattle.wenc_base.specs.declared.types.ValType.TheVariants.{Ref};
 
+pub mod bytes;
 pub mod composite;
 pub mod encoder;
 pub mod groups;
@@ -17,6 +19,7 @@ pub mod sub;
 use crate::delimited::{Delimited, DelimitedEq};
 use crate::encode::{Encode, Tagged, encode_byte};
 use crate::fault::Fault;
+pub use bytes::ByteTypes;
 pub use composite::{ArrayType, CompositeType, FuncType, StructType};
 pub use encoder::CoreTypeEncoder;
 pub use groups::GroupTree;
@@ -42,19 +45,33 @@ pub enum ValType {
     Ref(RefType),
 }
 
+impl ValType {
+    /// Returns the encoding of a number type or a vector type, which is one byte, or the reference
+    /// type that it is.
+    #[inline(always)]
+    fn byte_or_reference(&self) -> Result<u8, &RefType>
+        ensures byte { IfOk result (λ b. (self.now ≡ of_byte b) × IsByteType b) }
+        ensures reference { IfErr result (λ r. self.now ≡ Ref r.now) }
+    {
+        match self {
+            ValType::I32 => Ok(0x7f),
+            ValType::I64 => Ok(0x7e),
+            ValType::F32 => Ok(0x7d),
+            ValType::F64 => Ok(0x7c),
+            ValType::V128 => Ok(0x7b),
+            ValType::Ref(ty) => Err(ty),
+        }
+    }
+}
+
 impl Encode for ValType {
     ghost piece = { λ t. val_type t };
 
     fn encode<A: Allocator>(&self, sink: &mut Vec<u8, A>) -> Result<(), Fault> {
-        let byte = match self {
-            ValType::I32 => 0x7f,
-            ValType::I64 => 0x7e,
-            ValType::F32 => 0x7d,
-            ValType::F64 => 0x7c,
-            ValType::V128 => 0x7b,
-            ValType::Ref(ty) => return ty.encode(sink),
-        };
-        encode_byte(byte, sink)
+        match self.byte_or_reference() {
+            Ok(byte) => encode_byte(byte, sink),
+            Err(ty) => ty.encode(sink),
+        }
     }
 }
 

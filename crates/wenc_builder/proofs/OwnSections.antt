@@ -25,22 +25,28 @@ there : (old : State) (d : Indices) (name : Option (List ℕ)) (text : List ℕ)
     → namespace_at (content_with_section old.settled (Some d) name text).spaces d.space ≡ space_after old d name
 there old d name text h = get_or-set_same old.settled.spaces (space_number d.space) (space_after old d name) no_names (omega (arith, h, space_within d.space))
 
-pub alone_without_indices : (b : Buffered) (s : Spaced) (old new : State) (fault : Fault) (d : Indices) (name : Option (List ℕ)) (p : Piece)
-    → Agree b.writing s.taking → builder_view b s ≡ old
-    → is_none b.writing ≡ true → new ≡ old → length old.settled.spaces ≡ 13 → IsWarranted (SpaceCause (space_after old d name)) fault
-    → AddsSection old new (Err fault) d name p
-alone_without_indices b s old new fault d name p a view w same all refused = record {
-  returned = tt;
-  ok = tt;
-  fits = tt;
-  free = tt;
-  err = same;
-  warranted = still_warranted _ _ refuses fault refused;
-  unfinished_first = λ e. let none = settled_before b s old a view w in cc;
-}
-  where
-    refuses : (f : Fault) → SpaceCause (space_after old d name) f → CallCause old p.Cause (content_with_section old.settled (Some d) name p.text) (Some d) f
-    refuses f c = inl (inr (inl (subst (λ (n : Namespace). SpaceCause n f) (sym (there old d name p.text all)) c)))
+module _ (b : Buffered) (s : Spaced) (old new : State) (fault : Fault) (d : Indices) (name : Option (List ℕ)) (p : Piece)
+    (a : Agree b.writing s.taking) (view : builder_view b s ≡ old) (w : is_none b.writing ≡ true) (same : new ≡ old) where
+  refused : (cause : Fault → Type 0)
+      → ((f : Fault) → cause f → CallCause old p.Cause (content_with_section old.settled (Some d) name p.text) (Some d) f)
+      → IsWarranted cause fault → AddsSection old new (Err fault) d name p
+  refused cause there warranted = record {
+    returned = tt;
+    ok = tt;
+    fits = tt;
+    free = tt;
+    err = same;
+    warranted = still_warranted _ _ there fault warranted;
+    unfinished_first = λ e. let none = settled_before b s old a view w in cc;
+  }
+
+  pub alone_without_indices : length old.settled.spaces ≡ 13 → IsWarranted (SpaceCause (space_after old d name)) fault
+      → AddsSection old new (Err fault) d name p
+  alone_without_indices all = refused (SpaceCause (space_after old d name))
+      (λ f c. inl (inr (inl (subst (λ (n : Namespace). SpaceCause n f) (sym (there old d name p.text all)) c))))
+
+  pub alone_unwritten : IsWarranted p.Cause fault → AddsSection old new (Err fault) d name p
+  alone_unwritten = refused p.Cause (λ f c. inl (inl c))
 
 -- ---- without an index
 

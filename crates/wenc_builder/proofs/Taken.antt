@@ -30,20 +30,6 @@ none_is (Some x) e = cc
 pub settled_before : (b : Buffered) (s : Spaced) (old : State) → Agree b.writing s.taking → builder_view b s ≡ old → is_none b.writing ≡ true → old.begun ≡ None
 settled_before b s old a view w = none_is old.begun (sym (finished_is b s old a view) ∙ w)
 
-pub space_refused : (b : Buffered) (s : Spaced) (old new next : State) (fault : Fault) (d : NewItem) → Agree b.writing s.taking
-    → builder_view b s ≡ old → is_none b.writing ≡ true → new ≡ old
-    → length old.settled.spaces ≡ 13 → IsWarranted (SpaceCause (space_with old d)) fault
-    → AddsItem old new next (Err fault) d nothing
-space_refused b s old new next fault d a view w same all refused = record {
-  returned = tt;
-  ok = tt;
-  fits = tt;
-  free = tt;
-  err = same;
-  warranted = still_warranted _ _ (space_refuses old d (λ _. ⊥) all) fault refused;
-  unfinished_first = λ e. let none = settled_before b s old a view w in cc;
-}
-
 pub begins : (b : Buffered) (s : Spaced) (old new next : State) (index : ℕ) (d : NewItem) → Agree b.writing s.taking
     → builder_view b s ≡ old → is_none b.writing ≡ true → new ≡ next
     → index ≡ (namespace_at old.settled.spaces d.space).count → length old.settled.spaces ≡ 13
@@ -77,5 +63,3 @@ added old begun written new index id space name p t w fits free e = record {
   where
     never : (i : ℕ) → Ok i ≡ Err Unfinished → ⊥
     never i e = cc
-
--- ---- an item that is begun for an encoder

@@ -5,12 +5,15 @@ use Rattle.wenc_base.specs.Fault.{either}
 use Rattle.wenc_base.specs.Piece.{Piece}
 use Rattle.wenc_base.specs.declared.fault.Fault.{Fault}
 use Rattle.wenc_base.specs.laws.Serves.{still_warranted}
-use Rattle.wenc_builder.specs.Builder.{SectionsState, Content, State, builder_is_finished, content_of, item_appended, item_ended}
+use Rattle.wenc_builder.specs.Builder.{SectionsState, Content, State, Namespace, namespace_at, builder_is_finished, content_of, count_in, item_appended, item_ended}
 use Rattle.wenc_builder.specs.inside.Layout.{Writing, Buffered, buffered_content, buffer_appended, section_appended, buffer_ended}
 use Rattle.wenc_builder.specs.Cause.{NoRoom}
 use Rattle.wenc_builder.specs.ParentState.{no_room_in_section}
-use Rattle.wenc_builder.specs.inside.Spaces.{Taking, Spaced, taken, spaces_ended}
+use Rattle.wenc_builder.specs.inside.Spaces.{Taking, Spaced, taken, spaced, spaces_ended}
 use Rattle.wenc_builder.specs.inside.View.{Agree, begun_of, builder_view}
+use Rattle.wenc_builder.specs.declared.builder.spaces.Undo.{Undo}
+use Rattle.wenc_sections.specs.declared.space.Space.{Space}
+use Rattle.wenc_builder.proofs.Undone.{taken_is, ended_spaces}
 
 -- ---- nothing is begun in both, or in none
 
@@ -41,6 +44,14 @@ pub content_is : (b : Buffered) (s : Spaced) → Agree b.writing s.taking → co
     ≡ record { sections = buffered_content b; spaces = taken s.settled s.taking }
 content_is b s a = content_at b s b.writing s.taking refl refl a
 
+pub count_is : (b : Buffered) (spaces : List Namespace) (undo : Option Undo) (now : State) (k : Space) → Agree b.writing (spaced spaces undo).taking
+    → builder_view b (spaced spaces undo) ≡ now → (namespace_at spaces k).count ≡ count_in now k
+count_is b spaces undo now k a view =
+    let content = content_is b (spaced spaces undo) a in
+    let same : (content_of now).spaces ≡ spaces =
+    sym (ap (λ (s : State). (content_of s).spaces) view) ∙ ap (λ (x : Content). x.spaces) content ∙ taken_is spaces undo in
+    ap (λ (xs : List Namespace). (namespace_at xs k).count) (sym same)
+
 appended_at : (b : Buffered) (s : Spaced) (text : List ℕ) (w : Option Writing) (t : Option Taking) → b.writing ≡ w → s.taking ≡ t → Agree w t
     → builder_view (buffer_appended b text) s ≡ item_appended (builder_view b s) text
 appended_at b s text None t e f a = rw e refl
@@ -61,6 +72,12 @@ still_agree b s text a = still_agree_at b.writing s.taking b text refl a
 
 pub ended_is : (b : Buffered) (s : Spaced) → Agree b.writing s.taking → builder_view (buffer_ended b) (spaces_ended s) ≡ item_ended (builder_view b s)
 ended_is b s a = rw (content_is b s a) refl
+
+pub ended_view : (b new : Buffered) (spaces : List Namespace) (undo : Option Undo) (now : State) → Agree b.writing (spaced spaces undo).taking
+    → builder_view b (spaced spaces undo) ≡ now → new ≡ buffer_ended b → builder_view new (spaced spaces None) ≡ item_ended now
+ended_view b new spaces undo now a view e =
+    ap (λ (x : Buffered). builder_view x (spaced spaces None)) e ∙ ap (λ (x : Spaced). builder_view (buffer_ended b) x) (ended_spaces spaces undo)
+    ∙ ended_is b (spaced spaces undo) a ∙ ap (λ (x : State). item_ended x) view
 
 -- the open section, with more bytes of the item
 pub appended_section : (b : Buffered) (s : Spaced) (now : State) (text : List ℕ) → Agree b.writing s.taking → builder_view b s ≡ now

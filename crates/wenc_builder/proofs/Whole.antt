@@ -1,5 +1,5 @@
 -- A whole item: it is written, then takes its index, and is ended; or it is given up.
-use Rattle.std.proofs.Common.{◌≡◌, ℕ, true, false, is_none, List, [], length, Option, Some, None, Result, Ok, Err, OnOk, OnErr, inl, inr, refl, sym, subst, ◌∙◌}
+use Rattle.std.proofs.Common.{◌≡◌, ℕ, true, false, is_none, List, [], length, Option, Some, None, Result, Ok, Err, OnOk, OnErr, inl, inr, refl, ap, sym, subst, ◌∙◌}
 use Rattle.std.specs.Prelude.{IfOk, IfErr}
 use Rattle.std.specs.Iterator.Runs.{WholeRun}
 use Rattle.wenc_base.specs.Fault.{IsWarranted, NoCause, either}
@@ -9,22 +9,34 @@ use Rattle.wenc_base.specs.declared.fault.Fault.{Fault}
 use Rattle.wenc_base.specs.declared.fault.Fault.TheVariants.{Unfinished}
 use Rattle.wenc_base.specs.laws.Serves.{still_warranted}
 use Rattle.wenc_base.proofs.Runs.{no_run}
-use Rattle.wenc_builder.specs.Builder.{State, builder_is_finished, entered, namespace_at, NewItem, new_item, new_item_indices, content_of, item_begun}
+use Rattle.wenc_builder.specs.Builder.{State, builder_is_finished, entered, Namespace, namespace_at, namespace_with, spaces_with, NewItem, new_item, new_item_indices, content_of, item_begun}
 use Rattle.wenc_builder.specs.Cause.{SectionCause, SpaceCause, CallCause, NoRoom}
 use Rattle.wenc_builder.specs.Adds.{AddsItem, AddsWholeItem}
 use Rattle.wenc_builder.specs.inside.Adds.{AddsListedItem, IsItemPiece}
 use Rattle.wenc_builder.specs.inside.Layout.{Buffered, section_begun, section_appended, buffer_begun, buffer_appended, buffer_ended, buffer_given_up}
-use Rattle.wenc_builder.specs.inside.Spaces.{Spaced, space_begun, spaces_begun, spaces_ended}
+use Rattle.wenc_builder.specs.inside.Spaces.{Spaced, spaced, spaces_begun, spaces_ended, CanUndo, IsOf, undo_at}
 use Rattle.wenc_builder.specs.inside.View.{builder_view, IsBuilder}
 use Rattle.wenc_builder.specs.Space.{some_in}
 use Rattle.wenc_builder.specs.laws.Caused.{space_refuses, beginning_refuses, text_refuses}
 use Rattle.wenc_sections.specs.declared.space.Space.{Space}
+use Rattle.wenc_builder.specs.declared.builder.spaces.Undo.{Undo}
+use Rattle.wenc_builder.proofs.Undone.{no_undo, is_of, taken_with}
 use Rattle.wenc_builder.proofs.Standing.{writing_none, begun_stands, value_stands, ended_stands}
 use Rattle.wenc_builder.proofs.Taken.{settled_before, begins, added}
 use Rattle.wenc_builder.proofs.Viewed.{appended_value, ended_is}
 
-module _ (b : Buffered) (s : Spaced) (i : IsBuilder b s) (old : State) (view : builder_view b s ≡ old) (finished : is_none b.writing ≡ true)
-    (id : ℕ) (space : Space) (name : Option (List ℕ)) where
+module _ (b : Buffered) (spaces : List Namespace) (undo : Option Undo) (i : IsBuilder b (spaced spaces undo) × CanUndo spaces undo) (old : State)
+    (view : builder_view b (spaced spaces undo) ≡ old) (finished : is_none b.writing ≡ true) (id : ℕ) (space : Space) (name : Option (List ℕ)) where
+  abbrev s : Spaced
+  s = spaced spaces undo
+
+  -- the space, as it is with the item
+  abbrev after : Namespace
+  after = namespace_with (namespace_at spaces space) 1 name
+
+  quiet : undo ≡ None
+  quiet = no_undo b spaces undo i.0.agree finished
+
   abbrev New : List ℕ → NewItem
   New = new_item id space name
 
@@ -38,7 +50,7 @@ module _ (b : Buffered) (s : Spaced) (i : IsBuilder b s) (old : State) (view : b
   begun = builder_view first taking
 
   none : old.begun ≡ None
-  none = settled_before b s old i.agree view finished
+  none = settled_before b s old i.0.agree view finished
 
   begun_is : begun ≡ item_begun old (New [])
   begun_is = rw (← view) refl
@@ -67,11 +79,11 @@ module _ (b : Buffered) (s : Spaced) (i : IsBuilder b s) (old : State) (view : b
   section_refused new next fault p w same = refused new next fault p (SectionCause (section_begun b id))
       (λ f c. beginning_refuses old id space name p.text p.Cause f (inl (inr (inr (rw (← view) c))))) w same
 
-  pub space_refused : (new next : State) (fault : Fault) (p : Piece) → length s.settled ≡ 13 → IsWarranted (SpaceCause (space_begun s space 1 name)) fault
+  pub space_refused : (new next : State) (fault : Fault) (p : Piece) → length spaces ≡ 13 → IsWarranted (SpaceCause after) fault
       → new ≡ old → AddsItem old new next (Err fault) (New p.text) p
-  space_refused new next fault p all w same = refused new next fault p (SpaceCause (space_begun s space 1 name))
+  space_refused new next fault p all w same = refused new next fault p (SpaceCause after)
       (λ f c. beginning_refuses old id space name p.text p.Cause f
-      (space_refuses old (New []) (λ _. ⊥) (rw (← view) all) f (rw (← view) c))) w same
+      (space_refuses old (New []) (λ _. ⊥) (rw (← view, quiet) all) f (rw (← view, quiet) c))) w same
 
   pub text_refused : (new next : State) (fault : Fault) (p : Piece) (opened : Buffered) → opened ≡ first
       → IsWarranted (either p.Cause (NoRoom (section_appended opened p.text))) fault → new ≡ old → AddsItem old new next (Err fault) (New p.text) p
@@ -80,11 +92,32 @@ module _ (b : Buffered) (s : Spaced) (i : IsBuilder b s) (old : State) (view : b
       (subst (λ (x : State). either p.Cause (NoRoom (entered x.settled.sections id p.text).current) f) view
       (subst (λ (o : Buffered). either p.Cause (NoRoom (section_appended o p.text)) f) e c))) w same
 
+  -- ---- it is begun for an encoder
+
+  module _ (opened : Buffered) (opening : opened ≡ first) (next : List Namespace) (ok : next ≡ spaces_with spaces (some_in space 1) name)
+      (kept : Undo) (state : kept ≡ undo_at space (namespace_at spaces space)) (all : length spaces ≡ 13)
+      (room : NoCause (SectionCause (section_begun b id))) where
+    taking_is : spaced next (Some kept) ≡ taking
+    taking_is = rw (ok, state, quiet) (taken_with spaces space 1 name all)
+
+    pub begun_stays : IsBuilder opened (spaced next (Some kept)) × IsOf next kept
+    begun_stays = (
+      rw opening (subst (IsBuilder first) (sym taking_is) (begun_stands b s i.0 finished id space name room)),
+      rw (ok, state) (is_of spaces space 1 name all),
+    )
+
+    pub begun_added : (index : ℕ) → index ≡ (namespace_at spaces space).count → NoCause (SpaceCause after)
+        → AddsItem old (builder_view opened (spaced next (Some kept))) (item_begun old (New [])) (Ok index) (New []) nothing
+    begun_added index counted free =
+        begins b s old _ (item_begun old (New [])) index (New []) i.0.agree view finished
+        (rw opening (ap (λ (x : Spaced). builder_view first x) taking_is ∙ begun_is))
+        (rw (← view, quiet) counted) (rw (← view, quiet) all) (rw (← view, quiet) free) (rw (← view) room)
+
   -- ---- it is written
 
   module _ (room : NoCause (SectionCause (section_begun b id))) (written : Buffered) where
     stands : IsBuilder first taking
-    stands = begun_stands b s i finished id space name room
+    stands = begun_stands b s i.0 finished id space name room
 
     module _ (opened : Buffered) (opening : opened ≡ first) (p : Piece)
         (more : Extends opened written (buffer_appended opened p.text) (Ok tt) p (NoRoom (section_appended opened p.text))) where
@@ -97,39 +130,37 @@ module _ (b : Buffered) (s : Spaced) (i : IsBuilder b s) (old : State) (view : b
       value_stays : IsItemPiece (Some id) (some_in space 1) p → IsBuilder (buffer_ended written) (spaces_ended taking)
       value_stays whole = ended_stands written taking longer (rw a.ok (whole a.fits))
 
-      value_added : (new : State) (index : ℕ) → index ≡ (namespace_at s.settled space).count → length s.settled ≡ 13
-          → NoCause (SpaceCause (space_begun s space 1 name))
+      value_added : (new : State) (index : ℕ) → index ≡ (namespace_at spaces space).count → length spaces ≡ 13 → NoCause (SpaceCause after)
           → new ≡ builder_view (buffer_ended written) (spaces_ended taking) → AddsWholeItem old new (Ok index) New p
       value_added new index counted all free is =
           let text = appended_value first taking begun stands.agree refl written (Ok tt) p a in
           added old begun (builder_view written taking) new index id space name p
-          (begins b s old begun (item_begun old (New [])) index (New []) i.agree view finished begun_is (rw (← view) counted) (rw (← view) all)
-          (rw (← view) free) (rw (← view) room))
+          (begins b s old begun (item_begun old (New [])) index (New []) i.0.agree view finished begun_is (rw (← view, quiet) counted)
+          (rw (← view, quiet) all) (rw (← view, quiet) free) (rw (← view) room))
           text.ok text.fits text.free (is ∙ ended_is written taking longer.agree)
 
       -- ---- it takes its index and is ended, or it is given up
 
-      module _ (new : Buffered) (spaces : Spaced) (result : Result ℕ Fault) (ok : OnOk result (spaces ≡ spaces_ended taking))
-          (ended : OnOk result (new ≡ buffer_ended written)) (err : OnErr result (spaces ≡ s))
-          (given_up : OnErr result (new ≡ buffer_given_up written)) where
-        pub whole_stands : IsItemPiece (Some id) (some_in space 1) p → IsBuilder new spaces
+      module _ (new : Buffered) (next : List Namespace) (result : Result ℕ Fault)
+          (ok : OnOk result (next ≡ spaces_with spaces (some_in space 1) name)) (ended : OnOk result (new ≡ buffer_ended written))
+          (err : OnErr result (next ≡ spaces)) (given_up : OnErr result (new ≡ buffer_given_up written)) where
+        pub whole_stands : IsItemPiece (Some id) (some_in space 1) p → IsBuilder new (spaced next undo) × CanUndo next undo
         whole_stands whole = at result ok ended err given_up
           where
-            at : (r : Result ℕ Fault) → OnOk r (spaces ≡ spaces_ended taking) → OnOk r (new ≡ buffer_ended written) → OnErr r (spaces ≡ s)
-                → OnErr r (new ≡ buffer_given_up written) → IsBuilder new spaces
-            at (Ok index) k e r g = rw (k, e) (value_stays whole)
+            at : (r : Result ℕ Fault) → OnOk r (next ≡ spaces_with spaces (some_in space 1) name) → OnOk r (new ≡ buffer_ended written)
+                → OnErr r (next ≡ spaces) → OnErr r (new ≡ buffer_given_up written) → IsBuilder new (spaced next undo) × CanUndo next undo
+            at (Ok index) k e r g = rw (k, e, quiet) (rw quiet at (value_stays whole), tt)
             at (Err fault) k e r g = let same : new ≡ b = g ∙ back written (rw a.ok refl) in rw (r, same) i
 
-        pub whole_added : (state : State) → builder_view new spaces ≡ state → IfOk result (λ i. i ≡ (namespace_at s.settled space).count)
-            → length s.settled ≡ 13 → OnOk result (NoCause (SpaceCause (space_begun s space 1 name)))
-            → IfErr result (IsWarranted (SpaceCause (space_begun s space 1 name))) → AddsWholeItem old state result New p
+        pub whole_added : (state : State) → builder_view new (spaced next undo) ≡ state → IfOk result (λ i. i ≡ (namespace_at spaces space).count)
+            → length spaces ≡ 13 → OnOk result (NoCause (SpaceCause after)) → IfErr result (IsWarranted (SpaceCause after))
+            → AddsWholeItem old state result New p
         whole_added state is index all free warranted = at result ok ended err given_up index free warranted
           where
-            at : (r : Result ℕ Fault) → OnOk r (spaces ≡ spaces_ended taking) → OnOk r (new ≡ buffer_ended written) → OnErr r (spaces ≡ s)
-                → OnErr r (new ≡ buffer_given_up written) → IfOk r (λ i. i ≡ (namespace_at s.settled space).count)
-                → OnOk r (NoCause (SpaceCause (space_begun s space 1 name))) → IfErr r (IsWarranted (SpaceCause (space_begun s space 1 name)))
-                → AddsWholeItem old state r New p
-            at (Ok index) k e r g counted f w = value_added state index counted all f (rw (← is, k, e) refl)
+            at : (r : Result ℕ Fault) → OnOk r (next ≡ spaces_with spaces (some_in space 1) name) → OnOk r (new ≡ buffer_ended written)
+                → OnErr r (next ≡ spaces) → OnErr r (new ≡ buffer_given_up written) → IfOk r (λ i. i ≡ (namespace_at spaces space).count)
+                → OnOk r (NoCause (SpaceCause after)) → IfErr r (IsWarranted (SpaceCause after)) → AddsWholeItem old state r New p
+            at (Ok index) k e r g counted f w = value_added state index counted all f (sym is ∙ rw (k, e, quiet) refl)
             at (Err fault) k e r g counted f w =
                 let same : new ≡ b = g ∙ back written (rw a.ok refl) in
                 space_refused state _ fault p all w (sym is ∙ rw (r, same) view)

@@ -14,7 +14,7 @@ pub use Rattle.wenc_builder.specs.Entry.{start_entry, type_entry}
 pub use Rattle.wenc_builder.specs.Builder.{NewItem, Namespace, State, builder_is_finished, count_in}
 pub use Rattle.wenc_builder.specs.Builder.{new_item_in, item_appended, item_begun, item_ended}
 pub use Rattle.wenc_builder.specs.Builder.{item_given_up, namespace_at, namespace_with, no_names}
-pub use Rattle.wenc_builder.specs.Builder.{sections_text}
+pub use Rattle.wenc_builder.specs.Builder.{sections_text, spaces_with}
 pub use Rattle.wenc_builder.specs.Holds.{Holds}
 pub use Rattle.wenc_builder.specs.Cause.{NoRoom, SectionCause, SpaceCause}
 pub use Rattle.wenc_builder.specs.Enters.{BeginsItem, Enters, EntersListed, EntersWithoutIndex}
@@ -30,9 +30,8 @@ pub use Rattle.wenc_builder.specs.inside.Layout.{buffer_view, closed_with, new_i
 pub use Rattle.wenc_builder.specs.inside.Layout.{kept_before, kept_with, kind_id, nothing_buffered}
 pub use Rattle.wenc_builder.specs.inside.Layout.{open_head, section_appended, section_begun}
 pub use Rattle.wenc_builder.specs.inside.Layout.{section_head}
-pub use Rattle.wenc_builder.specs.inside.Spaces.{CanUndo, NamesFit, Spaced, count_at, empty_spaces}
-pub use Rattle.wenc_builder.specs.inside.Spaces.{space_begun, space_view, spaced_view, spaces_begun}
-pub use Rattle.wenc_builder.specs.inside.Spaces.{spaces_ended, spaces_given_up}
+pub use Rattle.wenc_builder.specs.inside.Spaces.{CanUndo, IsOf, NamesFit, empty_spaces, space_view}
+pub use Rattle.wenc_builder.specs.inside.Spaces.{spaced, undo_at, undone}
 pub use Rattle.wenc_builder.specs.inside.Adds.{AddsListedItem, AddsSection, AddsUnindexedSection}
 pub use Rattle.wenc_builder.specs.inside.Adds.{IsItemPiece}
 pub use Rattle.wenc_builder.specs.inside.View.{IsBuilder, builder_view}

@@ -16,7 +16,7 @@ ghost use Rattle.wenc_builder.specs.Prelude.{builder_is_finished, sections_text,
 ghost use Rattle.wenc_builder.specs.Prelude.{item_begun, item_ended, item_given_up, Holds, Enters};
 ghost use Rattle.wenc_builder.specs.Prelude.{EntersWithoutIndex, AddsItem, AddsWholeItem};
 ghost use Rattle.wenc_builder.specs.Prelude.{AddsSection, AddsUnindexedSection, namespace_at};
-ghost use Rattle.wenc_builder.specs.Prelude.{spaces_begun, spaces_ended, space_begun, SpaceCause};
+ghost use Rattle.wenc_builder.specs.Prelude.{spaces_with, namespace_with, SpaceCause};
 ghost use Rattle.wenc_builder.specs.Prelude.{buffer_ended, buffer_given_up};
 ghost use Rattle.wenc_builder.specs.Prelude.{AddsListedItem, IsItemPiece, indices_in, some_in};
 ghost use Rattle.wenc_builder.specs.Prelude.{canonical_space, is_whole, HasNoRaw, with_bytes};
@@ -45,7 +45,7 @@ mod types;
 use buffer::Buffer;
 use kind::Kind;
 use section_body::{CustomLead, SectionBody, Size};
-use spaces::Spaces;
+use spaces::{Spaces, Undo};
 use std::alloc::{Allocator, Global};
 use std::convert::AsSlice;
 use std::marker::Model;
@@ -83,16 +83,19 @@ use wenc_sections::{CanonTree, ComponentStartSection, Space};
 pub struct ComponentBuilder<A: Allocator = Global> {
     buffer: Buffer<A>,
     spaces: Spaces<A>,
+    /// The earlier state of its space, while an encoder writes an item.
+    undo: Option<Undo>,
 }
 
 impl<A: Allocator> Model for ComponentBuilder<A> {
-    ghost use Rattle.wenc_builder.specs.Prelude.{State, IsBuilder, builder_view};
+    ghost use Rattle.wenc_builder.specs.Prelude.{State, IsBuilder, builder_view, spaced, CanUndo};
 
     ghost Value = { State };
 
-    ghost view = { λ b. builder_view b.buffer b.spaces };
+    ghost view = { λ b. builder_view b.buffer (spaced b.spaces b.undo) };
 
-    ghost invariant = { λ b. IsBuilder b.buffer b.spaces };
+    ghost invariant = { λ b. IsBuilder b.buffer (spaced b.spaces b.undo)
+        × CanUndo b.spaces b.undo };
 }
 
 impl<A: Allocator> ComponentBuilder<A> {
@@ -106,6 +109,7 @@ impl<A: Allocator> ComponentBuilder<A> {
         Ok(ComponentBuilder {
             buffer: Buffer::new(alloc)?,
             spaces: Spaces::new(alloc)?,
+            undo: None,
         })
     }
 
@@ -113,91 +117,98 @@ impl<A: Allocator> ComponentBuilder<A> {
     pub fn core_module_count(&self) -> u32
         ensures { result ≡ count_in self.now Space.CoreModules }
     {
-        self.spaces.count(Space::CoreModules)
+        self.count(Space::CoreModules)
     }
 
     /// Returns the number of core functions so far.
     pub fn core_func_count(&self) -> u32
         ensures { result ≡ count_in self.now Space.CoreFuncs }
     {
-        self.spaces.count(Space::CoreFuncs)
+        self.count(Space::CoreFuncs)
     }
 
     /// Returns the number of core types so far.
     pub fn core_type_count(&self) -> u32
         ensures { result ≡ count_in self.now Space.CoreTypes }
     {
-        self.spaces.count(Space::CoreTypes)
+        self.count(Space::CoreTypes)
     }
 
     /// Returns the number of core memories so far.
     pub fn core_memory_count(&self) -> u32
         ensures { result ≡ count_in self.now Space.CoreMemories }
     {
-        self.spaces.count(Space::CoreMemories)
+        self.count(Space::CoreMemories)
     }
 
     /// Returns the number of core tables so far.
     pub fn core_table_count(&self) -> u32
         ensures { result ≡ count_in self.now Space.CoreTables }
     {
-        self.spaces.count(Space::CoreTables)
+        self.count(Space::CoreTables)
     }
 
     /// Returns the number of core instances so far.
     pub fn core_instance_count(&self) -> u32
         ensures { result ≡ count_in self.now Space.CoreInstances }
     {
-        self.spaces.count(Space::CoreInstances)
+        self.count(Space::CoreInstances)
     }
 
     /// Returns the number of core tags so far.
     pub fn core_tag_count(&self) -> u32
         ensures { result ≡ count_in self.now Space.CoreTags }
     {
-        self.spaces.count(Space::CoreTags)
+        self.count(Space::CoreTags)
     }
 
     /// Returns the number of core globals so far.
     pub fn core_global_count(&self) -> u32
         ensures { result ≡ count_in self.now Space.CoreGlobals }
     {
-        self.spaces.count(Space::CoreGlobals)
+        self.count(Space::CoreGlobals)
     }
 
     /// Returns the number of component functions so far.
     pub fn func_count(&self) -> u32
         ensures { result ≡ count_in self.now Space.Funcs }
     {
-        self.spaces.count(Space::Funcs)
+        self.count(Space::Funcs)
     }
 
     /// Returns the number of component instances so far.
     pub fn instance_count(&self) -> u32
         ensures { result ≡ count_in self.now Space.Instances }
     {
-        self.spaces.count(Space::Instances)
+        self.count(Space::Instances)
     }
 
     /// Returns the number of values so far.
     pub fn value_count(&self) -> u32
         ensures { result ≡ count_in self.now Space.Values }
     {
-        self.spaces.count(Space::Values)
+        self.count(Space::Values)
     }
 
     /// Returns the number of components so far.
     pub fn component_count(&self) -> u32
         ensures { result ≡ count_in self.now Space.Components }
     {
-        self.spaces.count(Space::Components)
+        self.count(Space::Components)
     }
 
     /// Returns the number of component types so far.
     pub fn type_count(&self) -> u32
         ensures { result ≡ count_in self.now Space.Types }
     {
-        self.spaces.count(Space::Types)
+        self.count(Space::Types)
+    }
+
+    /// Returns the number of items in a space, including the one being written.
+    fn count(&self, space: Space) -> u32
+        ensures { result ≡ count_in self.now space }
+    {
+        self.spaces.count(space)
     }
 
     /// Begins an item, which `discard` rolls back until it is ended. Returns its index.
@@ -211,8 +222,12 @@ impl<A: Allocator> ComponentBuilder<A> {
             return Err(Fault::Unfinished);
         }
         self.buffer.open(kind)?;
-        match self.spaces.open(space, 1, name) {
-            Ok(index) => Ok(index),
+        let undo = self.spaces.state(space);
+        match self.spaces.add(space, 1, name) {
+            Ok(index) => {
+                self.undo = Some(undo);
+                Ok(index)
+            }
             Err(fault) => {
                 self.buffer.discard();
                 Err(fault)
@@ -227,7 +242,7 @@ impl<A: Allocator> ComponentBuilder<A> {
         ensures { self.new ≡ item_ended self.old }
     {
         self.buffer.finish_member();
-        self.spaces.finish_member();
+        self.undo = None;
     }
 
     /// Discards the item being written. Allocates nothing.
@@ -236,7 +251,10 @@ impl<A: Allocator> ComponentBuilder<A> {
         ensures { self.new ≡ item_given_up self.old }
     {
         self.buffer.discard();
-        self.spaces.discard();
+        if let Some(undo) = self.undo {
+            self.spaces.go_back(undo);
+            self.undo = None;
+        }
     }
 
     /// Adds a whole item with an optional debug name, and returns its index.
@@ -317,15 +335,13 @@ impl<A: Allocator> ComponentBuilder<A> {
         if !self.buffer.is_finished() {
             return Err(Fault::Unfinished);
         }
-        match self.spaces.open(space, number, name) {
+        let undo = self.spaces.state(space);
+        match self.spaces.add(space, number, name) {
             Err(fault) => Err(fault),
             Ok(index) => match self.buffer.add_section(lead, bytes) {
-                Ok(()) => {
-                    self.spaces.finish_member();
-                    Ok(index)
-                }
+                Ok(()) => Ok(index),
                 Err(fault) => {
-                    self.spaces.discard();
+                    self.spaces.go_back(undo);
                     Err(fault)
                 }
             },
@@ -656,7 +672,11 @@ impl<A: Allocator> ComponentBuilder<A> {
         if !self.buffer.is_finished() {
             return Err(Fault::Unfinished);
         }
-        let ComponentBuilder { buffer, spaces: _ } = self;
+        let ComponentBuilder {
+            buffer,
+            spaces: _,
+            undo: _,
+        } = self;
         Ok(buffer.finish())
     }
 }
@@ -670,19 +690,18 @@ fn index_and_end<A: Allocator>(
     space: Space,
     name: Option<&str>,
 ) -> Result<u32, Fault>
-    requires writing { is_none buffer.old.writing ≡ false }
-    requires settled { spaces.old.taking ≡ None }
-    ensures index { IfOk result (λ i. i ≡ (namespace_at spaces.old.settled space).count) }
+    requires { is_none buffer.old.writing ≡ false }
+    ensures index { IfOk result (λ i. i ≡ (namespace_at spaces.old space).count) }
     ensures ok { OnOk result (spaces.new
-        ≡ spaces_ended (spaces_begun spaces.old space 1 (option_copied name.entry))) }
+        ≡ spaces_with spaces.old (some_in space 1) (option_copied name.entry)) }
     ensures ended { OnOk result (buffer.new ≡ buffer_ended buffer.old) }
-    ensures free { OnOk result (NoCause
-        (SpaceCause (space_begun spaces.old space 1 (option_copied name.entry)))) }
+    ensures free { OnOk result (NoCause (SpaceCause
+        (namespace_with (namespace_at spaces.old space) 1 (option_copied name.entry)))) }
     ensures err { OnErr result (spaces.new ≡ spaces.old) }
     ensures given_up { OnErr result (buffer.new ≡ buffer_given_up buffer.old) }
-    ensures warranted { IfErr result (IsWarranted
-        (SpaceCause (space_begun spaces.old space 1 (option_copied name.entry)))) }
-    ensures all { length spaces.old.settled ≡ 13 }
+    ensures warranted { IfErr result (IsWarranted (SpaceCause
+        (namespace_with (namespace_at spaces.old space) 1 (option_copied name.entry)))) }
+    ensures all { length spaces.old ≡ 13 }
 {
     match spaces.add(space, 1, name) {
         Ok(index) => {

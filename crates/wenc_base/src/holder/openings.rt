@@ -81,6 +81,7 @@ impl<A: Allocator> Holder<A> {
     /// # Errors
     ///
     /// Fails as `append` does, or as the value's `encode` does.
+    #[inline(always)]
     pub fn append_encoded<E: Encode>(&mut self, value: &E) -> Result<(), Fault>
         requires { is_finished self.old ≡ false }
         ensures appended { AppendsToMember self.old self.new

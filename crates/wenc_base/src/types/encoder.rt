@@ -1,13 +1,14 @@
 //! The encoder of core types.
 ghost use Rattle.std.specs.Iterator.{IsFinite};
 ghost use Rattle.std.specs.Prelude.{◌≡◌, true, false, map};
-ghost use Rattle.wenc_base.specs.Prelude.{RecType, Single, Rec, Struct, Array, composite_type};
+ghost use Rattle.wenc_base.specs.Prelude.{RecType, Single, Rec, Func, Struct, Array, composite_type};
 ghost use Rattle.wenc_base.specs.Prelude.{func_type_view, sub_view, rec_type, rec_type_view};
 ghost use Rattle.wenc_base.specs.Prelude.{standing, list, Ends, EndsListed, EndsLists, MakesWhole};
 ghost use Rattle.wenc_base.specs.Prelude.{◌▸◌, val_type};
 
 use super::guard::Guarded;
-use super::{ArrayType, FieldType, FuncType, GroupTree, StorageType, SubType, ValType};
+use super::{ArrayType, ByteTypes, FieldType, FuncType, GroupTree, StorageType, SubType, ValType};
+use crate::encode::{ByRef, Tagged};
 use crate::fault::Fault;
 use crate::parent::Parent;
 use std::alloc::Allocator;
@@ -70,6 +71,15 @@ impl<'a, L: Parent> CoreTypeEncoder<'a, L> {
     {
         self.parent.append_list(&[0x60], params)?;
         self.parent.end_with_list(&[], results)
+    }
+
+    /// Writes a final function type with these parameters and results.
+    pub fn byte_function(self, params: &ByteTypes, results: &ByteTypes) -> Result<(), Fault>
+        ensures { Ends L.appended L.ended L.refuses self.entry.parent.now self.exit.0.now result
+            (composite_type (Func params.now results.now)) }
+    {
+        let lists = (ByRef(params), ByRef(results));
+        self.parent.end_with(&Tagged(0x60, &lists))
     }
 
     /// Writes this function type, as a final one.

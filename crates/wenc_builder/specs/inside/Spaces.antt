@@ -11,6 +11,40 @@ use Rattle.wenc_builder.specs.declared.builder.spaces.Undo.{Undo}
 abbrev pub space_view : ℕ → ℕ → List ℕ → Namespace
 space_view count named names = record { count = count; named = named; names = names }
 
+abbrev pub empty_spaces : List Namespace
+empty_spaces = replicate 13 no_names
+
+-- a map of names that is finished, and not too large
+abbrev pub NamesFit : HolderState → Type 0
+NamesFit h =
+    (h ≡ holding [] h.count h.body) × (h.count < 2 ^ 32) ×
+    (content_size h.count (length h.body) < 2 ^ 32)
+
+-- ---- what a space was
+
+-- what is kept of it to return to this state
+abbrev pub undo_at : Space → Namespace → Undo
+undo_at space s = record { space = space; count = s.count; named = s.named; len = length s.names }
+
+-- a space has no less than it had
+abbrev pub IsOf : List Namespace → Undo → Type 0
+IsOf spaces u =
+    (u.named ≤ (namespace_at spaces u.space).named) ×
+    (u.len ≤ length (namespace_at spaces u.space).names)
+
+abbrev pub CanUndo : List Namespace → Option Undo → Type 0
+CanUndo spaces None = Unit {0}
+CanUndo spaces (Some u) = IsOf spaces u
+
+-- what it was, where it has these names now
+abbrev pub before : Undo → List ℕ → Namespace
+before u names = space_view u.count u.named (take u.len names)
+
+abbrev pub undone : List Namespace → Undo → List Namespace
+undone spaces u = namespace_set spaces u.space (before u (namespace_at spaces u.space).names)
+
+-- ---- the spaces, seen from a builder
+
 -- the space that an item is taking an index in, as it is with that item
 pub record Taking : Type 0 where
   pub space : Space
@@ -21,8 +55,12 @@ pub record Spaced : Type 0 where
   pub settled : List Namespace
   pub taking : Option Taking
 
-abbrev pub empty_spaces : Spaced
-empty_spaces = record { settled = replicate 13 no_names; taking = None }
+abbrev pub spaced : List Namespace → Option Undo → Spaced
+spaced spaces None = record { settled = spaces; taking = None }
+spaced spaces (Some u) = record {
+  settled = undone spaces u;
+  taking = Some (record { space = u.space; after = namespace_at spaces u.space });
+}
 
 -- a space with this many more items, the first of them with this name or none
 abbrev pub space_begun : Spaced → Space → ℕ → Option (List ℕ) → Namespace
@@ -38,37 +76,8 @@ abbrev pub taken : List Namespace → Option Taking → List Namespace
 taken spaces None = spaces
 taken spaces (Some t) = namespace_set spaces t.space t.after
 
--- how many items a space has, the one that is being written with them
-abbrev pub count_at : Spaced → Space → ℕ
-count_at s space = (namespace_at (taken s.settled s.taking) space).count
-
 abbrev pub spaces_ended : Spaced → Spaced
 spaces_ended s = record { settled = taken s.settled s.taking; taking = None }
 
 abbrev pub spaces_given_up : Spaced → Spaced
 spaces_given_up s = record { settled = s.settled; taking = None }
-
--- ---- what an item's space was
-
--- a map of names that is finished, and not too large
-abbrev pub NamesFit : HolderState → Type 0
-NamesFit h =
-    (h ≡ holding [] h.count h.body) × (h.count < 2 ^ 32) ×
-    (content_size h.count (length h.body) < 2 ^ 32)
-
--- what the undo record says of a space with these names
-abbrev pub spaces_before : Undo → List ℕ → Namespace
-spaces_before u names = record { count = u.count; named = u.named; names = take u.len names }
-
-abbrev pub spaced_view : List Namespace → Option Undo → Spaced
-spaced_view spaces None = record { settled = spaces; taking = None }
-spaced_view spaces (Some u) = record {
-  settled = namespace_set spaces u.space (spaces_before u (namespace_at spaces u.space).names);
-  taking = Some (record { space = u.space; after = namespace_at spaces u.space });
-}
-
-abbrev pub CanUndo : List Namespace → Option Undo → Type 0
-CanUndo spaces None = length spaces ≡ 13
-CanUndo spaces (Some u) =
-    (length spaces ≡ 13) × (u.named ≤ (namespace_at spaces u.space).named) ×
-    (u.len ≤ length (namespace_at spaces u.space).names)

@@ -16,6 +16,7 @@ pub const GAP: usize = 11;
 
 /// Returns the id, the size and the count of a section whose items take `body` bytes.
 #[tactic(auto, using(wenc_base::proofs::Groups::size_at_most_5))]
+#[inline(never)]
 pub fn section_head(kind: Kind, count: u32, body: usize) -> Short
     requires { number_size count + body < 2 ^ 32 }
     ensures { result ≡ head_text (kind_id kind) count (number_size count + body) }

@@ -1,11 +1,10 @@
 //! The index spaces of a component.
-ghost use Rattle.std.specs.Prelude.{◌≡◌, ◌<◌, length, map, OnOk, OnErr, IfOk, IfErr, is_none, None};
-ghost use Rattle.std.specs.Prelude.{false};
+ghost use Rattle.std.specs.Prelude.{◌≡◌, ◌<◌, length, map, OnOk, OnErr, IfOk, IfErr};
 ghost use Rattle.std.specs.Option.{option_copied};
-ghost use Rattle.wenc_base.specs.Prelude.{IsMemory, IsWarranted};
-ghost use Rattle.wenc_builder.specs.Prelude.{Fault as FaultSpec, namespace_at, SpaceCause};
-ghost use Rattle.wenc_builder.specs.Prelude.{by_space, names_held, empty_spaces, space_begun};
-ghost use Rattle.wenc_builder.specs.Prelude.{spaces_begun, spaces_ended, spaces_given_up, count_at};
+ghost use Rattle.wenc_base.specs.Prelude.{IsMemory, IsWarranted, NoCause};
+ghost use Rattle.wenc_builder.specs.Prelude.{namespace_at, SpaceCause, by_space, names_held};
+ghost use Rattle.wenc_builder.specs.Prelude.{empty_spaces, namespace_with};
+ghost use Rattle.wenc_builder.specs.Prelude.{spaces_with, some_in, undo_at, IsOf, undone};
 
 use super::names::{SpaceNames, Subsections};
 use super::namespace::Namespace;
@@ -30,21 +29,21 @@ pub struct Undo {
     pub len: usize,
 }
 
-/// All index spaces, and the state of one of them before the item being written.
+/// All index spaces.
 #[derive(Drop)]
 pub struct Spaces<A: Allocator = Global> {
     spaces: Vec<Namespace<A>, A>,
-    undo: Option<Undo>,
 }
 
 impl<A: Allocator> Model for Spaces<A> {
-    ghost use Rattle.wenc_builder.specs.Prelude.{Spaced, spaced_view, CanUndo};
+    ghost use Rattle.std.specs.Prelude.{◌≡◌, List, length};
+    ghost use Rattle.wenc_builder.specs.Prelude.{Namespace};
 
-    ghost Value = { Spaced };
+    ghost Value = { List Namespace };
 
-    ghost view = { λ s. spaced_view s.spaces.items s.undo };
+    ghost view = { λ s. s.spaces.items };
 
-    ghost invariant = { λ s. CanUndo s.spaces.items s.undo };
+    ghost invariant = { λ s. length s.spaces.items ≡ 13 };
 }
 
 impl<A: Allocator> Spaces<A> {
@@ -59,7 +58,7 @@ impl<A: Allocator> Spaces<A> {
         for _ in 0..SPACES {
             spaces.push(Namespace::new(alloc))?;
         }
-        Ok(Spaces { spaces, undo: None })
+        Ok(Spaces { spaces })
     }
 
     /// Returns the allocator of the spaces' names.
@@ -67,26 +66,24 @@ impl<A: Allocator> Spaces<A> {
         self.spaces.allocator()
     }
 
-    /// Returns the number of items in a space, including the one being written.
+    /// Returns the number of items in a space.
     pub fn count(&self, space: Space) -> u32
-        ensures { result ≡ count_at self.now space }
+        ensures { result ≡ (namespace_at self.now space).count }
     {
         self.spaces[space.number()].count()
     }
 
     /// Returns the names in a space.
     pub fn names(&self, space: Space) -> &NameMap<A>
-        requires { self.now.taking ≡ None }
-        ensures { result.now ≡ names_held (namespace_at self.now.settled space) }
+        ensures { result.now ≡ names_held (namespace_at self.now space) }
     {
         self.spaces[space.number()].names()
     }
 
     /// Returns the names in all spaces, in the order of a name section.
     pub fn sorted_names(&self) -> Subsections<'_, A>
-        requires { self.now.taking ≡ None }
         ensures { map (λ n. (n.0, n.1.now)) result.0
-            ≡ by_space (λ k. names_held (namespace_at self.now.settled k)) }
+            ≡ by_space (λ k. names_held (namespace_at self.now k)) }
     {
         Subsections([
             SpaceNames(Space::CoreFuncs, self.names(Space::CoreFuncs)),
@@ -105,55 +102,19 @@ impl<A: Allocator> Spaces<A> {
         ])
     }
 
-    /// Reserves `number` indices in a space, the first of them with an optional name, which can be
-    /// discarded until `finish_member`. Returns the first. A failed call changes nothing.
-    pub fn open(&mut self, space: Space, number: u32, name: Option<&str>) -> Result<u32, Fault>
-        requires { self.old.taking ≡ None }
-        ensures index { IfOk result (λ i.
-            i ≡ (namespace_at self.old.settled space).count) }
-        ensures ok { OnOk result (self.new
-            ≡ spaces_begun self.old space number (option_copied name.entry)) }
-        ensures free { OnOk result ((fault : FaultSpec) → SpaceCause
-            (space_begun self.old space number
-            (option_copied name.entry)) fault → ⊥) }
-        ensures err { OnErr result (self.new ≡ self.old) }
-        ensures warranted { IfErr result (IsWarranted
-            (SpaceCause
-            (space_begun self.old space number (option_copied name.entry)))) }
-        ensures all { length self.old.settled ≡ 13 }
-    {
-        let one = &mut self.spaces[space.number()];
-        let index = one.count();
-        self.undo = Some(Undo {
-            space,
-            count: index,
-            named: one.names().len(),
-            len: one.names_len(),
-        });
-        if let Err(fault) = one.add(number, name) {
-            self.undo = None;
-            return Err(fault);
-        }
-        Ok(index)
-    }
-
     /// Takes `number` indices in a space, the first of them with an optional name, and returns the
     /// first. A failed call changes nothing.
     #[inline(always)]
     pub fn add(&mut self, space: Space, number: u32, name: Option<&str>) -> Result<u32, Fault>
-        requires { self.old.taking ≡ None }
-        ensures index { IfOk result (λ i.
-            i ≡ (namespace_at self.old.settled space).count) }
+        ensures index { IfOk result (λ i. i ≡ (namespace_at self.old space).count) }
         ensures ok { OnOk result (self.new
-            ≡ spaces_ended (spaces_begun self.old space number (option_copied name.entry))) }
-        ensures free { OnOk result ((fault : FaultSpec) → SpaceCause
-            (space_begun self.old space number
-            (option_copied name.entry)) fault → ⊥) }
+            ≡ spaces_with self.old (some_in space number) (option_copied name.entry)) }
+        ensures free { OnOk result (NoCause (SpaceCause (namespace_with
+            (namespace_at self.old space) number (option_copied name.entry)))) }
         ensures err { OnErr result (self.new ≡ self.old) }
-        ensures warranted { IfErr result (IsWarranted
-            (SpaceCause
-            (space_begun self.old space number (option_copied name.entry)))) }
-        ensures all { length self.old.settled ≡ 13 }
+        ensures warranted { IfErr result (IsWarranted (SpaceCause (namespace_with
+            (namespace_at self.old space) number (option_copied name.entry)))) }
+        ensures all { length self.old ≡ 13 }
     {
         let one = &mut self.spaces[space.number()];
         let index = one.count();
@@ -163,22 +124,24 @@ impl<A: Allocator> Spaces<A> {
         Ok(index)
     }
 
-    /// Commits the indices of the item being written.
-    pub fn finish_member(&mut self)
-        requires { is_none self.old.taking ≡ false }
-        ensures { self.new ≡ spaces_ended self.old }
+    /// Returns the state of a space, to which `go_back` can return.
+    pub fn state(&self, space: Space) -> Undo
+        ensures { result ≡ undo_at space (namespace_at self.now space) }
     {
-        self.undo = None;
+        let one = &self.spaces[space.number()];
+        Undo {
+            space,
+            count: one.count(),
+            named: one.names().len(),
+            len: one.names_len(),
+        }
     }
 
-    /// Discards the indices of the item being written. Allocates nothing.
-    pub fn discard(&mut self)
-        requires { is_none self.old.taking ≡ false }
-        ensures { self.new ≡ spaces_given_up self.old }
+    /// Restores a space to an earlier state. Allocates nothing.
+    pub fn go_back(&mut self, undo: Undo)
+        requires { IsOf self.old undo }
+        ensures { self.new ≡ undone self.old undo }
     {
-        if let Some(undo) = self.undo {
-            self.spaces[undo.space.number()].cut_back(undo.count, undo.named, undo.len);
-            self.undo = None;
-        }
+        self.spaces[undo.space.number()].cut_back(undo.count, undo.named, undo.len);
     }
 }

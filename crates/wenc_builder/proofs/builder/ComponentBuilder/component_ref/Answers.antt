@@ -7,6 +7,7 @@ use Rattle.wenc_builder.specs.Entry.{items, component_entry}
 use Rattle.wenc_builder.specs.Item.{ComponentItem}
 use Rattle.wenc_builder.specs.Sections.{whole}
 use Rattle.wenc_builder.specs.Space.{indices_in}
+use Rattle.wenc_builder.specs.inside.Spaces.{spaced}
 use Rattle.wenc_sections.specs.declared.space.Space.TheVariants as spaces
 use Rattle.wenc_builder.proofs.Entered.{alone_enters}
 use Rattle.wenc_builder.proofs.Standing.{writing_none}
@@ -28,7 +29,8 @@ returns-clause-entered g c es h =
 pub ready-bytes-requires : goal.ready-bytes-requires
 ready-bytes-requires g c =
     let n = c.component in
-    writing_none n.inside.buffer (finished_is n.inside.buffer n.inside.spaces c.args.component.now n.invariant.agree n.view_is
+    writing_none n.inside.buffer (finished_is n.inside.buffer (spaced n.inside.spaces n.inside.undo) c.args.component.now n.invariant.0.agree
+    n.view_is
     ∙ sym c.if-not-is_finished.ensures.finished)
 
 pub add_section-requires-clause-whole : goal.add_section-requires-clause-whole

@@ -7,13 +7,14 @@ use Rattle.std.proofs.Math.Logic.{∥∥₁_map}
 use Rattle.wenc_builder.specs.inside.View.{builder_view}
 use Rattle.wenc_builder.specs.laws.Held.{holds_some}
 use Rattle.wenc_builder.proofs.Viewed.{finished_is}
+use Rattle.wenc_builder.specs.inside.Spaces.{spaced}
 use Rattle.wenc_builder.proofs.builder.ComponentBuilder.finish.Goals as goal
 
 pub returns-clause-some : goal.returns-clause-some
 returns-clause-some g c =
     let b = c.self.inside.buffer in
-    let s = c.self.inside.spaces in
-    let kept = c.self.invariant in
+    let s = (spaced c.self.inside.spaces c.self.inside.undo) in
+    let kept = c.self.invariant.0 in
     rw (← c.self.view_is)
     (∥∥₁_map (holds_some (builder_view b s) (sym (finished_is b s _ kept.agree refl) ∙ sym c.if-not-is_finished.ensures) kept.holds)
     (λ h. (h.0, h.1, c.finish.ensures ∙ h.1.sections.bytes, h.2)))

@@ -7,4 +7,4 @@ pub returns-clause-held : goal.returns-clause-held
 returns-clause-held g c = rw (c.in_ok-new.ensures.ok, c.in_ok-new-2.ensures.ok) holds_nothing
 
 pub invariant_of-result : goal.invariant_of-result
-invariant_of-result g c = rw (c.in_ok-new.ensures.ok, c.in_ok-new-2.ensures.ok) (record { agree = tt; holds = some_of _ [] holds_nothing tt })
+invariant_of-result g c = rw (c.in_ok-new.ensures.ok, c.in_ok-new-2.ensures.ok) (record { agree = tt; holds = some_of _ [] holds_nothing tt }, tt)
