@@ -5,6 +5,7 @@ ghost use Rattle.wenc_base.specs.Prelude.{IsMemory, unsigned_text};
 
 use super::Encode;
 use crate::fault::Fault;
+use crate::short::Short;
 use std::alloc::Allocator;
 
 /// Inserts a number before the bytes from `start` on.
@@ -12,6 +13,7 @@ use std::alloc::Allocator;
 /// # Errors
 ///
 /// Fails only if an allocation fails; the bytes from `start` on are then removed.
+#[inline(never)]
 pub fn put_number<A: Allocator>(
     number: u32,
     start: usize,
@@ -23,16 +25,17 @@ pub fn put_number<A: Allocator>(
     ensures err { OnErr result (sink.new.items ≡ take start sink.old.items) }
     ensures warranted { IfErr result IsMemory }
 {
-    let end = sink.len();
-    match number.encode(sink) {
+    let mut text = Short::new();
+    text.unsigned(u64::from(number));
+    let text = text.as_slice();
+    match sink.extend_from_slice(text) {
         Ok(()) => {
-            let size = sink.len() - end;
-            turn_to_front(sink.as_mut_slice(), start, size);
+            put_in_front(sink.as_mut_slice(), start, text);
             Ok(())
         }
-        Err(fault) => {
+        Err(failed) => {
             sink.truncate(start);
-            Err(fault)
+            Err(Fault::from(failed))
         }
     }
 }
@@ -90,11 +93,17 @@ fn put_long_number_over<A: Allocator>(
     }
 }
 
-/// Moves the last `size` bytes to `start`, before the bytes there.
-fn turn_to_front(bytes: &mut [u8], start: usize, size: usize)
-    requires { start + size ≤ length bytes.old }
+/// Writes `text` before the bytes from `start` on. These move behind it, and as many bytes as it has
+/// are lost at the end.
+fn put_in_front(bytes: &mut [u8], start: usize, text: &[u8])
+    requires { start + length text.now ≤ length bytes.old }
     ensures { (before behind last : List ℕ) → bytes.old ≡ before ++ behind ++ last
-        → length before ≡ start → length last ≡ size → bytes.new ≡ before ++ last ++ behind }
+        → length before ≡ start → length last ≡ length text.now
+        → bytes.new ≡ before ++ text.now ++ behind }
 {
-    bytes[start..].rotate_right(size);
+    // 32 bits: an offset in the slice.
+    let behind = start + text.len();
+    let end = bytes.len() - text.len();
+    bytes.copy_within(start..end, behind);
+    bytes[start..behind].copy_from_slice(text);
 }
