@@ -12,8 +12,8 @@ pub use Rattle.wenc_base.specs.Encode.{Appended, Appends, Serves, drawn_in_order
 pub use Rattle.wenc_base.specs.Encode.{list_in_order, sized_in_order}
 pub use Rattle.wenc_base.specs.Delimited.{AlikeIsEqual, IsReadable, IsWritten, pair}
 pub use Rattle.wenc_base.specs.Exports.{core_export_kind, export_kind_byte}
-pub use Rattle.wenc_base.specs.Types.{IsByteType, abstract_byte, abstract_type, heap_type, of_byte}
-pub use Rattle.wenc_base.specs.Types.{reference, reference_to, val_type}
+pub use Rattle.wenc_base.specs.Types.{IsByteType, abstract_byte, abstract_type, heap_type}
+pub use Rattle.wenc_base.specs.Types.{is_byte_type, of_byte, reference, reference_to, val_type}
 pub use Rattle.wenc_base.specs.Composites.{Array, Composite, Func, Rec, RecType, Single, Struct}
 pub use Rattle.wenc_base.specs.Composites.{Sub, array_view, composite_type, composite_view}
 pub use Rattle.wenc_base.specs.Composites.{field_type, func_type_view, params_of, rec_type}

@@ -69,6 +69,11 @@ of_byte b =
     if nat_eq b 0x7f then I32 else if nat_eq b 0x7e then I64 else if nat_eq b 0x7d then F32
     else if nat_eq b 0x7c then F64 else V128
 
+-- The encoding is one byte.
+abbrev pub is_byte_type : ValType → Bool
+is_byte_type (Ref r) = false
+is_byte_type other = true
+
 -- A number type or a vector type is this byte.
 abbrev pub IsByteType : ℕ → Type 0
 IsByteType b = Serves (byte b) (val_type (of_byte b))

@@ -53,6 +53,6 @@ pub use short::Short;
 pub use tables::TableType;
 pub use tags::TagType;
 pub use types::{
-    AbstractHeapType, ArrayType, CompositeType, CoreTypeEncoder, FieldType, FuncType, GroupTree,
-    Guarded, HeapType, RefType, StorageType, StructType, SubType, ValType,
+    AbstractHeapType, ArrayType, ByteTypes, CompositeType, CoreTypeEncoder, FieldType, FuncType,
+    GroupTree, Guarded, HeapType, RefType, StorageType, StructType, SubType, ValType,
 };

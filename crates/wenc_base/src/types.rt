@@ -1,11 +1,11 @@
 //! Core types: value types, reference types and heap types. The submodules have the types that core
 //! modules define.
-ghost use Rattle.std.specs.Prelude.{◌≡◌, IfOk, IfErr};
+ghost use Rattle.std.specs.Prelude.{◌≡◌, IfOk, IfErr, OnOk, true};
 ghost use Rattle.wenc_base.specs.Prelude.{itself, serves_itself, val_type, val_type_lawful};
 ghost use Rattle.wenc_base.specs.Prelude.{read_val_type, reference, reference_lawful};
 ghost use Rattle.wenc_base.specs.Prelude.{read_reference, heap_type_lawful, read_heap_type};
 ghost use Rattle.wenc_base.specs.Prelude.{abstract_byte, abstract_type, abstract_type_lawful};
-ghost use Rattle.wenc_base.specs.Prelude.{read_abstract, of_byte, IsByteType};
+ghost use Rattle.wenc_base.specs.Prelude.{read_abstract, is_byte_type, of_byte, IsByteType};
 ghost use Rattle.wenc_base.specs.declared.types.ValType.TheVariants.{Ref};
 
 pub mod bytes;
@@ -51,6 +51,7 @@ impl ValType {
     #[inline(always)]
     fn byte_or_reference(&self) -> Result<u8, &RefType>
         ensures byte { IfOk result (λ b. (self.now ≡ of_byte b) × IsByteType b) }
+        ensures one { OnOk result (is_byte_type self.now ≡ true) }
         ensures reference { IfErr result (λ r. self.now ≡ Ref r.now) }
     {
         match self {

@@ -1,6 +1,6 @@
 //! Lists of value types that take one byte each.
-ghost use Rattle.std.specs.Prelude.{◌≡◌, ◌∷◌, ◌++◌, [], length, true, false};
-ghost use Rattle.wenc_base.specs.Prelude.{list, val_type};
+ghost use Rattle.std.specs.Prelude.{◌≡◌, ◌∷◌, ◌++◌, [], length, nat_lt, ◌&&◌, if◌then◌else◌};
+ghost use Rattle.wenc_base.specs.Prelude.{list, val_type, is_byte_type};
 
 use super::ValType;
 use crate::encode::Encode;
@@ -43,8 +43,8 @@ impl ByteTypes {
     /// 11 types.
     #[inline(always)]
     pub fn push(&mut self, ty: ValType) -> bool
-        ensures pushed { result ≡ true → self.new ≡ self.old ++ ty ∷ [] }
-        ensures same { result ≡ false → self.new ≡ self.old }
+        ensures has_room { result ≡ (is_byte_type ty && nat_lt (length self.old) 11) }
+        ensures pushed { self.new ≡ (if result then self.old ++ ty ∷ [] else self.old) }
     {
         let Ok(byte) = ty.byte_or_reference() else {
             return false;
