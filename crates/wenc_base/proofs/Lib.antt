@@ -9,4 +9,4 @@ pub mod Produced
 mod Composites
 pub mod ShortNames
 pub mod Bytes
-pub mod ByteTypes
+pub mod OneByte

@@ -1,31 +1,19 @@
 -- Items that are made of the values which an iterator gives.
-use Rattle.std.proofs.Common.{◌≡◌, ℕ, inl, inr, List, [], ◌++◌, append_assoc, Option, None, Some, Result, Ok, Err, false, refl, sym, ◌∙◌, ap, subst}
+use Rattle.std.proofs.Common.{◌≡◌, ℕ, List, Option, Result, Ok, Err, refl}
 use Rattle.wenc_base.specs.Encode.{Serves}
-use Rattle.wenc_base.specs.Fault.{IsWarranted, either, NoCause}
-use Rattle.wenc_base.specs.Forms.{list}
-use Rattle.wenc_base.specs.Holder.{listed}
-use Rattle.wenc_base.specs.Parent.{Extends, ExtendsListed}
-use Rattle.wenc_base.specs.Piece.{Piece, Form, nothing}
+use Rattle.wenc_base.specs.Piece.{Piece}
 use Rattle.wenc_base.specs.declared.fault.Fault.{Fault}
-use Rattle.wenc_base.specs.declared.fault.Fault.TheVariants.{TooLarge}
-use Rattle.wenc_base.specs.laws.Serves.{still_warranted}
-use Rattle.wenc_base.proofs.Runs.{no_run}
 use Rattle.wenc_canon.specs.Canonicals.{Canonical, canonical}
 use Rattle.wenc_canon.specs.declared.canonicals.CanonicalOption.{CanonicalOption}
 use Rattle.wenc_builder.specs.Item.{item}
 use Rattle.wenc_builder.specs.Space.{canonical_space}
 use Rattle.wenc_builder.specs.Entry.{Entry, canonical_entry}
-use Rattle.wenc_builder.specs.Builder.{BegunItem, State, builder_is_finished, content_of, new_item, item_begun, item_appended, item_ended, item_given_up}
-use Rattle.wenc_builder.specs.Cause.{SectionCause}
+use Rattle.wenc_builder.specs.Builder.{State, new_item}
 use Rattle.wenc_builder.specs.Enters.{EntersListed}
-use Rattle.wenc_builder.specs.Adds.{AddsItem, AddsWholeItem}
 use Rattle.wenc_builder.specs.inside.Adds.{AddsListedItem}
 use Rattle.wenc_builder.specs.inside.Layout.{kind_id, new_item_of}
-use Rattle.wenc_builder.specs.ParentState.{no_room_in_section}
 use Rattle.wenc_builder.specs.declared.builder.kind.Kind.TheVariants as kinds
 use Rattle.wenc_sections.specs.declared.space.Space.{Space}
-use Rattle.wenc_builder.specs.laws.ParentState.{still_begun, item_appended_twice}
-use Rattle.wenc_builder.specs.laws.Caused.{section_grows}
 use Rattle.wenc_builder.proofs.Entered.{IsNewItemOf, new_item_enters}
 
 -- what an iterator's values make is entered, where each list of values makes an entry

@@ -1,11 +1,11 @@
 -- A space in which an item took an index can return to what it was.
-use Rattle.std.proofs.Common.{◌≡◌, ℕ, ◌<◌, ◌≤◌, List, length, length-append, true, is_none, get_or, Option, Some, None, refl, arith, sym, ◌∙◌, ap}
+use Rattle.std.proofs.Common.{◌≡◌, ℕ, ◌≤◌, List, length, length-append, true, is_none, get_or, Option, Some, None, refl, arith, ◌∙◌}
 use Rattle.std.proofs.lemmas.List.{take_at, take_all, get_or-set_same, get_or_default, set-set, set-get_or}
 use Rattle.wenc_base.specs.Names.{name_association}
-use Rattle.wenc_builder.specs.Builder.{Namespace, no_names, namespace_at, namespace_set, namespace_with, spaces_with}
+use Rattle.wenc_builder.specs.Builder.{Namespace, no_names, namespace_at, namespace_with, spaces_with}
 use Rattle.wenc_builder.specs.Space.{some_in}
 use Rattle.wenc_builder.specs.inside.Layout.{Writing, Buffered}
-use Rattle.wenc_builder.specs.inside.Spaces.{Spaced, spaces_begun, spaces_given_up, spaces_ended, taken, undo_at, IsOf, before, undone, spaced}
+use Rattle.wenc_builder.specs.inside.Spaces.{spaces_begun, spaces_ended, taken, undo_at, IsOf, before, undone, spaced}
 use Rattle.wenc_builder.specs.inside.View.{Agree}
 use Rattle.wenc_builder.specs.declared.builder.spaces.Undo.{Undo}
 use Rattle.wenc_sections.specs.Space.{space_number}

@@ -1,5 +1,5 @@
 -- Why a builder's call is refused.
-use Rattle.std.specs.Prelude.{◌≡◌, ℕ, ◌+◌, ◌≤◌, ◌^◌, ◌⊎◌, length, Option, Some, None, false}
+use Rattle.std.specs.Prelude.{◌≡◌, ◌+◌, ◌≤◌, ◌^◌, ◌⊎◌, length, Option, Some, None, false}
 use Rattle.wenc_base.specs.Number.{number_size}
 use Rattle.wenc_base.specs.declared.fault.Fault.{Fault}
 use Rattle.wenc_base.specs.declared.fault.Fault.TheVariants.{TooMany, TooLarge, Unfinished}

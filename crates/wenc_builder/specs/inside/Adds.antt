@@ -1,14 +1,12 @@
 -- What private calls of a builder do.
-use Rattle.std.specs.Prelude.{◌≡◌, ℕ, List, Option, Some, None, false, Result, OnOk, OnErr, IfErr}
+use Rattle.std.specs.Prelude.{ℕ, List, Option, Some, None, Result, OnOk, OnErr}
 use Rattle.std.specs.Iterator.Runs.{SomeRun, WholeRun}
-use Rattle.wenc_base.specs.Fault.{IsWarranted, either}
-use Rattle.wenc_base.specs.Parent.{Extended}
 use Rattle.wenc_base.specs.Piece.{Piece}
 use Rattle.wenc_base.specs.declared.fault.Fault.{Fault}
 use Rattle.wenc_builder.specs.Adds.{AddsPiece, AddsPieceAt, AddsWholeItem}
 use Rattle.wenc_builder.specs.Builder.{State, settled_in, Content, with_section, spaces_with}
-use Rattle.wenc_builder.specs.Builder.{builder_is_finished, NewItem, item_appended}
-use Rattle.wenc_builder.specs.ParentState.{IsItemText, no_room_in_section}
+use Rattle.wenc_builder.specs.Builder.{NewItem}
+use Rattle.wenc_builder.specs.ParentState.{IsItemText}
 use Rattle.wenc_builder.specs.Space.{Indices}
 
 -- this content with a section of its own, its indices, and its name or none

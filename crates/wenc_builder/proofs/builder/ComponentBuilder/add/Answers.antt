@@ -1,4 +1,4 @@
-use Rattle.std.proofs.Common.{◌≡◌, refl, sym, ◌∙◌}
+use Rattle.std.proofs.Common.{refl, sym, ◌∙◌}
 use Rattle.std.specs.Option.{option_copied}
 use Rattle.wenc_builder.specs.inside.Layout.{kind_id}
 use Rattle.wenc_builder.proofs.Whole.{back, text_refused, whole_added, whole_stands}

@@ -1,7 +1,5 @@
-use Rattle.std.specs.Result.{IfErr, OnOk}
-use Rattle.wenc_base.specs.Encode.{Serves}
 use Rattle.wenc_base.specs.laws.Serves.{appends_as, fits_as}
-use Rattle.wenc_base.proofs.ByteTypes.{bytes_serve}
+use Rattle.wenc_base.proofs.OneByte.{bytes_serve}
 use Rattle.wenc_base.proofs.types.bytes.ByteTypesEncode.encode.Goals as goal
 
 pub returns-clause-appended : goal.returns-clause-appended

@@ -1,7 +1,5 @@
-use Rattle.wenc_base.specs.Composites.{Func, composite_type}
-use Rattle.wenc_base.specs.Encode.{Serves, in_order}
+use Rattle.wenc_base.specs.Composites.{Func}
 use Rattle.wenc_base.specs.Forms.{list}
-use Rattle.wenc_base.specs.Piece.{◌▸◌}
 use Rattle.wenc_base.specs.Types.{val_type}
 use Rattle.wenc_base.specs.laws.Parents.{extends_for, whole_for}
 use Rattle.wenc_base.specs.laws.Serves.{tagged_serves, two_serve}
