@@ -147,14 +147,10 @@ DeclaredAs form space None own = ⊥
 DeclaredAs form space (Some d) own =
     Serves (instance_declaration own) (form d) × (instance_space own ≡ space d)
 
--- a call adds this declaration to the type of a module, of an instance or of a component
+-- a call adds this declaration to the type of a module or of a component
 abbrev pub AddsToModule : TypeState → TypeState → Result (Unit {0}) Fault → ModuleDeclaration
     → Type 0
 AddsToModule = AddsDeclaration module_declaration module_space
-
-abbrev pub AddsToInstance : TypeState → TypeState → Result (Unit {0}) Fault → InstanceDeclaration
-    → Type 0
-AddsToInstance = AddsDeclaration instance_declaration instance_space
 
 abbrev pub AddsToComponent : TypeState → TypeState → Result (Unit {0}) Fault
     → ComponentDeclaration → Type 0

@@ -16,9 +16,9 @@ pub use Rattle.wenc_types.specs.ComponentTypes.{and_instance, component_declarat
 pub use Rattle.wenc_types.specs.ComponentTypes.{def_type, depth, instance_declaration, instances_of}
 pub use Rattle.wenc_types.specs.ComponentTypes.{no_component, no_instance}
 pub use Rattle.wenc_types.specs.Declarations.{AddsDeclaration, AddsDeclared, AddsToComponent}
-pub use Rattle.wenc_types.specs.Declarations.{AddsToInstance, DeclaredAs}
-pub use Rattle.wenc_types.specs.Declarations.{AddsToModule, ComponentDeclares, DeclaresSome}
-pub use Rattle.wenc_types.specs.Declarations.{InstanceDeclares, IsDeclaration, ModuleDeclares}
+pub use Rattle.wenc_types.specs.Declarations.{AddsToModule, ComponentDeclares, DeclaredAs}
+pub use Rattle.wenc_types.specs.Declarations.{DeclaresSome, InstanceDeclares, IsDeclaration}
+pub use Rattle.wenc_types.specs.Declarations.{ModuleDeclares}
 pub use Rattle.wenc_types.specs.Declarations.{NoneBegun, TypeState, component_space, indexed_outcome}
 pub use Rattle.wenc_types.specs.Declarations.{instance_space, lead_of, module_space, no_counts}
 pub use Rattle.wenc_types.specs.Declarations.{no_declarations, one_less, one_more, space_of_alias}
@@ -47,7 +47,7 @@ pub use Rattle.wenc_types.specs.laws.CoreTypes.{alike_by, composite_sees, core_t
 pub use Rattle.wenc_types.specs.laws.CoreTypes.{core_type_sees, core_type_sound, declaration_sees}
 pub use Rattle.wenc_types.specs.laws.CoreTypes.{each_sees, group_sees, module_declaration_lawful}
 pub use Rattle.wenc_types.specs.laws.CoreTypes.{module_declaration_sound}
-pub use Rattle.wenc_types.specs.laws.Declarations.{is_declaration, type_appended_twice}
+pub use Rattle.wenc_types.specs.laws.Declarations.{type_appended_twice}
 pub use Rattle.wenc_types.specs.laws.DefinedTypes.{case_lawful, case_sound, defined_type_lawful}
 pub use Rattle.wenc_types.specs.laws.DefinedTypes.{labelled_type_lawful, named_sound}
 pub use Rattle.wenc_types.specs.laws.TypeTrees.{case_sees, defined_sees, named_sees}
