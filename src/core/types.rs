@@ -14,7 +14,7 @@ pub use values::{AbstractHeapType, HeapType, RefType, ValType};
 use crate::Error;
 use crate::lists::{List, is_array};
 use crate::proved::wasm_encoder as proved;
-use crate::proved::wenc_base::Fault;
+use crate::proved::wenc_base::{ByteTypes, Fault};
 use crate::shim::alloc::Global;
 use crate::shim::vec::Vec;
 
@@ -67,19 +67,33 @@ impl<T: Filler> Converted<T> {
         Self { few: [T::FILLER; FEW], few_len: 0, all: Vec::new(Global) }
     }
 
-    /// Converts the values and returns them. Fails with the first error. Compiled for arrays by
-    /// their type, and once for other lists, as [`with_list`](crate::lists::with_list) does.
-    // In line, the compiler unrolls it for arrays.
+    /// Converts the values and returns them. Fails with the first error.
     #[inline(always)]
     pub(super) fn extend<L: IntoIterator>(&mut self, values: L) -> Result<&[T], Error>
     where
         L::Item: TryInto<T, Error = Error>,
     {
+        self.extend_with(values, |_| ())
+    }
+
+    /// Converts the values, calls `each` with each of them, and returns them. Fails with the first
+    /// error. Compiled for arrays by their type, and once for other lists, as
+    /// [`with_list`](crate::lists::with_list) does.
+    // In line, the compiler unrolls it for arrays.
+    #[inline(always)]
+    fn extend_with<L: IntoIterator>(
+        &mut self,
+        values: L,
+        each: impl FnMut(T),
+    ) -> Result<&[T], Error>
+    where
+        L::Item: TryInto<T, Error = Error>,
+    {
         let mut values = values.into_iter();
         if const { is_array::<L>() } {
-            self.convert(values)?;
+            self.convert(values, each)?;
         } else {
-            self.convert_listed(List(&mut values))?;
+            self.convert_listed(List(&mut values), each)?;
         }
         Ok(if self.all.is_empty() { &self.few[..self.few_len] } else { &self.all })
     }
@@ -87,17 +101,20 @@ impl<T: Filler> Converted<T> {
     fn convert_listed<U: TryInto<T, Error = Error>>(
         &mut self,
         values: List<'_, U>,
+        each: impl FnMut(T),
     ) -> Result<(), Error> {
-        self.convert(values)
+        self.convert(values, each)
     }
 
     #[inline(always)]
     fn convert<U: TryInto<T, Error = Error>>(
         &mut self,
         values: impl Iterator<Item = U>,
+        mut each: impl FnMut(T),
     ) -> Result<(), Error> {
         for value in values {
             let value = value.try_into()?;
+            each(value);
             match self.few.get_mut(self.few_len) {
                 Some(place) => {
                     *place = value;
@@ -118,5 +135,32 @@ impl<T: Filler> Converted<T> {
             }
         }
         Ok(self.all.push(value)?)
+    }
+}
+
+/// Converted value types, with the list of their bytes as long as each has one.
+pub(super) struct Values {
+    types: Converted<proved::ValType>,
+    bytes: ByteTypes,
+    have_bytes: bool,
+}
+
+impl Values {
+    /// Creates it without values.
+    #[inline]
+    pub(super) fn new() -> Self {
+        Self { types: Converted::new(), bytes: ByteTypes::new(), have_bytes: true }
+    }
+
+    /// Converts the values and returns them, with their bytes if each has one and they are few.
+    /// Fails with the first error.
+    #[inline(always)]
+    pub(super) fn extend<L: IntoIterator<Item = ValType>>(
+        &mut self,
+        values: L,
+    ) -> Result<(&[proved::ValType], Option<&ByteTypes>), Error> {
+        let Self { types, bytes, have_bytes } = self;
+        let types = types.extend_with(values, |ty| *have_bytes = *have_bytes && bytes.push(ty))?;
+        Ok((types, have_bytes.then_some(&*bytes)))
     }
 }

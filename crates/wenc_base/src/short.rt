@@ -24,6 +24,7 @@ impl Model for Short {
 
 impl Short {
     /// Creates an empty buffer.
+    #[inline(always)]
     pub fn new() -> Short
         ensures { result ≡ [] }
     {
@@ -34,6 +35,7 @@ impl Short {
     }
 
     /// Returns the bytes.
+    #[inline(always)]
     pub fn as_slice(&self) -> &[u8]
         ensures same { result.now ≡ self.now }
         ensures short { length self.now ≤ 11 }
@@ -42,6 +44,7 @@ impl Short {
     }
 
     /// Appends a byte. There has to be room for it.
+    #[inline(always)]
     pub fn push(&mut self, byte: u8)
         requires { length self.old < 11 }
         ensures { self.new ≡ self.old ++ byte ∷ [] }

@@ -1,8 +1,11 @@
 //! The encoder of core types.
 
-use super::{ContType, Converted, FieldType, FuncType, StorageType, SubType, ValType, converted};
+use super::{
+    ContType, Converted, FieldType, FuncType, StorageType, SubType, ValType, Values, converted,
+};
 use crate::encoders::{encoders, on};
 use crate::proved::wasm_encoder as proved;
+use crate::proved::wenc_base::ByteTypes;
 use crate::twins::twins;
 use crate::{Error, Unsupported};
 
@@ -40,6 +43,12 @@ encoders! {
 
 /// Calls with lists, compiled once rather than for each iterator.
 impl CoreTypeBy<'_> {
+    fn byte_function(self, params: &ByteTypes, results: &ByteTypes) -> Result<(), Error> {
+        Ok(on!(self, CoreTypeBy + Module, encoder => encoder.byte_function(params, results))?)
+    }
+
+    #[cold]
+    #[inline(never)]
     fn function(
         self,
         params: &[proved::ValType],
@@ -66,9 +75,11 @@ impl CoreTypeEncoder<'_> {
             R::IntoIter: ExactSizeIterator,
         }
         {
-            let (mut few_params, mut few_results) = (Converted::new(), Converted::new());
-            let params = few_params.extend(params)?;
-            self.by.function(params, few_results.extend(results)?)
+            let (mut params_kept, mut results_kept) = (Values::new(), Values::new());
+            match (params_kept.extend(params)?, results_kept.extend(results)?) {
+                ((_, Some(params)), (_, Some(results))) => self.by.byte_function(params, results),
+                ((params, _), (results, _)) => self.by.function(params, results),
+            }
         }
 
         /// Encodes a function type.
