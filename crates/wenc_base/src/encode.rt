@@ -1,10 +1,10 @@
 //! The trait `Encode`, which appends numbers and other values to a vector of bytes.
 ghost use Rattle.std.specs.Prelude.{◌≡◌, ◌+◌, ◌<◌, ◌≤◌, ◌^◌, ◌++◌, ◌∷◌, [], length, vec_len};
-ghost use Rattle.std.specs.Prelude.{vec_capacity, OnOk, true};
+ghost use Rattle.std.specs.Prelude.{vec_capacity, take, drop, OnOk, OnErr, IfErr, true};
 ghost use Rattle.wenc_base.specs.Prelude.{Appends, size_cause, AreBytes, number_size};
 ghost use Rattle.wenc_base.specs.Prelude.{unsigned_text, signed_text, Piece, ◌▸◌, nothing, flag};
 ghost use Rattle.wenc_base.specs.Prelude.{u64 as long_number, count, i64 as signed_number, name};
-ghost use Rattle.wenc_base.specs.Prelude.{byte_list, option, in_order, verbatim};
+ghost use Rattle.wenc_base.specs.Prelude.{byte_list, option, in_order, verbatim, IsMemory};
 
 mod front;
 mod lists;
@@ -422,13 +422,18 @@ impl<'a, T: Encode> Encode for Tagged<'a, T> {
 
     #[inline(always)]
     fn encode<A: Allocator>(&self, sink: &mut Vec<u8, A>) -> Result<(), Fault> {
-        if !has_room(sink, 1) {
-            return encode_value_first(self.0, self.1, sink);
-        }
         let start = sink.len();
-        push_in_room(sink, self.0);
+        let is_first = has_room(sink, 1);
+        if is_first {
+            push_in_room(sink, self.0);
+        }
         match self.1.encode(sink) {
-            Ok(()) => Ok(()),
+            Ok(()) => {
+                if !is_first {
+                    return insert_before(self.0, start, sink);
+                }
+                Ok(())
+            }
             Err(fault) => {
                 sink.truncate(start);
                 Err(fault)
@@ -437,20 +442,16 @@ impl<'a, T: Encode> Encode for Tagged<'a, T> {
     }
 }
 
-/// Appends a value, then inserts the byte before it, which allocates.
+/// Inserts a byte before the bytes from `start` on, which allocates. If it fails, these are removed.
 #[cold]
 #[inline(never)]
-fn encode_value_first<T: Encode, A: Allocator>(
-    byte: u8,
-    value: &T,
-    sink: &mut Vec<u8, A>,
-) -> Result<(), Fault>
-    ensures appended { Appends (byte ▸ T.piece value.now).text (byte ▸ T.piece value.now).Cause
-        (T.unfinished value.now) sink.old.items sink.new.items result }
-    ensures fits { OnOk result (byte ▸ T.piece value.now).Fits }
+fn insert_before<A: Allocator>(byte: u8, start: usize, sink: &mut Vec<u8, A>) -> Result<(), Fault>
+    requires { start ≤ length sink.old.items }
+    ensures ok { OnOk result (sink.new.items
+        ≡ take start sink.old.items ++ byte ∷ drop start sink.old.items) }
+    ensures err { OnErr result (sink.new.items ≡ take start sink.old.items) }
+    ensures warranted { IfErr result IsMemory }
 {
-    let start = sink.len();
-    value.encode(sink)?;
     if let Err(failed) = sink.insert(start, byte) {
         sink.truncate(start);
         return Err(Fault::from(failed));

@@ -18,6 +18,7 @@ pub enum ModuleArg {
 impl Encode for ModuleArg {
     ghost piece = { λ a. module_argument a };
 
+    #[inline(always)]
     fn encode<A: Allocator>(&self, sink: &mut Vec<u8, A>) -> Result<(), Fault> {
         match self {
             ModuleArg::Instance(index) => Tagged(CORE_INSTANCE_SORT, index).encode(sink),
