@@ -5,7 +5,7 @@ use core::fmt;
 
 /// An allocator: [`Global`], or in tests one that fails as planned.
 pub trait Allocator: Copy + TryClone + Eq + fmt::Debug + sealed::Sealed {
-    /// The least capacity of a vector of bytes that grows from none.
+    /// The least capacity of a vector of bytes, or a string, that grows from none.
     #[doc(hidden)]
     const FIRST_BYTES: usize = 0;
 

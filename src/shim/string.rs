@@ -49,11 +49,15 @@ impl<A: Allocator> String<A> {
 
     #[inline]
     fn try_reserve(&mut self, more: usize) -> Result<(), AllocError> {
-        if self.inner.capacity() - self.inner.len() < more {
-            self.ask()?;
-            self.inner.try_reserve(more)?;
-        }
-        Ok(())
+        if self.inner.capacity() - self.inner.len() < more { self.grow(more) } else { Ok(()) }
+    }
+
+    #[cold]
+    #[inline(never)]
+    fn grow(&mut self, more: usize) -> Result<(), AllocError> {
+        self.ask()?;
+        let least = if self.inner.capacity() == 0 { A::FIRST_BYTES } else { 0 };
+        Ok(self.inner.try_reserve(more.max(least))?)
     }
 
     /// Appends a character.

@@ -125,7 +125,7 @@ impl<T, A: Allocator> Vec<T, A> {
     /// # Panics
     ///
     /// Panics if the index is greater than the length.
-    #[inline]
+    #[inline(never)]
     pub fn insert(&mut self, at: usize, value: T) -> Result<(), AllocFailed<T>> {
         if self.try_reserve(1).is_err() {
             return Err(AllocFailed { value });
