@@ -1,13 +1,10 @@
-//! The indices that items contain: each form that has one, and components that are renumbered. The
-//! nodes of items.
+//! The indices that items contain in scopes within scopes, and nested components that are renumbered.
+//! The nodes of items. `tests/calls` visits the indices of each item.
 #![cfg(feature = "reader")]
 
-mod canonicals;
-mod core_types;
-mod items;
 mod nested;
 mod nodes;
-mod types;
+mod scopes;
 
 use wenc::tree::{ItemTree, NameTree, Node, Scope, Space, String, UsedIndex};
 use wenc::{Component, Error, ItemSection, Sections};
@@ -18,11 +15,6 @@ type Seen = (Space, Scope, u32);
 /// An index in this component.
 fn here(space: Space, index: u32) -> Seen {
     (space, Scope::Component(0), index)
-}
-
-/// An index in the outermost type that the item is.
-fn inside(space: Space, index: u32) -> Seen {
-    (space, Scope::Type(1), index)
 }
 
 fn text(text: &str) -> String {

@@ -6,13 +6,13 @@
 
 mod builder;
 mod calls;
+mod components;
 mod examples;
 mod hex;
 mod listing;
 mod parts;
 mod program;
 mod refusing;
-mod sections;
 mod shim;
 mod sweeping;
 mod trees;

@@ -7,7 +7,7 @@ use crate::format::Model;
 use crate::seen::is_same;
 use crate::size::{Size, cases};
 use crate::table::calls;
-use wenc::tree::{Command, ItemTree, Node, Scope, build};
+use wenc::tree::{Command, ItemTree, Node, Scope, UsedIndex, build};
 use wenc::*;
 
 /// The command without a debug name.
@@ -41,6 +41,16 @@ fn add_indices(node: Node, seen: &mut Vec<Seen>) {
     }
 }
 
+/// The indices that are visited of the node, in order.
+fn visited(node: Node) -> Vec<Seen> {
+    let mut seen = Vec::new();
+    node.each_index(|UsedIndex { space, scope, index, count }| {
+        assert_eq!(count, None, "the scopes aren't known");
+        seen.push((space, scope, index));
+    });
+    seen
+}
+
 /// The node has the same indices, in the order of its fields.
 fn is_node(call: &Call, node: Node, wanted: &[Seen]) {
     let (mut seen, mut wanted) = (Vec::new(), wanted.to_vec());
@@ -60,6 +70,7 @@ fn is_node(call: &Call, node: Node, wanted: &[Seen]) {
 fn is_visited(call: &Call, size: &Size, mut item: ItemTree) {
     let (before, wanted) = (item.clone(), (call.indices)(size));
     is_node(call, item.node(), &wanted);
+    assert!(visited(item.node()) == wanted, "{}: visited", call.name);
     assert!(seen(&mut item, 1000) == wanted, "{}", call.name);
     let raised: Vec<_> =
         wanted.iter().map(|(of, from, at)| (*of, *from, at.wrapping_add(1000))).collect();
@@ -86,6 +97,8 @@ fn is_read(call: &Call, size: &Size) {
     let (place, view) = reader.items().next().expect("an item").expect("it is read");
     let (_, read) = reader.trees().next().expect("an item").expect("it is read");
     assert!(is_same(view, tree) && view.to_tree() == *tree && read == *tree, "{}", call.name);
+    assert!(visited(view.node()) == (call.indices)(size), "{}: in place", call.name);
+    assert!(format!("{:?}", view.node()) == format!("{:?}", tree.node()), "{}", call.name);
     assert!(bytes[place] == (call.bytes)(size), "{}", call.name);
     let (mut anew, mut kept) = (ItemSection::new(call.id), ItemSection::new(call.id));
     anew.item(tree).expect("it is added");
