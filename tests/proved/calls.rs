@@ -5,7 +5,6 @@ mod commands;
 mod members;
 mod parents;
 mod program;
-mod reading;
 mod views;
 
 use crate::proved::tests::hex::digits;

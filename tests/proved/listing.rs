@@ -10,7 +10,6 @@ mod depth;
 mod faults;
 mod names;
 mod numbers;
-mod reading;
 mod rows;
 mod spellings;
 mod unfilled;

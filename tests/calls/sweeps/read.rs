@@ -90,6 +90,10 @@ fn is_read(call: &Call, size: &Size) {
     let mut counts = [0; 13];
     call.space.into_iter().for_each(|space| counts[space.number()] = u128::from(call.takes));
     assert_eq!(listing.counts, counts, "{}", call.name);
+    assert_eq!(tree.indices(), call.space.map(|space| (space, call.takes)), "{}", call.name);
+    if let ItemTree::Canon(canon) = tree {
+        assert_eq!(canon.name(), call.name);
+    }
     is_visited(call, size, tree.clone());
     let mut sections = Sections::new(&bytes).expect("a component");
     let reader = sections.next().expect("a section").expect("it is read");
