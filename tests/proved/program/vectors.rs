@@ -10,6 +10,7 @@ use crate::proved::wenc::program::translate;
 use crate::shim::alloc::Global;
 use crate::shim::vec::Vec;
 use std::format;
+use std::string::String;
 
 mod bad;
 mod edges;
@@ -20,11 +21,15 @@ mod words;
 
 /// A script, and the status, the standard output and the standard error of its run.
 pub struct Vector {
-    pub name: &'static str,
-    pub script: &'static [u8],
-    pub status: u8,
-    pub out: &'static [u8],
-    pub err: &'static [u8],
+    status: u8,
+    script: &'static [u8],
+    out: &'static [u8],
+    err: &'static [u8],
+}
+
+/// A script that isn't bad.
+const fn run(status: u8, script: &'static [u8], out: &'static [u8]) -> Vector {
+    Vector { status, script, out, err: b"" }
 }
 
 /// What the script is translated to is what its run prints, or tells the bad line.
@@ -38,14 +43,14 @@ fn is_translated(vector: &Vector) {
         Err(Failure::BadLine(line)) => {
             assert_eq!((1, format!("line {line}\n").as_bytes()), (vector.status, vector.err));
         }
-        Err(failure) => panic!("{}: {failure:?}", vector.name),
+        Err(failure) => panic!("{:?}: {failure:?}", vector.script),
     }
 }
 
 /// The script has this run.
 fn is_run(vector: &Vector) {
     let end = (vector.status, vector.out, vector.err);
-    expect(vector.name, &[], vector.script, &end);
+    expect(&String::from_utf8_lossy(vector.script), &[], vector.script, &end);
     is_translated(vector);
     if vector.status != 1 {
         is_listed(vector.out);
@@ -54,19 +59,15 @@ fn is_run(vector: &Vector) {
 
 #[test]
 fn scripts() {
-    for vectors in [
-        bad::VECTORS,
-        edges::VECTORS,
-        short::VECTORS,
-        long::VECTORS,
-        words::VECTORS,
-        long_words::VECTORS,
-    ] {
-        vectors.iter().for_each(is_run);
+    let all = [edges::VECTORS, short::VECTORS, long::VECTORS, words::VECTORS, long_words::VECTORS];
+    all.into_iter().flatten().for_each(is_run);
+    for (script, line) in bad::VECTORS {
+        let err = format!("line {line}\n").leak().as_bytes();
+        is_run(&Vector { status: 1, script, out: b"", err });
     }
     for (script, status, lines, bytes) in SCRIPTS {
         let out = format!("{lines}0061736d0d000100{}\n", digits(&hex(bytes)));
         let (script, out) = (script.as_bytes(), out.leak().as_bytes());
-        is_run(&Vector { name: "worked", script, status, out, err: b"" });
+        is_run(&run(status, script, out));
     }
 }
