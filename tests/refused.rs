@@ -183,20 +183,6 @@ fn is_made_by_commands(bytes: &[u8]) {
 }
 
 #[test]
-fn a_producers_section_is_added() {
-    let mut kits = ProducersField::new();
-    kits.value("a", "1");
-    let mut producers = ProducersSection::new();
-    producers.field("sdk", &kits);
-    let bytes = each_is_refused(1, |refusals| {
-        let mut builder = refusals.call(ComponentBuilder::try_new);
-        refusals.call(|| builder.try_producers_section(&producers));
-        builder.try_finish().expect("it takes no memory")
-    });
-    assert_eq!(bytes[8..], *b"\x00\x14\x09producers\x01\x03sdk\x01\x01a\x011");
-}
-
-#[test]
 fn sections_are_made_by_hand() {
     let bytes = each_is_refused(10, |refusals| {
         let mut imports = ComponentImportSection::new();

@@ -9,9 +9,6 @@ use crate::shim::vec::Vec;
 /// What a refused request is answered with.
 pub const REFUSED: Fault = Fault::Memory(AllocError);
 
-/// An index whose text has five bytes.
-pub const LARGE: u32 = 4294967295;
-
 /// More bytes than a first growth has room for.
 pub const TEXT: &[u8] = &[1, 2, 3, 4, 5, 6, 7, 8, 9, 10, 11, 12, 13, 14, 15, 16, 17, 18, 19, 20];
 
