@@ -72,10 +72,10 @@ impl Calls {
 
 /// Generic functions of the tests that call a trait's method for the type that they are given.
 const HELPERS: [(&str, &[&str]); 6] = [
-    ("encode", &["again", "check", "check_all", "is", "sweep_encode"]),
-    ("tree_of", &["tree", "type_tree"]),
-    ("view_of", &["again", "tree"]),
-    ("append_to", &["check_section", "module_section_is"]),
-    ("append_to_component", &["check_section", "section_is"]),
-    ("id", &["check_section", "module_section_is", "section_is"]),
+    ("encode", &["check", "check_all", "is", "sweep_encode"]),
+    ("tree_of", &["tree"]),
+    ("view_of", &["reads", "tree"]),
+    ("append_to", &["module_section_is"]),
+    ("append_to_component", &["section_is"]),
+    ("id", &["module_section_is", "section_is"]),
 ];

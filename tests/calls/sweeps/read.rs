@@ -7,7 +7,8 @@ use crate::format::Model;
 use crate::seen::is_same;
 use crate::size::{Size, cases};
 use crate::table::calls;
-use wenc::tree::{Command, ItemTree, Node, Scope, UsedIndex, build};
+use crate::visited::{add_indices, visited};
+use wenc::tree::{Command, ItemTree, Node, Scope, build};
 use wenc::*;
 
 /// The command without a debug name.
@@ -24,29 +25,6 @@ fn seen(item: &mut ItemTree, by: u32) -> Vec<Seen> {
     item.indices_mut(|used| {
         seen.push((used.space, used.scope, *used.index));
         *used.index = used.index.wrapping_add(by);
-    });
-    seen
-}
-
-/// Adds the indices in the node.
-fn add_indices(node: Node, seen: &mut Vec<Seen>) {
-    match node {
-        Node::Index { space, scope, index } => seen.push((space, scope, index)),
-        Node::Present(child) | Node::Variant(_, child) => add_indices(child.node(), seen),
-        Node::List(list) => list.for_each(|child| add_indices(child.node(), seen)),
-        Node::Tuple(fields) | Node::Record(_, fields) | Node::Struct(_, fields) => {
-            fields.iter().for_each(|(_, child)| add_indices(child.node(), seen));
-        }
-        _ => {}
-    }
-}
-
-/// The indices that are visited of the node, in order.
-fn visited(node: Node) -> Vec<Seen> {
-    let mut seen = Vec::new();
-    node.each_index(|UsedIndex { space, scope, index, count }| {
-        assert_eq!(count, None, "the scopes aren't known");
-        seen.push((space, scope, index));
     });
     seen
 }

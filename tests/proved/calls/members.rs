@@ -12,7 +12,7 @@ use crate::proved::wenc_builder::ComponentBuilder;
 use crate::proved::wenc_canon::{
     AddsSlotRow, CanonicalFunctionSection, CanonicalOption, NotCancellable, rows,
 };
-use crate::proved::wenc_parts::{Alias, ComponentExportKind};
+use crate::proved::wenc_parts::{Alias, ComponentExportKind, ComponentValType, ResultList};
 use crate::proved::wenc_sections::{NamesOf, Space};
 use crate::proved::wenc_types::counts::{Counts, IndexSpace, space_of_alias, space_of_kind};
 use crate::shim::alloc::Global;
@@ -41,6 +41,8 @@ fn rows_are_added() {
 #[test]
 fn parts() {
     is(&NotCancellable, "00");
+    is(&ResultList(None), "0100");
+    is(&ResultList(Some(ComponentValType::Type(64))), "00c000");
     let function = FuncType::new(Global, [ValType::I32].into_iter(), [ValType::F64].into_iter());
     let composite_type = CompositeType::Func(function.unwrap());
     let open = SubType { is_final: false, supertype_idx: None, composite_type };
