@@ -18,7 +18,7 @@ mod refuse;
 #[allow(dead_code, reason = "some are for others")]
 #[path = "common/seen.rs"]
 mod seen;
-#[path = "proved/listing/spellings.rs"]
+#[path = "common/spellings.rs"]
 mod spellings;
 #[path = "refused/views.rs"]
 mod views;
