@@ -76,13 +76,19 @@ fn of_a_stranger() {
 
 #[test]
 fn counts() {
-    let kind = space_of_kind(ComponentExportKind::Type);
-    let one = Counts::none().counted(kind, 1);
-    assert_eq!(one.types, 1);
-    assert_eq!(one.uncounted(kind).types, 0);
-    let function = |kind| Alias::InstanceExport { instance: 0, kind, name: "f" };
-    assert!(space_of_alias(&function(ComponentExportKind::Func)).is_none());
-    let instance = space_of_alias(&function(ComponentExportKind::Instance));
-    assert!(matches!((kind, instance), (Some(IndexSpace::Type), Some(IndexSpace::Instance))));
-    assert_eq!(Space::of_alias(&function(ComponentExportKind::Func)), Space::Funcs);
+    let parts = |counts: Counts| [counts.core_types, counts.types, counts.instances];
+    let kinds = [IndexSpace::CoreType, IndexSpace::Type, IndexSpace::Instance].map(Some);
+    let counted = kinds.into_iter().fold(Counts::none(), |counts, kind| counts.counted(kind, 4));
+    assert_eq!(parts(counted.counted(None, 4)), [1, 1, 1]);
+    for (at, kind) in kinds.into_iter().enumerate() {
+        let mut left = [1, 1, 1];
+        left[at] = 0;
+        assert_eq!(parts(counted.uncounted(kind).uncounted(None)), left);
+    }
+    let export = |kind| Alias::InstanceExport { instance: 0, kind, name: "f" };
+    let ty = space_of_kind(ComponentExportKind::Type);
+    let instance = space_of_alias(&export(ComponentExportKind::Instance));
+    assert!(matches!((ty, instance), (Some(IndexSpace::Type), Some(IndexSpace::Instance))));
+    assert!(space_of_alias(&export(ComponentExportKind::Func)).is_none());
+    assert_eq!(Space::of_alias(&export(ComponentExportKind::Func)), Space::Funcs);
 }
