@@ -62,7 +62,7 @@ impl Facade {
 /// What begins a statement that is no row.
 const KEYWORDS: [&str; 5] = ["pub", "fn", "impl", "use", "mod"];
 
-/// Where the body begins and ends of the function whose name stands here, or twice where a row ends.
+/// Where the body begins and ends of the function whose name stands here: both where a row ends.
 fn body(tokens: &[Token], name: usize) -> (usize, usize) {
     let (mut begin, mut depth) = (None, 0_u32);
     for at in name..tokens.len() {
