@@ -18,7 +18,7 @@ mod refuse;
 #[allow(dead_code, reason = "some are for others")]
 #[path = "common/seen.rs"]
 mod seen;
-#[path = "proved/listing/spellings.rs"]
+#[path = "common/spellings.rs"]
 mod spellings;
 #[path = "refused/views.rs"]
 mod views;
@@ -180,20 +180,6 @@ fn is_made_by_commands(bytes: &[u8]) {
     let mut expected = bytes.to_vec();
     nested.append_to_component(&mut expected);
     assert!(made == expected);
-}
-
-#[test]
-fn a_producers_section_is_added() {
-    let mut kits = ProducersField::new();
-    kits.value("a", "1");
-    let mut producers = ProducersSection::new();
-    producers.field("sdk", &kits);
-    let bytes = each_is_refused(1, |refusals| {
-        let mut builder = refusals.call(ComponentBuilder::try_new);
-        refusals.call(|| builder.try_producers_section(&producers));
-        builder.try_finish().expect("it takes no memory")
-    });
-    assert_eq!(bytes[8..], *b"\x00\x14\x09producers\x01\x03sdk\x01\x01a\x011");
 }
 
 #[test]

@@ -2,7 +2,7 @@
 //! whose bytes are kept.
 #![cfg(feature = "reader")]
 
-#[path = "proved/listing/spellings.rs"]
+#[path = "common/spellings.rs"]
 mod spellings;
 
 use spellings::ROWS;

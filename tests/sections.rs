@@ -212,17 +212,3 @@ fn ids_of_core_sections() {
     ];
     assert_eq!(ids.map(u8::from), [0, 1, 2, 3, 4, 5, 6, 7, 8, 9, 10, 11, 12, 13]);
 }
-
-#[test]
-fn calls_that_can_be_refused_answer() {
-    let mut section = ComponentAliasSection::new();
-    let alias = Alias::Outer { kind: ComponentOuterAliasKind::Type, count: 0, index: 0 };
-    let twice = section.try_alias(alias).and_then(|section| section.try_alias(alias));
-    assert_eq!(twice.map(|section| section.len()), Ok(2));
-    let mut instances = InstanceSection::new();
-    let refused = instances.try_instantiate(0, [("a", ModuleArg::Instance(0))]).map(|_| ());
-    assert_eq!(refused, Ok(()));
-    let mut map = NameMap::new();
-    assert_eq!(map.try_append(0, "a"), Ok(()));
-    assert_eq!(ComponentNameSection::new().try_funcs(&map), Ok(()));
-}

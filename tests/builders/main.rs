@@ -1,10 +1,9 @@
-//! Builders as values: panics, index spaces, listings, traits and threads. `calls` has each call.
+//! Builders as values: panics, index spaces, traits and threads. `calls` has each call.
 #![cfg(feature = "reader")]
 
 #[path = "../common/counts.rs"]
 mod counts;
 mod hex;
-mod listed;
 #[cfg(panic = "unwind")]
 mod panics;
 mod spaces;

@@ -41,43 +41,21 @@ fn what_is_unfinished_is_not_finished() {
     b.finish();
 }
 
+/// Each call that adds an item is refused, too: see `calls`.
 #[test]
-fn a_type_that_is_not_whole_refuses_all_that_adds() {
+fn a_type_that_is_not_whole_refuses_all_else() {
     let mut b = builder();
     let _ = b.type_defined(Some("t"));
     assert!(!b.is_finished());
     assert_eq!((b.type_count(), b.core_type_count()), (1, 0));
-    let unfinished = Err(Error::Unfinished);
-    assert_eq!(b.try_export("g", ComponentExportKind::Func, 0, None), unfinished);
-    assert_eq!(b.try_import("g", BYTE), unfinished);
-    assert_eq!(b.try_alias_export(0, "g", ComponentExportKind::Func), unfinished);
-    assert_eq!(b.try_core_alias_export(None, 0, "g", ExportKind::Func), unfinished);
-    assert_eq!(b.try_resource_drop(0), unfinished);
-    assert_eq!(b.try_context_get(ValType::I32, 0), unfinished);
-    assert_eq!(b.try_stream_read(0, []), unfinished);
-    assert_eq!(b.try_lift_func(None, 0, 0, []), unfinished);
-    assert_eq!(b.try_lower_func(None, 0, []), unfinished);
-    assert_eq!(b.try_core_instantiate(None, 0, []), unfinished);
-    assert_eq!(b.try_instantiate(None, 0, [("", ComponentExportKind::Func, 0)]), unfinished);
-    assert_eq!(b.try_core_module_raw(None, &[]), unfinished);
-    assert_eq!(b.try_core_module(None, &Module::new()), unfinished);
-    assert_eq!(b.try_component_raw(None, &[]), unfinished);
-    assert_eq!(b.try_start(0, vec![], 0), unfinished);
-    assert_eq!(b.try_type_resource(None, ValType::I32, None), unfinished);
-    assert_eq!(b.try_type_instance(None, &InstanceType::new()), unfinished);
-    assert_eq!(b.try_type_component(None, &ComponentType::new()), unfinished);
     assert_eq!(b.try_raw_custom_section(&[]), Err(Error::Unfinished));
-    let custom = CustomSection { name: "c".into(), data: [].as_slice().into() };
-    assert_eq!(b.try_custom_section(&custom), Err(Error::Unfinished));
     assert_eq!(b.try_producers_section(&ProducersSection::new()), Err(Error::Unfinished));
     assert_eq!(b.try_append_names(), Err(Error::Unfinished));
     assert_eq!(b.try_core_type(None).err(), Some(Error::Unfinished));
     assert_eq!(b.try_ty(None).err(), Some(Error::Unfinished));
     assert_eq!(b.try_type_function(None).err(), Some(Error::Unfinished));
     assert_eq!(format!("{b:?}"), "ComponentBuilder { is_finished: false, type_count: 1, .. }");
-    let mut outer = builder();
-    assert_eq!(outer.try_component_ref(None, &b), unfinished);
-    assert_eq!(b.try_component(None, outer), unfinished);
+    assert_eq!(b.try_component(None, builder()), Err(Error::Unfinished));
     assert_eq!(b.try_finish(), Err(Error::Unfinished));
 }
 
@@ -97,23 +75,6 @@ fn what_is_given_up_leaves_no_trace() {
     let printed = "ComponentBuilder { is_finished: true, core_func_count: 2, type_count: 1, .. }";
     assert_eq!(format!("{b:?}"), printed);
     assert_eq!(behind_header(b), "08 03 02 05 05 07 04 01 3f 7f 00");
-}
-
-#[test]
-fn a_declaration_that_is_not_whole_refuses_what_takes_the_type() {
-    let mut ty = InstanceType::new();
-    ty.export("a", ComponentTypeRef::Func(0));
-    let whole = ty.clone();
-    let _ = ty.ty();
-    let mut b = builder();
-    assert_eq!(b.try_type_instance(None, &ty), Err(Error::Unfinished));
-    assert!(b.is_finished());
-    assert_eq!(b.type_instance(None, &whole), 0);
-    let mut ty = ComponentType::new();
-    let _ = ty.core_type();
-    assert_eq!(b.try_type_component(None, &ty), Err(Error::Unfinished));
-    assert_eq!(b.type_count(), 1);
-    assert_eq!(behind_header(b), "07 09 01 42 01 04 00 01 61 01 00");
 }
 
 #[test]
@@ -206,34 +167,4 @@ fn errors_tell_what_they_are() {
         let error: Box<dyn std::error::Error + Send + Sync> = error.into();
         assert_eq!(error.to_string(), text);
     }
-}
-
-#[test]
-fn indices_of_types_go_on_whatever_added_the_last_one() {
-    let mut b = builder();
-    let mut indices = Vec::new();
-    let encoded = |b: &mut ComponentBuilder| {
-        let (index, ty) = b.type_defined(None);
-        ty.primitive(PrimitiveValType::U8);
-        index
-    };
-    indices.push(encoded(&mut b));
-    indices.push(b.import("t", ComponentTypeRef::Type(TypeBounds::SubResource)));
-    indices.push(encoded(&mut b));
-    indices.push(b.export("u", ComponentExportKind::Type, 0, None));
-    indices.push(encoded(&mut b));
-    indices.push(b.alias_export(0, "v", ComponentExportKind::Type));
-    indices.push(encoded(&mut b));
-    let outer = Alias::Outer { kind: ComponentOuterAliasKind::Type, count: 0, index: 0 };
-    indices.push(b.alias(None, outer));
-    indices.push(encoded(&mut b));
-    indices.push(b.type_resource(None, ValType::I32, None));
-    indices.push(encoded(&mut b));
-    indices.push(b.type_instance(None, &InstanceType::new()));
-    indices.push(encoded(&mut b));
-    let _ = b.type_function(None);
-    b.discard_unfinished();
-    indices.push(encoded(&mut b));
-    assert_eq!(indices, Vec::from_iter(0..14));
-    assert_eq!(b.type_count(), 14);
 }

@@ -1,25 +1,24 @@
 //! What a test calls.
 
-use crate::lexer::lex;
+use crate::lexer::Token;
 use crate::parser::is_word;
 use crate::sources::{Function, Sources};
 use std::collections::BTreeSet;
 
-/// The names in a file of tests.
+/// The names in tests or in a function of the facade.
+#[derive(Clone, Default)]
 pub struct Calls {
     /// The types that it names, or that a method that it calls borrows.
-    types: BTreeSet<String>,
+    pub types: BTreeSet<String>,
     /// What stands after a dot or `::`.
-    methods: BTreeSet<String>,
+    pub methods: BTreeSet<String>,
     /// What stands elsewhere, but for `use`, and where a function is declared.
     functions: BTreeSet<String>,
 }
 
 impl Calls {
-    pub fn of(text: &str, sources: &Sources) -> Self {
-        let mut calls =
-            Calls { types: BTreeSet::new(), methods: BTreeSet::new(), functions: BTreeSet::new() };
-        let tokens = lex(text);
+    pub fn of(tokens: &[Token], sources: &Sources) -> Self {
+        let mut calls = Calls::default();
         let text = |at: usize| tokens.get(at).map_or("", |token| token.text.as_str());
         let mut is_import = false;
         for at in 0..tokens.len() {
@@ -44,13 +43,25 @@ impl Calls {
         calls
     }
 
-    /// Whether the function is called.
-    pub fn call(&self, function: &Function) -> bool {
+    /// Whether something of this name is called.
+    pub fn name(&self, name: &str) -> bool {
+        self.methods.contains(name) || self.functions.contains(name)
+    }
+
+    /// Adds other calls.
+    pub fn extend(&mut self, other: Calls) {
+        self.types.extend(other.types);
+        self.methods.extend(other.methods);
+        self.functions.extend(other.functions);
+    }
+
+    /// Whether the function is called, for these tests.
+    pub fn call(&self, function: &Function, tests: &Calls) -> bool {
         match &function.ty {
             Some(ty) => {
                 let helpers = HELPERS.iter().filter(|(method, _)| *method == function.name);
                 let mut through = helpers.flat_map(|(_, helpers)| *helpers);
-                self.types.contains(ty)
+                (self.types.contains(ty) || tests.types.contains(ty))
                     && (self.methods.contains(&function.name)
                         || through.any(|helper| self.functions.contains(*helper)))
             }
@@ -61,10 +72,10 @@ impl Calls {
 
 /// Generic functions of the tests that call a trait's method for the type that they are given.
 const HELPERS: [(&str, &[&str]); 6] = [
-    ("encode", &["again", "check", "check_all", "is", "sweep_encode"]),
-    ("tree_of", &["tree", "type_tree"]),
-    ("view_of", &["again", "tree"]),
-    ("append_to", &["check_section", "module_section_is"]),
-    ("append_to_component", &["check_section", "section_is"]),
-    ("id", &["check_section", "module_section_is", "section_is"]),
+    ("encode", &["check", "check_all", "is", "sweep_encode"]),
+    ("tree_of", &["tree"]),
+    ("view_of", &["reads", "tree"]),
+    ("append_to", &["module_section_is"]),
+    ("append_to_component", &["section_is"]),
+    ("id", &["module_section_is", "section_is"]),
 ];

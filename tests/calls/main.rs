@@ -17,3 +17,5 @@ mod seen;
 mod size;
 mod sweeps;
 mod table;
+#[path = "../common/visited.rs"]
+mod visited;

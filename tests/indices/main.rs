@@ -1,28 +1,20 @@
-//! The indices that items contain: each form that has one, and components that are renumbered. The
-//! nodes of items.
+//! The indices that items contain in scopes within scopes, and nested components that are renumbered.
+//! The nodes of items. `tests/calls` visits the indices of each item.
 #![cfg(feature = "reader")]
 
-mod canonicals;
-mod core_types;
-mod items;
 mod nested;
 mod nodes;
-mod types;
+mod scopes;
+#[path = "../common/visited.rs"]
+mod visited;
 
-use wenc::tree::{ItemTree, NameTree, Node, Scope, Space, String, UsedIndex};
+use visited::{Seen, add_indices, visited};
+use wenc::tree::{ItemTree, NameTree, Scope, Space, String};
 use wenc::{Component, Error, ItemSection, Sections};
-
-/// A space, how a scope is seen from the item, and an index.
-type Seen = (Space, Scope, u32);
 
 /// An index in this component.
 fn here(space: Space, index: u32) -> Seen {
     (space, Scope::Component(0), index)
-}
-
-/// An index in the outermost type that the item is.
-fn inside(space: Space, index: u32) -> Seen {
-    (space, Scope::Type(1), index)
 }
 
 fn text(text: &str) -> String {
@@ -36,29 +28,6 @@ fn name(text: &str) -> NameTree {
 fn seen(item: &mut ItemTree) -> Vec<Seen> {
     let mut seen = Vec::new();
     item.indices_mut(|used| seen.push((used.space, used.scope, *used.index)));
-    seen
-}
-
-/// Adds the indices in the node.
-fn add_indices(node: Node, seen: &mut Vec<Seen>) {
-    match node {
-        Node::Index { space, scope, index } => seen.push((space, scope, index)),
-        Node::Present(child) | Node::Variant(_, child) => add_indices(child.node(), seen),
-        Node::List(list) => list.for_each(|child| add_indices(child.node(), seen)),
-        Node::Tuple(fields) | Node::Record(_, fields) | Node::Struct(_, fields) => {
-            fields.iter().for_each(|(_, child)| add_indices(child.node(), seen));
-        }
-        _ => {}
-    }
-}
-
-/// The indices that are visited of a node, in their order.
-fn visited(node: Node) -> Vec<Seen> {
-    let mut seen = Vec::new();
-    node.each_index(|UsedIndex { space, scope, index, count }| {
-        assert_eq!(count, None, "the scopes aren't known");
-        seen.push((space, scope, index));
-    });
     seen
 }
 

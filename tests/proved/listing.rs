@@ -1,5 +1,6 @@
-//! The lister: worked components, spellings that are read and such as are not, components of which
-//! each byte is changed, each request for memory refused in turn, and what `build` makes.
+//! The lister: worked components, bytes that are not read, components of which each byte is changed,
+//! each request for memory refused in turn, and what `build` makes. `tests/rewrite.rs` has other
+//! spellings.
 
 pub mod built;
 mod changed;
@@ -10,9 +11,8 @@ mod depth;
 mod faults;
 mod names;
 mod numbers;
-mod reading;
 mod rows;
-mod spellings;
+#[path = "../common/sections.rs"]
+mod sections;
 mod unfilled;
 mod unread;
-mod widened;

@@ -1,18 +1,19 @@
-//! Tests of the proved calls themselves, which no user of the crate sees: worked rows, and sweeps
-//! in which each request for memory is refused in turn.
+//! Tests of the proved calls themselves, which no user of the crate sees: those that no call of the
+//! facade makes, values that no component has, and sweeps in which each request for memory is
+//! refused in turn. `tests/calls` has the others.
 
 // Tables of rows have long types.
 #![allow(clippy::type_complexity)]
 
 mod builder;
 mod calls;
+mod components;
 mod examples;
 mod hex;
 mod listing;
 mod parts;
 mod program;
 mod refusing;
-mod sections;
 mod shim;
 mod sweeping;
 mod trees;

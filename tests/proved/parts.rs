@@ -1,8 +1,16 @@
-//! Values and parts of items: what they are written as, and each request for memory refused in
-//! turn.
+//! What all else is made of: values, maps of names, holders, and encoders over these; what they are
+//! written as, and each request for memory refused in turn.
 
-mod base;
-mod canon;
 mod checks;
-mod items;
-mod refused;
+mod names;
+mod values;
+
+// Those that count with lengths that only 64 bits hold.
+#[cfg(target_pointer_width = "64")]
+mod dropped;
+#[cfg(target_pointer_width = "64")]
+mod holder;
+#[cfg(target_pointer_width = "64")]
+mod kept;
+#[cfg(target_pointer_width = "64")]
+mod refusals;

@@ -6,6 +6,7 @@ mod lists;
 mod memory;
 mod outcome;
 mod pieces;
+mod scripts;
 mod streams;
 mod transfers;
 mod vectors;

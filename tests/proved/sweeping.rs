@@ -1,19 +1,13 @@
 //! Calls that have each of their requests for memory refused in turn. A refused request has to be
 //! answered with want of memory and change nothing, and the same call has to succeed afterwards.
 
-pub mod members;
-
 use super::refusing::Refusing;
 use crate::proved::wenc_base::{Encode, Fault};
-use crate::proved::wenc_parts::ComponentSection;
 use crate::shim::alloc::AllocError;
 use crate::shim::vec::Vec;
 
 /// What a refused request is answered with.
 pub const REFUSED: Fault = Fault::Memory(AllocError);
-
-/// An index whose text has five bytes.
-pub const LARGE: u32 = 4294967295;
 
 /// More bytes than a first growth has room for.
 pub const TEXT: &[u8] = &[1, 2, 3, 4, 5, 6, 7, 8, 9, 10, 11, 12, 13, 14, 15, 16, 17, 18, 19, 20];
@@ -66,8 +60,17 @@ pub fn takes_no_memory<E: Encode>(value: &E) {
     assert!(sink.is_empty() && heap.requests() == 0);
 }
 
-/// Has the requests of a section refused in turn, alone and after its id.
-pub fn sweep_section<S: ComponentSection>(section: &S) {
-    sweep_encode(section);
-    sweep(|sink| section.append_to_component(sink));
+/// Makes a call with each of its requests refused in turn, until it succeeds: what it gives then,
+/// and how many requests there are.
+pub fn refused_in_turn<T>(heap: &Refusing, mut call: impl FnMut() -> Result<T, Fault>) -> (T, u64) {
+    for n in 1..20 {
+        heap.refuse_nth(n);
+        let outcome = call();
+        if !heap.was_refused() {
+            heap.refuse_none();
+            return (outcome.unwrap(), n - 1);
+        }
+        assert_eq!((outcome.err(), heap.requests()), (Some(REFUSED), n));
+    }
+    panic!("each of 19 requests was refused");
 }

@@ -195,11 +195,11 @@ fn features_have_the_verdicts_that_are_stored() {
 /// What is compared of another version, and of one of those.
 #[test]
 fn other_versions_have_words_of_their_own() {
-    let stored = "bad-name: no\nlift: valid\nstream.forward: unknown\nthread.index: valid\n";
-    let other = "bad-name: never\nlift: valid\nstream.forward: valid\nthread.index: moved\n";
+    let stored = "bad-name: no\nlift: valid\nof-later: unknown\nthread.index: valid\n";
+    let other = "bad-name: never\nlift: valid\nof-later: valid\nthread.index: moved\n";
     assert_eq!(differing(stored, other, "0.300.0"), [""; 0]);
-    let all = ["bad-name: no", "stream.forward: unknown", "thread.index: valid"];
+    let all = ["bad-name: no", "of-later: unknown", "thread.index: valid"];
     assert_eq!(differing(stored, other, VERSIONS[0]), all);
-    let wrong = "bad-name: valid\nlift: no\nstream.forward: unknown\nthread.index: valid\n";
+    let wrong = "bad-name: valid\nlift: no\nof-later: unknown\nthread.index: valid\n";
     assert_eq!(differing(stored, wrong, "0.300.0"), ["bad-name: no", "lift: valid"]);
 }

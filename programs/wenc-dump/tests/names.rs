@@ -1,18 +1,15 @@
-//! The debug names that follow the indices of an item, in each form that contains an index. The rows
-//! are those of the test `indices`.
+//! The debug names that follow the indices of an item, in each form that contains an index.
 
-#[path = "../../../tests/indices/canonicals.rs"]
-mod canonicals;
-#[path = "../../../tests/indices/core_types.rs"]
-mod core_types;
-#[path = "../../../tests/indices/items.rs"]
-mod items;
-#[path = "../../../tests/indices/types.rs"]
-mod types;
+#[path = "../../../tests/indices/scopes.rs"]
+mod scopes;
+#[allow(dead_code, reason = "some is for others")]
+#[path = "../../../tests/common/sections.rs"]
+mod sections;
 
 use wenc::tree::{Command, ItemTree, NameTree, Scope, Space, String as Text, build};
 use wenc::{
     Component, ComponentNameSection, ComponentSection, ComponentSectionId, DebugNames, RawSection,
+    list,
 };
 use wenc_dump::{Streams, Terminal, run as dump};
 
@@ -22,11 +19,6 @@ type Seen = (Space, Scope, u32);
 /// An index in this component.
 fn here(space: Space, index: u32) -> Seen {
     (space, Scope::Component(0), index)
-}
-
-/// An index in the outermost type that the item is.
-fn inside(space: Space, index: u32) -> Seen {
-    (space, Scope::Type(1), index)
 }
 
 fn text(text: &str) -> Text {
@@ -66,8 +58,7 @@ fn printed(item: &ItemTree, indices: &[Seen]) -> String {
     let mut streams = Streams { input: &mut &outer[..], out: &mut out, err: &mut err };
     let arguments = ["wenc-dump", "-"].map(Into::into);
     let status = dump(arguments.into_iter(), Terminal::default(), &mut streams);
-    // the bytes of these are no module and no names
-    assert_eq!(status, matches!(item, ItemTree::Module(_) | ItemTree::Custom { .. }).into());
+    assert_eq!(status, 0);
     let text = String::from_utf8(out).expect("it is text");
     let (_, item) = text.split_once("        0x").expect("the item is there");
     // the sections of names, which are printed too, come after it
@@ -77,10 +68,6 @@ fn printed(item: &ItemTree, indices: &[Seen]) -> String {
 
 /// The item is printed with the names of these indices.
 fn expect(item: ItemTree, indices: &[Seen]) {
-    if let ItemTree::Component(_) = item {
-        assert!(indices.is_empty(), "its items are printed themselves");
-        return;
-    }
     let text = printed(&item, indices);
     let mut printed: Vec<&str> = text.split('"').filter(|part| part.starts_with('@')).collect();
     let mut wanted: Vec<String> = indices.iter().filter_map(named).collect();
@@ -94,4 +81,35 @@ fn expect(item: ItemTree, indices: &[Seen]) {
             assert!(follows.iter().any(|follows| text.contains(follows)), "{text}");
         }
     }
+}
+
+/// The bytes of these digits.
+fn bytes(digits: &str) -> Vec<u8> {
+    let byte = |at| u8::from_str_radix(&digits[at..at + 2], 16).expect("two digits");
+    (0..digits.len()).step_by(2).map(byte).collect()
+}
+
+#[test]
+fn items_of_worked_components() {
+    let mut found = 0;
+    for row in sections::ROWS {
+        let component = [&Component::HEADER[..], &bytes(row.sections)].concat();
+        for mut item in list(&component).expect("it is listed").into_items() {
+            // a module, a component and a custom section are printed in parts
+            if matches!(item, ItemTree::Module(_) | ItemTree::Component(_))
+                || matches!(item, ItemTree::Custom { .. })
+            {
+                continue;
+            }
+            let mut indices = Vec::new();
+            item.indices_mut(|used| {
+                // they are to differ
+                *used.index = 100 + indices.len() as u32;
+                indices.push((used.space, used.scope, *used.index));
+            });
+            found += indices.len();
+            expect(item, &indices);
+        }
+    }
+    assert!(found > 170, "{found} indices");
 }

@@ -3,13 +3,13 @@
 #[cfg(unix)]
 #[path = "program/manual.rs"]
 mod manual;
-#[path = "program/scripts.rs"]
-mod scripts;
+#[path = "../../../tests/proved/program/vectors.rs"]
+mod vectors;
 
-use scripts::{BAD, SCRIPTS};
 use std::ffi::OsStr;
 use std::io::Write;
 use std::process::{Command, Output, Stdio};
+use std::str;
 use std::thread;
 
 fn wenc<A: AsRef<OsStr>>(args: impl IntoIterator<Item = A>) -> Command {
@@ -45,8 +45,9 @@ const NO_ARGUMENTS: [&str; 0] = [];
 
 #[test]
 fn scripts_are_run() {
-    for (script, status, out) in SCRIPTS {
-        expect(NO_ARGUMENTS, script, (status, out, ""));
+    for vector in vectors::all() {
+        let out = str::from_utf8(vector.out).expect("it is text");
+        expect(NO_ARGUMENTS, vector.script, (vector.status.into(), out, ""));
     }
 }
 
@@ -62,7 +63,7 @@ fn a_carriage_return_is_in_the_last_word() {
 
 #[test]
 fn bad_scripts_are_told_by_their_line() {
-    for (script, line) in BAD {
+    for (script, line) in vectors::bad::VECTORS {
         expect(NO_ARGUMENTS, script, (1, "", &format!("line {line}\n")));
     }
 }

@@ -7,6 +7,7 @@ use crate::format::Model;
 use crate::seen::is_same;
 use crate::size::{Size, cases};
 use crate::table::calls;
+use crate::visited::{add_indices, visited};
 use wenc::tree::{Command, ItemTree, Node, Scope, build};
 use wenc::*;
 
@@ -28,19 +29,6 @@ fn seen(item: &mut ItemTree, by: u32) -> Vec<Seen> {
     seen
 }
 
-/// Adds the indices in the node.
-fn add_indices(node: Node, seen: &mut Vec<Seen>) {
-    match node {
-        Node::Index { space, scope, index } => seen.push((space, scope, index)),
-        Node::Present(child) | Node::Variant(_, child) => add_indices(child.node(), seen),
-        Node::List(list) => list.for_each(|child| add_indices(child.node(), seen)),
-        Node::Tuple(fields) | Node::Record(_, fields) | Node::Struct(_, fields) => {
-            fields.iter().for_each(|(_, child)| add_indices(child.node(), seen));
-        }
-        _ => {}
-    }
-}
-
 /// The node has the same indices, in the order of its fields.
 fn is_node(call: &Call, node: Node, wanted: &[Seen]) {
     let (mut seen, mut wanted) = (Vec::new(), wanted.to_vec());
@@ -60,6 +48,7 @@ fn is_node(call: &Call, node: Node, wanted: &[Seen]) {
 fn is_visited(call: &Call, size: &Size, mut item: ItemTree) {
     let (before, wanted) = (item.clone(), (call.indices)(size));
     is_node(call, item.node(), &wanted);
+    assert!(visited(item.node()) == wanted, "{}: visited", call.name);
     assert!(seen(&mut item, 1000) == wanted, "{}", call.name);
     let raised: Vec<_> =
         wanted.iter().map(|(of, from, at)| (*of, *from, at.wrapping_add(1000))).collect();
@@ -79,6 +68,10 @@ fn is_read(call: &Call, size: &Size) {
     let mut counts = [0; 13];
     call.space.into_iter().for_each(|space| counts[space.number()] = u128::from(call.takes));
     assert_eq!(listing.counts, counts, "{}", call.name);
+    assert_eq!(tree.indices(), call.space.map(|space| (space, call.takes)), "{}", call.name);
+    if let ItemTree::Canon(canon) = tree {
+        assert_eq!(canon.name(), call.name);
+    }
     is_visited(call, size, tree.clone());
     let mut sections = Sections::new(&bytes).expect("a component");
     let reader = sections.next().expect("a section").expect("it is read");
@@ -86,6 +79,8 @@ fn is_read(call: &Call, size: &Size) {
     let (place, view) = reader.items().next().expect("an item").expect("it is read");
     let (_, read) = reader.trees().next().expect("an item").expect("it is read");
     assert!(is_same(view, tree) && view.to_tree() == *tree && read == *tree, "{}", call.name);
+    assert!(visited(view.node()) == (call.indices)(size), "{}: in place", call.name);
+    assert!(format!("{:?}", view.node()) == format!("{:?}", tree.node()), "{}", call.name);
     assert!(bytes[place] == (call.bytes)(size), "{}", call.name);
     let (mut anew, mut kept) = (ItemSection::new(call.id), ItemSection::new(call.id));
     anew.item(tree).expect("it is added");

@@ -161,7 +161,11 @@ static SHAPES: [Shape; 9] = [
 impl Shape {
     fn tree(&self, a: &Size) -> GroupTree {
         let types = (self.types)(a);
-        let tree = |ty: &SubType| CoreSubType::try_from(ty).expect("it is supported");
+        let tree = |ty: &SubType| {
+            let tree = CoreSubType::try_from(ty).expect("it is supported");
+            assert!(SubType::from(&tree) == *ty, "{}", self.name);
+            tree
+        };
         if self.is_group {
             GroupTree::Rec(types.iter().map(tree).collect())
         } else {
@@ -340,7 +344,9 @@ fn seen_in_entity(ty: EntityType) -> Vec<Seen> {
 }
 
 fn entity_tree(ty: EntityType) -> CoreEntityType {
-    ty.try_into().expect("it is supported")
+    let tree = ty.try_into().expect("it is supported");
+    assert_eq!(EntityType::from(tree), ty);
+    tree
 }
 
 fn text(text: &str) -> tree::String {

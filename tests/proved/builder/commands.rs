@@ -12,19 +12,35 @@ use std::vec::Vec;
 /// What a command is to answer: an index, none, or a fault.
 type Answer = Result<Option<u32>, Fault>;
 
-/// Answers, and the component after its header.
-type Wanted<'a> = (&'a [Answer], &'a [u8]);
+/// A section with one item, of whose command is asked, and the number of its index space.
+type Item = (&'static [u8], usize);
 
-/// Commands, the ones of the sections of which they are read; what they come to where the one at
-/// each place is refused, and where none is; and whether some growth is that of the one in the
-/// middle, at once and one by one.
-struct Case<'a> {
-    sections: &'a [&'a [u8]],
-    /// The name of a module.
-    name: Option<&'a str>,
-    refused: &'a [Wanted<'a>],
-    accepted: Wanted<'a>,
+/// Commands, and the name of a module; and whether some growth is that of the one in the middle, at
+/// once and one by one.
+struct Case {
+    items: &'static [Item],
+    name: Option<&'static str>,
     are_refused: [bool; 2],
+}
+
+impl Case {
+    /// The answers and the bytes after the header, where the command at this place is refused, if
+    /// one is. What is refused adds nothing and takes no index. Both aliases stand in one section
+    /// where they are left.
+    fn wanted(&self, refused: Option<usize>) -> (Vec<Answer>, Vec<u8>) {
+        let (mut counts, mut answers, mut left) = ([0; 13], Vec::new(), Vec::new());
+        for (place, (section, space)) in self.items.iter().enumerate() {
+            if refused == Some(place) {
+                answers.push(Err(REFUSED));
+                continue;
+            }
+            answers.push(Ok(Some(counts[*space])));
+            counts[*space] += 1;
+            left.push(*section);
+        }
+        let are_aliases = left == [FUNCTION.0, OUTER_TYPE.0];
+        (answers, if are_aliases { ALIASES.to_vec() } else { left.concat() })
+    }
 }
 
 /// What was refused: the command at a place, the whole, or nothing.
@@ -64,22 +80,30 @@ fn command(section: &[u8], name: Option<&str>) -> Command {
 }
 
 /// The function that the first instance exports.
-const FUNCTION: &[u8] = b"\x06\x06\x01\x01\x00\x00\x01f";
+const FUNCTION: Item = (b"\x06\x06\x01\x01\x00\x00\x01f", 8);
 
 /// The type 1 of the component that this one stands in.
-const OUTER_TYPE: &[u8] = b"\x06\x05\x01\x03\x02\x00\x01";
+const OUTER_TYPE: Item = (b"\x06\x05\x01\x03\x02\x00\x01", 12);
 
-const SHORT: &[u8] = b"\x01\x01\xaa";
+/// Both.
+const ALIASES: &[u8] = b"\x06\x0a\x02\x01\x00\x00\x01\x66\x03\x02\x00\x01";
 
-const LONG: &[u8] =
-    b"\x01\x49a name that is longer than a first growth, by far: aaaaaaaaaaaaaaaaaaaaaa";
+const SHORT: Item = (b"\x01\x01\xaa", 0);
 
-const IMPORT: &[u8] = b"\x0a\x4e\x01\x00\x49a name that is longer than a first growth, by far: aaaaaaaaaaaaaaaaaaaaaa\x01\x00";
+const LONG: Item =
+    (b"\x01\x49a name that is longer than a first growth, by far: aaaaaaaaaaaaaaaaaaaaaa", 0);
 
-const RECORD: &[u8] = b"\x07\x09\x01\x72\x02\x01\x61\x7f\x01\x62\x7f";
+/// Of a function, as the first alias is.
+const IMPORT: Item = (
+    b"\x0a\x4e\x01\x00\x49a name that is longer than a first growth, by far: \
+    aaaaaaaaaaaaaaaaaaaaaa\x01\x00",
+    8,
+);
+
+const RECORD: Item = (b"\x07\x09\x01\x72\x02\x01\x61\x7f\x01\x62\x7f", 12);
 
 /// Growth number `n` is refused, where there is one.
-fn refuse(heap: &Refusing, run: Run, commands: &[Command], case: &Case<'_>, n: u64) -> Refused {
+fn refuse(heap: &Refusing, run: Run, commands: &[Command], case: &Case, n: u64) -> Refused {
     heap.refuse_nth(n);
     let (answers, bytes) = match run(heap, commands) {
         Ok(ran) => ran,
@@ -90,96 +114,26 @@ fn refuse(heap: &Refusing, run: Run, commands: &[Command], case: &Case<'_>, n: u
     };
     let place = answers.iter().position(|answer| answer.is_err());
     assert_eq!(place.is_some(), heap.was_refused());
-    let wanted = place.map_or(case.accepted, |place| case.refused[place]);
-    assert_eq!((answers.as_slice(), bytes.strip_prefix(HEADER)), (wanted.0, Some(wanted.1)));
+    let (wanted, behind) = case.wanted(place);
+    assert_eq!((answers, bytes.strip_prefix(HEADER)), (wanted, Some(&*behind)));
     place.map_or(Refused::Nothing, Refused::Command)
 }
 
-/// Both aliases stand in one section where what is between them is refused.
-const BETWEEN: Wanted<'static> = (
-    &[Ok(Some(0)), Err(REFUSED), Ok(Some(0))],
-    b"\x06\x0a\x02\x01\x00\x00\x01\x66\x03\x02\x00\x01",
-);
-
-/// What aliases have between them is a module, whose answer isn't theirs.
-const FIRST: &[Answer] = &[Err(REFUSED), Ok(Some(0)), Ok(Some(0))];
-
-const LAST: &[Answer] = &[Ok(Some(0)), Ok(Some(0)), Err(REFUSED)];
-
-const ALL: &[Answer] = &[Ok(Some(0)), Ok(Some(0)), Ok(Some(0))];
-
-const MODULES: &[Wanted<'static>] = &[
-    (FIRST, b"\x01\x01\xaa\x06\x05\x01\x03\x02\x00\x01"),
-    BETWEEN,
-    (LAST, b"\x06\x06\x01\x01\x00\x00\x01f\x01\x01\xaa"),
-];
-
-const ALL_MODULES: Wanted<'static> =
-    (ALL, b"\x06\x06\x01\x01\x00\x00\x01f\x01\x01\xaa\x06\x05\x01\x03\x02\x00\x01");
-
 /// What is refused adds nothing, and those after it run all the same. The short module has room
-/// without a growth, and its name hasn't. The import is of a function, as the first alias is. Where
-/// the opening of a record is refused, so is the command; where the rest of the type is, so is the
-/// whole, but one by one the command, which is given up: the alias takes its index.
-const CASES: &[Case<'static>] = &[
-    Case {
-        sections: &[FUNCTION, SHORT, OUTER_TYPE],
-        name: None,
-        refused: MODULES,
-        accepted: ALL_MODULES,
-        are_refused: [false; 2],
-    },
-    Case {
-        sections: &[FUNCTION, SHORT, OUTER_TYPE],
-        name: Some("m"),
-        refused: MODULES,
-        accepted: ALL_MODULES,
-        are_refused: [true; 2],
-    },
-    Case {
-        sections: &[FUNCTION, LONG, OUTER_TYPE],
-        name: None,
-        refused: &[
-            (FIRST, b"\x01\x49a name that is longer than a first growth, by far: aaaaaaaaaaaaaaaaaaaaaa\x06\x05\x01\x03\x02\x00\x01"),
-            BETWEEN,
-            (LAST, b"\x06\x06\x01\x01\x00\x00\x01f\x01\x49a name that is longer than a first growth, by far: aaaaaaaaaaaaaaaaaaaaaa"),
-        ],
-        accepted: (ALL, b"\x06\x06\x01\x01\x00\x00\x01f\x01\x49a name that is longer than a first growth, by far: aaaaaaaaaaaaaaaaaaaaaa\x06\x05\x01\x03\x02\x00\x01"),
-        are_refused: [true; 2],
-    },
-    Case {
-        sections: &[FUNCTION, IMPORT, OUTER_TYPE],
-        name: None,
-        refused: &[
-            (FIRST, b"\x0a\x4e\x01\x00\x49a name that is longer than a first growth, by far: aaaaaaaaaaaaaaaaaaaaaa\x01\x00\x06\x05\x01\x03\x02\x00\x01"),
-            BETWEEN,
-            (&[Ok(Some(0)), Ok(Some(1)), Err(REFUSED)], b"\x06\x06\x01\x01\x00\x00\x01f\x0a\x4e\x01\x00\x49a name that is longer than a first growth, by far: aaaaaaaaaaaaaaaaaaaaaa\x01\x00"),
-        ],
-        accepted: (&[Ok(Some(0)), Ok(Some(1)), Ok(Some(0))], b"\x06\x06\x01\x01\x00\x00\x01f\x0a\x4e\x01\x00\x49a name that is longer than a first growth, by far: aaaaaaaaaaaaaaaaaaaaaa\x01\x00\x06\x05\x01\x03\x02\x00\x01"),
-        are_refused: [true; 2],
-    },
-    Case {
-        sections: &[RECORD],
-        name: None,
-        refused: &[(&[Err(REFUSED)], b"")],
-        accepted: (&[Ok(Some(0))], RECORD),
-        are_refused: [true; 2],
-    },
-    Case {
-        sections: &[FUNCTION, RECORD, OUTER_TYPE],
-        name: None,
-        refused: &[
-            (&[Err(REFUSED), Ok(Some(0)), Ok(Some(1))], b"\x07\x09\x01\x72\x02\x01\x61\x7f\x01\x62\x7f\x06\x05\x01\x03\x02\x00\x01"),
-            BETWEEN,
-            (LAST, b"\x06\x06\x01\x01\x00\x00\x01f\x07\x09\x01\x72\x02\x01\x61\x7f\x01\x62\x7f"),
-        ],
-        accepted: (&[Ok(Some(0)), Ok(Some(0)), Ok(Some(1))], b"\x06\x06\x01\x01\x00\x00\x01f\x07\x09\x01\x72\x02\x01\x61\x7f\x01\x62\x7f\x06\x05\x01\x03\x02\x00\x01"),
-        are_refused: [false, true],
-    },
+/// without a growth, and its name hasn't. Where the opening of a record is refused, so is the
+/// command; where the rest of the type is, so is the whole, but one by one the command, which is
+/// given up: the alias takes its index.
+const CASES: &[Case] = &[
+    Case { items: &[FUNCTION, SHORT, OUTER_TYPE], name: None, are_refused: [false; 2] },
+    Case { items: &[FUNCTION, SHORT, OUTER_TYPE], name: Some("m"), are_refused: [true; 2] },
+    Case { items: &[FUNCTION, LONG, OUTER_TYPE], name: None, are_refused: [true; 2] },
+    Case { items: &[FUNCTION, IMPORT, OUTER_TYPE], name: None, are_refused: [true; 2] },
+    Case { items: &[RECORD], name: None, are_refused: [true; 2] },
+    Case { items: &[FUNCTION, RECORD, OUTER_TYPE], name: None, are_refused: [false, true] },
 ];
 
 /// The places of the commands that are refused, growth by growth.
-fn places(heap: &Refusing, run: Run, commands: &[Command], case: &Case<'_>) -> BTreeSet<usize> {
+fn places(heap: &Refusing, run: Run, commands: &[Command], case: &Case) -> BTreeSet<usize> {
     let mut places = BTreeSet::new();
     let mut whole = 0;
     for n in 1..60 {
@@ -200,7 +154,7 @@ fn commands_are_swept() {
     let heap = Refusing::new();
     let runs: [Run; 2] = [at_once, one_by_one];
     for case in CASES {
-        let commands = case.sections.iter().map(|section| command(section, case.name));
+        let commands = case.items.iter().map(|(section, _)| command(section, case.name));
         let commands: Vec<Command> = commands.collect();
         for (run, is_refused) in runs.into_iter().zip(case.are_refused) {
             let places = places(&heap, run, &commands, case);

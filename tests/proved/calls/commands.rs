@@ -1,20 +1,17 @@
-//! `build`, with a command of each kind; and what is listed of a component.
+//! `build`, with a command of each kind.
 
-use crate::proved::tests::hex::{bytes, digits};
+use crate::proved::tests::hex::digits;
 use crate::proved::wasm_encoder::{
     AliasTree, Built, CanonTree, Command, ComponentExportKind, ComponentOuterAliasKind,
-    ComponentTypeRef, CoreInstanceTree, CoreTypeTree, InstanceTree, ItemTree, ListFault, Listing,
-    NameTree, Running, Space, TypeTree, ValType, build, list, producers_command,
+    ComponentTypeRef, CoreInstanceTree, CoreTypeTree, InstanceTree, ItemTree, NameTree, Running,
+    TypeTree, ValType, build, producers_command,
 };
 use crate::proved::wenc_base::ProducersSection;
-use crate::proved::wenc_list::ItemName;
-use crate::proved::wenc_view::View;
-use crate::shim::alloc::{AllocError, Global};
+use crate::shim::alloc::Global;
 use crate::shim::boxed::Box;
 use crate::shim::string::String;
 use crate::shim::vec::Vec;
 use std::borrow::ToOwned;
-use std::format;
 use std::vec;
 
 const CANCEL: Command = Command::Canon { debug_name: None, canon: CanonTree::TaskCancel };
@@ -100,55 +97,4 @@ fn of_producers() {
     let command = producers_command(Global, &section).unwrap();
     let built = build(Global, &[command]).unwrap();
     assert_eq!(digits(&built.bytes), "0061736d0d000100000b0970726f64756365727300");
-}
-
-/// A component with a section of each kind, with few items.
-const EACH_KIND: &str = "0061736d0d000100\
-    01080061736d01000000\
-    021202010103666f6f000000010103666f6f1200\
-    030701005000600000\
-    040c0061736d0d00010008020105\
-    05130201010003666f6f010000010103666f6f0500\
-    060a02010000016603020001\
-    070d014202016b7304000174030000\
-    0809010000010203000602\
-    09050002000101\
-    0a06010001660100\
-    0b0701000167010000\
-    000904746573740b16212c";
-
-const COUNTS: [u128; 13] = [1, 0, 1, 0, 0, 2, 0, 0, 4, 2, 1, 1, 2];
-
-/// The id of a section, how many items it has, and which indices the first of them takes.
-fn told(listing: &Listing, number: usize) -> (u8, usize, Option<(Space, u32)>) {
-    let section = &listing.sections[number];
-    (section.id, section.items.len(), section.items[0].indices())
-}
-
-#[test]
-fn listed() {
-    let listing = list(Global, &bytes(EACH_KIND)).unwrap();
-    assert_eq!(listing.counts, COUNTS);
-    assert_eq!(listing.sections.len(), 12);
-    assert_eq!(told(&listing, 4), (5, 2, Some((Space::Instances, 1))));
-    assert_eq!(told(&listing, 8), (9, 1, Some((Space::Values, 1))));
-    assert_eq!(told(&listing, 11), (0, 1, None));
-    let ItemTree::Import { name, .. } = &listing.sections[9].items[0] else {
-        panic!("it is an import");
-    };
-    assert_eq!(name.name.as_str(), "f");
-}
-
-#[test]
-fn names_are_read() {
-    let (item, rest) = ItemName::view_of(b"\x02\x01g\x00").unwrap();
-    assert_eq!((item.index, item.name, rest), (2, "g", b"\x00".as_slice()));
-}
-
-#[test]
-fn listing_faults() {
-    let fault = list(Global, b"\x00asm\x01\x00\x00\x00").err();
-    assert_eq!(fault, Some(ListFault::NotAComponent { place: 0 }));
-    assert_eq!(format!("{}", ListFault::BadItem { place: 8 }), "BadItem at 8");
-    assert_eq!(ListFault::from(AllocError), ListFault::Memory);
 }

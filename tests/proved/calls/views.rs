@@ -48,30 +48,30 @@ fn seen<T: View<'static> + Debug>(text: &str, is_wanted: impl Fn(T) -> bool) {
 
 /// This value begins these bytes.
 #[track_caller]
-fn is<T: View<'static> + Debug + PartialEq>(text: &str, wanted: T) {
+fn reads<T: View<'static> + Debug + PartialEq>(text: &str, wanted: T) {
     seen(text, |value: T| value == wanted);
 }
 
 #[test]
 fn parts() {
-    is("8001", 128_u32);
-    is("01", true);
-    is("0166", "f");
-    is("0105", Some(5_u32));
-    is("00", None::<u32>);
-    is("04", ExportKind::Tag);
-    is("0011", ComponentExportKind::Module);
-    is("1203", ModuleArg::Instance(3));
-    is("0003", TypeBounds::Eq(3));
-    is("0503", ComponentTypeRef::Instance(3));
-    is("7d", U8);
-    is("007d", ResultList(Some(U8)));
-    is("0302", CanonicalOption::Memory(2));
+    reads("8001", 128_u32);
+    reads("01", true);
+    reads("0166", "f");
+    reads("0105", Some(5_u32));
+    reads("00", None::<u32>);
+    reads("04", ExportKind::Tag);
+    reads("0011", ComponentExportKind::Module);
+    reads("1203", ModuleArg::Instance(3));
+    reads("0003", TypeBounds::Eq(3));
+    reads("0503", ComponentTypeRef::Instance(3));
+    reads("7d", U8);
+    reads("007d", ResultList(Some(U8)));
+    reads("0302", CanonicalOption::Memory(2));
     let kind = ComponentExportKind::Module;
-    is("00110005016d", Alias::InstanceExport { instance: 5, kind, name: "m" });
+    reads("00110005016d", Alias::InstanceExport { instance: 5, kind, name: "m" });
     let name =
         NameView { name: "f", implements: Some("x"), version_suffix: None, external_id: None };
-    is("02016601000178", name);
+    reads("02016601000178", name);
     seen("0305c60002", |list: ListOf<'_, u32>| list.eq([5, 70, 2]));
     let bytes = with_more("02c3a9");
     assert_eq!(text_of(bytes), Ok(("é", &[0x2a][..])));
@@ -82,20 +82,20 @@ fn parts() {
 #[test]
 fn core_types() {
     let reference = RefType { nullable: true, heap_type: HeapType::Concrete(7) };
-    is("07", HeapType::Concrete(7));
-    is("6307", reference);
-    is("71", RefType { nullable: true, heap_type: HeapType::Abstract(AbstractHeapType::None) });
-    is("7e", ValType::I64);
-    is("77", StorageType::I16);
+    reads("07", HeapType::Concrete(7));
+    reads("6307", reference);
+    reads("71", RefType { nullable: true, heap_type: HeapType::Abstract(AbstractHeapType::None) });
+    reads("7e", ValType::I64);
+    reads("77", StorageType::I16);
     let field = FieldType { element_type: StorageType::Val(ValType::I32), mutable: true };
-    is("7f01", field);
+    reads("7f01", field);
     let table = TableType { element_type: reference, table64: false, minimum: 1, maximum: Some(2) };
-    is("6307010102", table);
+    reads("6307010102", table);
     let memory = MemoryType { minimum: 1, maximum: None, memory64: false, shared: false };
-    is("0001", memory);
-    is("7e01", GlobalType { val_type: ValType::I64, mutable: true });
-    is("0005", TagType { func_type_idx: 5 });
-    is("0005", EntityType::Function(5));
+    reads("0001", memory);
+    reads("7e01", GlobalType { val_type: ValType::I64, mutable: true });
+    reads("0005", TagType { func_type_idx: 5 });
+    reads("0005", EntityType::Function(5));
     seen("60027f7e017d", |ty: CompositeView<'_>| match ty {
         CompositeView::Func { mut params, results } => {
             params.next() == Some(ValType::I32)
@@ -106,17 +106,17 @@ fn core_types() {
     });
     let array = CompositeView::Array(field);
     let sub = SubView { is_final: false, supertype_idx: Some(3), composite_type: array };
-    is("5001035e7f01", sub);
-    is("5001035e7f01", GroupView::Sub(sub));
-    is("005001035e7f01", CoreTypeView::Group(GroupView::Sub(sub)));
-    is("0210010203", ModuleDeclView::Alias { count: 2, index: 3 });
+    reads("5001035e7f01", sub);
+    reads("5001035e7f01", GroupView::Sub(sub));
+    reads("005001035e7f01", CoreTypeView::Group(GroupView::Sub(sub)));
+    reads("0210010203", ModuleDeclView::Alias { count: 2, index: 3 });
 }
 
 #[test]
 fn items() {
-    is("05", CanonView::TaskCancel);
-    is("01610000", CaseView { name: "a", ty: None });
-    is("707d", DefinedView::List(U8));
+    reads("05", CanonView::TaskCancel);
+    reads("01610000", CaseView { name: "a", ty: None });
+    reads("707d", DefinedView::List(U8));
     seen("00050101611203", |instance: CoreInstanceView<'_>| {
         let CoreInstanceView::Instantiate { module: 5, args } = instance else { return false };
         args.eq([("a", ModuleArg::Instance(3))])

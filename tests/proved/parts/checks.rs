@@ -1,9 +1,7 @@
-//! What a value or a section is written as.
+//! What a value is written as.
 
-use crate::proved::tests::sweeping::{sweep_encode, sweep_section, takes_no_memory};
-use crate::proved::wenc_base::{Encode, Section};
-use crate::proved::wenc_parts::ComponentSection;
-use crate::shim::alloc::Global;
+use crate::proved::tests::sweeping::{sweep_encode, takes_no_memory};
+use crate::proved::wenc_base::Encode;
 use crate::shim::vec::Vec;
 use std::vec;
 
@@ -25,19 +23,4 @@ pub fn check_all<T: Encode>(rows: &[(T, &[u8])]) {
     for (value, wanted) in rows {
         check(value, wanted);
     }
-}
-
-/// The section is this in a core module and in a component.
-pub fn check_section<S: Section + ComponentSection>(
-    section: &S,
-    in_module: &[u8],
-    in_component: &[u8],
-) {
-    let mut sink = Vec::new(Global);
-    section.append_to(&mut sink).unwrap();
-    assert_eq!(sink.as_slice(), in_module);
-    let mut sink = Vec::new(Global);
-    section.append_to_component(&mut sink).unwrap();
-    assert_eq!(sink.as_slice(), in_component);
-    sweep_section(section);
 }

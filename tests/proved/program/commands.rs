@@ -8,7 +8,7 @@ use crate::proved::wenc::line::command;
 use crate::shim::alloc::Global;
 
 /// What a line says.
-enum Said<'a> {
+pub enum Said<'a> {
     Import(&'a str, ComponentTypeRef),
     Export(&'a str, ComponentExportKind, u32),
     /// The instance, what it exports, and the name, which is the debug name too.
@@ -56,9 +56,9 @@ impl Said<'_> {
 const LAST: u32 = 4294967295;
 
 /// Lines, and what they say.
-type Lines = &'static [(&'static str, Said<'static>)];
+pub type Lines = &'static [(&'static str, Said<'static>)];
 
-const ITEMS: Lines = &[
+pub const ITEMS: Lines = &[
     ("import f module 1", Said::Import("f", ComponentTypeRef::Module(1))),
     (
         "import a:b/c@1.0.0 func 4294967295",
@@ -83,7 +83,7 @@ const ITEMS: Lines = &[
     ("append-names", Said::AppendNames),
 ];
 
-const RESOURCES_AND_TASKS: Lines = &[
+pub const RESOURCES_AND_TASKS: Lines = &[
     ("resource.new 9", Said::Canon(CanonTree::ResourceNew(9))),
     ("resource.drop 8", Said::Canon(CanonTree::ResourceDrop(8))),
     ("resource.rep 7", Said::Canon(CanonTree::ResourceRep(7))),
@@ -101,7 +101,7 @@ const RESOURCES_AND_TASKS: Lines = &[
     ("waitable.join", Said::Canon(CanonTree::WaitableJoin)),
 ];
 
-const STREAMS_AND_FUTURES: Lines = &[
+pub const STREAMS_AND_FUTURES: Lines = &[
     ("stream.new 1", Said::Canon(CanonTree::StreamNew(1))),
     ("stream.cancel-read 2 1", Said::Canon(CanonTree::StreamCancelRead { ty: 2, async_: true })),
     ("stream.cancel-write 3 0", Said::Canon(CanonTree::StreamCancelWrite { ty: 3, async_: false })),
@@ -116,7 +116,7 @@ const STREAMS_AND_FUTURES: Lines = &[
     ("future.forward 6", Said::Canon(CanonTree::FutureForward(6))),
 ];
 
-const THREADS: Lines = &[
+pub const THREADS: Lines = &[
     ("thread.yield", Said::Canon(CanonTree::ThreadYield)),
     ("thread.index", Said::Canon(CanonTree::ThreadIndex)),
     ("thread.new-indirect 9 8", Said::Canon(CanonTree::ThreadNewIndirect { ty: 9, table: 8 })),

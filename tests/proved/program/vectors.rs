@@ -1,72 +1,33 @@
-//! Scripts, and what has to come out of them: worked rows, and outside answers, made with the Rust
-//! crate `wasm-encoder` 0.263.0.
+//! Scripts, and what has to come out of them: outside answers, made with the Rust crate
+//! `wasm-encoder` 0.263.0.
 
-use super::outcome::expect;
-use super::worked::{SCRIPTS, hex};
-use crate::proved::tests::hex::digits;
-use crate::proved::tests::listing::built::is_listed;
-use crate::proved::wenc::failure::Failure;
-use crate::proved::wenc::program::translate;
-use crate::shim::alloc::Global;
-use crate::shim::vec::Vec;
-use std::format;
-
-mod bad;
+#[path = "vectors/bad.rs"]
+pub mod bad;
+#[path = "vectors/edges.rs"]
 mod edges;
+#[path = "vectors/long.rs"]
 mod long;
+#[path = "vectors/long_words.rs"]
 mod long_words;
+#[path = "vectors/short.rs"]
 mod short;
+#[path = "vectors/words.rs"]
 mod words;
 
-/// A script, and the status, the standard output and the standard error of its run.
+/// A script, and the status and the standard output of its run.
 pub struct Vector {
-    pub name: &'static str,
-    pub script: &'static [u8],
     pub status: u8,
+    pub script: &'static [u8],
     pub out: &'static [u8],
-    pub err: &'static [u8],
 }
 
-/// What the script is translated to is what its run prints, or tells the bad line.
-fn is_translated(vector: &Vector) {
-    match translate(Global, Global, Vec::from(vector.script.to_vec())) {
-        Ok(printout) => {
-            let line = format!("{}\n", digits(&printout.bytes));
-            let printed = [printout.lines.as_slice(), line.as_bytes()].concat();
-            assert_eq!((printout.status, &*printed), (vector.status, vector.out));
-        }
-        Err(Failure::BadLine(line)) => {
-            assert_eq!((1, format!("line {line}\n").as_bytes()), (vector.status, vector.err));
-        }
-        Err(failure) => panic!("{}: {failure:?}", vector.name),
-    }
+/// A script with this run.
+const fn run(status: u8, script: &'static [u8], out: &'static [u8]) -> Vector {
+    Vector { status, script, out }
 }
 
-/// The script has this run.
-fn is_run(vector: &Vector) {
-    let end = (vector.status, vector.out, vector.err);
-    expect(vector.name, &[], vector.script, &end);
-    is_translated(vector);
-    if vector.status != 1 {
-        is_listed(vector.out);
-    }
-}
-
-#[test]
-fn scripts() {
-    for vectors in [
-        bad::VECTORS,
-        edges::VECTORS,
-        short::VECTORS,
-        long::VECTORS,
-        words::VECTORS,
-        long_words::VECTORS,
-    ] {
-        vectors.iter().for_each(is_run);
-    }
-    for (script, status, lines, bytes) in SCRIPTS {
-        let out = format!("{lines}0061736d0d000100{}\n", digits(&hex(bytes)));
-        let (script, out) = (script.as_bytes(), out.leak().as_bytes());
-        is_run(&Vector { name: "worked", script, status, out, err: b"" });
-    }
+/// Those of which each line can be read.
+pub fn all() -> impl Iterator<Item = &'static Vector> {
+    let all = [edges::VECTORS, short::VECTORS, long::VECTORS, words::VECTORS, long_words::VECTORS];
+    all.into_iter().flatten()
 }

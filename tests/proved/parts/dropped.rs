@@ -1,15 +1,15 @@
 //! Encoders over a bare holder: dropped at each stage, and with each growth refused.
 
 use crate::proved::tests::refusing::Refusing;
-use crate::proved::tests::sweeping::{LARGE, REFUSED, TEXT};
+use crate::proved::tests::sweeping::{REFUSED, TEXT};
 use crate::proved::wenc_base::{
-    CompositeType, CoreTypeEncoder, Encode, Fault, FieldType, FuncType, GroupTree, Holder,
-    StorageType, SubType, ValType, Verbatim,
+    CompositeType, CoreTypeEncoder, Encode, Fault, FieldType, FuncType, Holder, StorageType,
+    SubType, ValType, Verbatim,
 };
 use crate::proved::wenc_parts::{ComponentValType, PrimitiveValType};
 use crate::proved::wenc_types::{
     ComponentCoreTypeEncoder, ComponentDefinedTypeEncoder, ComponentFuncTypeEncoder, ComponentType,
-    ComponentTypeEncoder, CoreTypeTree, DefinedTree, FuncStage, InstanceType, ModuleType, TypeTree,
+    ComponentTypeEncoder, FuncStage, ModuleType,
 };
 use crate::shim::alloc::Global;
 use crate::shim::vec::Vec;
@@ -28,14 +28,11 @@ const I8: FieldType = FieldType { element_type: StorageType::I8, mutable: true }
 
 const I32: FieldType = FieldType { element_type: StorageType::Val(ValType::I32), mutable: false };
 
-fn func_type(params: &[ValType]) -> FuncType {
-    FuncType::new(Global, params.iter().copied(), [].into_iter()).unwrap()
-}
-
 /// A type of functions that take these.
-fn subtype(is_final: bool, params: &[ValType]) -> SubType {
-    let composite_type = CompositeType::Func(func_type(params));
-    SubType { is_final, supertype_idx: None, composite_type }
+fn subtype(params: &[ValType]) -> SubType {
+    let function = FuncType::new(Global, params.iter().copied(), [].into_iter()).unwrap();
+    let composite_type = CompositeType::Func(function);
+    SubType { is_final: true, supertype_idx: None, composite_type }
 }
 
 /// What a member is opened with.
@@ -177,45 +174,22 @@ macro_rules! ended {
     };
 }
 
-const CORE_TYPES: &[Ended] = ended! { |holder|
+/// Those of lists, and one of each encoder. `tests/calls` has each request of the others refused.
+const ENDED: &[Ended] = ended! { |holder|
     {
         let params = [ValType::I32].into_iter();
         CoreTypeEncoder::new(holder, true).function(params, [ValType::I64].into_iter())
     } =>
         b"\x60\x01\x7f\x01\x7e", after [3];
-    CoreTypeEncoder::new(holder, true).func_type(&func_type(&[ValType::I32])) =>
-        b"\x60\x01\x7f\x00";
-    CoreTypeEncoder::new(holder, false).array(&StorageType::I16, false) => b"\x5e\x77\x00";
     CoreTypeEncoder::new(holder, true).struct_([I8, I32].into_iter()) =>
         b"\x5f\x02\x78\x01\x7f\x00";
-    CoreTypeEncoder::new(holder, true).subtype(&subtype(false, &[])) => b"\x00\x50\x00\x60\x00\x00";
-    CoreTypeEncoder::new(holder, false).subtype(&subtype(false, &[])) => b"\x50\x00\x60\x00\x00";
     {
-        let types = [subtype(true, &[]), subtype(true, &[ValType::I32])];
+        let types = [subtype(&[]), subtype(&[ValType::I32])];
         CoreTypeEncoder::new(holder, true).rec(types.iter())
     } =>
         b"\x4e\x02\x60\x00\x00\x60\x01\x7f\x00";
-    CoreTypeEncoder::new(holder, true).group(&GroupTree::Sub(subtype(false, &[]))) =>
-        b"\x00\x50\x00\x60\x00\x00";
-    ComponentCoreTypeEncoder::new(holder).core().array(&StorageType::I8, true) => b"\x5e\x78\x01";
     ComponentCoreTypeEncoder::new(holder).module(&ModuleType::new(Global)) => b"\x50\x00";
-    {
-        let tree = CoreTypeTree::Group(GroupTree::Sub(subtype(false, &[])));
-        ComponentCoreTypeEncoder::new(holder).tree(&tree)
-    } =>
-        b"\x00\x50\x00\x60\x00\x00";
-};
-
-const TYPES: &[Ended] = ended! { |holder|
     ComponentTypeEncoder::new(holder).component(&ComponentType::new(Global)) => b"\x41\x00";
-    ComponentTypeEncoder::new(holder).instance(&InstanceType::new(Global)) => b"\x42\x00";
-    ComponentTypeEncoder::new(holder).resource(ValType::I32, Some(LARGE)) =>
-        b"\x3f\x7f\x01\xff\xff\xff\xff\x0f";
-    {
-        let tree: TypeTree = TypeTree::Resource { rep: ValType::I32, dtor: None };
-        ComponentTypeEncoder::new(holder).tree(&tree)
-    } =>
-        b"\x3f\x7f\x00";
     {
         let mut function = ComponentFuncTypeEncoder::new(holder);
         function.params([("a", STRING)].into_iter())?;
@@ -229,31 +203,10 @@ const TYPES: &[Ended] = ended! { |holder|
         function.result(None)
     } =>
         b"\x43\x00\x01\x00", after [1, 2];
-};
-
-/// An encoder of a type of values.
-fn defined<'e, 'h>(holder: &'e mut Heaped<'h>) -> ComponentDefinedTypeEncoder<'e, Heaped<'h>> {
-    ComponentTypeEncoder::new(holder).defined_type()
-}
-
-const DEFINED: &[Ended] = ended! { |holder|
-    defined(holder).tree(&<DefinedTree>::Own(5)) => b"\x69\x05";
-    defined(holder).primitive(PrimitiveValType::Char) => b"\x74";
-    defined(holder).record([("a", STRING)].into_iter()) => b"\x72\x01\x01\x61\x73";
-    defined(holder).variant([("a", None), ("b", Some(STRING))].into_iter()) =>
-        b"\x71\x02\x01\x61\x00\x00\x01\x62\x01\x73\x00";
-    defined(holder).list(STRING) => b"\x70\x73";
-    defined(holder).map(STRING, U8) => b"\x63\x73\x7d";
-    defined(holder).fixed_length_list(U8, 128) => b"\x67\x7d\x80\x01";
-    defined(holder).tuple([STRING, U8].into_iter()) => b"\x6f\x02\x73\x7d";
-    defined(holder).flags(["a", "b"].into_iter()) => b"\x6e\x02\x01\x61\x01\x62";
-    defined(holder).enum_type(["a"].into_iter()) => b"\x6d\x01\x01\x61";
-    defined(holder).option(STRING) => b"\x6b\x73";
-    defined(holder).result(Some(STRING), None) => b"\x6a\x01\x73\x00";
-    defined(holder).own(LARGE) => b"\x69\xff\xff\xff\xff\x0f";
-    defined(holder).borrow(128) => b"\x68\x80\x01";
-    defined(holder).future(Some(U8)) => b"\x65\x01\x7d";
-    defined(holder).stream(None) => b"\x66\x00";
+    ComponentDefinedTypeEncoder::new(holder).record([("a", STRING)].into_iter()) =>
+        b"\x72\x01\x01\x61\x73";
+    ComponentDefinedTypeEncoder::new(holder).flags(["a", "b"].into_iter()) =>
+        b"\x6e\x02\x01\x61\x01\x62";
 };
 
 /// Growth number `n` of the calls is refused, with so many members there. Answers how much they had
@@ -297,7 +250,7 @@ fn sweep(heap: &Refusing, ended: &Ended) {
 #[test]
 fn refused_growths() {
     let heap = Refusing::new();
-    for ended in [CORE_TYPES, TYPES, DEFINED].into_iter().flatten() {
+    for ended in ENDED {
         sweep(&heap, ended);
     }
 }

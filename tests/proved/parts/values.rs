@@ -3,7 +3,7 @@
 use crate::proved::proved_tests::strangers::own::{Light, write_all};
 use crate::proved::tests::parts::checks::{check, check_all};
 use crate::proved::wenc_base::{
-    ByRef, Encode, ExportKind, Fault, Short, Tagged, Verbatim, WithSize, encode_byte, encode_list,
+    ByRef, Encode, Fault, Short, Tagged, Verbatim, WithSize, encode_byte, encode_list,
     encoding_size, extend_in_room, section_size,
 };
 use crate::shim::alloc::{AllocError, Global};
@@ -12,115 +12,57 @@ use crate::shim::vec::Vec;
 use std::string::ToString;
 use std::vec;
 
-const UNSIGNED: &[(u32, &[u8])] = &[
-    (624485, &[0xe5, 0x8e, 0x26]),
-    (0, &[0x00]),
-    (128, &[0x80, 0x01]),
-    (4294967295, &[0xff, 0xff, 0xff, 0xff, 0x0f]),
-];
-
-const SIGNED: &[(i64, &[u8])] = &[
-    (-1, &[0x7f]),
-    (-64, &[0x40]),
-    (-65, &[0xbf, 0x7f]),
-    (63, &[0x3f]),
-    (64, &[0xc0, 0x00]),
-    (9223372036854775807, &[0xff, 0xff, 0xff, 0xff, 0xff, 0xff, 0xff, 0xff, 0xff, 0x00]),
-    (-9223372036854775808, &[0x80, 0x80, 0x80, 0x80, 0x80, 0x80, 0x80, 0x80, 0x80, 0x7f]),
-];
-
-const LONG: &[(u64, &[u8])] =
-    &[(18446744073709551615, &[0xff, 0xff, 0xff, 0xff, 0xff, 0xff, 0xff, 0xff, 0xff, 0x01])];
-
-const TRUTHS: &[(bool, &[u8])] = &[(false, &[0x00]), (true, &[0x01])];
-
-const TEXTS: &[(&str, &[u8])] = &[("f", &[0x01, 0x66]), ("", &[0x00])];
-
-const BYTE_LISTS: &[(&[u8], &[u8])] = &[(&[0xaa], &[0x01, 0xaa])];
-
-const KINDS: &[(ExportKind, &[u8])] = &[
-    (ExportKind::Func, &[0x00]),
-    (ExportKind::Table, &[0x01]),
-    (ExportKind::Memory, &[0x02]),
-    (ExportKind::Global, &[0x03]),
-    (ExportKind::Tag, &[0x04]),
-];
-
-const LISTS: &[(&[u32], &[u8])] =
-    &[(&[1, 128, 3], &[0x03, 0x01, 0x80, 0x01, 0x03]), (&[], &[0x00])];
-
-const LISTS_OF_PAIRS: &[(&[(&str, u32)], &[u8])] =
-    &[(&[("a", 1), ("", 2)], &[0x02, 0x01, 0x61, 0x01, 0x00, 0x02])];
-
-const OPTIONS: &[(Option<u32>, &[u8])] = &[(None, &[0x00]), (Some(5), &[0x01, 0x05])];
-
-const SIZE: &[(usize, &[u8])] = &[(128, &[0x80, 0x01])];
-
-const PAIRS: &[((u32, &str), &[u8])] = &[((1, "a"), &[0x01, 0x01, 0x61])];
-
-const TAGGED: &[(Tagged<'static, u32>, &[u8])] = &[(Tagged(0x2a, &7), &[0x2a, 0x07])];
-
-const NOTHING: &[((), &[u8])] = &[((), &[])];
-
-const AS_IT_IS: &[(Verbatim<'static>, &[u8])] =
-    &[(Verbatim(&[]), &[]), (Verbatim(&[0x80, 0x00]), &[0x80, 0x00])];
-
-const TOGETHER: &[((Verbatim<'static>, ((), u32)), &[u8])] =
-    &[((Verbatim(&[0x01]), ((), 2)), &[0x01, 0x02])];
-
 const CONTENT: (u32, &str, bool) = (128, "a", false);
 
-const TRIPLES: &[((u32, &str, bool), &[u8])] = &[(CONTENT, &[0x80, 0x01, 0x01, 0x61, 0x00])];
-
-const NESTED: &[((&str, u32, Option<bool>), &[u8])] =
-    &[(("b", 1, Some(true)), &[0x01, 0x62, 0x01, 0x01, 0x01])];
-
-const BORROWED: &[(ByRef<'static, u32>, &[u8])] = &[(ByRef(&128), &[0x80, 0x01])];
-
-const NO_SIZE: &[(WithSize<'static, ()>, &[u8])] = &[(WithSize(&()), &[0x00])];
-
-const SIZED: &[(WithSize<'static, &str>, &[u8])] = &[(WithSize(&"ab"), &[0x03, 0x02, 0x61, 0x62])];
-
-const SIZED_TRIPLES: &[(WithSize<'static, (u32, &str, bool)>, &[u8])] =
-    &[(WithSize(&CONTENT), &[0x05, 0x80, 0x01, 0x01, 0x61, 0x00])];
-
-const LIGHTS: &[(Light, &[u8])] = &[(Light::Red, &[0x72]), (Light::Green, &[0x67])];
-
-const LIGHTS_IN_OPTIONS: &[(Option<Light>, &[u8])] =
-    &[(Some(Light::Green), &[0x01, 0x67]), (None, &[0x00])];
-
-const LIGHTS_IN_LISTS: &[(&[Light], &[u8])] =
-    &[(&[Light::Red, Light::Green, Light::Red], &[0x03, 0x72, 0x67, 0x72])];
+#[test]
+fn numbers_and_texts() {
+    check(&624485u32, b"\xe5\x8e\x26");
+    check(&0u32, b"\x00");
+    check(&128u32, b"\x80\x01");
+    check(&4294967295u32, b"\xff\xff\xff\xff\x0f");
+    check(&18446744073709551615u64, b"\xff\xff\xff\xff\xff\xff\xff\xff\xff\x01");
+    check(&128usize, b"\x80\x01");
+    check(&-1i64, b"\x7f");
+    check(&-64i64, b"\x40");
+    check(&-65i64, b"\xbf\x7f");
+    check(&63i64, b"\x3f");
+    check(&64i64, b"\xc0\x00");
+    check(&9223372036854775807i64, b"\xff\xff\xff\xff\xff\xff\xff\xff\xff\x00");
+    check(&-9223372036854775808i64, b"\x80\x80\x80\x80\x80\x80\x80\x80\x80\x7f");
+    check_all(&[(false, b"\x00"), (true, b"\x01")]);
+    check_all::<&str>(&[("f", b"\x01\x66"), ("", b"\x00")]);
+    check(&String::from_str(Global, "f").unwrap(), b"\x01\x66");
+}
 
 #[test]
-fn values() {
-    check_all(UNSIGNED);
-    check_all(SIGNED);
-    check_all(LONG);
-    check_all(SIZE);
-    check_all(TRUTHS);
-    check_all(TEXTS);
-    check_all(KINDS);
-    check_all(OPTIONS);
-    check_all(BYTE_LISTS);
-    check_all(LISTS);
-    check_all(LISTS_OF_PAIRS);
-    check_all(PAIRS);
-    check_all(TAGGED);
-    check_all(NOTHING);
-    check_all(AS_IT_IS);
-    check_all(TOGETHER);
-    check_all(TRIPLES);
-    check_all(NESTED);
-    check_all(BORROWED);
-    check_all(NO_SIZE);
-    check_all(SIZED);
-    check_all(SIZED_TRIPLES);
-    check_all(LIGHTS);
-    check_all(LIGHTS_IN_OPTIONS);
-    check_all(LIGHTS_IN_LISTS);
-    let text = String::from_str(Global, "f").unwrap();
-    check(&text, &[0x01, 0x66]);
+fn lists_and_tuples() {
+    check::<&[u8]>(&b"\xaa".as_slice(), b"\x01\xaa");
+    check_all::<&[u32]>(&[(&[1, 128, 3], b"\x03\x01\x80\x01\x03"), (&[], b"\x00")]);
+    check::<&[(&str, u32)]>(&[("a", 1), ("", 2)].as_slice(), b"\x02\x01\x61\x01\x00\x02");
+    check_all::<Option<u32>>(&[(None, b"\x00"), (Some(5), b"\x01\x05")]);
+    check(&(1u32, "a"), b"\x01\x01\x61");
+    check(&CONTENT, b"\x80\x01\x01\x61\x00");
+    check(&("b", 1u32, Some(true)), b"\x01\x62\x01\x01\x01");
+    check(&(), b"");
+}
+
+#[test]
+fn values_around_values() {
+    check(&Tagged(0x2a, &7u32), b"\x2a\x07");
+    check_all(&[(Verbatim(b""), b""), (Verbatim(b"\x80\x00"), b"\x80\x00")]);
+    check(&(Verbatim(b"\x01"), ((), 2u32)), b"\x01\x02");
+    check(&ByRef(&128u32), b"\x80\x01");
+    check(&WithSize(&()), b"\x00");
+    check(&WithSize(&"ab"), b"\x03\x02\x61\x62");
+    check(&WithSize(&CONTENT), b"\x05\x80\x01\x01\x61\x00");
+}
+
+#[test]
+fn of_a_stranger() {
+    let (red, green) = (Light::Red, Light::Green);
+    check_all(&[(red, b"r"), (green, b"g")]);
+    check_all(&[(Some(green), b"\x01g"), (None, b"\x00")]);
+    check::<&[Light]>(&[red, green, red].as_slice(), b"\x03rgr");
 }
 
 const IN_ONE_SINK: &[u8] =

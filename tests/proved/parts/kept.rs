@@ -1,8 +1,13 @@
-//! Holders with bytes in front of their members.
+//! Holders with bytes in front of their members, and sections over them.
 
-use super::holder::{is_begun, is_whole};
-use crate::proved::proved_tests::holders::{filled, gone_back, over_four_bytes};
+use super::checks::check;
+use super::holder::{UNFINISHED, is_begun, is_whole};
+use crate::proved::proved_tests::holders::{
+    aliases, filled, functions, gone_back, over_four_bytes, unfinished_aliases,
+};
 use crate::proved::wenc_base::{Fault, Holder, Verbatim};
+use crate::proved::wenc_canon::AddsBuiltin;
+use crate::proved::wenc_parts::{Alias, ComponentOuterAliasKind};
 use crate::shim::alloc::Global;
 
 /// What the holder has after the bytes in front.
@@ -54,4 +59,43 @@ fn bytes_after_all_that_is_kept() {
     is_whole(&holder, 0, &[0x01, 0x00]);
     holder.add_encoded(&42u32).unwrap();
     assert!(has_parts(holder, &[0xcc, 0x03, 0x00, 0x10, 0x11, 0x12, 0x2a], 6, 1));
+}
+
+// A holder is made of bytes again, goes back, and is cut back.
+#[test]
+fn over_bytes() {
+    let mut holder = over_four_bytes(Global).unwrap();
+    assert_eq!(holder.keep_all(&Verbatim(&[0x10, 0x11])), Ok(4));
+    holder.go_back(2, 4, 1);
+    holder.fill_kept(0, 2, &[0xcc]);
+    let (bytes, kept, count, _) = holder.into_parts();
+    assert_eq!((bytes.as_slice(), kept, count), (&[0xcc, 0x03, 0x00][..], 1, 1));
+    let mut holder = Holder::over(bytes, 1, 1);
+    holder.cut_back(0, 0);
+    is_whole(&holder, 0, &[0x01, 0x00]);
+    assert_eq!(holder.kept(), [0xcc].as_slice());
+}
+
+const OUTER_TYPE: Alias<'static> =
+    Alias::Outer { kind: ComponentOuterAliasKind::Type, count: 0, index: 1 };
+
+// In a section's bytes none is that is kept.
+#[test]
+fn under_sections() {
+    let mut section = aliases(Global).unwrap();
+    check(&section, b"\x06\x01\x01\x00\x00\x01\x66");
+    section.alias(OUTER_TYPE).unwrap();
+    check(&section, b"\x0a\x02\x01\x00\x00\x01\x66\x03\x02\x00\x01");
+    let bytes = b"\xaa\xbb\x01\x00\x00\x01\x66\x03\x02\x00\x01";
+    assert!(has_parts(section.into_holder(), bytes, 2, 2));
+    let mut section = unfinished_aliases(Global).unwrap();
+    assert_eq!(section.alias(OUTER_TYPE), UNFINISHED);
+    let (bytes, kept, count, is_finished) = section.into_holder().into_parts();
+    assert_eq!((bytes.as_slice(), kept), (&b"\xaa\xbb\x01\x00\x00\x01\x66\x03"[..], 2));
+    assert_eq!((count, is_finished), (2, false));
+    let mut section = functions(Global).unwrap();
+    check(&section, &[0x02, 0x01, 0x05]);
+    section.resource_drop(0).unwrap();
+    check(&section, &[0x04, 0x02, 0x05, 0x03, 0x00]);
+    assert!(has_parts(section.into_holder(), &[0xaa, 0xbb, 0x05, 0x03, 0x00], 2, 2));
 }

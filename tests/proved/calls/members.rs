@@ -1,0 +1,94 @@
+//! Parts of items, canonical functions by their rows, sections of a stranger's own, and what
+//! declarations count as.
+
+use super::{is, module_section_is, section_is};
+use crate::proved::proved_tests::strangers::own::Own;
+use crate::proved::tests::hex::digits;
+use crate::proved::wenc_base::{
+    CompositeType, Fault, FuncType, GroupTree, Guarded, Module, NameMap, ProducersField,
+    ProducersSection, SubType, ValType,
+};
+use crate::proved::wenc_builder::ComponentBuilder;
+use crate::proved::wenc_canon::{
+    AddsSlotRow, CanonicalFunctionSection, CanonicalOption, NotCancellable, rows,
+};
+use crate::proved::wenc_parts::{Alias, ComponentExportKind, ComponentValType, ResultList};
+use crate::proved::wenc_sections::{NamesOf, Space};
+use crate::proved::wenc_types::counts::{Counts, IndexSpace, space_of_alias, space_of_kind};
+use crate::shim::alloc::Global;
+use crate::shim::vec::Vec;
+
+/// A function with options and two without, by their rows.
+fn by_rows<B: AddsSlotRow>(to: &mut B) -> Result<B::Answer, Fault> {
+    let options = [CanonicalOption::UTF8, CanonicalOption::Memory(0)];
+    to.add_row_with(rows::STREAM_READ, &128u32, options.into_iter())?;
+    to.add_row(rows::RESOURCE_DROP, &128u32)?;
+    to.add_slot_row(rows::CONTEXT_GET, ValType::I32, 0)
+}
+
+const BY_ROWS: &str = "080e030f8001020003000380010a7f00";
+
+#[test]
+fn rows_are_added() {
+    let mut section = CanonicalFunctionSection::new(Global);
+    by_rows(&mut section).unwrap();
+    section_is(&section, 8, BY_ROWS);
+    let mut builder = ComponentBuilder::new(Global).unwrap();
+    assert_eq!(by_rows(&mut builder), Ok(2));
+    assert_eq!(digits(&builder.finish().unwrap()[8..]), BY_ROWS);
+}
+
+#[test]
+fn parts() {
+    is(&NotCancellable, "00");
+    is(&ResultList(None), "0100");
+    is(&ResultList(Some(ComponentValType::Type(64))), "00c000");
+    let function = FuncType::new(Global, [ValType::I32].into_iter(), [ValType::F64].into_iter());
+    let composite_type = CompositeType::Func(function.unwrap());
+    let open = SubType { is_final: false, supertype_idx: None, composite_type };
+    is(&Guarded(true, &open), "00500060017f017c");
+    is(&Guarded(false, &open), "500060017f017c");
+    is(&Guarded(true, &GroupTree::Sub(open)), "00500060017f017c");
+    let mut names = NameMap::new(Global);
+    names.append(0, "t").unwrap();
+    is(&NamesOf(Space::Types, &names), "01050301000174");
+    let mut field = ProducersField::new(Global);
+    field.value("a", "1").unwrap();
+    let mut producers = ProducersSection::new(Global);
+    producers.field("sdk", &field).unwrap();
+    let mut data = Vec::new(Global);
+    producers.encode_data(&mut data).unwrap();
+    assert_eq!(digits(&data), "010373646b0101610131");
+}
+
+#[test]
+fn of_a_stranger() {
+    let own = Own(&[0x2a]);
+    module_section_is(&own, 98, "622a");
+    section_is(&own, 99, "632a");
+    let mut module = Module::new(Global).unwrap();
+    module.section(&own).unwrap();
+    let mut builder = ComponentBuilder::new(Global).unwrap();
+    assert_eq!(builder.core_module(Some("m"), &module), Ok(0));
+    let wanted = "0061736d0d000100010a0061736d01000000622a";
+    assert_eq!(digits(&builder.finish().unwrap()), wanted);
+}
+
+#[test]
+fn counts() {
+    let parts = |counts: Counts| [counts.core_types, counts.types, counts.instances];
+    let kinds = [IndexSpace::CoreType, IndexSpace::Type, IndexSpace::Instance].map(Some);
+    let counted = kinds.into_iter().fold(Counts::none(), |counts, kind| counts.counted(kind, 4));
+    assert_eq!(parts(counted.counted(None, 4)), [1, 1, 1]);
+    for (at, kind) in kinds.into_iter().enumerate() {
+        let mut left = [1, 1, 1];
+        left[at] = 0;
+        assert_eq!(parts(counted.uncounted(kind).uncounted(None)), left);
+    }
+    let export = |kind| Alias::InstanceExport { instance: 0, kind, name: "f" };
+    let ty = space_of_kind(ComponentExportKind::Type);
+    let instance = space_of_alias(&export(ComponentExportKind::Instance));
+    assert!(matches!((ty, instance), (Some(IndexSpace::Type), Some(IndexSpace::Instance))));
+    assert!(space_of_alias(&export(ComponentExportKind::Func)).is_none());
+    assert_eq!(Space::of_alias(&export(ComponentExportKind::Func)), Space::Funcs);
+}
