@@ -155,7 +155,7 @@ pub use error::{Error, Unsupported};
 #[cfg(feature = "reader")]
 pub use list::{Definitions, Found, ListFault, ListedSection, Listing, Unread, list};
 #[cfg(feature = "reader")]
-pub use names::{DebugNames, NamesFault};
+pub use names::{DebugName, DebugNames, NamesFault, NamesReader};
 #[cfg(feature = "reader")]
 pub use producers::{Producer, ProducersFault, ProducersReader};
 pub use raw::RawSection;

@@ -154,6 +154,16 @@ macro_rules! declaring {
                 ) -> u32 as (name.into().into_proved(), ty);
             }
 
+            /// Returns the number of declarations, including an unfinished one.
+            pub fn len(&self) -> u32 {
+                self.0.len()
+            }
+
+            /// Returns `true` if there are no declarations.
+            pub fn is_empty(&self) -> bool {
+                self.0.is_empty()
+            }
+
             /// Returns the number of core types: declared ones, including an unfinished one, and
             /// outer aliases.
             pub fn core_type_count(&self) -> u32 {
