@@ -15,8 +15,6 @@ mod val_type;
 
 pub use component_type::ComponentType;
 pub use core_type::{ComponentCoreTypeEncoder, CoreTypeSection};
-#[cfg(feature = "capi")]
-pub(crate) use counts::count_declared;
 pub use defined_type::ComponentDefinedTypeEncoder;
 pub use func_type::ComponentFuncTypeEncoder;
 pub use instance_type::InstanceType;
