@@ -78,7 +78,10 @@ pub trait ComponentSection: Encode {
 
 /// Appends a section with its id, or leaves the bytes unchanged. Room for the id is reserved
 /// separately: if that fails, the section is written first and then moved.
-fn append_section<S: ComponentSection + ?Sized>(section: &S, dst: &mut Vec<u8>) -> Result<(), Error> {
+fn append_section<S: ComponentSection + ?Sized>(
+    section: &S,
+    dst: &mut Vec<u8>,
+) -> Result<(), Error> {
     let _ = dst.try_reserve(1);
     let own = Own::default();
     let section = Foreign { value: section, own: &own };

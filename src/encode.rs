@@ -113,10 +113,7 @@ pub(crate) fn append<E>(
 
 /// Appends the encoding of a value of the proved code, which never panics on its way.
 #[inline]
-pub(crate) fn append_proved<T: proved::Encode>(
-    sink: &mut Vec<u8>,
-    value: &T,
-) -> Result<(), Error> {
+pub(crate) fn append_proved<T: proved::Encode>(sink: &mut Vec<u8>, value: &T) -> Result<(), Error> {
     let mut bytes = ProvedVec::from(take(sink));
     let result = value.encode(&mut bytes);
     *sink = bytes.into();

@@ -69,6 +69,7 @@ pub struct Entity {
 }
 
 /// `wenc_subtype`: a core type as a subtype.
+#[derive(Clone, Copy)]
 #[repr(C)]
 pub struct Subtype {
     pub fields: *const Pair,

@@ -4,9 +4,7 @@ use crate::arguments::{Name, Pair, Part, copied, known, named, unnamed};
 use crate::session::{Session, counted};
 use crate::{Handle, Refused, Result, calls, numbers, other};
 use core::ffi::CStr;
-use wenc::{
-    Alias, ComponentSectionId, ComponentStartSection, ModuleArg, RawSection,
-};
+use wenc::{Alias, ComponentSectionId, ComponentStartSection, ModuleArg, RawSection};
 
 /// Makes the call of a builder or of a section for a number of `enum wenc_function`.
 macro_rules! builtin {
@@ -241,7 +239,9 @@ fn add_component(session: &mut Session, debug_name: Option<&str>, bytes: &[u8]) 
 /// Nests the other handle's component; that handle stays valid.
 fn nest(session: &mut Session, debug_name: Option<&str>, nested: &Session) -> Result<u32> {
     match nested {
-        Session::Building(nested) => Ok(session.builder()?.try_component_ref(debug_name, nested)?),
+        Session::Building(nested) => {
+            Ok(session.builder()?.try_component_ref(debug_name, nested)?)
+        }
         Session::ByHand(nested) => add_component(session, debug_name, nested.as_slice()),
         _ => Err(nested.refusal().of(c"nested")),
     }

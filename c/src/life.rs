@@ -83,13 +83,9 @@ pub unsafe extern "C" fn wenc_types_new(handle: *mut Handle, kind: u32) -> Statu
 pub unsafe extern "C" fn wenc_section_new(handle: *mut Handle, section: u32) -> Status {
     let make = || {
         Ok(match known(c"section", numbers::section(section))? {
-            ComponentSectionId::CoreInstance => {
-                Session::CoreInstances(InstanceSection::new())
-            }
+            ComponentSectionId::CoreInstance => Session::CoreInstances(InstanceSection::new()),
             ComponentSectionId::CoreType => Session::CoreTypes(CoreTypeSection::new()),
-            ComponentSectionId::Instance => {
-                Session::Instances(ComponentInstanceSection::new())
-            }
+            ComponentSectionId::Instance => Session::Instances(ComponentInstanceSection::new()),
             ComponentSectionId::Alias => Session::Aliases(ComponentAliasSection::new()),
             ComponentSectionId::Type => Session::Types(ComponentTypeSection::new()),
             ComponentSectionId::CanonicalFunction => {

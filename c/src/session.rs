@@ -184,11 +184,7 @@ impl Session {
     }
 
     /// Adds the type of a module, as a core type.
-    pub(crate) fn module_type(
-        &mut self,
-        debug_name: Option<&str>,
-        ty: &ModuleType,
-    ) -> Result<u32> {
+    pub(crate) fn module_type(&mut self, debug_name: Option<&str>, ty: &ModuleType) -> Result<u32> {
         let (index, encoder) = self.begun_core_type(debug_name)?;
         let written = encoder.try_module(ty);
         self.settled(written, index)

@@ -37,7 +37,11 @@ impl Walk {
     unsafe fn items<'a>(&self) -> Result<Items<'a>> {
         let (bytes, range) = (unsafe { self.bytes() }?, self.next_item..self.end);
         // The content of a section that was skipped isn't read, whatever its id.
-        let id = if self.items == 0 { Some(ComponentSectionId::Alias) } else { numbers::section(self.id) };
+        let id = if self.items == 0 {
+            Some(ComponentSectionId::Alias)
+        } else {
+            numbers::section(self.id)
+        };
         let items = id.and_then(|id| Items::at(bytes, id, range, self.items));
         Ok(items.ok_or(Status::BadArgument)?)
     }
@@ -151,9 +155,9 @@ impl NamesWalk {
         let (next, within) = names.left().ok_or(Status::End)?;
         self.next = next;
         self.names = within.map_or(0, |(_, names)| names);
-        let (space, index) = name.item.map_or((numbers::NO_SPACE, 0), |(space, index)| {
-            (numbers::of_space(space), index)
-        });
+        let (space, index) = name
+            .item
+            .map_or((numbers::NO_SPACE, 0), |(space, index)| (numbers::of_space(space), index));
         if name.item.is_some() {
             self.space = space;
         }

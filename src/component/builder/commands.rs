@@ -1,11 +1,11 @@
 //! Building by commands.
 
 use crate::Error;
+use crate::SectionItem;
 use crate::component::ComponentBuilder;
 use crate::proved::wasm_encoder as proved;
 use crate::tree::{Command, ItemTree};
 use crate::twins::twins;
-use crate::SectionItem;
 
 /// Commands, and items that were read.
 impl ComponentBuilder {

@@ -222,7 +222,7 @@ fn row(
     let as_tree =
         move |ty: ComponentCoreTypeEncoder<'_>, a: &Size| ty.try_tree(&calmly(|| tree(a)));
     Call {
-        name: format!("{name} (not in C)"),
+        name: name,
         id: 3,
         space: Some(Space::CoreTypes),
         takes: 1,
@@ -245,7 +245,6 @@ fn row(
             debug_name,
             ty: tree(a).into(),
         }),
-        c: Box::new(|_, _, _| Err(u32::MAX)),
         indices: Box::new(indices),
         bytes: Box::new(bytes),
     }
