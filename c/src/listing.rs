@@ -87,7 +87,8 @@ impl Listed {
         let Item { place, index } = self.items[*before + number];
         // 32 bits: the section ends where the component does, or before.
         let range = place..row.place + row.len;
-        let (range, item) = item_at(&self.bytes, row.id, range)?;
+        let items = Items::at(&self.bytes, row.id as u8, range, 1);
+        let (range, item) = items.and_then(|mut items| items.next()).ok_or(Status::BadItem)??;
         Ok((index, range, item))
     }
 
@@ -102,12 +103,6 @@ fn push<T>(values: &mut Vec<T>, value: T) -> Result<(), ListFault> {
     values.try_reserve(1).map_err(|_| ListFault::NoMemory)?;
     values.push(value);
     Ok(())
-}
-
-/// Reads the item of a section with this id that begins these bytes of a component.
-fn item_at(bytes: &[u8], id: u32, range: Range<usize>) -> Result<(Range<usize>, ItemView<'_>)> {
-    let items = numbers::section(id).and_then(|section| Items::at(bytes, section, range, 1));
-    Ok(items.and_then(|mut items| items.next()).ok_or(Status::BadItem)??)
 }
 
 /// `wenc_unread`: the part of a component that can't be read.

@@ -7,7 +7,7 @@ use crate::arguments::{Text, list};
 use crate::rows::{ItemRow, SectionRow};
 use crate::{Result, Status, numbers, put};
 use core::ops::Range;
-use wenc::{ComponentSectionId, DebugNames, Items, NamesReader, Sections};
+use wenc::{DebugNames, Items, NamesReader, Sections};
 
 /// `wenc_walk`: what is left of a component, and of the section that is being read.
 #[derive(Clone, Copy)]
@@ -35,14 +35,9 @@ impl Walk {
 
     /// Returns the items that are left of the section.
     unsafe fn items<'a>(&self) -> Result<Items<'a>> {
-        let (bytes, range) = (unsafe { self.bytes() }?, self.next_item..self.end);
-        // The content of a section that was skipped isn't read, whatever its id.
-        let id = if self.items == 0 {
-            Some(ComponentSectionId::Alias)
-        } else {
-            numbers::section(self.id)
-        };
-        let items = id.and_then(|id| Items::at(bytes, id, range, self.items));
+        let bytes = unsafe { self.bytes() }?;
+        let id = u8::try_from(self.id).map_err(|_| Status::BadArgument)?;
+        let items = Items::at(bytes, id, self.next_item..self.end, self.items);
         Ok(items.ok_or(Status::BadArgument)?)
     }
 

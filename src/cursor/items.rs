@@ -26,10 +26,13 @@ impl<'a> Items<'a> {
         Self { bytes, left: Some(left), count: left.left }
     }
 
-    /// Returns so many items of a section of this kind, whose bytes are these of a component, or
-    /// `None` if they aren't within its bytes. So a place in a section can be kept as numbers, those
-    /// of [`left`](Self::left). Other numbers read other items, or an error, in which the place of
-    /// the section is the first of these bytes.
+    /// Returns so many items of a section with this id, whose bytes are these of a component, or
+    /// `None` if they aren't within its bytes. The id, from 0 to 11, is that of a
+    /// [`SectionReader`](crate::SectionReader) or a [`ComponentSectionId`].
+    ///
+    /// So a place in a section can be kept as numbers, those of [`left`](Self::left). With other
+    /// numbers other items are read, or an error is returned, in which the place of the section is
+    /// that of the first of these bytes.
     ///
     /// ```
     /// use wenc::view::ItemView;
@@ -53,12 +56,12 @@ impl<'a> Items<'a> {
     /// ```
     pub fn at(
         bytes: &'a [u8],
-        section: ComponentSectionId,
+        id: impl Into<u8>,
         range: Range<usize>,
         count: u32,
     ) -> Option<Self> {
         let rest = bytes.get(range.clone())?;
-        let (id, place, ends) = (section.into(), range.start, range.end);
+        let (id, place, ends) = (id.into(), range.start, range.end);
         Some(Self::new(bytes, proved::SectionItems { id, place, ends, left: count, rest }))
     }
 
@@ -76,7 +79,7 @@ impl<'a> Items<'a> {
             (0, place) => Unread::Behind { place },
             (more, place) => Unread::Item { number: self.count - more, place },
         };
-        match (fault, left.id.try_into()) {
+        match (fault, ComponentSectionId::try_from(left.id)) {
             (proved::ListFault::BadItem { place }, Ok(section)) => {
                 let byte = left.rest.first().copied();
                 ListFault::BadItem { place, section, unread: Some(unread), byte }
@@ -84,6 +87,7 @@ impl<'a> Items<'a> {
             (proved::ListFault::TooDeep { place }, _) => {
                 ListFault::TooDeep { place, unread: Some(unread) }
             }
+            (proved::ListFault::BadItem { place }, Err(_)) => ListFault::BadSection { place },
             (fault, _) => ListFault::new(self.bytes, fault),
         }
     }

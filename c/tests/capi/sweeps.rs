@@ -154,16 +154,17 @@ fn each_alone_by_hand() {
 #[test]
 fn each_is_read_and_added_again() {
     for row in calls() {
-        let (size, name) = (Size::small(3), Some("name"));
+        let size = Size::small(3);
+        let name = row.own.as_ref().map_or_else(|| "name".into(), |own| own(&size));
         let mut model = Model::new();
-        row.model(&mut model, name, &size);
+        row.model(&mut model, Some(&name), &size);
         let bytes = model.clone().finish();
         let mut listing = Held::nothing();
         let status =
             unsafe { wenc_list(listing.at(), bytes.as_ptr(), bytes.len(), ptr::null_mut()) };
         assert_eq!(status, Status::Done, "{}", row.name);
         assert_eq!(counts(&mut listing), model.counts, "{}", row.name);
-        let (item, text) = ((row.bytes)(&size), named("name"));
+        let (item, text) = ((row.bytes)(&size), named(&name));
         let (section, at, len) = (row.id.into(), item.as_ptr(), item.len());
         let (mut copied, mut made) = (Held::builder(), Held::builder());
         let mut indices = [UNTOUCHED; 2];

@@ -509,7 +509,7 @@ fn relisted(bytes: &[u8]) -> Vec<u8> {
 /// Real components, and debug names in them, beside what Rust reads.
 #[test]
 fn real_components_are_read_as_in_rust() {
-    let folder = concat!(env!("CARGO_MANIFEST_DIR"), "/tests/real/corpus/wasm");
+    let folder = concat!(env!("CARGO_MANIFEST_DIR"), "/../tests/real/corpus/wasm");
     let (mut items_len, mut names_len) = (0, 0);
     for file in std::fs::read_dir(folder).expect("the corpus is there") {
         let bytes = std::fs::read(file.expect("a file").path()).expect("it can be read");
