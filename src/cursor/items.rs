@@ -27,7 +27,7 @@ impl<'a> Items<'a> {
     }
 
     /// Returns so many items of a section with this id, whose bytes are these of a component, or
-    /// `None` if they aren't within its bytes. The id, from 0 to 11, is that of a
+    /// `None` if they aren't within its bytes, or are more than one module or component. The id, from 0 to 11, is that of a
     /// [`SectionReader`](crate::SectionReader) or a [`ComponentSectionId`].
     ///
     /// So a place in a section can be kept as numbers, those of [`left`](Self::left). With other
@@ -54,14 +54,14 @@ impl<'a> Items<'a> {
     /// assert!(Items::at(component, ComponentSectionId::Import, 21..22, 1).is_none());
     /// # Ok::<(), ListFault>(())
     /// ```
-    pub fn at(
-        bytes: &'a [u8],
-        id: impl Into<u8>,
-        range: Range<usize>,
-        count: u32,
-    ) -> Option<Self> {
-        let rest = bytes.get(range.clone())?;
-        let (id, place, ends) = (id.into(), range.start, range.end);
+    pub fn at(bytes: &'a [u8], id: impl Into<u8>, range: Range<usize>, count: u32) -> Option<Self> {
+        let (id, rest) = (id.into(), bytes.get(range.clone())?);
+        // A module and a component take all bytes, and may have none.
+        let is_whole = [ComponentSectionId::CoreModule, ComponentSectionId::Component];
+        if count > 1 && is_whole.map(u8::from).contains(&id) {
+            return None;
+        }
+        let (place, ends) = (range.start, range.end);
         Some(Self::new(bytes, proved::SectionItems { id, place, ends, left: count, rest }))
     }
 

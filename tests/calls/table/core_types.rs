@@ -257,13 +257,18 @@ fn guarded(bytes: Vec<u8>) -> Vec<u8> {
 
 fn of_shape(shape: &'static Shape) -> Call {
     let declare: Declare = Box::new(|types, a| (shape.write)(types.module.try_ty()?, a));
+    let as_tree: Declare = Box::new(|types, a| {
+        let tree = calmly(|| shape.tree(a));
+        types.module.try_ty()?.try_tree(&tree)
+    });
+    let member = |declare| (Box::new(|a: &Size| bytes![0x01, shape.bytes(a)]) as Bytes, declare);
     row(
         shape.name.into(),
         |ty, a| (shape.write)(ty.core(), a),
         |a| CoreTypeTree::Group(shape.tree(a)),
         |a| shape.seen(a).into_iter().map(|index| here(Space::CoreTypes, index)).collect(),
         |a| guarded(shape.bytes(a)),
-        vec![(Box::new(|a| bytes![0x01, shape.bytes(a)]), declare)],
+        [declare, as_tree].map(member).into(),
     )
 }
 
