@@ -187,15 +187,15 @@ macro_rules! appended {
     }};
 }
 
-/// What is empty is made or refused; a section is appended whole or not at all. The room for its id
-/// alone may be refused.
+/// What is empty is made or refused; a section is appended whole or not at all.
 #[test]
 fn components_and_modules_are_made_by_hand() {
     assert_eq!(refusing(0, Component::try_new), (Err(Error::NoMemory), true));
     assert_eq!(refusing(0, Module::try_new), (Err(Error::NoMemory), true));
-    let wanted = [(true, true, true), (true, false, false), (false, true, true)];
-    assert_eq!([0, 1, 2].map(|n| appended!(Component, n)), wanted);
-    assert_eq!([0, 1, 2].map(|n| appended!(Module, n)), wanted);
+    // The first request is for the id.
+    let wanted = [(true, false, false), (false, true, true)];
+    assert_eq!([1, 2].map(|n| appended!(Component, n)), wanted);
+    assert_eq!([1, 2].map(|n| appended!(Module, n)), wanted);
 }
 
 /// Each item of the component is added by a command, and at last all of it as a nested component.
