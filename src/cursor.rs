@@ -71,8 +71,8 @@ impl<'a> Sections<'a> {
         Ok(Self { bytes, left: Some(left) })
     }
 
-    /// Returns the sections from this byte offset on, or `None` if it exceeds the number of bytes. So
-    /// a place in a component can be kept as a number: [`offset`](Self::offset), or an end of a
+    /// Returns the sections from this byte offset on, or `None` if it exceeds the number of bytes.
+    /// So a place in a component can be kept as a number: [`offset`](Self::offset), or an end of a
     /// section's [`range`](SectionReader::range). Neither the header nor the sections before it are
     /// read; from any other offset on, other sections are read, or an error is returned.
     ///

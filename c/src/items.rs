@@ -90,12 +90,14 @@ calls! {
         name[name_len]: text, kind: u32, item: u32, reference: u32, of: u32
     ) -> index = |session| {
         let kind = known(c"kind", numbers::kind(kind))?;
-        session.export(name.into(), kind, item, known(c"ref", numbers::maybe_type_ref(reference, of))?)
+        let ty = known(c"ref", numbers::maybe_type_ref(reference, of))?;
+        session.export(name.into(), kind, item, ty)
     };
     wenc_export_named(&name: Name, kind: u32, item: u32, reference: u32, of: u32) -> index
         = |session| {
         let kind = known(c"kind", numbers::kind(kind))?;
-        session.export(name.read()?, kind, item, known(c"ref", numbers::maybe_type_ref(reference, of))?)
+        let name = name.read()?;
+        session.export(name, kind, item, known(c"ref", numbers::maybe_type_ref(reference, of))?)
     };
     wenc_alias_export(instance: u32, kind: u32, name[name_len]: text) -> index = |session| {
         let kind = known(c"kind", numbers::kind(kind))?;
@@ -190,7 +192,8 @@ calls! {
         }
     };
     wenc_core_exports(debug_name: name, exports[exports_len]: Part) -> index = |session| {
-        let exports = named(c"exports", exports, |kind, item| Some((numbers::core_kind(kind)?, item)))?;
+        let item = |kind, item| Some((numbers::core_kind(kind)?, item));
+        let exports = named(c"exports", exports, item)?;
         let exports = exports.map(|(name, (kind, item))| (name, kind, item));
         match session {
             Session::Building(to) => Ok(to.try_core_instantiate_exports(debug_name, exports)?),

@@ -1,9 +1,9 @@
-//! The functions of `wenc.h`: they read the numbers, pointers and lengths of C, and make the calls of
-//! the crate `wenc`. `library` makes the library for C of them.
+//! The functions of `wenc.h`: they read the numbers, pointers and lengths of C, and make the calls
+//! of the crate `wenc`. `library` makes the library for C of them.
 //!
 //! A call reads its arguments, whole lists included, before it changes anything; so a call that
-//! fails changes nothing. A pointer that comes with a length of 0 isn't read. Any other pointer must
-//! be NULL or as the header says, which nothing can check.
+//! fails changes nothing. A pointer that comes with a length of 0 isn't read. Any other pointer
+//! must be NULL or as the header says, which nothing can check.
 #![no_std]
 #![warn(unused_qualifications)]
 #![allow(clippy::missing_safety_doc, reason = "`wenc.h` says what each call needs")]

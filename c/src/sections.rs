@@ -41,7 +41,9 @@ calls! {
             _ => Err(Refused::bad(c"section")),
         }
     };
-    wenc_names_component(name[name_len]: text) = |session| Ok(of_names(session)?.try_component(name)?);
+    wenc_names_component(name[name_len]: text) = |session| {
+        Ok(of_names(session)?.try_component(name)?)
+    };
     wenc_names_items(space: u32, names[names_len]: IndexName) = |session| {
         let section = of_names(session)?;
         let space = known(c"space", numbers::space(space))?;

@@ -203,7 +203,7 @@ impl Session {
         })
     }
 
-    /// Returns the index of a type that an encoder has written, or discards the type if that failed.
+    /// Returns the index of a type that an encoder wrote, or discards the type if that failed.
     fn settled(&mut self, written: Result<(), Error>, index: u32) -> Result<u32> {
         written.map(|()| index).map_err(|error| {
             match self {

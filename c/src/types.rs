@@ -75,7 +75,8 @@ calls! {
     };
     wenc_type_result(debug_name: name, ok_ref: u32, ok_of: u32, err_ref: u32, err_of: u32) -> index
         = |session| {
-        let (ok, err) = (maybe_value(c"ok_ref", ok_ref, ok_of)?, maybe_value(c"err_ref", err_ref, err_of)?);
+        let ok = maybe_value(c"ok_ref", ok_ref, ok_of)?;
+        let err = maybe_value(c"err_ref", err_ref, err_of)?;
         defined(session, debug_name, |encoder| encoder.try_result(ok, err))
     };
     wenc_type_own(debug_name: name, resource: u32) -> index = |session| {

@@ -27,8 +27,9 @@ impl<'a> Items<'a> {
     }
 
     /// Returns so many items of a section with this id, whose bytes are these of a component, or
-    /// `None` if they aren't within its bytes, or are more than one module or component. The id, from 0 to 11, is that of a
-    /// [`SectionReader`](crate::SectionReader) or a [`ComponentSectionId`].
+    /// `None` if they aren't within its bytes, or are more than one module or component. The id,
+    /// from 0 to 11, is that of a [`SectionReader`](crate::SectionReader) or a
+    /// [`ComponentSectionId`].
     ///
     /// So a place in a section can be kept as numbers, those of [`left`](Self::left). With other
     /// numbers other items are read, or an error is returned, in which the place of the section is

@@ -52,10 +52,10 @@ impl<'a> NamesReader<'a> {
         Self { data, rest: Some(data), within: None }
     }
 
-    /// Returns the names from this byte offset of the data on, or `None` if it exceeds the number of
-    /// bytes. A subsection begins there, or `within` one a name, with the subsection's space and the
-    /// number of its names that are left: as [`left`](Self::left) says. Elsewhere other names are
-    /// read, or an error is returned.
+    /// Returns the names from this byte offset of the data on, or `None` if it exceeds the number
+    /// of bytes. A subsection begins there, or `within` one a name, with the subsection's space and
+    /// the number of its names that are left: as [`left`](Self::left) says. Elsewhere other names
+    /// are read, or an error is returned.
     pub fn at(data: &'a [u8], place: usize, within: Option<(Space, u32)>) -> Option<Self> {
         let within = within.filter(|(_, left)| *left > 0);
         Some(Self { data, rest: Some(data.get(place..)?), within })

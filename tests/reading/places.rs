@@ -37,8 +37,8 @@ fn real_components_are_read_on_from_each_place() {
     assert!(sections_len > 500 && items_len > 1500, "{sections_len} {items_len}");
 }
 
-/// Whatever the numbers are, items within the bytes are read, or an error comes once, and the end is
-/// reached after no more items than there are bytes.
+/// Whatever the numbers are, items within the bytes are read, or an error comes once, and the end
+/// is reached after no more items than there are bytes.
 #[test]
 fn any_place_is_read_or_refused() {
     let bytes = component(
