@@ -64,7 +64,7 @@ impl Listed {
     }
 
     /// Returns the number of sections.
-    pub fn len(&self) -> usize {
+    pub(crate) fn len(&self) -> usize {
         self.sections.len()
     }
 

@@ -222,7 +222,7 @@ fn row(
     let as_tree =
         move |ty: ComponentCoreTypeEncoder<'_>, a: &Size| ty.try_tree(&calmly(|| tree(a)));
     Call {
-        name: name,
+        name,
         id: 3,
         space: Some(Space::CoreTypes),
         takes: 1,
