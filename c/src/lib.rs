@@ -5,7 +5,6 @@
 //! fails changes nothing. A pointer that comes with a length of 0 isn't read. Any other pointer
 //! must be NULL or as the header says, which nothing can check.
 #![no_std]
-#![warn(unused_qualifications)]
 #![allow(clippy::missing_safety_doc, reason = "`wenc.h` says what each call needs")]
 
 extern crate alloc;

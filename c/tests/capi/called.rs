@@ -196,9 +196,15 @@ fn canon(handle: *mut Handle, debug_name: &Option<String>, canon: &CanonTree) ->
     called!(wenc_builtin_with(handle, number, first, o.as_ptr(), o.len()))
 }
 
+/// Names alone: their numbers aren't used.
+fn names(names: &[String]) -> Vec<Part> {
+    parts(names.iter().map(|name| (name, (55, 56))))
+}
+
 /// Calls that take the same.
 type Parts = unsafe extern "C" fn(*mut Handle, *const Text, *const Part, usize, *mut u32) -> Status;
 type Value = unsafe extern "C" fn(*mut Handle, *const Text, u32, u32, *mut u32) -> Status;
+type Two = unsafe extern "C" fn(*mut Handle, *const Text, u32, u32, u32, u32, *mut u32) -> Status;
 
 fn defined(handle: *mut Handle, debug_name: &Option<String>, ty: &DefinedTree) -> Done {
     use DefinedTree::*;
@@ -206,7 +212,9 @@ fn defined(handle: *mut Handle, debug_name: &Option<String>, ty: &DefinedTree) -
         called_with!(call(handle, debug_name, members.as_ptr(), members.len()))
     };
     let of_value = |call: Value, (sort, of)| called_with!(call(handle, debug_name, sort, of));
-    let names = |names: &[String]| parts(names.iter().map(|name| (name, (55, 56))));
+    let of_two = |call: Two, one: (u32, u32), two: (u32, u32)| {
+        called_with!(call(handle, debug_name, one.0, one.1, two.0, two.1))
+    };
     match ty {
         Primitive(ty) => called_with!(wenc_type_primitive(handle, debug_name, primitive(*ty))),
         Record(fields) => {
@@ -228,18 +236,12 @@ fn defined(handle: *mut Handle, debug_name: &Option<String>, ty: &DefinedTree) -
         Stream(ty) => of_value(wenc_type_stream, maybe_value(*ty)),
         Own(index) => called_with!(wenc_type_own(handle, debug_name, *index)),
         Borrow(index) => called_with!(wenc_type_borrow(handle, debug_name, *index)),
-        FixedLengthList { element, length } => {
+        FixedLengthList { element, length: n } => {
             let (sort, of) = value(*element);
-            called_with!(wenc_type_fixed_length_list(handle, debug_name, sort, of, *length))
+            called_with!(wenc_type_fixed_length_list(handle, debug_name, sort, of, *n))
         }
-        Map { key, value: of } => {
-            let (key, ty) = (value(*key), value(*of));
-            called_with!(wenc_type_map(handle, debug_name, key.0, key.1, ty.0, ty.1))
-        }
-        Result { ok, err } => {
-            let (ok, err) = (maybe_value(*ok), maybe_value(*err));
-            called_with!(wenc_type_result(handle, debug_name, ok.0, ok.1, err.0, err.1))
-        }
+        Map { key, value: of } => of_two(wenc_type_map, value(*key), value(*of)),
+        Result { ok, err } => of_two(wenc_type_result, maybe_value(*ok), maybe_value(*err)),
     }
 }
 
