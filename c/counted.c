@@ -2,7 +2,7 @@
  * wenc_free, or by wenc_component, which gives the nested builder up; also where a call is refused,
  * and where each request for memory is refused in turn.
  *
- *     cargo rustc --profile c --no-default-features --features capi --lib --crate-type staticlib
+ *     cargo build --profile c -p libwenc
  *     gcc -Wl,--wrap=malloc,--wrap=calloc,--wrap=realloc,--wrap=free c/counted.c target/c/libwenc.a
  *     ./a.out */
 #include <stdio.h>

@@ -1,7 +1,7 @@
 /* A component that imports a function, has a nested component and a core module, and exports what
  * it lifts from that module: its bytes in hexadecimal, and its sections.
  *
- *     cargo rustc --profile c --no-default-features --features capi --lib --crate-type staticlib
+ *     cargo build --profile c -p libwenc
  *     gcc -Wall -Wextra -Werror -o example c/example.c target/c/libwenc.a && ./example */
 #include <stdio.h>
 #include <stdlib.h>

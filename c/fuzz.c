@@ -4,7 +4,7 @@
  * nothing. All memory is given back.
  *
  *     c/fuzz.py >cases.h
- *     cargo rustc --profile c --no-default-features --features capi --lib --crate-type staticlib
+ *     cargo build --profile c -p libwenc
  *     gcc -I c -I . -g -fsanitize=address,undefined -Wl,--wrap=malloc,--wrap=calloc \
  *         -Wl,--wrap=realloc,--wrap=free -o fuzz c/fuzz.c target/c/libwenc.a
  *     ./fuzz FIRST HOW_MANY */

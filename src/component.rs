@@ -24,11 +24,11 @@ pub use names::*;
 pub use start::*;
 pub use types::*;
 
-use crate::encode::{Encode, Foreign, append, copied};
-use crate::error::or_panic;
+use crate::encode::{Encode, Foreign, Own, copied};
+use crate::error::{Error, or_panic};
 use crate::proved::wasm_encoder as proved;
+use crate::twins::twins;
 use alloc::vec::Vec;
-use core::cell::Cell;
 use core::fmt;
 
 pub use proved::ComponentSectionId;
@@ -72,16 +72,20 @@ pub trait ComponentSection: Encode {
     ///
     /// Panics as [`Encode::encode`] does, with `dst` unchanged.
     fn append_to_component(&self, dst: &mut Vec<u8>) {
-        append_section(self, dst);
+        or_panic(append_section(self, dst));
     }
 }
 
 /// Appends a section with its id, or leaves the bytes unchanged. Room for the id is reserved
 /// separately: if that fails, the section is written first and then moved.
-fn append_section<S: ComponentSection + ?Sized>(section: &S, dst: &mut Vec<u8>) {
+fn append_section<S: ComponentSection + ?Sized>(
+    section: &S,
+    dst: &mut Vec<u8>,
+) -> Result<(), Error> {
     let _ = dst.try_reserve(1);
-    let section = Foreign { value: section, own: &Cell::default() };
-    or_panic(append(dst, |sink| proved::ComponentSection::append_to_component(&section, sink)));
+    let own = Own::default();
+    let section = Foreign { value: section, own: &own };
+    own.append(dst, |sink| proved::ComponentSection::append_to_component(&section, sink))
 }
 
 impl<S: ComponentSection + ?Sized> proved::ComponentSection for Foreign<'_, S> {
@@ -121,9 +125,18 @@ impl Component {
     ///
     /// # Panics
     ///
-    /// Panics if an allocation fails.
+    /// Panics if [`try_new`](Self::try_new) fails.
     pub fn new() -> Self {
-        Self { bytes: or_panic(copied(Self::HEADER)) }
+        or_panic(Self::try_new())
+    }
+
+    /// Does what [`new`](Self::new) does, but returns an error instead of panicking.
+    ///
+    /// # Errors
+    ///
+    /// [`NoMemory`](Error::NoMemory).
+    pub fn try_new() -> Result<Self, Error> {
+        Ok(Self { bytes: copied(Self::HEADER)? })
     }
 
     /// Returns the bytes of the component.
@@ -131,14 +144,13 @@ impl Component {
         self.bytes
     }
 
-    /// Appends a section.
-    ///
-    /// # Panics
-    ///
-    /// Panics as [`Encode::encode`] does, with the component unchanged.
-    pub fn section(&mut self, section: &impl ComponentSection) -> &mut Self {
-        append_section(section, &mut self.bytes);
-        self
+    twins! {
+        /// Appends a section. A section of your own fails as its
+        /// [`try_encode`](Encode::try_encode) does.
+        fn section | try_section(&mut self, section: &impl ComponentSection) -> &mut Self {
+            append_section(section, &mut self.bytes)?;
+            Ok(self)
+        }
     }
 
     /// Returns the bytes so far.

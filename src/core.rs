@@ -26,12 +26,12 @@ pub use tags::{TagKind, TagType};
 pub use types::*;
 
 use crate::UnknownSectionId;
-use crate::encode::{Encode, Foreign, append, copied, encode};
-use crate::error::or_panic;
+use crate::encode::{Encode, Foreign, Own, copied, encode};
+use crate::error::{Error, or_panic};
 use crate::proved::wasm_encoder as proved;
 use crate::proved::wenc_base::Verbatim;
+use crate::twins::twins;
 use alloc::vec::Vec;
-use core::cell::Cell;
 
 /// A section of a core module ([WebAssembly 3.0, binary format, "Sections"][sections]). A type of
 /// your own can implement it too.
@@ -72,16 +72,17 @@ pub trait Section: Encode {
     ///
     /// Panics as [`Encode::encode`] does, with `dst` unchanged.
     fn append_to(&self, dst: &mut Vec<u8>) {
-        append_section(self, dst);
+        or_panic(append_section(self, dst));
     }
 }
 
 /// Appends a section with its id, or leaves the bytes unchanged. Room for the id is reserved
 /// separately, as for a section of a component.
-fn append_section<S: Section + ?Sized>(section: &S, dst: &mut Vec<u8>) {
+fn append_section<S: Section + ?Sized>(section: &S, dst: &mut Vec<u8>) -> Result<(), Error> {
     let _ = dst.try_reserve(1);
-    let section = Foreign { value: section, own: &Cell::default() };
-    or_panic(append(dst, |sink| proved::Section::append_to(&section, sink)));
+    let own = Own::default();
+    let section = Foreign { value: section, own: &own };
+    own.append(dst, |sink| proved::Section::append_to(&section, sink))
 }
 
 impl<S: Section + ?Sized> proved::Section for Foreign<'_, S> {
@@ -190,19 +191,27 @@ impl Module {
     ///
     /// # Panics
     ///
-    /// Panics if an allocation fails.
+    /// Panics if [`try_new`](Self::try_new) fails.
     pub fn new() -> Self {
-        Self { bytes: or_panic(copied(Self::HEADER)) }
+        or_panic(Self::try_new())
     }
 
-    /// Appends a section.
+    /// Does what [`new`](Self::new) does, but returns an error instead of panicking.
     ///
-    /// # Panics
+    /// # Errors
     ///
-    /// Panics as [`Encode::encode`] does, with the module unchanged.
-    pub fn section(&mut self, section: &impl Section) -> &mut Self {
-        append_section(section, &mut self.bytes);
-        self
+    /// [`NoMemory`](Error::NoMemory).
+    pub fn try_new() -> Result<Self, Error> {
+        Ok(Self { bytes: copied(Self::HEADER)? })
+    }
+
+    twins! {
+        /// Appends a section. A section of your own fails as its
+        /// [`try_encode`](Encode::try_encode) does.
+        fn section | try_section(&mut self, section: &impl Section) -> &mut Self {
+            append_section(section, &mut self.bytes)?;
+            Ok(self)
+        }
     }
 
     /// Returns the bytes so far.

@@ -71,6 +71,33 @@ impl<'a> Sections<'a> {
         Ok(Self { bytes, left: Some(left) })
     }
 
+    /// Returns the sections from this byte offset on, or `None` if it exceeds the number of bytes.
+    /// So a place in a component can be kept as a number: [`offset`](Self::offset), or an end of a
+    /// section's [`range`](SectionReader::range). Neither the header nor the sections before it are
+    /// read; from any other offset on, other sections are read, or an error is returned.
+    ///
+    /// ```
+    /// use wenc::{ListFault, Sections};
+    ///
+    /// // an alias section without an item, twice
+    /// let component = b"\0asm\x0d\0\x01\0\x06\x01\0\x06\x01\0";
+    /// let first = Sections::new(component)?.next().expect("a section")?;
+    /// let mut sections = Sections::at(component, first.range().end).expect("it is within");
+    /// assert_eq!(sections.next().expect("a section")?.range(), 11..14);
+    /// assert_eq!(sections.offset(), Some(14));
+    /// assert!(Sections::at(component, 15).is_none());
+    /// # Ok::<(), ListFault>(())
+    /// ```
+    pub fn at(bytes: &'a [u8], offset: usize) -> Option<Self> {
+        let left = proved::Sections { ends: bytes.len(), rest: bytes.get(offset..)? };
+        Some(Self { bytes, left: Some(left) })
+    }
+
+    /// Returns the byte offset of the next section, or of the end; `None` after an error.
+    pub fn offset(&self) -> Option<usize> {
+        self.left.map(|left| left.place())
+    }
+
     /// Returns the next section as its id and the bytes after its size, with its byte offsets,
     /// without reading its content; `None` at the end, after an error, and if there is no id or no
     /// size within bounds. A copy made before an error can continue past the section that can't be
@@ -230,8 +257,7 @@ impl<'a> Sections<'a> {
 
 impl fmt::Debug for Sections<'_> {
     fn fmt(&self, f: &mut fmt::Formatter<'_>) -> fmt::Result {
-        let offset = self.left.map(|left| left.place());
-        f.debug_struct("Sections").field("offset", &offset).finish_non_exhaustive()
+        f.debug_struct("Sections").field("offset", &self.offset()).finish_non_exhaustive()
     }
 }
 

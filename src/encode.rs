@@ -1,7 +1,6 @@
 //! Values with an encoding in the binary format.
 
 use crate::Error;
-use crate::error::or_panic;
 use crate::proved::wenc_base::{self as proved, Fault};
 use crate::shim::alloc::Allocator;
 use crate::shim::vec::Vec as ProvedVec;
@@ -30,6 +29,25 @@ pub trait Encode {
     /// unfinished, a core type isn't in WebAssembly 3.0, or an allocation fails.
     fn encode(&self, sink: &mut Vec<u8>);
 
+    /// Does what [`encode`](Self::encode) does, but returns an error instead of panicking. A type
+    /// of your own that doesn't define it calls `encode`, and panics where that panics.
+    ///
+    /// # Errors
+    ///
+    /// Fails as [`Error`] describes, with the sink unchanged.
+    ///
+    /// ```
+    /// use wenc::{ComponentTypeSection, Encode, Error};
+    ///
+    /// let mut types = ComponentTypeSection::new();
+    /// drop(types.function());
+    /// assert_eq!(types.try_encode(&mut Vec::new()), Err(Error::Unfinished));
+    /// ```
+    fn try_encode(&self, sink: &mut Vec<u8>) -> Result<(), Error> {
+        self.encode(sink);
+        Ok(())
+    }
+
     /// Whether `encode` is this crate's, which never changes the bytes already in the sink. Other
     /// crates can't override this.
     #[doc(hidden)]
@@ -43,9 +61,14 @@ pub trait Encode {
 /// method.
 pub struct Appends(pub(crate) bool);
 
-/// Implements `appends` for this crate's types.
-macro_rules! appends {
+/// Implements `encode` by `try_encode`, and `appends`, for this crate's types.
+macro_rules! encode_or_panic {
     () => {
+        #[inline]
+        fn encode(&self, sink: &mut alloc::vec::Vec<u8>) {
+            $crate::error::or_panic(self.try_encode(sink));
+        }
+
         #[inline]
         fn appends(&self) -> $crate::encode::Appends {
             $crate::encode::Appends(true)
@@ -53,7 +76,7 @@ macro_rules! appends {
     };
 }
 
-pub(crate) use appends;
+pub(crate) use encode_or_panic;
 
 /// A sink that was taken from its owner and is given back on drop, truncated to what it had before
 /// if a user's `Encode` panicked.
@@ -90,12 +113,11 @@ pub(crate) fn append<E>(
 
 /// Appends the encoding of a value of the proved code, which never panics on its way.
 #[inline]
-#[track_caller]
-pub(crate) fn append_proved<T: proved::Encode>(sink: &mut Vec<u8>, value: &T) {
+pub(crate) fn append_proved<T: proved::Encode>(sink: &mut Vec<u8>, value: &T) -> Result<(), Error> {
     let mut bytes = ProvedVec::from(take(sink));
     let result = value.encode(&mut bytes);
     *sink = bytes.into();
-    or_panic(result);
+    Ok(result?)
 }
 
 /// Returns a vector of these bytes.
@@ -111,22 +133,48 @@ pub(crate) fn copied(bytes: [u8; 8]) -> Result<Vec<u8>, Error> {
 #[derive(Clone, Copy)]
 pub(crate) struct Foreign<'a, T: ?Sized> {
     pub value: &'a T,
+    pub own: &'a Own,
+}
+
+/// What the values of a list have in common.
+#[derive(Default)]
+pub(crate) struct Own {
     /// The sink for users' implementations, reused from one value to the next.
-    pub own: &'a Cell<Vec<u8>>,
+    sink: Cell<Vec<u8>>,
+    /// The error of a value, which the proved code knows as another.
+    error: Cell<Option<Error>>,
+}
+
+impl Own {
+    /// Appends values to the sink, or leaves it unchanged.
+    pub(crate) fn append(
+        &self,
+        sink: &mut Vec<u8>,
+        write: impl FnOnce(&mut ProvedVec<u8>) -> Result<(), Fault>,
+    ) -> Result<(), Error> {
+        append(sink, write).map_err(|fault| self.error.take().unwrap_or(fault.into()))
+    }
+
+    /// Keeps the error of a value.
+    #[cold]
+    fn refused(&self, error: Error) -> Fault {
+        self.error.set(Some(error));
+        Fault::Unfinished
+    }
 }
 
 impl<T: Encode + ?Sized> proved::Encode for Foreign<'_, T> {
     #[inline]
     fn encode<A: Allocator>(&self, sink: &mut ProvedVec<u8, A>) -> Result<(), Fault> {
+        let refused = |error| self.own.refused(error);
         if self.value.appends().0 {
-            self.value.encode(&mut sink.inner);
-            return Ok(());
+            return self.value.try_encode(&mut sink.inner).map_err(refused);
         }
-        let mut own = self.own.take();
+        let mut own = self.own.sink.take();
         own.clear();
-        self.value.encode(&mut own);
+        self.value.try_encode(&mut own).map_err(refused)?;
         sink.extend_from_slice(&own)?;
-        self.own.set(own);
+        self.own.sink.set(own);
         Ok(())
     }
 }
@@ -148,6 +196,11 @@ impl<T: Encode + ?Sized> Encode for &T {
     }
 
     #[inline]
+    fn try_encode(&self, sink: &mut Vec<u8>) -> Result<(), Error> {
+        T::try_encode(self, sink)
+    }
+
+    #[inline]
     fn appends(&self) -> Appends {
         T::appends(self)
     }
@@ -155,51 +208,51 @@ impl<T: Encode + ?Sized> Encode for &T {
 
 /// Encodes a list: the number of values, then each value.
 impl<T: Encode> Encode for [T] {
-    fn encode(&self, sink: &mut Vec<u8>) {
-        let own = Cell::default();
+    fn try_encode(&self, sink: &mut Vec<u8>) -> Result<(), Error> {
+        let own = Own::default();
         let values = self.iter().map(|value| Foreign { value, own: &own });
-        or_panic(append(sink, |sink| proved::encode_list(values, sink)));
+        own.append(sink, |sink| proved::encode_list(values, sink))
     }
 
-    appends! {}
+    encode_or_panic! {}
 }
 
 impl<T: Encode> Encode for Option<T> {
-    fn encode(&self, sink: &mut Vec<u8>) {
-        let own = Cell::default();
+    fn try_encode(&self, sink: &mut Vec<u8>) -> Result<(), Error> {
+        let own = Own::default();
         let value = self.as_ref().map(|value| Foreign { value, own: &own });
-        or_panic(append(sink, |sink| proved::Encode::encode(&value, sink)));
+        own.append(sink, |sink| proved::Encode::encode(&value, sink))
     }
 
-    appends! {}
+    encode_or_panic! {}
 }
 
 /// Encodes a list of bytes.
 impl Encode for [u8] {
     #[inline]
-    fn encode(&self, sink: &mut Vec<u8>) {
-        append_proved(sink, &self);
+    fn try_encode(&self, sink: &mut Vec<u8>) -> Result<(), Error> {
+        append_proved(sink, &self)
     }
 
-    appends! {}
+    encode_or_panic! {}
 }
 
 impl Encode for str {
     #[inline]
-    fn encode(&self, sink: &mut Vec<u8>) {
-        append_proved(sink, &self);
+    fn try_encode(&self, sink: &mut Vec<u8>) -> Result<(), Error> {
+        append_proved(sink, &self)
     }
 
-    appends! {}
+    encode_or_panic! {}
 }
 
 impl Encode for usize {
     #[inline]
-    fn encode(&self, sink: &mut Vec<u8>) {
-        or_panic(u32::try_from(*self).map_err(|_| Error::TooMany)).encode(sink);
+    fn try_encode(&self, sink: &mut Vec<u8>) -> Result<(), Error> {
+        u32::try_from(*self).map_err(|_| Error::TooMany)?.try_encode(sink)
     }
 
-    appends! {}
+    encode_or_panic! {}
 }
 
 /// Implements [`Encode`] by the proved encoding of the expression after the arrow.
@@ -207,12 +260,12 @@ macro_rules! encode {
     ($($type:ty, $value:ident => $proved:expr;)*) => {
         $(impl $crate::Encode for $type {
             #[inline]
-            fn encode(&self, sink: &mut alloc::vec::Vec<u8>) {
+            fn try_encode(&self, sink: &mut alloc::vec::Vec<u8>) -> Result<(), $crate::Error> {
                 let $value = self;
-                $crate::encode::append_proved(sink, &$proved);
+                $crate::encode::append_proved(sink, &$proved)
             }
 
-            $crate::encode::appends! {}
+            $crate::encode::encode_or_panic! {}
         })*
     };
 }

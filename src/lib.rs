@@ -79,14 +79,11 @@
 //!
 //! # Features
 //!
-//! The crate is `no_std` and needs `alloc`. None of its features is on by default:
+//! The crate is `no_std` and needs `alloc`. It has one feature, which is off by default:
 //!
 //! - `reader` adds the reading of components, and items as values: [`list`], [`Sections`],
 //!   [`CoreSections`], [`DebugNames`], [`ProducersReader`], [`ItemSection`], [`tree`] and [`view`].
 //!   The crate then takes longer to compile.
-//! - `capi` adds the functions of `c/wenc.h`, for C. In a profile that aborts on panic, the library
-//!   allocates by C's `malloc` alone; any other profile needs `std` too.
-//! - `std` links Rust's `std`, which nothing else here needs.
 // Without the feature there is nothing to link to but its description.
 #![cfg_attr(not(feature = "reader"), doc = "")]
 #![cfg_attr(not(feature = "reader"), doc = "[`list`]: #features")]
@@ -99,16 +96,14 @@
 #![cfg_attr(not(feature = "reader"), doc = "[`tree`]: #features")]
 #![cfg_attr(not(feature = "reader"), doc = "[`view`]: #features")]
 #![no_std]
-#![cfg_attr(not(feature = "capi"), forbid(unsafe_code))]
+#![forbid(unsafe_code)]
 #![deny(missing_docs)]
 #![warn(clippy::missing_errors_doc, clippy::missing_panics_doc)]
 
 extern crate alloc;
-#[cfg(any(feature = "std", test))]
+#[cfg(test)]
 extern crate std;
 
-#[cfg(feature = "capi")]
-mod capi;
 mod collections;
 mod component;
 mod core;
@@ -155,7 +150,7 @@ pub use error::{Error, Unsupported};
 #[cfg(feature = "reader")]
 pub use list::{Definitions, Found, ListFault, ListedSection, Listing, Unread, list};
 #[cfg(feature = "reader")]
-pub use names::{DebugNames, NamesFault};
+pub use names::{DebugName, DebugNames, NamesFault, NamesReader};
 #[cfg(feature = "reader")]
 pub use producers::{Producer, ProducersFault, ProducersReader};
 pub use raw::RawSection;

@@ -1,6 +1,6 @@
 //! The debug names of a component.
 
-use crate::proved::wenc_list::{Names, names_of, part_of};
+use crate::proved::wenc_list::part_of;
 use crate::proved::wenc_sections::names::NAMES_LABEL;
 use crate::proved::wenc_view::text_of;
 use crate::tree::{ItemTree, Space};
@@ -11,7 +11,10 @@ use alloc::string::String;
 use by_index::ByIndex;
 use core::fmt;
 
+pub use reader::{DebugName, NamesReader};
+
 mod by_index;
+mod reader;
 
 /// The debug names of a component and of its items ([component model, binary format, "Name
 /// Section"][names]), which the custom section `component-name` contains. If that names something
@@ -106,32 +109,18 @@ impl DebugNames {
 
     /// Adds the names of all subsections.
     fn read_data(&mut self, data: &[u8]) -> Result<(), NamesFault> {
-        let mut rest = data;
-        while !rest.is_empty() {
-            let place = data.len() - rest.len();
-            let (names, behind) =
-                names_of(rest).map_err(|_| NamesFault::BadSubsection { place })?;
-            self.add(names).map_err(|_| NamesFault::NoMemory)?;
-            rest = behind;
-        }
-        Ok(())
+        NamesReader::new(data)
+            .try_for_each(|name| self.add(name?).map_err(|_| NamesFault::NoMemory))
     }
 
-    /// Adds the names of a subsection to those that were read before it.
-    fn add(&mut self, names: Names<'_>) -> Result<(), TryReserveError> {
-        match names {
-            Names::Component(name) => {
-                if self.component.is_none() {
-                    self.component = Some(owned(name)?);
-                }
-                Ok(())
-            }
-            Names::Items(space, mut names) => {
-                let items = &mut self.items[space.number()];
-                names.try_for_each(|item| items.add(item.index, item.name))
-            }
-            Names::Raw(..) => Ok(()),
+    /// Adds a name to those that were read before it.
+    fn add(&mut self, DebugName { item, name }: DebugName<'_>) -> Result<(), TryReserveError> {
+        match item {
+            Some((space, index)) => self.items[space.number()].add(index, name)?,
+            None if self.component.is_none() => self.component = Some(owned(name)?),
+            None => {}
         }
+        Ok(())
     }
 
     /// Returns the name of the component itself.

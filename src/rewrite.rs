@@ -2,7 +2,7 @@
 
 use crate::component::{ComponentSection, ComponentSectionId};
 use crate::cursor::SectionReader;
-use crate::encode::{Encode, append, appends, encode};
+use crate::encode::{Encode, append, encode, encode_or_panic};
 use crate::error::{Error, or_panic};
 use crate::list::ListedSection;
 use crate::proved::wasm_encoder as proved;
@@ -28,20 +28,20 @@ impl ComponentSection for SectionReader<'_> {
 
 /// Encodes each item in its shortest form, as an [`ItemSection`] does.
 ///
-/// # Panics
+/// # Errors
 ///
-/// Panics if an item belongs to another section, or if a section without a count doesn't have
+/// Fails if an item belongs to another section, or if a section without a count doesn't have
 /// exactly one item.
 impl Encode for ListedSection {
-    fn encode(&self, sink: &mut Vec<u8>) {
+    fn try_encode(&self, sink: &mut Vec<u8>) -> Result<(), Error> {
         let mut section = ItemSection::new(self.id);
         for item in &self.items {
-            or_panic(section.item(item));
+            section.item(item)?;
         }
-        section.encode(sink);
+        section.try_encode(sink)
     }
 
-    appends! {}
+    encode_or_panic! {}
 }
 
 impl ComponentSection for ListedSection {
@@ -256,11 +256,11 @@ impl ItemSection {
 }
 
 impl Encode for ItemSection {
-    fn encode(&self, sink: &mut Vec<u8>) {
-        or_panic(append(sink, |sink| self.append(sink)));
+    fn try_encode(&self, sink: &mut Vec<u8>) -> Result<(), Error> {
+        Ok(append(sink, |sink| self.append(sink))?)
     }
 
-    appends! {}
+    encode_or_panic! {}
 }
 
 impl ComponentSection for ItemSection {

@@ -119,6 +119,7 @@ fn a_component_is_built() {
     });
     are_upstreams(&bytes, 30253, 0xa1f_a008_65dd_ec10);
     is_made_by_commands(&bytes);
+    is_made_of_items(&bytes);
 }
 
 #[test]
@@ -157,6 +158,46 @@ fn sections_are_made_of_items() {
     });
 }
 
+/// Each item of the component is added as it was read.
+fn is_made_of_items(bytes: &[u8]) {
+    let items = || Sections::new(bytes).expect("it is a component").items();
+    let made = each_is_refused(30, |refusals| {
+        let mut builder = refusals.call(ComponentBuilder::try_new);
+        for item in items() {
+            let (_, item) = item.expect("it is read");
+            refusals.call(|| {
+                let result = builder.try_item(Some(NAME), &item);
+                assert!(builder.is_finished());
+                result
+            });
+        }
+        builder.try_finish().expect("it takes no memory")
+    });
+    assert!(made == bytes);
+}
+
+/// Appends a section with the request number `n` refused. Returns whether there was one, whether it
+/// failed, and whether there is more than the header.
+macro_rules! appended {
+    ($whole:ident, $n:expr) => {{
+        let (mut whole, raw) = ($whole::new(), RawSection { id: 0, data: NAME.as_bytes() });
+        let (result, was_refused) = refusing($n, || whole.try_section(&raw).map(|_| ()));
+        assert!(result.is_ok() || result == Err(Error::NoMemory));
+        (was_refused, result.is_ok(), whole.as_slice().len() > 8)
+    }};
+}
+
+/// What is empty is made or refused; a section is appended whole or not at all.
+#[test]
+fn components_and_modules_are_made_by_hand() {
+    assert_eq!(refusing(0, Component::try_new), (Err(Error::NoMemory), true));
+    assert_eq!(refusing(0, Module::try_new), (Err(Error::NoMemory), true));
+    // The first request is for the id.
+    let wanted = [(true, false, false), (false, true, true)];
+    assert_eq!([1, 2].map(|n| appended!(Component, n)), wanted);
+    assert_eq!([1, 2].map(|n| appended!(Module, n)), wanted);
+}
+
 /// Each item of the component is added by a command, and at last all of it as a nested component.
 fn is_made_by_commands(bytes: &[u8]) {
     let commands = || {
@@ -193,11 +234,11 @@ fn sections_are_made_by_hand() {
         }
         let mut types = ComponentTypeSection::new();
         refusals.call(|| types.try_instance(&instance).map(|_| ()));
+        let mut component = refusals.call(Component::try_new);
         calmly(|| {
-            let mut component = Component::new();
             component.section(&imports).section(&types);
-            component.finish()
-        })
+        });
+        component.finish()
     });
     are_upstreams(&bytes, 5258, 0x4af0_e550_fc43_704c);
 }

@@ -6,6 +6,8 @@
 mod panicking;
 #[path = "sections/strangers.rs"]
 mod strangers;
+#[path = "sections/tried.rs"]
+mod tried;
 
 use std::panic::{AssertUnwindSafe, catch_unwind};
 use wenc::*;

@@ -19,9 +19,6 @@ mod counts;
 
 mod builtins;
 
-#[cfg(feature = "capi")]
-pub(crate) use counts::count_built;
-
 use crate::proved::wasm_encoder as proved;
 
 /// Builds a component call by call; each call that adds an item returns the item's index

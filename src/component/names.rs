@@ -38,15 +38,29 @@ eq_by_bytes! { ComponentNameSection }
 /// Defines the calls that name items of one kind.
 macro_rules! naming {
     ($($name:ident $tried:ident $space:ident $what:literal;)*) => {
-        /// Names items in an index space.
         #[cfg(feature = "reader")]
-        pub(crate) fn name_items(
-            section: &mut proved::ComponentNameSection,
-            space: Space,
-            names: &proved::NameMap,
-        ) -> Result<(), proved::Fault> {
-            match space {
-                $(Space::$space => section.$name(names),)*
+        impl ComponentNameSection {
+            twins! {
+                /// Names items in an index space: does what the call of that space does, such as
+                /// [`funcs`](Self::funcs) for [`Space::Funcs`].
+                ///
+                /// Needs the feature `reader`.
+                ///
+                /// ```
+                /// use wenc::tree::Space;
+                /// use wenc::{ComponentNameSection, NameMap};
+                ///
+                /// let mut funcs = NameMap::new();
+                /// funcs.append(0, "now");
+                /// let mut names = ComponentNameSection::new();
+                /// names.names(Space::Funcs, &funcs);
+                /// assert_eq!(*names.as_custom().data, *b"\x01\x07\x01\x01\x00\x03now");
+                /// ```
+                fn names | try_names(&mut self, space: Space, names: &NameMap) -> () {
+                    match space {
+                        $(Space::$space => self.$tried(names),)*
+                    }
+                }
             }
         }
 
@@ -97,30 +111,6 @@ naming! {
     types try_types Types "types";
     components try_components Components "components";
     instances try_instances Instances "instances";
-}
-
-#[cfg(feature = "reader")]
-impl ComponentNameSection {
-    twins! {
-        /// Names items in an index space: does what the call of that space does, such as
-        /// [`funcs`](Self::funcs) for [`Space::Funcs`].
-        ///
-        /// Needs the feature `reader`.
-        ///
-        /// ```
-        /// use wenc::tree::Space;
-        /// use wenc::{ComponentNameSection, NameMap};
-        ///
-        /// let mut funcs = NameMap::new();
-        /// funcs.append(0, "now");
-        /// let mut names = ComponentNameSection::new();
-        /// names.names(Space::Funcs, &funcs);
-        /// assert_eq!(*names.as_custom().data, *b"\x01\x07\x01\x01\x00\x03now");
-        /// ```
-        fn names | try_names(&mut self, space: Space, names: &NameMap) -> () {
-            Ok(name_items(&mut self.0, space, &names.0)?)
-        }
-    }
 }
 
 impl ComponentSection for ComponentNameSection {

@@ -1,8 +1,8 @@
 //! The start of a component.
 
-use crate::encode::{Encode, append_proved, appends};
+use crate::encode::{Encode, append_proved, encode_or_panic};
 use crate::proved::wasm_encoder as proved;
-use crate::{ComponentSection, ComponentSectionId};
+use crate::{ComponentSection, ComponentSectionId, Error};
 use alloc::vec::Vec;
 
 /// The start section: a function that is called when the component is instantiated ([component
@@ -43,15 +43,15 @@ pub struct ComponentStartSection<A> {
 }
 
 impl<A: AsRef<[u32]>> Encode for ComponentStartSection<A> {
-    fn encode(&self, sink: &mut Vec<u8>) {
+    fn try_encode(&self, sink: &mut Vec<u8>) -> Result<(), Error> {
         let Self { function_index, ref args, results } = *self;
         append_proved(
             sink,
             &proved::ComponentStartSection { function_index, args: args.as_ref(), results },
-        );
+        )
     }
 
-    appends! {}
+    encode_or_panic! {}
 }
 
 impl<A: AsRef<[u32]>> ComponentSection for ComponentStartSection<A> {

@@ -15,8 +15,6 @@ mod val_type;
 
 pub use component_type::ComponentType;
 pub use core_type::{ComponentCoreTypeEncoder, CoreTypeSection};
-#[cfg(feature = "capi")]
-pub(crate) use counts::count_declared;
 pub use defined_type::ComponentDefinedTypeEncoder;
 pub use func_type::ComponentFuncTypeEncoder;
 pub use instance_type::InstanceType;
@@ -152,6 +150,16 @@ macro_rules! declaring {
                     name: impl Into<$crate::ComponentExternName<'a>>,
                     ty: u32,
                 ) -> u32 as (name.into().into_proved(), ty);
+            }
+
+            /// Returns the number of declarations, including an unfinished one.
+            pub fn len(&self) -> u32 {
+                self.0.len()
+            }
+
+            /// Returns `true` if there are no declarations.
+            pub fn is_empty(&self) -> bool {
+                self.0.is_empty()
             }
 
             /// Returns the number of core types: declared ones, including an unfinished one, and

@@ -7,7 +7,6 @@ use super::{
     ValType,
 };
 use crate::encode::encode;
-use crate::error::or_panic;
 use crate::proved::wasm_encoder as proved;
 use crate::{Error, Unsupported};
 
@@ -18,7 +17,7 @@ macro_rules! supported {
         $(supported! { @$kind $name $body [$($($absent)*)?] })*
 
         encode! {
-            $($name, ty => or_panic(proved::$name::try_from(*ty));)*
+            $($name, ty => proved::$name::try_from(*ty)?;)*
         }
     };
     (
@@ -124,7 +123,7 @@ macro_rules! borrowed {
         })*
 
         encode! {
-            $($name, ty => or_panic(proved::$proved::try_from(ty));)*
+            $($name, ty => proved::$proved::try_from(ty)?;)*
         }
     };
 }
@@ -160,8 +159,8 @@ borrowed! {
 }
 
 encode! {
-    HeapType, ty => or_panic(proved::HeapType::try_from(*ty));
-    TagType, ty => or_panic(proved::TagType::try_from(*ty));
+    HeapType, ty => proved::HeapType::try_from(*ty)?;
+    TagType, ty => proved::TagType::try_from(*ty)?;
 }
 
 impl From<&proved::FuncType> for FuncType {

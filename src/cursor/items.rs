@@ -1,10 +1,10 @@
 //! Reading a section item by item.
 
-use crate::ListFault;
 use crate::proved::wenc_list as proved;
 use crate::shim::alloc::Global;
 use crate::tree::ItemTree;
 use crate::view::ItemView;
+use crate::{ComponentSectionId, ListFault, Unread};
 use core::fmt;
 use core::ops::Range;
 
@@ -17,19 +17,80 @@ pub struct Items<'a> {
     bytes: &'a [u8],
     /// The items that are left; `None` after an error.
     left: Option<proved::SectionItems<'a>>,
+    /// The number of items at the beginning.
+    count: u32,
 }
 
 impl<'a> Items<'a> {
     pub(super) fn new(bytes: &'a [u8], left: proved::SectionItems<'a>) -> Self {
-        Self { bytes, left: Some(left) }
+        Self { bytes, left: Some(left), count: left.left }
+    }
+
+    /// Returns so many items of a section with this id, whose bytes are these of a component, or
+    /// `None` if they aren't within its bytes, or are more than one module or component. The id,
+    /// from 0 to 11, is that of a [`SectionReader`](crate::SectionReader) or a
+    /// [`ComponentSectionId`].
+    ///
+    /// So a place in a section can be kept as numbers, those of [`left`](Self::left). With other
+    /// numbers other items are read, or an error is returned, in which the place of the section is
+    /// that of the first of these bytes.
+    ///
+    /// ```
+    /// use wenc::view::ItemView;
+    /// use wenc::{ComponentSectionId, Items, ListFault, Sections};
+    ///
+    /// // imports of two functions of one type
+    /// let component = b"\0asm\x0d\0\x01\0\x0a\x0b\x02\0\x01f\x01\0\0\x01g\x01\0";
+    /// let mut items = Sections::new(component)?.next().expect("a section")?.items();
+    /// let (first, _) = items.next().expect("an item")?;
+    /// let (bytes, count) = items.left().expect("no error");
+    /// assert_eq!((&bytes, count), (&(first.end..21), 1));
+    ///
+    /// let mut items = Items::at(component, ComponentSectionId::Import, bytes, count).unwrap();
+    /// let (_, ItemView::Import { name, .. }) = items.next().expect("an item")? else {
+    ///     panic!("it is an import")
+    /// };
+    /// assert_eq!(name.name, "g");
+    /// assert_eq!(items.left(), Some((21..21, 0)));
+    /// assert!(Items::at(component, ComponentSectionId::Import, 21..22, 1).is_none());
+    /// # Ok::<(), ListFault>(())
+    /// ```
+    pub fn at(bytes: &'a [u8], id: impl Into<u8>, range: Range<usize>, count: u32) -> Option<Self> {
+        let (id, rest) = (id.into(), bytes.get(range.clone())?);
+        // A module and a component take all bytes, and may have none.
+        let is_whole = [ComponentSectionId::CoreModule, ComponentSectionId::Component];
+        if count > 1 && is_whole.map(u8::from).contains(&id) {
+            return None;
+        }
+        let (place, ends) = (range.start, range.end);
+        Some(Self::new(bytes, proved::SectionItems { id, place, ends, left: count, rest }))
+    }
+
+    /// Returns the byte offsets and the number of the items that are left; `None` after an error.
+    pub fn left(&self) -> Option<(Range<usize>, u32)> {
+        self.left.map(|left| (left.reached()..left.ends, left.left))
     }
 
     /// Returns the fault, after which there are no items.
     #[cold]
     #[inline(never)]
-    fn refused(&mut self, fault: proved::ListFault) -> ListFault {
+    fn refused(&mut self, left: proved::SectionItems<'a>, fault: proved::ListFault) -> ListFault {
         self.left = None;
-        ListFault::new(self.bytes, fault)
+        let unread = match (left.left, left.reached()) {
+            (0, place) => Unread::Behind { place },
+            (more, place) => Unread::Item { number: self.count - more, place },
+        };
+        match (fault, ComponentSectionId::try_from(left.id)) {
+            (proved::ListFault::BadItem { place }, Ok(section)) => {
+                let byte = left.rest.first().copied();
+                ListFault::BadItem { place, section, unread: Some(unread), byte }
+            }
+            (proved::ListFault::TooDeep { place }, _) => {
+                ListFault::TooDeep { place, unread: Some(unread) }
+            }
+            (proved::ListFault::BadItem { place }, Err(_)) => ListFault::BadSection { place },
+            (fault, _) => ListFault::new(self.bytes, fault),
+        }
     }
 }
 
@@ -48,14 +109,17 @@ impl<'a> Iterator for Items<'a> {
         match left.next() {
             Ok(Some(item)) => Some(Ok((place..left.reached(), item))),
             Ok(None) => None,
-            Err(fault) => Some(Err(self.refused(fault))),
+            Err(fault) => {
+                let left = *left;
+                Some(Err(self.refused(left, fault)))
+            }
         }
     }
 }
 
 impl fmt::Debug for Items<'_> {
     fn fmt(&self, f: &mut fmt::Formatter<'_>) -> fmt::Result {
-        let offset = self.left.map(|left| left.reached());
+        let offset = self.left().map(|(range, _)| range.start);
         f.debug_struct("Items").field("offset", &offset).finish_non_exhaustive()
     }
 }
@@ -79,7 +143,10 @@ impl Iterator for Trees<'_> {
         match left.next_tree(Global) {
             Ok(Some(item)) => Some(Ok((place..left.reached(), item))),
             Ok(None) => None,
-            Err(fault) => Some(Err(self.0.refused(fault))),
+            Err(fault) => {
+                let left = *left;
+                Some(Err(self.0.refused(left, fault)))
+            }
         }
     }
 }

@@ -38,20 +38,6 @@ impl<T, A: Allocator> Box<T, A> {
     }
 }
 
-#[cfg(feature = "capi")]
-impl<T> From<Inner<[T; 1]>> for Box<T> {
-    fn from(inner: Inner<[T; 1]>) -> Self {
-        Box { inner, alloc: PhantomData }
-    }
-}
-
-#[cfg(feature = "capi")]
-impl<T> From<Box<T>> for Inner<[T; 1]> {
-    fn from(boxed: Box<T>) -> Self {
-        boxed.inner
-    }
-}
-
 impl<T, A> Deref for Box<T, A> {
     type Target = T;
 

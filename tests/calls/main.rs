@@ -1,10 +1,9 @@
 //! Each call that adds an item, by a table: what it has to do is said once, in bytes that are put
 //! together from the format, and tried in all ways and in all places.
 #![cfg(feature = "reader")]
-#![allow(unsafe_code, reason = "a global allocator is unsafe, and so are the calls for C")]
+#![allow(unsafe_code, reason = "a global allocator is unsafe")]
 #![allow(clippy::type_complexity)]
 
-mod c;
 mod call;
 #[path = "../common/counts.rs"]
 mod counts;

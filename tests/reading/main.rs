@@ -8,6 +8,7 @@ mod listing;
 mod names;
 mod nested;
 mod out_of_range;
+mod places;
 mod producers;
 #[path = "../common/seen.rs"]
 mod seen;

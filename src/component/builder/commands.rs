@@ -1,12 +1,83 @@
 //! Building by commands.
 
 use crate::Error;
+use crate::SectionItem;
 use crate::component::ComponentBuilder;
 use crate::proved::wasm_encoder as proved;
-use crate::tree::Command;
+use crate::tree::{Command, ItemTree};
+use crate::twins::twins;
 
-/// Commands.
+/// Commands, and items that were read.
 impl ComponentBuilder {
+    twins! {
+        /// Adds an item that was read, optionally with a debug name, encoded in its shortest form.
+        /// Returns the item's index, that of the first value of a start, and `None` for a custom
+        /// section. An import, an export and a builtin have their own debug name, and a start and a
+        /// custom section have none: the one that is passed isn't used.
+        ///
+        /// Needs the feature `reader`.
+        ///
+        /// ```
+        /// use wenc::{ComponentBuilder, Sections};
+        ///
+        /// let component = b"\0asm\x0d\0\x01\0\x07\x05\x01\x40\0\x01\0\x0a\x06\x01\0\x01f\x01\0";
+        /// let mut builder = ComponentBuilder::default();
+        /// for item in Sections::new(component)?.items() {
+        ///     let (_, item) = item?;
+        ///     assert_eq!(builder.item(None, &item), Some(0));
+        /// }
+        /// assert_eq!(builder.finish(), component);
+        /// # Ok::<(), wenc::ListFault>(())
+        /// ```
+        fn item | try_item(
+            &mut self,
+            debug_name: Option<&str>,
+            item: &impl SectionItem,
+        ) -> Option<u32> {
+            let was_finished = self.is_finished();
+            let added = item.with_tree(|item| self.tree(debug_name, item));
+            if added.is_err() && was_finished {
+                self.discard_unfinished();
+            }
+            added
+        }
+    }
+
+    /// Adds an item. A type that can't be encoded is left unfinished.
+    fn tree(&mut self, name: Option<&str>, item: &ItemTree) -> Result<Option<u32>, Error> {
+        let builder = &mut self.0;
+        let index = match item {
+            ItemTree::Module(bytes) => builder.core_module_raw(name, bytes)?,
+            ItemTree::CoreInstance(instance) => builder.core_instance_tree(name, instance)?,
+            ItemTree::CoreType(ty) => {
+                let (index, encoder) = builder.core_type(name)?;
+                encoder.tree(ty)?;
+                index
+            }
+            ItemTree::Component(bytes) => builder.component_raw(name, bytes)?,
+            ItemTree::Instance(instance) => builder.instance_tree(name, instance)?,
+            ItemTree::Alias(alias) => builder.alias(name, alias.as_alias())?,
+            ItemTree::Type(ty) => {
+                let (index, encoder) = builder.ty(name)?;
+                encoder.tree(ty)?;
+                index
+            }
+            ItemTree::Canon(canon) => builder.canonical_tree(name, canon)?,
+            ItemTree::Start { function, args, results } => {
+                builder.start(*function, args, *results)?
+            }
+            ItemTree::Import { name, ty } => builder.import(name.as_name(), *ty)?,
+            ItemTree::Export { name, kind, index, ty } => {
+                builder.export(name.as_name(), *kind, *index, *ty)?
+            }
+            ItemTree::Custom { name, data } => {
+                builder.custom_section(&proved::CustomSection { name, data })?;
+                return Ok(None);
+            }
+        };
+        Ok(Some(index))
+    }
+
     /// Makes the call that a command describes. Returns the index of the item that it adds, or
     /// `None` for a custom section and for names. An item that [`list`](crate::list) returns
     /// becomes a command by `From`; [`build`](crate::tree::build) runs commands on a new builder.

@@ -2,8 +2,6 @@
 
 use crate::component::ComponentBuilder;
 #[cfg(feature = "reader")]
-use crate::proved::wasm_encoder as proved;
-#[cfg(feature = "reader")]
 use crate::tree::Space;
 use core::fmt;
 
@@ -24,11 +22,25 @@ macro_rules! counts {
             )*
         }
 
-        /// Returns the number of items in an index space of a builder.
         #[cfg(feature = "reader")]
-        pub(crate) fn count_built(builder: &proved::ComponentBuilder, space: Space) -> u32 {
-            match space {
-                $(Space::$space => builder.$name(),)*
+        impl ComponentBuilder {
+            /// Returns the number of items in an index space: what the call of that space returns,
+            /// such as [`func_count`](Self::func_count) for [`Space::Funcs`].
+            ///
+            /// Needs the feature `reader`.
+            ///
+            /// ```
+            /// use wenc::tree::Space;
+            /// use wenc::{ComponentBuilder, ComponentTypeRef, TypeBounds};
+            ///
+            /// let mut builder = ComponentBuilder::default();
+            /// builder.import("file", ComponentTypeRef::Type(TypeBounds::SubResource));
+            /// assert_eq!((builder.count(Space::Types), builder.count(Space::Funcs)), (1, 0));
+            /// ```
+            pub fn count(&self, space: Space) -> u32 {
+                match space {
+                    $(Space::$space => self.$name(),)*
+                }
             }
         }
 
@@ -60,24 +72,4 @@ counts! {
     value_count Values "values";
     component_count Components "components";
     type_count Types "types";
-}
-
-#[cfg(feature = "reader")]
-impl ComponentBuilder {
-    /// Returns the number of items in an index space: what the call of that space returns, such as
-    /// [`func_count`](Self::func_count) for [`Space::Funcs`].
-    ///
-    /// Needs the feature `reader`.
-    ///
-    /// ```
-    /// use wenc::tree::Space;
-    /// use wenc::{ComponentBuilder, ComponentTypeRef, TypeBounds};
-    ///
-    /// let mut builder = ComponentBuilder::default();
-    /// builder.import("file", ComponentTypeRef::Type(TypeBounds::SubResource));
-    /// assert_eq!((builder.count(Space::Types), builder.count(Space::Funcs)), (1, 0));
-    /// ```
-    pub fn count(&self, space: Space) -> u32 {
-        count_built(&self.0, space)
-    }
 }

@@ -1,22 +1,7 @@
 //! How many items of each space a declared type has.
 
 use super::{ComponentType, InstanceType};
-use crate::proved::wenc_types::{Declarations, DeclaringKind};
-use crate::shim::alloc::Global;
 use crate::tree::Space;
-
-/// Returns the number of items in an index space; `None` where they aren't counted.
-pub(crate) fn count_declared<K: DeclaringKind>(
-    ty: &Declarations<K, Global>,
-    space: Space,
-) -> Option<u32> {
-    match space {
-        Space::CoreTypes => Some(ty.core_type_count()),
-        Space::Types => Some(ty.type_count()),
-        Space::Instances => Some(ty.instance_count()),
-        _ => None,
-    }
-}
 
 /// Defines the call of each type.
 macro_rules! counts {
@@ -37,7 +22,12 @@ macro_rules! counts {
             /// assert_eq!(ty.count(Space::Funcs), None);
             /// ```
             pub fn count(&self, space: Space) -> Option<u32> {
-                count_declared(&self.0, space)
+                match space {
+                    Space::CoreTypes => Some(self.core_type_count()),
+                    Space::Types => Some(self.type_count()),
+                    Space::Instances => Some(self.instance_count()),
+                    _ => None,
+                }
             }
         })*
     };

@@ -32,15 +32,3 @@ collections! {
 }
 
 declaring! { InstanceType }
-
-impl InstanceType {
-    /// Returns `true` if there are no declarations.
-    pub fn is_empty(&self) -> bool {
-        self.0.is_empty()
-    }
-
-    /// Returns the number of declarations, including an unfinished one.
-    pub fn len(&self) -> u32 {
-        self.0.len()
-    }
-}

@@ -6,6 +6,8 @@ use super::{
 use crate::encoders::{encoders, on};
 use crate::proved::wasm_encoder as proved;
 use crate::proved::wenc_base::ByteTypes;
+#[cfg(feature = "reader")]
+use crate::tree::GroupTree;
 use crate::twins::twins;
 use crate::{Error, Unsupported};
 
@@ -126,6 +128,33 @@ impl CoreTypeEncoder<'_> {
             let types = converted(types, |ty| proved::SubType::try_from(&ty))?;
             let types = types.as_slice().iter();
             Ok(on!(self.by, CoreTypeBy + Module, encoder => encoder.rec(types))?)
+        }
+    }
+}
+
+#[cfg(feature = "reader")]
+impl CoreTypeEncoder<'_> {
+    twins! {
+        /// Encodes a type or a recursion group given as a tree.
+        ///
+        /// Needs the feature `reader`.
+        ///
+        /// ```
+        /// use wenc::tree::{
+        ///     CoreArrayType, CoreCompositeType, CoreFieldType, CoreStorageType, CoreSubType,
+        ///     GroupTree,
+        /// };
+        /// use wenc::ModuleType;
+        ///
+        /// let bytes = CoreFieldType { element_type: CoreStorageType::I8, mutable: true };
+        /// let composite_type = CoreCompositeType::Array(CoreArrayType(bytes));
+        /// let array = CoreSubType { is_final: true, supertype_idx: None, composite_type };
+        /// let mut ty = ModuleType::new();
+        /// ty.ty().tree(&GroupTree::Sub(array));
+        /// assert_eq!(ty.type_count(), 1);
+        /// ```
+        fn tree | try_tree(self, ty: &GroupTree) -> () {
+            Ok(on!(self.by, CoreTypeBy + Module, encoder => encoder.group(ty))?)
         }
     }
 }

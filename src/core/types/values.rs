@@ -2,7 +2,6 @@
 
 use crate::core::conversions::supported;
 use crate::encode::encode;
-use crate::error::or_panic;
 use crate::proved::wasm_encoder as proved;
 use crate::{Error, Unsupported};
 

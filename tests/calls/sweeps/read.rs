@@ -1,7 +1,7 @@
 //! Each item is read as the value that its command has, and written and built again; and the
 //! indices that it has are visited.
 
-use super::same;
+use super::{is_made, same};
 use crate::call::{Call, Seen};
 use crate::format::Model;
 use crate::seen::is_same;
@@ -9,6 +9,7 @@ use crate::size::{Size, cases};
 use crate::table::calls;
 use crate::visited::{add_indices, visited};
 use wenc::tree::{Command, ItemTree, Node, Scope, build};
+use wenc::view::ItemView;
 use wenc::*;
 
 /// The command without a debug name.
@@ -96,6 +97,18 @@ fn is_read(call: &Call, size: &Size) {
     in_component(&|whole| _ = whole.section(listed));
     in_component(&|whole| _ = whole.section(&reader));
     in_component(&|whole| _ = whole.section(&reader.raw()));
+    is_added(call, size, tree, view);
+}
+
+/// The item is added to a builder, owned and borrowed.
+fn is_added(call: &Call, size: &Size, tree: &ItemTree, view: ItemView<'_>) {
+    let name = call.own.as_ref().map_or_else(|| "name".into(), |own| own(size));
+    let (mut b, mut model) = (ComponentBuilder::default(), Model::new());
+    for answer in [b.item(Some(&name), tree), b.item(Some(&name), &view)] {
+        let index = call.model(&mut model, Some(&name), size);
+        assert_eq!(answer, call.space.map(|_| index), "{}", call.name);
+    }
+    is_made(b, model, call, "of what was read");
 }
 
 #[test]

@@ -226,7 +226,7 @@ fn row(
     let as_tree =
         move |ty: ComponentCoreTypeEncoder<'_>, a: &Size| ty.try_tree(&calmly(|| tree(a)));
     Call {
-        name: format!("{name} (not in C)"),
+        name,
         id: 3,
         space: Some(Space::CoreTypes),
         takes: 1,
@@ -249,7 +249,6 @@ fn row(
             debug_name,
             ty: tree(a).into(),
         }),
-        c: Box::new(|_, _, _| Err(u32::MAX)),
         indices: Box::new(indices),
         bytes: Box::new(bytes),
     }
@@ -262,13 +261,18 @@ fn guarded(bytes: Vec<u8>) -> Vec<u8> {
 
 fn of_shape(shape: &'static Shape) -> Call {
     let declare: Declare = Box::new(|types, a| (shape.write)(types.module.try_ty()?, a));
+    let as_tree: Declare = Box::new(|types, a| {
+        let tree = calmly(|| shape.tree(a));
+        types.module.try_ty()?.try_tree(&tree)
+    });
+    let member = |declare| (Box::new(|a: &Size| bytes![0x01, shape.bytes(a)]) as Bytes, declare);
     row(
         shape.name.into(),
         |ty, a| (shape.write)(ty.core(), a),
         |a| CoreTypeTree::Group(shape.tree(a)),
         |a| shape.seen(a).into_iter().map(|index| here(Space::CoreTypes, index)).collect(),
         |a| guarded(shape.bytes(a)),
-        vec![(Box::new(|a| bytes![0x01, shape.bytes(a)]), declare)],
+        [declare, as_tree].map(member).into(),
     )
 }
 

@@ -94,7 +94,7 @@ impl Of {
 
 /// The row of such a type, by each call that takes one.
 fn row(call: Call, way: usize) -> Call {
-    let name = call.name.trim_end_matches(" (not in C)").to_owned();
+    let name = call.name.clone();
     let mut of = Of { call, way, is_instance: false };
     of.is_instance = !of.types(&Size::small(1)).instance.is_empty();
     let kind = if of.is_instance { "instance" } else { "component" };
@@ -106,7 +106,7 @@ fn row(call: Call, way: usize) -> Call {
         }};
     }
     Call {
-        name: format!("{kind} type with {name} (not in C)"),
+        name: format!("{kind} type with {name}"),
         id: 7,
         space: Some(Space::Types),
         takes: 1,
@@ -143,7 +143,6 @@ fn row(call: Call, way: usize) -> Call {
         ],
         members: vec![],
         command: with!(|of, debug_name, a| Command::Type { debug_name, ty: of.tree(a) }),
-        c: Box::new(|_, _, _| Err(u32::MAX)),
         indices: with!(|of, a| of.indices(a)),
         bytes: with!(|of, a| of.bytes(a)),
     }

@@ -1,17 +1,16 @@
 //! What the header says of NULL, of numbers that stand for nothing, and of handles.
 
-use crate::capi::arguments::{Entity, Flag, IndexName, Name, Pair, Part, Producer, Subtype, Text};
-use crate::capi::core_types::*;
-use crate::capi::items::*;
-use crate::capi::life::*;
-use crate::capi::listing::*;
-use crate::capi::rows::{ItemRow, SectionRow};
-use crate::capi::sections::*;
-use crate::capi::types::*;
-use crate::capi::{Handle, Status};
-use alloc::vec::Vec;
-use core::ffi::CStr;
-use core::{mem, ptr, slice};
+use std::ffi::CStr;
+use std::{mem, ptr, slice};
+use wenc_capi::arguments::{Entity, Flag, IndexName, Name, Pair, Part, Producer, Subtype, Text};
+use wenc_capi::core_types::*;
+use wenc_capi::items::*;
+use wenc_capi::life::*;
+use wenc_capi::listing::*;
+use wenc_capi::rows::{ItemRow, SectionRow};
+use wenc_capi::sections::*;
+use wenc_capi::types::*;
+use wenc_capi::{Handle, Status};
 
 const NO: Flag = Flag(0);
 const YES: Flag = Flag(1);
@@ -41,8 +40,24 @@ impl Held {
         Self::new(|handle| unsafe { wenc_new(handle) })
     }
 
+    pub fn by_hand() -> Self {
+        Self::new(|handle| unsafe { wenc_by_hand_new(handle) })
+    }
+
+    pub fn names() -> Self {
+        Self::new(|handle| unsafe { wenc_names_new(handle) })
+    }
+
+    pub fn section(id: u32) -> Self {
+        Self::new(|handle| unsafe { wenc_section_new(handle, id) })
+    }
+
     pub fn types(kind: u32) -> Self {
         Self::new(|handle| unsafe { wenc_types_new(handle, kind) })
+    }
+
+    pub fn is_nothing(&self) -> bool {
+        self.0.at.is_null()
     }
 
     pub fn at(&mut self) -> *mut Handle {
@@ -79,8 +94,8 @@ fn statuses_have_texts() {
     }
     assert_eq!((texts[13], text(u32::MAX)), (c"end", texts[14]));
     assert_eq!(wenc_version(), 100);
-    let defined = alloc::format!("#define WENC_VERSION {}\n", wenc_version());
-    assert!(include_str!("../../c/wenc.h").contains(&defined));
+    let defined = format!("#define WENC_VERSION {}\n", wenc_version());
+    assert!(include_str!("../../wenc.h").contains(&defined));
 }
 
 #[test]
@@ -99,16 +114,16 @@ fn null_is_empty_or_nothing() {
         assert_eq!(wenc_finish(at, ptr::null_mut(), ptr::null_mut()), Status::Done);
         wenc_free(ptr::null_mut());
     }
-    let mut wanted = crate::ComponentBuilder::default();
-    let resource = crate::ComponentTypeRef::Type(crate::TypeBounds::SubResource);
+    let mut wanted = wenc::ComponentBuilder::default();
+    let resource = wenc::ComponentTypeRef::Type(wenc::TypeBounds::SubResource);
     wanted.import("", resource);
     wanted.import("", resource);
-    wanted.type_defined(None).1.tuple([] as [crate::ComponentValType; 0]);
+    wanted.type_defined(None).1.tuple([] as [wenc::ComponentValType; 0]);
     wanted.type_defined(Some("")).1.flags([]);
     wanted.core_module_raw(None, &[]);
     wanted.start(0, Vec::new(), 0);
-    wanted.custom_section(&crate::CustomSection { name: "".into(), data: (&[][..]).into() });
-    wanted.producers_section(&crate::ProducersSection::new());
+    wanted.custom_section(&wenc::CustomSection { name: "".into(), data: (&[][..]).into() });
+    wanted.producers_section(&wenc::ProducersSection::new());
     assert_eq!(builder.finished(), wanted.finish());
 }
 

@@ -3,13 +3,11 @@
 //! Whatever a cursor contains, its offsets are checked against the number of bytes before they are
 //! used. So a cursor that was changed by its owner reads something else, or fails.
 
-use super::arguments::{Text, list};
-use super::rows::{ItemRow, SectionRow};
-use super::{Result, Status, numbers, put};
-use crate::proved::wasm_encoder::{SectionItems, Sections};
-use crate::proved::wenc_list::{ItemName, Names, names_of, part_of};
-use crate::proved::wenc_sections::names::NAMES_LABEL;
-use crate::proved::wenc_view::View;
+use crate::arguments::{Text, list};
+use crate::rows::{ItemRow, SectionRow};
+use crate::{Result, Status, numbers, put};
+use core::ops::Range;
+use wenc::{DebugNames, Items, NamesReader, Sections};
 
 /// `wenc_walk`: what is left of a component, and of the section that is being read.
 #[derive(Clone, Copy)]
@@ -32,16 +30,21 @@ impl Walk {
     /// Returns the sections that are left.
     unsafe fn sections<'a>(&self) -> Result<Sections<'a>> {
         let bytes = unsafe { self.bytes() }?;
-        let rest = bytes.get(self.next_section..).ok_or(Status::BadArgument)?;
-        Ok(Sections { ends: bytes.len(), rest })
+        Ok(Sections::at(bytes, self.next_section).ok_or(Status::BadArgument)?)
     }
 
     /// Returns the items that are left of the section.
-    unsafe fn items<'a>(&self) -> Result<SectionItems<'a>> {
+    unsafe fn items<'a>(&self) -> Result<Items<'a>> {
         let bytes = unsafe { self.bytes() }?;
-        let rest = bytes.get(self.next_item..self.end).ok_or(Status::BadArgument)?;
         let id = u8::try_from(self.id).map_err(|_| Status::BadArgument)?;
-        Ok(SectionItems { id, place: self.next_item, ends: self.end, left: self.items, rest })
+        let items = Items::at(bytes, id, self.next_item..self.end, self.items);
+        Ok(items.ok_or(Status::BadArgument)?)
+    }
+
+    /// Goes to these items, behind which the next section begins.
+    fn enter(&mut self, id: u8, items: Range<usize>, count: u32) {
+        (self.next_section, self.next_item, self.end) = (items.end, items.start, items.end);
+        (self.items, self.id) = (count, id.into());
     }
 }
 
@@ -69,7 +72,7 @@ unsafe fn moved<C: Copy, T>(
 pub unsafe extern "C" fn wenc_walk_begin(walk: *mut Walk, bytes: *const u8, len: usize) -> Status {
     let begun = || {
         let component = unsafe { list(bytes, len) }?;
-        let next_section = Sections::new(component)?.place();
+        let next_section = Sections::new(component)?.offset().unwrap_or(len);
         let walk = Walk { bytes, len, next_section, next_item: 0, end: 0, items: 0, id: 0 };
         Ok(walk)
     };
@@ -82,11 +85,10 @@ pub unsafe extern "C" fn wenc_walk_begin(walk: *mut Walk, bytes: *const u8, len:
 #[unsafe(no_mangle)]
 pub unsafe extern "C" fn wenc_walk_section(walk: *mut Walk, section: *mut SectionRow) -> Status {
     let next = |walk: &mut Walk| {
-        let mut sections = unsafe { walk.sections() }?;
-        let items = sections.next()?.ok_or(Status::End)?;
-        (walk.next_section, walk.next_item, walk.end) = (items.ends, items.reached(), items.ends);
-        (walk.items, walk.id) = (items.left, items.id.into());
-        SectionRow::new(unsafe { walk.bytes() }?, items)
+        let section = unsafe { walk.sections() }?.next().ok_or(Status::End)??;
+        let (range, count) = section.items().left().ok_or(Status::End)?;
+        walk.enter(section.id(), range, count);
+        Ok(SectionRow::new(&section))
     };
     unsafe { moved(walk, section, next) }
 }
@@ -94,16 +96,13 @@ pub unsafe extern "C" fn wenc_walk_section(walk: *mut Walk, section: *mut Sectio
 #[unsafe(no_mangle)]
 pub unsafe extern "C" fn wenc_walk_skip(walk: *mut Walk, section: *mut SectionRow) -> Status {
     let next = |walk: &mut Walk| -> Result<SectionRow> {
-        let Sections { ends, rest } = unsafe { walk.sections() }?;
-        if rest.is_empty() {
+        let mut sections = unsafe { walk.sections() }?;
+        if walk.next_section == walk.len {
             return Err(Status::End.into());
         }
-        let ((id, content), behind) = part_of(rest).map_err(|_| Status::BadSection)?;
-        let (place, end) = (walk.next_section, ends - behind.len());
-        (walk.next_section, walk.next_item, walk.end) = (end, end, end);
-        (walk.items, walk.id) = (0, id.into());
-        let content = end - content.len();
-        Ok(SectionRow { place, len: end - place, content, items: 0, id: id.into() })
+        let (range, section) = sections.next_raw().ok_or(Status::BadSection)?;
+        walk.enter(section.id, range.end..range.end, 0);
+        Ok(SectionRow::unread(range, section.data.len(), section.id))
     };
     unsafe { moved(walk, section, next) }
 }
@@ -112,10 +111,9 @@ pub unsafe extern "C" fn wenc_walk_skip(walk: *mut Walk, section: *mut SectionRo
 pub unsafe extern "C" fn wenc_walk_item(walk: *mut Walk, item: *mut ItemRow) -> Status {
     let next = |walk: &mut Walk| {
         let mut items = unsafe { walk.items() }?;
-        let place = walk.next_item;
-        let item = items.next()?.ok_or(Status::End)?;
-        (walk.next_item, walk.items) = (items.reached(), items.left);
-        Ok(ItemRow::new(items.id, place..walk.next_item, item))
+        let (range, item) = items.next().ok_or(Status::End)??;
+        (walk.next_item, walk.items) = (range.end, walk.items - 1);
+        Ok(ItemRow::new(walk.id, range, item))
     };
     unsafe { moved(walk, item, next) }
 }
@@ -140,39 +138,25 @@ pub struct DebugName {
 }
 
 impl NamesWalk {
-    /// Returns the next name of an item in the subsection that is being read.
-    fn next_of(&mut self, rest: &[u8]) -> Result<DebugName> {
-        let (ItemName { index, name }, behind) = ItemName::view_of(rest)?;
-        self.next = self.len - behind.len();
-        self.names -= 1;
-        Ok(DebugName { name: Text::new(name), space: self.space, index })
-    }
-
-    /// Returns the next name, or fails with `End`. Names of which there are none, and subsections
-    /// with other ids, are skipped.
+    /// Returns the next name, or fails with `End`.
     unsafe fn next(&mut self) -> Result<DebugName> {
         let data = unsafe { whole(self.bytes, self.len) }?;
-        let mut rest = data.get(self.next..).ok_or(Status::BadArgument)?;
-        while self.names == 0 {
-            if rest.is_empty() {
-                return Err(Status::End.into());
-            }
-            let (names, behind) = names_of(rest)?;
-            rest = behind;
-            match names {
-                Names::Component(name) => {
-                    self.next = self.len - behind.len();
-                    let space = numbers::NO_SPACE;
-                    return Ok(DebugName { name: Text::new(name), space, index: 0 });
-                }
-                Names::Items(space, names) if names.left > 0 => {
-                    (self.space, self.names) = (numbers::of_space(space), names.left);
-                    rest = &data[data.len() - behind.len() - names.bytes.len()..];
-                }
-                Names::Items(..) | Names::Raw(..) => {}
-            }
+        let within = match self.names {
+            0 => None,
+            names => Some((numbers::space(self.space).ok_or(Status::BadArgument)?, names)),
+        };
+        let mut names = NamesReader::at(data, self.next, within).ok_or(Status::BadArgument)?;
+        let name = names.next().ok_or(Status::End)??;
+        let (next, within) = names.left().ok_or(Status::End)?;
+        self.next = next;
+        self.names = within.map_or(0, |(_, names)| names);
+        let (space, index) = name
+            .item
+            .map_or((numbers::NO_SPACE, 0), |(space, index)| (numbers::of_space(space), index));
+        if name.item.is_some() {
+            self.space = space;
         }
-        self.next_of(rest)
+        Ok(DebugName { name: Text::new(name.name), space, index })
     }
 }
 
@@ -181,7 +165,7 @@ pub unsafe extern "C" fn wenc_walk_names(names: *mut NamesWalk, item: *const Ite
     let begun = || -> Result<NamesWalk> {
         let item = unsafe { item.as_ref() }.ok_or(Status::BadArgument)?;
         let name = unsafe { list(item.name.name.at, item.name.name.len) }?;
-        if item.section != 0 || name != NAMES_LABEL.as_bytes() || item.bytes.is_null() {
+        if item.section != 0 || name != DebugNames::SECTION.as_bytes() || item.bytes.is_null() {
             return Err(Status::BadArgument.into());
         }
         Ok(NamesWalk { bytes: item.bytes, len: item.bytes_len, next: 0, space: 0, names: 0 })

@@ -1,21 +1,20 @@
 //! The calls that begin, finish and free what handles own.
 
-use super::arguments::known;
-use super::session::Session;
-use super::{
-    Handle, Owned, Refused, Result, Status, begin, change, numbers, owned, put, session, written,
+use crate::arguments::known;
+use crate::session::Session;
+use crate::{
+    Handle, Refused, Result, Status, begin, change, numbers, owned, put, session, written,
 };
-use crate::proved::wasm_encoder::{
+use alloc::boxed::Box;
+use alloc::vec::Vec;
+use core::ffi::{CStr, c_char};
+use core::{mem, ptr};
+use wenc::{
     CanonicalFunctionSection, Component, ComponentAliasSection, ComponentBuilder,
     ComponentExportKind, ComponentExportSection, ComponentImportSection, ComponentInstanceSection,
     ComponentNameSection, ComponentSectionId, ComponentType, ComponentTypeSection, CoreTypeSection,
     InstanceSection, InstanceType, ModuleType,
 };
-use crate::shim::alloc::Global;
-use crate::shim::vec::Vec;
-use alloc::boxed::Box;
-use core::ffi::{CStr, c_char};
-use core::{mem, ptr};
 
 /// `WENC_VERSION`: that of the package.
 const VERSION: u32 = {
@@ -61,20 +60,20 @@ pub extern "C" fn wenc_status_text(status: u32) -> *const c_char {
 
 #[unsafe(no_mangle)]
 pub unsafe extern "C" fn wenc_new(handle: *mut Handle) -> Status {
-    unsafe { begin(handle, || Ok(Session::Building(ComponentBuilder::new(Global)?))) }.into()
+    unsafe { begin(handle, || Ok(Session::Building(ComponentBuilder::try_new()?))) }.into()
 }
 
 #[unsafe(no_mangle)]
 pub unsafe extern "C" fn wenc_by_hand_new(handle: *mut Handle) -> Status {
-    unsafe { begin(handle, || Ok(Session::ByHand(Component::new(Global)?))) }.into()
+    unsafe { begin(handle, || Ok(Session::ByHand(Component::try_new()?))) }.into()
 }
 
 #[unsafe(no_mangle)]
 pub unsafe extern "C" fn wenc_types_new(handle: *mut Handle, kind: u32) -> Status {
     let make = || match known(c"kind", numbers::kind(kind))? {
-        ComponentExportKind::Module => Ok(Session::ModuleType(ModuleType::new(Global))),
-        ComponentExportKind::Component => Ok(Session::ComponentType(ComponentType::new(Global))),
-        ComponentExportKind::Instance => Ok(Session::InstanceType(InstanceType::new(Global))),
+        ComponentExportKind::Module => Ok(Session::ModuleType(ModuleType::new())),
+        ComponentExportKind::Component => Ok(Session::ComponentType(ComponentType::new())),
+        ComponentExportKind::Instance => Ok(Session::InstanceType(InstanceType::new())),
         _ => Err(Refused::bad(c"kind")),
     };
     unsafe { begin(handle, make) }.into()
@@ -84,20 +83,16 @@ pub unsafe extern "C" fn wenc_types_new(handle: *mut Handle, kind: u32) -> Statu
 pub unsafe extern "C" fn wenc_section_new(handle: *mut Handle, section: u32) -> Status {
     let make = || {
         Ok(match known(c"section", numbers::section(section))? {
-            ComponentSectionId::CoreInstance => {
-                Session::CoreInstances(InstanceSection::new(Global))
-            }
-            ComponentSectionId::CoreType => Session::CoreTypes(CoreTypeSection::new(Global)),
-            ComponentSectionId::Instance => {
-                Session::Instances(ComponentInstanceSection::new(Global))
-            }
-            ComponentSectionId::Alias => Session::Aliases(ComponentAliasSection::new(Global)),
-            ComponentSectionId::Type => Session::Types(ComponentTypeSection::new(Global)),
+            ComponentSectionId::CoreInstance => Session::CoreInstances(InstanceSection::new()),
+            ComponentSectionId::CoreType => Session::CoreTypes(CoreTypeSection::new()),
+            ComponentSectionId::Instance => Session::Instances(ComponentInstanceSection::new()),
+            ComponentSectionId::Alias => Session::Aliases(ComponentAliasSection::new()),
+            ComponentSectionId::Type => Session::Types(ComponentTypeSection::new()),
             ComponentSectionId::CanonicalFunction => {
-                Session::Functions(CanonicalFunctionSection::new(Global))
+                Session::Functions(CanonicalFunctionSection::new())
             }
-            ComponentSectionId::Import => Session::Imports(ComponentImportSection::new(Global)),
-            ComponentSectionId::Export => Session::Exports(ComponentExportSection::new(Global)),
+            ComponentSectionId::Import => Session::Imports(ComponentImportSection::new()),
+            ComponentSectionId::Export => Session::Exports(ComponentExportSection::new()),
             _ => return Err(Refused::bad(c"section")),
         })
     };
@@ -106,7 +101,7 @@ pub unsafe extern "C" fn wenc_section_new(handle: *mut Handle, section: u32) -> 
 
 #[unsafe(no_mangle)]
 pub unsafe extern "C" fn wenc_names_new(handle: *mut Handle) -> Status {
-    unsafe { begin(handle, || Ok(Session::Names(ComponentNameSection::new(Global)))) }.into()
+    unsafe { begin(handle, || Ok(Session::Names(ComponentNameSection::new()))) }.into()
 }
 
 #[unsafe(no_mangle)]
@@ -114,7 +109,7 @@ pub unsafe extern "C" fn wenc_free(handle: *mut Handle) {
     if let Some(handle) = unsafe { handle.as_mut() } {
         let at = mem::replace(&mut handle.at, ptr::null_mut());
         if !at.is_null() {
-            drop(unsafe { Box::from_raw(at.cast::<[Owned; 1]>()) });
+            drop(unsafe { Box::from_raw(ptr::slice_from_raw_parts_mut(at, 1)) });
         }
     }
 }
@@ -122,9 +117,9 @@ pub unsafe extern "C" fn wenc_free(handle: *mut Handle) {
 /// Finishes a component and returns its bytes.
 fn finished(session: &mut Session) -> Result<&[u8]> {
     if let Session::Building(_) | Session::ByHand(_) = session {
-        let bytes = match mem::replace(session, Session::Finished(Vec::new(Global))) {
+        let bytes = match mem::replace(session, Session::Finished(Vec::new())) {
             // No call leaves an item unfinished.
-            Session::Building(builder) => builder.finish()?,
+            Session::Building(builder) => builder.try_finish()?,
             Session::ByHand(component) => component.finish(),
             _ => return Err(Refused::bad(c"handle")),
         };

@@ -1,18 +1,16 @@
 //! The walk over a component, and over its debug names.
 
 use super::edges::{Held, named};
-use crate::capi::arguments::{Name, Text};
-use crate::capi::items::*;
-use crate::capi::life::{wenc_bytes, wenc_finish};
-use crate::capi::listing::*;
-use crate::capi::rows::{ItemRow, SectionRow};
-use crate::capi::types::wenc_type;
-use crate::capi::walk::*;
-use crate::capi::{Handle, Status};
-use alloc::collections::BTreeMap;
-use alloc::string::String;
-use alloc::vec::Vec;
-use core::{mem, ptr, slice, str};
+use std::collections::BTreeMap;
+use std::{mem, ptr, slice, str};
+use wenc_capi::arguments::{Name, Text};
+use wenc_capi::items::*;
+use wenc_capi::life::{wenc_bytes, wenc_finish};
+use wenc_capi::listing::*;
+use wenc_capi::rows::{ItemRow, SectionRow};
+use wenc_capi::types::wenc_type;
+use wenc_capi::walk::*;
+use wenc_capi::{Handle, Status};
 
 /// A type, an import, an export, three aliases, a custom section, a core module and a start.
 const COMPONENT: &[u8] = b"\0asm\x0d\0\x01\0\
@@ -502,20 +500,20 @@ fn copied(bytes: &[u8], rows: &[ItemRow]) -> Vec<u8> {
 
 /// What Rust reads of a component, written again.
 fn relisted(bytes: &[u8]) -> Vec<u8> {
-    let listing = crate::list(bytes).expect("a component");
+    let listing = wenc::list(bytes).expect("a component");
     let items = listing.sections.into_iter().flat_map(|section| section.items);
-    let commands: Vec<crate::tree::Command> = items.map(Into::into).collect();
-    crate::tree::build(&commands).expect("there is memory").bytes
+    let commands: Vec<wenc::tree::Command> = items.map(Into::into).collect();
+    wenc::tree::build(&commands).expect("there is memory").bytes
 }
 
 /// Real components, and debug names in them, beside what Rust reads.
 #[test]
 fn real_components_are_read_as_in_rust() {
-    let folder = concat!(env!("CARGO_MANIFEST_DIR"), "/tests/real/corpus/wasm");
+    let folder = concat!(env!("CARGO_MANIFEST_DIR"), "/../tests/real/corpus/wasm");
     let (mut items_len, mut names_len) = (0, 0);
     for file in std::fs::read_dir(folder).expect("the corpus is there") {
         let bytes = std::fs::read(file.expect("a file").path()).expect("it can be read");
-        let Ok(sections) = crate::Sections::new(&bytes) else { continue };
+        let Ok(sections) = wenc::Sections::new(&bytes) else { continue };
         let mut names = BTreeMap::new();
         let wanted: Vec<_> = sections.items().map_while(Result::ok).collect();
         let is_whole = sections.items().all(|item| item.is_ok());

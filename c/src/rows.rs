@@ -1,24 +1,11 @@
 //! What a call writes about a section or an item that it read.
 
-use super::arguments::{Name, Text};
-use super::{Result, Status, numbers};
-use crate::proved::wasm_encoder::{Alias, ListFault, SectionItems};
-use crate::proved::wenc_list::{ItemView, part_of};
-use crate::proved::wenc_view::NameView;
+use crate::arguments::{Name, Text};
+use crate::numbers;
 use core::ops::Range;
 use core::ptr;
-
-impl From<ListFault> for Status {
-    fn from(fault: ListFault) -> Self {
-        match fault {
-            ListFault::Memory => Self::NoMemory,
-            ListFault::NotAComponent { .. } => Self::NotAComponent,
-            ListFault::BadSection { .. } => Self::BadSection,
-            ListFault::BadItem { .. } => Self::BadItem,
-            ListFault::TooDeep { .. } => Self::TooDeep,
-        }
-    }
-}
+use wenc::view::{ItemView, NameView};
+use wenc::{Alias, SectionReader};
 
 /// `wenc_listed_section`: a section that was read.
 #[derive(Clone, Copy)]
@@ -32,17 +19,16 @@ pub struct SectionRow {
 }
 
 impl SectionRow {
-    /// Describes a section of a component, none of whose items was taken yet.
-    pub fn new(bytes: &[u8], items: SectionItems<'_>) -> Result<Self> {
-        let section = bytes.get(items.place..items.ends).unwrap_or_default();
-        let ((id, content), _) = part_of(section)?;
-        Ok(Self {
-            place: items.place,
-            len: section.len(),
-            content: items.ends - content.len(),
-            items: usize::try_from(items.left).map_err(|_| Status::TooLarge)?,
-            id: id.into(),
-        })
+    /// Describes a section of a component.
+    pub(crate) fn new(section: &SectionReader<'_>) -> Self {
+        let row = Self::unread(section.range(), section.raw().data.len(), section.id());
+        Self { items: usize::try_from(section.count()).unwrap_or(usize::MAX), ..row }
+    }
+
+    /// Describes a section with so many bytes of content, whose items aren't counted.
+    pub(crate) fn unread(range: Range<usize>, content: usize, id: u8) -> Self {
+        let (place, len) = (range.start, range.len());
+        Self { place, len, content: range.end - content, items: 0, id: id.into() }
     }
 }
 
@@ -69,7 +55,7 @@ pub struct ItemRow {
 
 impl ItemRow {
     /// Describes an item of a section with this id, at these byte offsets in the component.
-    pub fn new(section: u8, range: Range<usize>, item: ItemView<'_>) -> Self {
+    pub(crate) fn new(section: u32, range: Range<usize>, item: ItemView<'_>) -> Self {
         let mut row = Self::of_section(section, range);
         if let Some((space, indices)) = item.indices() {
             (row.space, row.indices) = (numbers::of_space(space), indices);
@@ -96,7 +82,7 @@ impl ItemRow {
     }
 
     /// Describes a custom section, until more is known.
-    fn of_section(section: u8, range: Range<usize>) -> Self {
+    fn of_section(section: u32, range: Range<usize>) -> Self {
         Self {
             index: 0,
             place: range.start,
@@ -104,7 +90,7 @@ impl ItemRow {
             name: Name::NONE,
             bytes: ptr::null(),
             bytes_len: 0,
-            section: section.into(),
+            section,
             space: numbers::NO_SPACE,
             indices: 0,
             reference: 0,
@@ -140,7 +126,7 @@ impl ItemRow {
 }
 
 /// Returns a pointer to the bytes: to `""` if there are none.
-pub fn at_of(bytes: &[u8]) -> *const u8 {
+fn at_of(bytes: &[u8]) -> *const u8 {
     if bytes.is_empty() { c"".as_ptr().cast() } else { bytes.as_ptr() }
 }
 

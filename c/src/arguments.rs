@@ -1,11 +1,11 @@
 //! Arguments from C: strings, arrays, and the structures of the header.
 
-use super::numbers;
-use super::{Refused, Result, Status};
-use crate::proved::wasm_encoder::{ComponentExternName, EntityType};
-use crate::shim::borrow::CowStr;
+use crate::{Refused, Result, Status, numbers};
+use alloc::borrow::Cow;
+use alloc::vec::Vec;
 use core::ffi::CStr;
 use core::{ptr, slice, str};
+use wenc::{ComponentExternName, EntityType};
 
 /// A `bool` of C: true unless it is 0.
 #[derive(Clone, Copy)]
@@ -69,6 +69,7 @@ pub struct Entity {
 }
 
 /// `wenc_subtype`: a core type as a subtype.
+#[derive(Clone, Copy)]
 #[repr(C)]
 pub struct Subtype {
     pub fields: *const Pair,
@@ -105,7 +106,7 @@ pub struct IndexName {
 /// # Errors
 ///
 /// Fails if the pointer is NULL, or the array would be too long.
-pub unsafe fn list<'a, T>(at: *const T, len: usize) -> Result<&'a [T]> {
+pub(crate) unsafe fn list<'a, T>(at: *const T, len: usize) -> Result<&'a [T]> {
     if len == 0 {
         Ok(&[])
     } else if at.is_null() || len > isize::MAX as usize / size_of::<T>() {
@@ -116,7 +117,7 @@ pub unsafe fn list<'a, T>(at: *const T, len: usize) -> Result<&'a [T]> {
 }
 
 /// Returns a UTF-8 string. Most are ASCII, which is faster to check.
-pub unsafe fn text<'a>(at: *const u8, len: usize) -> Result<&'a str> {
+pub(crate) unsafe fn text<'a>(at: *const u8, len: usize) -> Result<&'a str> {
     let bytes = unsafe { list(at, len) }?;
     if bytes.is_ascii() {
         return Ok(unsafe { str::from_utf8_unchecked(bytes) });
@@ -125,7 +126,7 @@ pub unsafe fn text<'a>(at: *const u8, len: usize) -> Result<&'a str> {
 }
 
 /// Returns a debug name, or none.
-pub unsafe fn debug_name<'a>(name: *const Text) -> Result<Option<&'a str>> {
+pub(crate) unsafe fn debug_name<'a>(name: *const Text) -> Result<Option<&'a str>> {
     let name = unsafe { name.as_ref() };
     name.map_or(Ok(None), |name| unsafe { name.optional() })
         .map_err(|refused| refused.of(c"debug_name"))
@@ -145,13 +146,13 @@ impl Text {
 
 impl Name {
     /// Returns the name with its options.
-    pub unsafe fn read<'a>(&self) -> Result<ComponentExternName<'a>> {
+    pub(crate) unsafe fn read<'a>(&self) -> Result<ComponentExternName<'a>> {
         let wrong = |refused: Refused| refused.of(c"name");
-        let option = |option: Text| -> Result<Option<CowStr<'a>>> {
-            Ok(unsafe { option.optional() }.map_err(wrong)?.map(CowStr::Borrowed))
+        let option = |option: Text| -> Result<Option<Cow<'a, str>>> {
+            Ok(unsafe { option.optional() }.map_err(wrong)?.map(Into::into))
         };
         Ok(ComponentExternName {
-            name: CowStr::Borrowed(unsafe { text(self.name.at, self.name.len) }.map_err(wrong)?),
+            name: unsafe { text(self.name.at, self.name.len) }.map_err(wrong)?.into(),
             implements: option(self.implements)?,
             version_suffix: option(self.version_suffix)?,
             external_id: option(self.external_id)?,
@@ -161,13 +162,13 @@ impl Name {
 
 impl Entity {
     /// Returns the type of the import or the export.
-    pub fn read(&self) -> Result<EntityType> {
-        numbers::entity(self).ok_or(Refused::bad(c"entity"))
+    pub(crate) fn read(&self) -> Result<EntityType> {
+        Ok(known(c"entity", numbers::entity(self))?.into())
     }
 }
 
 /// Returns the value of a number, or fails with the argument that is none.
-pub fn known<T>(argument: &'static CStr, value: Option<T>) -> Result<T> {
+pub(crate) fn known<T>(argument: &'static CStr, value: Option<T>) -> Result<T> {
     value.ok_or(Refused::bad(argument))
 }
 
@@ -177,38 +178,47 @@ pub fn known<T>(argument: &'static CStr, value: Option<T>) -> Result<T> {
 /// # Errors
 ///
 /// Fails if a name isn't UTF-8, or a pair of numbers isn't known to `of`.
-pub unsafe fn named<'a, T>(
+pub(crate) unsafe fn named<'a, T>(
     argument: &'static CStr,
     parts: &'a [Part],
     of: impl Fn(u32, u32) -> Option<T> + 'a,
-) -> Result<impl Iterator<Item = (&'a str, T)>> {
+) -> Result<impl ExactSizeIterator<Item = (&'a str, T)>> {
     for (member, part) in parts.iter().enumerate() {
         let wrong = |refused: Refused| refused.of(argument).at(member);
         unsafe { text(part.name, part.name_len) }.map_err(wrong)?;
         of(part.kind, part.number).ok_or(Refused::bad(argument).at(member))?;
     }
-    Ok(parts.iter().filter_map(move |part| {
-        let name = unsafe { str::from_utf8_unchecked(list(part.name, part.name_len).ok()?) };
-        Some((name, of(part.kind, part.number)?))
+    Ok(parts.iter().map(move |part| {
+        let name = unsafe { list(part.name, part.name_len) }.unwrap_or_default();
+        let name = unsafe { str::from_utf8_unchecked(name) };
+        (name, of(part.kind, part.number).expect("it is known"))
     }))
 }
 
 /// Returns an iterator over values without names, as [`named`] does.
-pub fn unnamed<'a, T>(
+pub(crate) fn unnamed<'a, T>(
     argument: &'static CStr,
     pairs: &'a [Pair],
     of: impl Fn(u32, u32) -> Option<T> + 'a,
-) -> Result<impl Iterator<Item = T>> {
+) -> Result<impl ExactSizeIterator<Item = T>> {
     if let Some(member) = pairs.iter().position(|pair| of(pair.kind, pair.number).is_none()) {
         return Err(Refused::bad(argument).at(member));
     }
-    Ok(pairs.iter().filter_map(move |pair| of(pair.kind, pair.number)))
+    Ok(pairs.iter().map(move |pair| of(pair.kind, pair.number).expect("it is known")))
 }
 
 /// Returns an iterator over names alone, as [`named`] does. The numbers with them aren't used.
-pub unsafe fn names<'a>(
+pub(crate) unsafe fn names<'a>(
     argument: &'static CStr,
     parts: &'a [Part],
-) -> Result<impl Iterator<Item = &'a str>> {
+) -> Result<impl ExactSizeIterator<Item = &'a str>> {
     Ok(unsafe { named(argument, parts, |_, _| Some(())) }?.map(|(name, ())| name))
+}
+
+/// Returns a copy of the values.
+pub(crate) fn copied<T: Copy>(values: &[T]) -> Result<Vec<T>> {
+    let mut copy = Vec::new();
+    copy.try_reserve_exact(values.len())?;
+    copy.extend_from_slice(values);
+    Ok(copy)
 }

@@ -1,4 +1,4 @@
-//! C's allocator and `abort`, for a library without Rust's `std`.
+//! C's allocator and `abort`.
 
 use core::alloc::{GlobalAlloc, Layout};
 use core::ffi::c_void;

@@ -1,13 +1,15 @@
 //! The values for the numbers of the header's enumerations. Each list is in the order of the
 //! header.
 
-use super::arguments::Entity;
-use crate::proved::wasm_encoder::{
-    AbstractHeapType, Alias, CanonicalOption, ComponentExportKind, ComponentOuterAliasKind,
-    ComponentSectionId, ComponentTypeRef, ComponentValType, EntityType, ExportKind, FieldType,
-    HeapType, PrimitiveValType, RefType, Space, StorageType, TypeBounds, ValType,
+use crate::arguments::Entity;
+use wenc::tree::{
+    CoreAbstractHeapType, CoreEntityType, CoreFieldType, CoreGlobalType, CoreHeapType,
+    CoreMemoryType, CoreRefType, CoreStorageType, CoreTableType, CoreTagType, CoreValType, Space,
 };
-use crate::proved::wenc_base::{GlobalType, MemoryType, TableType, TagType};
+use wenc::{
+    Alias, CanonicalOption, ComponentExportKind, ComponentOuterAliasKind, ComponentSectionId,
+    ComponentTypeRef, ComponentValType, ExportKind, PrimitiveValType, TypeBounds,
+};
 
 /// `enum wenc_primitive`, from 1 on.
 const PRIMITIVES: [PrimitiveValType; 14] = [
@@ -50,23 +52,23 @@ const OUTER_KINDS: [ComponentOuterAliasKind; 4] = [
 ];
 
 /// `enum wenc_core_type`, from 1 on: the numbers.
-const NUMBERS: [ValType; 5] =
-    [ValType::I32, ValType::I64, ValType::F32, ValType::F64, ValType::V128];
+const NUMBERS: [CoreValType; 5] =
+    [CoreValType::I32, CoreValType::I64, CoreValType::F32, CoreValType::F64, CoreValType::V128];
 
 /// `enum wenc_core_type`, after those: the heap types of references.
-const HEAP_TYPES: [AbstractHeapType; 12] = [
-    AbstractHeapType::Func,
-    AbstractHeapType::Extern,
-    AbstractHeapType::Any,
-    AbstractHeapType::None,
-    AbstractHeapType::NoExtern,
-    AbstractHeapType::NoFunc,
-    AbstractHeapType::Eq,
-    AbstractHeapType::Struct,
-    AbstractHeapType::Array,
-    AbstractHeapType::I31,
-    AbstractHeapType::Exn,
-    AbstractHeapType::NoExn,
+const HEAP_TYPES: [CoreAbstractHeapType; 12] = [
+    CoreAbstractHeapType::Func,
+    CoreAbstractHeapType::Extern,
+    CoreAbstractHeapType::Any,
+    CoreAbstractHeapType::None,
+    CoreAbstractHeapType::NoExtern,
+    CoreAbstractHeapType::NoFunc,
+    CoreAbstractHeapType::Eq,
+    CoreAbstractHeapType::Struct,
+    CoreAbstractHeapType::Array,
+    CoreAbstractHeapType::I31,
+    CoreAbstractHeapType::Exn,
+    CoreAbstractHeapType::NoExn,
 ];
 
 /// `enum wenc_core_type`, after those: a core type by its index, and the packed types.
@@ -209,60 +211,60 @@ pub fn option(number: u32, of: u32) -> Option<CanonicalOption> {
 }
 
 /// `enum wenc_core_type`: a reference type. A nullable one has [`NULLABLE`] added.
-fn reference(number: u32, index: u32) -> Option<RefType> {
+fn reference(number: u32, index: u32) -> Option<CoreRefType> {
     let nullable = number & NULLABLE != 0;
     let heap_type = match number & !NULLABLE {
-        CONCRETE => HeapType::Concrete(index),
-        number => HeapType::Abstract(nth(&HEAP_TYPES, number.checked_sub(6)?)?),
+        CONCRETE => CoreHeapType::Concrete(index),
+        number => CoreHeapType::Abstract(nth(&HEAP_TYPES, number.checked_sub(6)?)?),
     };
-    Some(RefType { nullable, heap_type })
+    Some(CoreRefType { nullable, heap_type })
 }
 
 /// `enum wenc_core_type`: a value type.
-pub fn core_value(number: u32, index: u32) -> Option<ValType> {
+pub fn core_value(number: u32, index: u32) -> Option<CoreValType> {
     let plain = number.checked_sub(1).and_then(|number| nth(&NUMBERS, number));
-    plain.or_else(|| reference(number, index).map(ValType::Ref))
+    plain.or_else(|| reference(number, index).map(CoreValType::Ref))
 }
 
 /// `enum wenc_core_type`: a number or vector type.
-pub fn core_number(number: u32) -> Option<ValType> {
+pub fn core_number(number: u32) -> Option<CoreValType> {
     nth(&NUMBERS, number.checked_sub(1)?)
 }
 
 /// `enum wenc_core_type`: the type of a field, or of the elements of an array. A mutable one has
 /// [`MUTABLE`] added.
-pub fn field(number: u32, index: u32) -> Option<FieldType> {
+pub fn field(number: u32, index: u32) -> Option<CoreFieldType> {
     let mutable = number & MUTABLE != 0;
     let element_type = match number & !MUTABLE {
-        I8 => StorageType::I8,
-        I16 => StorageType::I16,
-        number => StorageType::Val(core_value(number, index)?),
+        I8 => CoreStorageType::I8,
+        I16 => CoreStorageType::I16,
+        number => CoreStorageType::Val(core_value(number, index)?),
     };
-    Some(FieldType { element_type, mutable })
+    Some(CoreFieldType { element_type, mutable })
 }
 
 /// Returns the type of an import or an export of a core module.
-pub fn entity(entity: &Entity) -> Option<EntityType> {
+pub fn entity(entity: &Entity) -> Option<CoreEntityType> {
     let (minimum, maximum) =
         (entity.minimum, entity.has_maximum.is_set().then_some(entity.maximum));
     Some(match core_kind(entity.kind)? {
-        ExportKind::Func => EntityType::Function(entity.ty),
-        ExportKind::Table => EntityType::Table(TableType {
+        ExportKind::Func => CoreEntityType::Function(entity.ty),
+        ExportKind::Table => CoreEntityType::Table(CoreTableType {
             element_type: reference(entity.ty, entity.index)?,
             table64: entity.is_long.is_set(),
             minimum,
             maximum,
         }),
-        ExportKind::Memory => EntityType::Memory(MemoryType {
+        ExportKind::Memory => CoreEntityType::Memory(CoreMemoryType {
             minimum,
             maximum,
             memory64: entity.is_long.is_set(),
             shared: entity.is_shared.is_set(),
         }),
-        ExportKind::Global => EntityType::Global(GlobalType {
+        ExportKind::Global => CoreEntityType::Global(CoreGlobalType {
             val_type: core_value(entity.ty & !MUTABLE, entity.index)?,
             mutable: entity.ty & MUTABLE != 0,
         }),
-        ExportKind::Tag => EntityType::Tag(TagType { func_type_idx: entity.ty }),
+        ExportKind::Tag => CoreEntityType::Tag(CoreTagType { func_type_idx: entity.ty }),
     })
 }

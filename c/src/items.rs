@@ -1,13 +1,83 @@
 //! The calls that add items: imports, exports, aliases, modules, components, instances, functions.
 
-use super::arguments::{Name, Pair, Part, known, named, unnamed};
-use super::session::{Session, counted};
-use super::{Handle, Refused, Result, calls, numbers, other};
-use crate::proved::wasm_encoder::{
-    AddsBuiltin, AddsSlot, Alias, CanonicalOption, ComponentExternName, ComponentSectionId,
-    ComponentStartSection, ModuleArg, RawSection, ValType,
-};
+use crate::arguments::{Name, Pair, Part, copied, known, named, unnamed};
+use crate::session::{Session, counted};
+use crate::{Handle, Refused, Result, calls, numbers, other};
 use core::ffi::CStr;
+use wenc::{Alias, ComponentSectionId, ComponentStartSection, ModuleArg, RawSection};
+
+/// Makes the call of a builder or of a section for a number of `enum wenc_function`.
+macro_rules! builtin {
+    ($to:ident, $function:ident, $first:ident, $second:ident) => {
+        match $function {
+            1 => $to.try_resource_new($first),
+            2 => $to.try_resource_drop($first),
+            3 => $to.try_resource_rep($first),
+            4 => $to.try_task_cancel(),
+            5 => $to.try_subtask_cancel(flag(c"first", $first)?),
+            6 => $to.try_thread_yield(),
+            7 => $to.try_subtask_drop(),
+            8 => $to.try_stream_new($first),
+            9 => $to.try_stream_cancel_read($first, flag(c"second", $second)?),
+            10 => $to.try_stream_cancel_write($first, flag(c"second", $second)?),
+            11 => $to.try_stream_drop_readable($first),
+            12 => $to.try_stream_drop_writable($first),
+            13 => $to.try_future_new($first),
+            14 => $to.try_future_cancel_read($first, flag(c"second", $second)?),
+            15 => $to.try_future_cancel_write($first, flag(c"second", $second)?),
+            16 => $to.try_future_drop_readable($first),
+            17 => $to.try_future_drop_writable($first),
+            18 => $to.try_error_context_drop(),
+            19 => $to.try_waitable_set_new(),
+            20 => $to.try_waitable_set_wait($first),
+            21 => $to.try_waitable_set_poll($first),
+            22 => $to.try_waitable_set_drop(),
+            23 => $to.try_waitable_join(),
+            24 => $to.try_backpressure_inc(),
+            25 => $to.try_backpressure_dec(),
+            26 => $to.try_thread_index(),
+            27 => $to.try_thread_new_indirect($first, $second),
+            28 => $to.try_thread_resume_later(),
+            29 => $to.try_thread_suspend(),
+            30 => $to.try_thread_suspend_then_resume(),
+            31 => $to.try_thread_yield_then_resume(),
+            32 => $to.try_thread_suspend_then_promote(),
+            33 => $to.try_thread_yield_then_promote(),
+            34 => $to.try_stream_forward($first),
+            35 => $to.try_future_forward($first),
+            36 => $to.try_thread_spawn_ref($first),
+            37 => $to.try_thread_spawn_indirect($first, $second),
+            38 => $to.try_thread_available_parallelism(),
+            _ => return Err(Refused::bad(c"function")),
+        }
+    };
+}
+
+/// Makes that for a number of `enum wenc_function_with`.
+macro_rules! builtin_with {
+    ($to:ident, $function:ident, $first:ident, $options:ident) => {
+        match $function {
+            1 => $to.try_stream_read($first, $options),
+            2 => $to.try_stream_write($first, $options),
+            3 => $to.try_future_read($first, $options),
+            4 => $to.try_future_write($first, $options),
+            5 => $to.try_error_context_new($options),
+            6 => $to.try_error_context_debug_message($options),
+            _ => return Err(Refused::bad(c"function")),
+        }
+    };
+}
+
+/// Makes that for a number of `enum wenc_context_function`.
+macro_rules! slot {
+    ($to:ident, $function:ident, $ty:ident, $slot:ident) => {
+        match $function {
+            1 => $to.try_context_get($ty, $slot),
+            2 => $to.try_context_set($ty, $slot),
+            _ => return Err(Refused::bad(c"function")),
+        }
+    };
+}
 
 calls! {
     wenc_import(name[name_len]: text, reference: u32, of: u32) -> index = |session| {
@@ -20,17 +90,19 @@ calls! {
         name[name_len]: text, kind: u32, item: u32, reference: u32, of: u32
     ) -> index = |session| {
         let kind = known(c"kind", numbers::kind(kind))?;
-        session.export(name.into(), kind, item, known(c"ref", numbers::maybe_type_ref(reference, of))?)
+        let ty = known(c"ref", numbers::maybe_type_ref(reference, of))?;
+        session.export(name.into(), kind, item, ty)
     };
     wenc_export_named(&name: Name, kind: u32, item: u32, reference: u32, of: u32) -> index
         = |session| {
         let kind = known(c"kind", numbers::kind(kind))?;
-        session.export(name.read()?, kind, item, known(c"ref", numbers::maybe_type_ref(reference, of))?)
+        let name = name.read()?;
+        session.export(name, kind, item, known(c"ref", numbers::maybe_type_ref(reference, of))?)
     };
     wenc_alias_export(instance: u32, kind: u32, name[name_len]: text) -> index = |session| {
         let kind = known(c"kind", numbers::kind(kind))?;
         match session {
-            Session::Building(builder) => Ok(builder.alias_export(instance, name, kind)?),
+            Session::Building(builder) => Ok(builder.try_alias_export(instance, name, kind)?),
             _ => session.alias(None, Alias::InstanceExport { instance, kind, name }),
         }
     };
@@ -51,7 +123,7 @@ calls! {
         session.alias(debug_name, Alias::Outer { kind, count, index: item })
     };
     wenc_core_module(debug_name: name, bytes[len]: u8) -> index = |session| match session {
-        Session::Building(builder) => Ok(builder.core_module_raw(debug_name, bytes)?),
+        Session::Building(builder) => Ok(builder.try_core_module_raw(debug_name, bytes)?),
         _ => session.append(&RawSection { id: ComponentSectionId::CoreModule.into(), data: bytes }),
     };
     wenc_component_bytes(debug_name: name, bytes[len]: u8) -> index = |session| {
@@ -59,7 +131,7 @@ calls! {
     };
     wenc_start(function: u32, args[args_len]: u32, results: u32) -> index = |session| {
         match session {
-            Session::Building(builder) => Ok(builder.start(function, args, results)?),
+            Session::Building(builder) => Ok(builder.try_start(function, copied(args)?, results)?),
             _ => session.append(&ComponentStartSection { function_index: function, args, results }),
         }
     };
@@ -67,31 +139,29 @@ calls! {
         = |session| {
         let options = unnamed(c"options", options, numbers::option)?;
         match session {
-            Session::Building(to) => Ok(to.lift_func(debug_name, function, ty, options)?),
-            Session::Functions(to) => counted!(to => to.lift(function, ty, options)),
+            Session::Building(to) => Ok(to.try_lift_func(debug_name, function, ty, options)?),
+            Session::Functions(to) => counted!(to => to.try_lift(function, ty, options)),
             _ => Err(session.refusal()),
         }
     };
     wenc_lower(debug_name: name, function: u32, options[options_len]: Pair) -> index = |session| {
         let options = unnamed(c"options", options, numbers::option)?;
         match session {
-            Session::Building(to) => Ok(to.lower_func(debug_name, function, options)?),
-            Session::Functions(to) => counted!(to => to.lower(function, options)),
+            Session::Building(to) => Ok(to.try_lower_func(debug_name, function, options)?),
+            Session::Functions(to) => counted!(to => to.try_lower(function, options)),
             _ => Err(session.refusal()),
         }
     };
     wenc_builtin(function: u32, first: u32, second: u32) -> index = |session| match session {
-        Session::Building(to) => add_builtin(to, function, first, second),
-        Session::Functions(to) => counted!(to => add_builtin(to, function, first, second)),
+        Session::Building(to) => Ok(builtin!(to, function, first, second)?),
+        Session::Functions(to) => counted!(to => builtin!(to, function, first, second)),
         _ => Err(session.refusal()),
     };
     wenc_builtin_with(function: u32, first: u32, options[options_len]: Pair) -> index = |session| {
         let options = unnamed(c"options", options, numbers::option)?;
         match session {
-            Session::Building(to) => add_builtin_with(to, function, first, options),
-            Session::Functions(to) => {
-                counted!(to => add_builtin_with(to, function, first, options))
-            }
+            Session::Building(to) => Ok(builtin_with!(to, function, first, options)?),
+            Session::Functions(to) => counted!(to => builtin_with!(to, function, first, options)),
             _ => Err(session.refusal()),
         }
     };
@@ -99,16 +169,16 @@ calls! {
         let ty = known(c"ref", numbers::maybe_value(reference, of))?;
         let options = unnamed(c"options", options, numbers::option)?;
         match session {
-            Session::Building(to) => Ok(to.task_return(ty, options)?),
-            Session::Functions(to) => counted!(to => to.task_return(ty, options)),
+            Session::Building(to) => Ok(to.try_task_return(ty, options)?),
+            Session::Functions(to) => counted!(to => to.try_task_return(ty, options)),
             _ => Err(session.refusal()),
         }
     };
     wenc_context(function: u32, ty: u32, slot: u32) -> index = |session| {
-        let ty = known(c"type", numbers::core_number(ty))?;
+        let ty = known(c"type", numbers::core_number(ty))?.into();
         match session {
-            Session::Building(to) => add_slot(to, function, ty, slot),
-            Session::Functions(to) => counted!(to => add_slot(to, function, ty, slot)),
+            Session::Building(to) => Ok(slot!(to, function, ty, slot)?),
+            Session::Functions(to) => counted!(to => slot!(to, function, ty, slot)),
             _ => Err(session.refusal()),
         }
     };
@@ -116,17 +186,18 @@ calls! {
         = |session| {
         let args = named(c"args", args, |_, instance| Some(ModuleArg::Instance(instance)))?;
         match session {
-            Session::Building(to) => Ok(to.core_instantiate(debug_name, module, args)?),
-            Session::CoreInstances(to) => counted!(to => to.instantiate(module, args)),
+            Session::Building(to) => Ok(to.try_core_instantiate(debug_name, module, args)?),
+            Session::CoreInstances(to) => counted!(to => to.try_instantiate(module, args)),
             _ => Err(session.refusal()),
         }
     };
     wenc_core_exports(debug_name: name, exports[exports_len]: Part) -> index = |session| {
-        let exports = named(c"exports", exports, |kind, item| Some((numbers::core_kind(kind)?, item)))?;
+        let item = |kind, item| Some((numbers::core_kind(kind)?, item));
+        let exports = named(c"exports", exports, item)?;
         let exports = exports.map(|(name, (kind, item))| (name, kind, item));
         match session {
-            Session::Building(to) => Ok(to.core_instantiate_exports(debug_name, exports)?),
-            Session::CoreInstances(to) => counted!(to => to.export_items(exports)),
+            Session::Building(to) => Ok(to.try_core_instantiate_exports(debug_name, exports)?),
+            Session::CoreInstances(to) => counted!(to => to.try_export_items(exports)),
             _ => Err(session.refusal()),
         }
     };
@@ -134,17 +205,17 @@ calls! {
         let args = named(c"args", args, |kind, item| Some((numbers::kind(kind)?, item)))?;
         let args = args.map(|(name, (kind, item))| (name, kind, item));
         match session {
-            Session::Building(to) => Ok(to.instantiate(debug_name, component, args)?),
-            Session::Instances(to) => counted!(to => to.instantiate(component, args)),
+            Session::Building(to) => Ok(to.try_instantiate(debug_name, component, args)?),
+            Session::Instances(to) => counted!(to => to.try_instantiate(component, args)),
             _ => Err(session.refusal()),
         }
     };
     wenc_export_items(debug_name: name, items[items_len]: Part) -> index = |session| {
         let items = named(c"items", items, |kind, item| Some((numbers::kind(kind)?, item)))?;
-        let items = items.map(|(name, (kind, item))| (ComponentExternName::from(name), kind, item));
+        let items = items.map(|(name, (kind, item))| (name, kind, item));
         match session {
-            Session::Building(to) => Ok(to.instantiate_exports(debug_name, items)?),
-            Session::Instances(to) => counted!(to => to.export_items(items)),
+            Session::Building(to) => Ok(to.try_instantiate_exports(debug_name, items)?),
+            Session::Instances(to) => counted!(to => to.try_export_items(items)),
             _ => Err(session.refusal()),
         }
     };
@@ -163,7 +234,7 @@ calls! {
 /// Adds a component given as bytes.
 fn add_component(session: &mut Session, debug_name: Option<&str>, bytes: &[u8]) -> Result<u32> {
     match session {
-        Session::Building(builder) => Ok(builder.component_raw(debug_name, bytes)?),
+        Session::Building(builder) => Ok(builder.try_component_raw(debug_name, bytes)?),
         _ => session.append(&RawSection { id: ComponentSectionId::Component.into(), data: bytes }),
     }
 }
@@ -171,7 +242,9 @@ fn add_component(session: &mut Session, debug_name: Option<&str>, bytes: &[u8]) 
 /// Nests the other handle's component; that handle stays valid.
 fn nest(session: &mut Session, debug_name: Option<&str>, nested: &Session) -> Result<u32> {
     match nested {
-        Session::Building(nested) => Ok(session.builder()?.component_ref(debug_name, nested)?),
+        Session::Building(nested) => {
+            Ok(session.builder()?.try_component_ref(debug_name, nested)?)
+        }
         Session::ByHand(nested) => add_component(session, debug_name, nested.as_slice()),
         _ => Err(nested.refusal().of(c"nested")),
     }
@@ -183,92 +256,5 @@ fn flag(argument: &'static CStr, number: u32) -> Result<bool> {
         0 => Ok(false),
         1 => Ok(true),
         _ => Err(Refused::bad(argument)),
-    }
-}
-
-/// Adds a builtin of `enum wenc_function`.
-fn add_builtin<B: AddsBuiltin>(
-    to: &mut B,
-    function: u32,
-    first: u32,
-    second: u32,
-) -> Result<B::Answer> {
-    let added = match function {
-        1 => to.resource_new(first),
-        2 => to.resource_drop(first),
-        3 => to.resource_rep(first),
-        5 => to.subtask_cancel(flag(c"first", first)?),
-        8 => to.stream_new(first),
-        9 => to.stream_cancel_read(first, flag(c"second", second)?),
-        10 => to.stream_cancel_write(first, flag(c"second", second)?),
-        11 => to.stream_drop_readable(first),
-        12 => to.stream_drop_writable(first),
-        13 => to.future_new(first),
-        14 => to.future_cancel_read(first, flag(c"second", second)?),
-        15 => to.future_cancel_write(first, flag(c"second", second)?),
-        16 => to.future_drop_readable(first),
-        17 => to.future_drop_writable(first),
-        20 => to.waitable_set_wait(first),
-        21 => to.waitable_set_poll(first),
-        27 => to.thread_new_indirect(first, second),
-        34 => to.stream_forward(first),
-        35 => to.future_forward(first),
-        36 => to.thread_spawn_ref(first),
-        37 => to.thread_spawn_indirect(first, second),
-        _ => return add_plain_builtin(to, function),
-    };
-    Ok(added?)
-}
-
-/// Adds a builtin of `enum wenc_function` that takes no number.
-fn add_plain_builtin<B: AddsBuiltin>(to: &mut B, function: u32) -> Result<B::Answer> {
-    let added = match function {
-        4 => to.task_cancel(),
-        6 => to.thread_yield(),
-        7 => to.subtask_drop(),
-        18 => to.error_context_drop(),
-        19 => to.waitable_set_new(),
-        22 => to.waitable_set_drop(),
-        23 => to.waitable_join(),
-        24 => to.backpressure_inc(),
-        25 => to.backpressure_dec(),
-        26 => to.thread_index(),
-        28 => to.thread_resume_later(),
-        29 => to.thread_suspend(),
-        30 => to.thread_suspend_then_resume(),
-        31 => to.thread_yield_then_resume(),
-        32 => to.thread_suspend_then_promote(),
-        33 => to.thread_yield_then_promote(),
-        38 => to.thread_available_parallelism(),
-        _ => return Err(Refused::bad(c"function")),
-    };
-    Ok(added?)
-}
-
-/// Adds a builtin of `enum wenc_function_with`.
-fn add_builtin_with<B: AddsBuiltin>(
-    to: &mut B,
-    function: u32,
-    first: u32,
-    options: impl Iterator<Item = CanonicalOption>,
-) -> Result<B::Answer> {
-    let added = match function {
-        1 => to.stream_read(first, options),
-        2 => to.stream_write(first, options),
-        3 => to.future_read(first, options),
-        4 => to.future_write(first, options),
-        5 => to.error_context_new(options),
-        6 => to.error_context_debug_message(options),
-        _ => return Err(Refused::bad(c"function")),
-    };
-    Ok(added?)
-}
-
-/// Adds a builtin of `enum wenc_context_function`.
-fn add_slot<B: AddsSlot>(to: &mut B, function: u32, ty: ValType, slot: u32) -> Result<B::Answer> {
-    match function {
-        1 => Ok(to.context_get(ty, slot)?),
-        2 => Ok(to.context_set(ty, slot)?),
-        _ => Err(Refused::bad(c"function")),
     }
 }

@@ -1,42 +1,33 @@
-//! The functions of `c/wenc.h`: they read the numbers, pointers and lengths of C, and call the
-//! proved sources.
+//! The functions of `wenc.h`: they read the numbers, pointers and lengths of C, and make the calls
+//! of the crate `wenc`. `library` makes the library for C of them.
 //!
 //! A call reads its arguments, whole lists included, before it changes anything; so a call that
-//! fails changes nothing. A pointer that comes with a length of 0 isn't read. Any other pointer must
-//! be NULL or as the header says, which nothing can check.
-#![allow(unsafe_code)]
+//! fails changes nothing. A pointer that comes with a length of 0 isn't read. Any other pointer
+//! must be NULL or as the header says, which nothing can check.
+#![no_std]
+#![allow(clippy::missing_safety_doc, reason = "`wenc.h` says what each call needs")]
 
-mod arguments;
-mod core_types;
-mod items;
-#[cfg(all(panic = "abort", not(feature = "std"), not(test)))]
-mod library;
-mod life;
-mod listing;
+extern crate alloc;
+
+pub mod arguments;
+pub mod core_types;
+pub mod items;
+pub mod life;
+pub mod listing;
 mod numbers;
-mod rows;
-mod sections;
+pub mod rows;
+pub mod sections;
 mod session;
-#[cfg(all(test, has_tests))]
-#[path = "../tests/capi/mod.rs"]
-mod tests;
-mod types;
-mod walk;
+pub mod types;
+pub mod walk;
 
-use crate::proved::wasm_encoder::Fault;
-use crate::proved::wenc_read::{NestedRefusal, Refusal};
-use crate::shim::alloc::{AllocError, AllocFailed, Global};
-use crate::shim::boxed::Box as Boxed;
 use alloc::boxed::Box;
+use alloc::collections::TryReserveError;
+use alloc::vec::Vec;
 use core::ffi::CStr;
 use core::ptr;
 use session::Session;
-
-#[cfg(not(any(panic = "abort", feature = "std", test)))]
-compile_error!(
-    "the feature `capi` needs a profile that aborts, as `--profile c`, \
-     or the feature `std` besides: `--features capi,std`"
-);
+use wenc::{Error, ListFault, NamesFault};
 
 /// `enum wenc_status`: why a call failed, or `Done`.
 #[derive(Clone, Copy, Debug, PartialEq, Eq)]
@@ -61,7 +52,7 @@ pub enum Status {
 /// Why a call fails: its status, and the argument that is at fault, by its name in the header, with
 /// the number of its member.
 #[derive(Clone, Copy, Debug)]
-pub struct Refused {
+struct Refused {
     status: Status,
     argument: Option<&'static CStr>,
     member: usize,
@@ -93,44 +84,40 @@ impl Refused {
     }
 }
 
-impl From<Fault> for Status {
-    fn from(fault: Fault) -> Self {
+impl From<Error> for Status {
+    fn from(error: Error) -> Self {
+        match error {
+            Error::NoMemory => Self::NoMemory,
+            Error::TooMany => Self::TooMany,
+            Error::TooLarge => Self::TooLarge,
+            Error::Unfinished => Self::Unfinished,
+            // No number of the header stands for what fails with the others.
+            _ => Self::BadArgument,
+        }
+    }
+}
+
+impl From<TryReserveError> for Status {
+    fn from(_: TryReserveError) -> Self {
+        Self::NoMemory
+    }
+}
+
+impl From<ListFault> for Status {
+    fn from(fault: ListFault) -> Self {
         match fault {
-            Fault::Memory(_) => Self::NoMemory,
-            Fault::TooMany => Self::TooMany,
-            Fault::TooLarge => Self::TooLarge,
-            Fault::Unfinished => Self::Unfinished,
+            ListFault::NoMemory => Self::NoMemory,
+            ListFault::NotAComponent { .. } => Self::NotAComponent,
+            ListFault::BadSection { .. } => Self::BadSection,
+            ListFault::TooDeep { .. } => Self::TooDeep,
+            _ => Self::BadItem,
         }
     }
 }
 
-impl From<AllocError> for Status {
-    fn from(_: AllocError) -> Self {
-        Self::NoMemory
-    }
-}
-
-impl<T> From<AllocFailed<T>> for Status {
-    fn from(_: AllocFailed<T>) -> Self {
-        Self::NoMemory
-    }
-}
-
-impl From<Refusal> for Status {
-    fn from(refusal: Refusal) -> Self {
-        match refusal {
-            Refusal::Memory => Self::NoMemory,
-            Refusal::Malformed => Self::Malformed,
-        }
-    }
-}
-
-impl From<NestedRefusal> for Status {
-    fn from(refusal: NestedRefusal) -> Self {
-        match refusal {
-            NestedRefusal::Flat(refusal) => refusal.into(),
-            NestedRefusal::TooDeep => Self::TooDeep,
-        }
+impl From<NamesFault> for Status {
+    fn from(_: NamesFault) -> Self {
+        Self::Malformed
     }
 }
 
@@ -144,11 +131,11 @@ impl From<Result<()>> for Status {
 #[derive(Debug)]
 #[repr(C)]
 pub struct Handle {
-    at: *mut Owned,
+    pub at: *mut Owned,
 }
 
 /// What a handle owns.
-struct Owned {
+pub struct Owned {
     session: Session,
     /// Why the last call failed that did, of those that change the session.
     refused: Option<Refused>,
@@ -161,8 +148,11 @@ unsafe fn begin(handle: *mut Handle, make: impl FnOnce() -> Result<Session>) -> 
         return Err(Status::BadArgument.into());
     }
     let owned = Owned { session: make()?, refused: None };
-    let made: Box<[Owned; 1]> = Boxed::new(Global, owned)?.into();
-    handle.at = Box::into_raw(made).cast();
+    // `Box::new` aborts where the allocation fails.
+    let mut made = Vec::new();
+    made.try_reserve_exact(1)?;
+    made.push(owned);
+    handle.at = Box::into_raw(made.into_boxed_slice()).cast();
     Ok(())
 }
 
@@ -244,7 +234,7 @@ macro_rules! calls {
     ($(
         $name:ident($($argument:tt)*) $(-> $index:ident)? = |$session:ident| $body:expr;
     )*) => {
-        $($crate::capi::call! { $name [$($index)?] $session $body, [] [] $($argument)*, })*
+        $($crate::call! { $name [$($index)?] $session $body, [] [] $($argument)*, })*
     };
 }
 
@@ -254,28 +244,28 @@ macro_rules! call {
     ($f:ident [$index:ident] $s:ident $body:expr, [$($c:tt)*] [$($read:tt)*] $(,)?) => {
         #[unsafe(no_mangle)]
         pub unsafe extern "C" fn $f(
-            handle: *mut $crate::capi::Handle,
+            handle: *mut $crate::Handle,
             $($c)*
             $index: *mut u32,
-        ) -> $crate::capi::Status {
-            unsafe { $crate::capi::indexed(handle, $index, |$s| { $($read)* $body }) }
+        ) -> $crate::Status {
+            unsafe { $crate::indexed(handle, $index, |$s| { $($read)* $body }) }
         }
     };
     ($f:ident [] $s:ident $body:expr, [$($c:tt)*] [$($read:tt)*] $(,)?) => {
         #[unsafe(no_mangle)]
         pub unsafe extern "C" fn $f(
-            handle: *mut $crate::capi::Handle,
+            handle: *mut $crate::Handle,
             $($c)*
-        ) -> $crate::capi::Status {
-            unsafe { $crate::capi::made(handle, |$s| { $($read)* $body }) }
+        ) -> $crate::Status {
+            unsafe { $crate::made(handle, |$s| { $($read)* $body }) }
         }
     };
     ($f:ident $i:tt $s:ident $b:expr, [$($c:tt)*] [$($r:tt)*] $a:ident: name, $($rest:tt)*) => {
-        $crate::capi::call! {
+        $crate::call! {
             $f $i $s $b,
-            [$($c)* $a: *const $crate::capi::arguments::Text,]
+            [$($c)* $a: *const $crate::arguments::Text,]
             [$($r)*
-                let $a = $crate::capi::arguments::debug_name($a)?;
+                let $a = $crate::arguments::debug_name($a)?;
                 $s.take_name($a)?;
             ]
             $($rest)*
@@ -285,11 +275,11 @@ macro_rules! call {
         $f:ident $i:tt $s:ident $b:expr, [$($c:tt)*] [$($r:tt)*]
         $a:ident[$l:ident]: text, $($rest:tt)*
     ) => {
-        $crate::capi::call! {
+        $crate::call! {
             $f $i $s $b, [$($c)* $a: *const u8, $l: usize,]
             [$($r)*
-                let $a = $crate::capi::arguments::text($a, $l)
-                    .map_err(|refused| refused.of($crate::capi::name_of!($a)))?;
+                let $a = $crate::arguments::text($a, $l)
+                    .map_err(|refused| refused.of($crate::name_of!($a)))?;
             ] $($rest)*
         }
     };
@@ -297,24 +287,24 @@ macro_rules! call {
         $f:ident $i:tt $s:ident $b:expr, [$($c:tt)*] [$($r:tt)*]
         $a:ident[$l:ident]: $t:ty, $($rest:tt)*
     ) => {
-        $crate::capi::call! {
+        $crate::call! {
             $f $i $s $b, [$($c)* $a: *const $t, $l: usize,]
             [$($r)*
-                let $a = $crate::capi::arguments::list($a, $l)
-                    .map_err(|refused| refused.of($crate::capi::name_of!($a)))?;
+                let $a = $crate::arguments::list($a, $l)
+                    .map_err(|refused| refused.of($crate::name_of!($a)))?;
             ] $($rest)*
         }
     };
     ($f:ident $i:tt $s:ident $b:expr, [$($c:tt)*] [$($r:tt)*] &$a:ident: $t:ty, $($rest:tt)*) => {
-        $crate::capi::call! {
+        $crate::call! {
             $f $i $s $b, [$($c)* $a: *const $t,]
             [$($r)*
-                let $a = $a.as_ref().ok_or($crate::capi::Refused::bad($crate::capi::name_of!($a)))?;
+                let $a = $a.as_ref().ok_or($crate::Refused::bad($crate::name_of!($a)))?;
             ] $($rest)*
         }
     };
     ($f:ident $i:tt $s:ident $b:expr, [$($c:tt)*] $r:tt $a:ident: $t:ty, $($rest:tt)*) => {
-        $crate::capi::call! { $f $i $s $b, [$($c)* $a: $t,] $r $($rest)* }
+        $crate::call! { $f $i $s $b, [$($c)* $a: $t,] $r $($rest)* }
     };
 }
 
@@ -332,4 +322,4 @@ macro_rules! name_of {
     };
 }
 
-use {call, calls, name_of};
+pub(crate) use {call, calls, name_of};

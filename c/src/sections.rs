@@ -1,21 +1,19 @@
 //! The calls that append sections, and the section of debug names.
 
-use super::arguments::{IndexName, Producer, known, text};
-use super::session::Session;
-use super::{Handle, Refused, Result, calls, numbers, other};
-use crate::component::name_items;
-use crate::proved::wasm_encoder::{
+use crate::arguments::{IndexName, Producer, known, text};
+use crate::session::Session;
+use crate::{Handle, Refused, Result, calls, numbers, other};
+use wenc::{
     ComponentNameSection, CustomSection, NameMap, ProducersField, ProducersSection,
     RawCustomSection, RawSection,
 };
-use crate::shim::alloc::Global;
 
 calls! {
     wenc_custom_section(name[name_len]: text, data[data_len]: u8) = |session| {
-        add_custom(session, &CustomSection { name, data })
+        add_custom(session, &CustomSection { name: name.into(), data: data.into() })
     };
     wenc_raw_custom_section(bytes[len]: u8) = |session| match session {
-        Session::Building(builder) => Ok(builder.raw_custom_section(bytes)?),
+        Session::Building(builder) => Ok(builder.try_raw_custom_section(bytes)?),
         _ => session.append(&RawCustomSection(bytes)).map(drop),
     };
     wenc_raw_section(id: u8, bytes[len]: u8) = |session| {
@@ -24,11 +22,11 @@ calls! {
     wenc_producers(producers[producers_len]: Producer) = |session| {
         let section = read_producers(producers)?;
         match session {
-            Session::Building(builder) => Ok(builder.producers_section(&section)?),
+            Session::Building(builder) => Ok(builder.try_producers_section(&section)?),
             _ => session.append(&section).map(drop),
         }
     };
-    wenc_append_names() = |session| Ok(session.builder()?.append_names()?);
+    wenc_append_names() = |session| Ok(session.builder()?.try_append_names()?);
     wenc_section(section: *const Handle) = |session| {
         match other(session, section).map_err(|refused| refused.of(c"section"))? {
             Session::CoreInstances(section) => session.append(section).map(drop),
@@ -43,23 +41,25 @@ calls! {
             _ => Err(Refused::bad(c"section")),
         }
     };
-    wenc_names_component(name[name_len]: text) = |session| Ok(of_names(session)?.component(name)?);
+    wenc_names_component(name[name_len]: text) = |session| {
+        Ok(of_names(session)?.try_component(name)?)
+    };
     wenc_names_items(space: u32, names[names_len]: IndexName) = |session| {
         let section = of_names(session)?;
         let space = known(c"space", numbers::space(space))?;
-        let mut map = NameMap::new(Global);
+        let mut map = NameMap::new();
         for (member, named) in names.iter().enumerate() {
             let wrong = |refused: Refused| refused.of(c"names").at(member);
-            map.append(named.index, text(named.name, named.name_len).map_err(wrong)?)?;
+            map.try_append(named.index, text(named.name, named.name_len).map_err(wrong)?)?;
         }
-        Ok(name_items(section, space, &map)?)
+        Ok(section.try_names(space, &map)?)
     };
-    wenc_names_raw(id: u8, bytes[len]: u8) = |session| Ok(of_names(session)?.raw(id, bytes)?);
+    wenc_names_raw(id: u8, bytes[len]: u8) = |session| Ok(of_names(session)?.try_raw(id, bytes)?);
 }
 
 fn add_custom(session: &mut Session, section: &CustomSection<'_>) -> Result<()> {
     match session {
-        Session::Building(builder) => Ok(builder.custom_section(section)?),
+        Session::Building(builder) => Ok(builder.try_custom_section(section)?),
         _ => session.append(section).map(drop),
     }
 }
@@ -74,7 +74,7 @@ fn of_names(session: &mut Session) -> Result<&mut ComponentNameSection> {
 
 /// Makes a producers section of these tools. Adjacent tools with the same field share it.
 unsafe fn read_producers(producers: &[Producer]) -> Result<ProducersSection> {
-    let mut section = ProducersSection::new(Global);
+    let mut section = ProducersSection::new();
     let mut rest = producers;
     while let Some(first) = rest.first() {
         let read = |producer: &Producer, behind: &[Producer]| {
@@ -83,16 +83,16 @@ unsafe fn read_producers(producers: &[Producer]) -> Result<ProducersSection> {
             unsafe { producer.read() }.map_err(wrong)
         };
         let (name, ..) = read(first, &rest[1..])?;
-        let mut field = ProducersField::new(Global);
+        let mut field = ProducersField::new();
         while let Some((producer, behind)) = rest.split_first() {
             let (of, tool, version) = read(producer, behind)?;
             if of != name {
                 break;
             }
-            field.value(tool, version)?;
+            field.try_value(tool, version)?;
             rest = behind;
         }
-        section.field(name, &field)?;
+        section.try_field(name, &field)?;
     }
     Ok(section)
 }

@@ -1,0 +1,210 @@
+//! Components that were read, and items that are read from bytes.
+
+use crate::arguments::{copied, known, list};
+use crate::rows::{ItemRow, SectionRow};
+use crate::session::Session;
+use crate::{Handle, Refused, Result, Status, begin, calls, numbers, other, put, session, written};
+use alloc::vec::Vec;
+use core::ops::Range;
+use wenc::tree::Space;
+use wenc::view::ItemView;
+use wenc::{ComponentSectionId, Items, ListFault, SectionReader, Sections, Unread};
+
+/// A component that was read.
+pub struct Listed {
+    /// A copy of its bytes.
+    bytes: Vec<u8>,
+    sections: Vec<Section>,
+    items: Vec<Item>,
+    /// The number of indices in each space, by its number.
+    counts: [u64; 13],
+}
+
+/// A section of it.
+struct Section {
+    row: SectionRow,
+    /// The number of items before the section.
+    before: usize,
+}
+
+/// An item of it.
+struct Item {
+    place: usize,
+    /// Its index, or that of its first value.
+    index: u64,
+}
+
+impl Listed {
+    /// Reads a component.
+    fn read(bytes: &[u8]) -> Result<Self, ListFault> {
+        let (sections, items) = (Vec::new(), Vec::new());
+        let mut listed = Self { bytes: Vec::new(), sections, items, counts: [0; 13] };
+        for section in Sections::new(bytes)? {
+            listed.read_section(section?)?;
+        }
+        listed.bytes = copied(bytes).map_err(|_| ListFault::NoMemory)?;
+        Ok(listed)
+    }
+
+    fn read_section(&mut self, section: SectionReader<'_>) -> Result<(), ListFault> {
+        let (row, before) = (SectionRow::new(&section), self.items.len());
+        push(&mut self.sections, Section { row, before })?;
+        for item in section.items() {
+            let (range, item) = item?;
+            let mut index = 0;
+            if let Some((space, taken)) = item.indices() {
+                let count = &mut self.counts[space.number()];
+                index = *count;
+                // A component of 2^32 such items would have more bytes than there are.
+                *count = count.saturating_add(taken.into());
+            }
+            push(&mut self.items, Item { place: range.start, index })?;
+        }
+        Ok(())
+    }
+
+    /// Returns the number of sections.
+    pub(crate) fn len(&self) -> usize {
+        self.sections.len()
+    }
+
+    /// Returns the number of items in an index space.
+    pub(crate) fn count(&self, space: Space) -> Result<u32> {
+        Ok(u32::try_from(self.counts[space.number()]).map_err(|_| Status::TooLarge)?)
+    }
+
+    fn section(&self, number: usize) -> Result<&Section> {
+        self.sections.get(number).ok_or(Refused::bad(c"section"))
+    }
+
+    /// Returns the index and the place of the item with this number in a section, and the item.
+    fn item(&self, section: usize, number: usize) -> Result<(u64, Range<usize>, ItemView<'_>)> {
+        let Section { row, before } = self.section(section)?;
+        if number >= row.items {
+            return Err(Refused::bad(c"number"));
+        }
+        // 32 bits: there is an item of this number.
+        let Item { place, index } = self.items[*before + number];
+        // 32 bits: the section ends where the component does, or before.
+        let range = place..row.place + row.len;
+        let items = Items::at(&self.bytes, row.id as u8, range, 1);
+        let (range, item) = items.and_then(|mut items| items.next()).ok_or(Status::BadItem)??;
+        Ok((index, range, item))
+    }
+
+    fn row(&self, section: usize, number: usize) -> Result<ItemRow> {
+        let (index, range, item) = self.item(section, number)?;
+        let row = ItemRow::new(self.section(section)?.row.id, range, item);
+        Ok(ItemRow { index, ..row })
+    }
+}
+
+fn push<T>(values: &mut Vec<T>, value: T) -> Result<(), ListFault> {
+    values.try_reserve(1).map_err(|_| ListFault::NoMemory)?;
+    values.push(value);
+    Ok(())
+}
+
+/// `wenc_unread`: the part of a component that can't be read.
+#[repr(C)]
+pub struct UnreadPart {
+    pub section: usize,
+    pub place: usize,
+    pub part: u32,
+    pub item: u32,
+}
+
+#[unsafe(no_mangle)]
+pub unsafe extern "C" fn wenc_list(
+    handle: *mut Handle,
+    bytes: *const u8,
+    len: usize,
+    unread: *mut UnreadPart,
+) -> Status {
+    unsafe { put(unread, UnreadPart { section: 0, place: 0, part: 0, item: 0 }) };
+    let make = || {
+        let bytes = unsafe { list(bytes, len) }?;
+        Listed::read(bytes).map(Session::Listed).map_err(|fault| {
+            unsafe { put(unread, unread_part(fault)) };
+            fault.into()
+        })
+    };
+    unsafe { begin(handle, make) }.into()
+}
+
+/// Returns the part of a component that can't be read.
+fn unread_part(fault: ListFault) -> UnreadPart {
+    let (section, unread) = match fault {
+        ListFault::NotAComponent { place, .. } | ListFault::BadSection { place } => (place, None),
+        ListFault::BadItem { place, unread, .. } | ListFault::TooDeep { place, unread } => {
+            (place, unread)
+        }
+        _ => (0, None),
+    };
+    let (part, item, place) = match unread {
+        None => (0, 0, section),
+        Some(Unread::Count { place }) => (1, 0, place),
+        Some(Unread::Item { number, place }) => (2, number, place),
+        Some(Unread::Behind { place }) => (3, 0, place),
+    };
+    UnreadPart { section, place, part, item }
+}
+
+/// Returns the component that a handle has read.
+fn listed(session: &Session) -> Result<&Listed> {
+    match session {
+        Session::Listed(listed) => Ok(listed),
+        _ => Err(session.refusal()),
+    }
+}
+
+#[unsafe(no_mangle)]
+pub unsafe extern "C" fn wenc_section_at(
+    handle: *const Handle,
+    number: usize,
+    section: *mut SectionRow,
+) -> Status {
+    let read = |session| listed(session)?.section(number).map(|section| section.row);
+    unsafe { written(section, session(handle).and_then(read)) }
+}
+
+#[unsafe(no_mangle)]
+pub unsafe extern "C" fn wenc_item_at(
+    handle: *const Handle,
+    section: usize,
+    number: usize,
+    item: *mut ItemRow,
+) -> Status {
+    let read = |session| listed(session)?.row(section, number);
+    unsafe { written(item, session(handle).and_then(read)) }
+}
+
+calls! {
+    wenc_copy(debug_name: name, listing: *const Handle, section: usize, number: usize) -> index
+        = |session| {
+        let of = |argument| move |refused: Refused| refused.of(argument);
+        let listing = other(session, listing).and_then(listed).map_err(of(c"listing"))?;
+        let (.., item) = listing.item(section, number)?;
+        add(session, debug_name, &item)
+    };
+    wenc_item(section: u32, debug_name: name, bytes[len]: u8) -> index = |session| {
+        let section = known(c"section", numbers::section(section))?;
+        let item = read(section, bytes).map_err(|status| Refused::from(status).of(c"bytes"))?;
+        add(session, debug_name, &item)
+    };
+}
+
+/// Adds an item, and returns its index, or 0 for a custom section, which has none.
+fn add(session: &mut Session, debug_name: Option<&str>, item: &ItemView<'_>) -> Result<u32> {
+    Ok(session.builder()?.try_item(debug_name, item)?.unwrap_or(0))
+}
+
+/// Reads an item of a section, which must take all bytes.
+fn read(section: ComponentSectionId, bytes: &[u8]) -> Result<ItemView<'_>, Status> {
+    let mut items = Items::at(bytes, section, 0..bytes.len(), 1).ok_or(Status::Malformed)?;
+    match (items.next(), items.next()) {
+        (Some(Ok((_, item))), None) => Ok(item),
+        (Some(Err(ListFault::TooDeep { .. })), _) => Err(Status::TooDeep),
+        _ => Err(Status::Malformed),
+    }
+}
