@@ -18,4 +18,6 @@ mod size;
 mod sweeps;
 #[path = "../../../tests/calls/table/mod.rs"]
 mod table;
+#[path = "../../../tests/common/visited.rs"]
+mod visited;
 mod walk;
