@@ -18,6 +18,7 @@ mod size;
 mod sweeps;
 #[path = "../../../tests/calls/table/mod.rs"]
 mod table;
+#[allow(dead_code, reason = "some is for Rust alone")]
 #[path = "../../../tests/common/visited.rs"]
 mod visited;
 mod walk;
