@@ -36,8 +36,11 @@ module _ (spaces : List Namespace) (i : Space) (n : ℕ) (name : Option (List �
   is_of = rw with_is (no_less n (namespace_at spaces i) name)
 
   pub undone_is : undone with_indices undo ≡ spaces
-  undone_is = rw (with_is, before_with i n (namespace_at spaces i) name,
-      set-set spaces (space_number i) (namespace_with (namespace_at spaces i) n name) (namespace_at spaces i))
+  undone_is = rw (
+    with_is,
+    before_with i n (namespace_at spaces i) name,
+    set-set spaces (space_number i) (namespace_with (namespace_at spaces i) n name) (namespace_at spaces i),
+  )
       (set-get_or spaces (space_number i) no_names)
 
   pub taken_with : spaced with_indices (Some undo) ≡ spaces_begun (spaced spaces None) i n name

@@ -25,9 +25,11 @@ invariant_of-self g c =
     let call = rw (c.into.ensures, c.whole.ensures) at c.add_section.ensures in
     let stood = names_stood c.self.inside.buffer (spaced c.self.inside.spaces c.self.inside.undo) c.args.self.now
     (λ n. (n.0, n.1.now)) c.sorted_names-names.result.0 c.self.invariant.0.agree c.self.view_is
-    (sym c.if-not-is_finished.ensures) (rw quiet c.sorted_names-names.ensures) c.add_section.new.self c.add_section.result call.stood call.bytes in
-    (without_index_outcome c.self.inside.buffer (spaced c.self.inside.spaces c.self.inside.undo) c.self.invariant.0
-    (sym c.if-not-is_finished.ensures) c.add_section.new.self c.add_section.result
-    (written (λ n. (n.0, n.1.now)) c.sorted_names-names.result.0)
-    (written_text c.self.inside.buffer (spaced c.self.inside.spaces c.self.inside.undo) c.args.self.now (λ n. (n.0, n.1.now)) c.sorted_names-names.result.0
-    c.self.invariant.0.agree c.self.view_is (sym c.if-not-is_finished.ensures) (rw quiet c.sorted_names-names.ensures)) stood.fits stood.ok stood.err, c.self.invariant.1)
+    (sym c.if-not-is_finished.ensures) (rw quiet c.sorted_names-names.ensures) c.add_section.new.self c.add_section.result call.stood call.bytes in (
+      without_index_outcome c.self.inside.buffer (spaced c.self.inside.spaces c.self.inside.undo) c.self.invariant.0
+          (sym c.if-not-is_finished.ensures) c.add_section.new.self c.add_section.result
+          (written (λ n. (n.0, n.1.now)) c.sorted_names-names.result.0)
+          (written_text c.self.inside.buffer (spaced c.self.inside.spaces c.self.inside.undo) c.args.self.now (λ n. (n.0, n.1.now)) c.sorted_names-names.result.0
+          c.self.invariant.0.agree c.self.view_is (sym c.if-not-is_finished.ensures) (rw quiet c.sorted_names-names.ensures)) stood.fits stood.ok stood.err,
+      c.self.invariant.1,
+    )

@@ -17,6 +17,8 @@ returns-clause-bytes g c done =
 
 pub invariant_of-self : goal.invariant_of-self
 invariant_of-self g c =
-    let call = rw (c.into.ensures, c.whole.ensures) at c.add_section.ensures in
-    (still_builder c.args.producers.now c.self.inside.buffer (spaced c.self.inside.spaces c.self.inside.undo) c.add_section.new.self c.add_section.result
-    (sym c.if-not-is_finished.ensures) call.stood call.bytes c.self.invariant.0, c.self.invariant.1)
+    let call = rw (c.into.ensures, c.whole.ensures) at c.add_section.ensures in (
+      still_builder c.args.producers.now c.self.inside.buffer (spaced c.self.inside.spaces c.self.inside.undo) c.add_section.new.self c.add_section.result
+          (sym c.if-not-is_finished.ensures) call.stood call.bytes c.self.invariant.0,
+      c.self.invariant.1,
+    )

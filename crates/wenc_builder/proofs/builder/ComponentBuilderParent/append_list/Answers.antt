@@ -6,9 +6,11 @@ use Rattle.wenc_builder.specs.inside.Spaces.{spaced}
 use Rattle.wenc_builder.proofs.builder.ComponentBuilderParent.append_list.Goals as goal
 
 pub invariant_of-self : goal.invariant_of-self
-invariant_of-self g c =
-    (list_stands c.self.inside.buffer (spaced c.self.inside.spaces c.self.inside.undo) c.self.invariant.0 g.I.Iterator.next_gives c.args.values c.append_listed.new.self
-    c.append_listed.result (λ vs. behind_bytes c.args.lead.now (list g.T.Encode.piece vs)) c.append_listed.ensures, c.self.invariant.1)
+invariant_of-self g c = (
+  list_stands c.self.inside.buffer (spaced c.self.inside.spaces c.self.inside.undo) c.self.invariant.0 g.I.Iterator.next_gives c.args.values c.append_listed.new.self
+      c.append_listed.result (λ vs. behind_bytes c.args.lead.now (list g.T.Encode.piece vs)) c.append_listed.ensures,
+  c.self.invariant.1,
+)
 
 pub returns : goal.returns
 returns g c =

@@ -10,6 +10,8 @@ returns-clause-appended g c =
     (g.E.Encode.piece c.args.value.now) c.append_encoded.ensures.appended
 
 pub invariant_of-self : goal.invariant_of-self
-invariant_of-self g c =
-    (value_stands c.self.inside.buffer (spaced c.self.inside.spaces c.self.inside.undo) c.self.invariant.0 c.append_encoded.new.self
-    c.append_encoded.result (g.E.Encode.piece c.args.value.now) c.append_encoded.ensures.appended, c.self.invariant.1)
+invariant_of-self g c = (
+  value_stands c.self.inside.buffer (spaced c.self.inside.spaces c.self.inside.undo) c.self.invariant.0 c.append_encoded.new.self
+      c.append_encoded.result (g.E.Encode.piece c.args.value.now) c.append_encoded.ensures.appended,
+  c.self.invariant.1,
+)
