@@ -2,7 +2,10 @@
 //! that of the values.
 
 use crate::shapes::{field, function, sub, text};
-use wenc::{CoreTypeEncoder, CoreTypeSection, InstanceType, ModuleType, StorageType, ValType};
+use wenc::{
+    CoreTypeEncoder, CoreTypeSection, HeapType, InstanceType, ModuleType, RefType, StorageType,
+    ValType,
+};
 
 /// An iterator that claims this length, until its end.
 #[derive(Clone)]
@@ -66,6 +69,36 @@ fn structs() {
         },
         &[0x5f, 2, 0x78, 1, 0x77, 0],
     );
+}
+
+/// Types of one byte, with one of two bytes at each place or without it.
+#[test]
+fn bytes_of_values() {
+    const NUMBERS: [(ValType, u8); 5] = [
+        (ValType::I32, 0x7f),
+        (ValType::I64, 0x7e),
+        (ValType::F32, 0x7d),
+        (ValType::F64, 0x7c),
+        (ValType::V128, 0x7b),
+    ];
+    let node = ValType::Ref(RefType { nullable: true, heap_type: HeapType::Concrete(0) });
+    for (len, place) in (0..14).flat_map(|len| (0..=len).map(move |place| (len, place))) {
+        let types = (0..len).map(|at| if at == place { node } else { NUMBERS[at % 5].0 });
+        let mut list = vec![u8::try_from(len).expect("it is short")];
+        for at in 0..len {
+            if at == place {
+                list.extend([0x63, 0]);
+            } else {
+                list.push(NUMBERS[at % 5].1);
+            }
+        }
+        let mut section = CoreTypeSection::new();
+        section.ty().core().function(types.clone(), [ValType::F64]);
+        section.ty().core().function([ValType::I32], types);
+        let wanted = [&[2, 0x60], &list[..], &[1, 0x7c, 0x60, 1, 0x7f], &list].concat();
+        let size = u8::try_from(wanted.len()).expect("it is short");
+        assert_eq!(text(&section), [&[size], &wanted[..]].concat(), "{len} {place}");
+    }
 }
 
 /// About as many as are converted without an allocation, which no claim changes.

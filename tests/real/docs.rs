@@ -103,7 +103,10 @@ fn components(code: &str) -> Vec<Vec<u8>> {
             if let Some(rest) = rest.strip_prefix("[8..],") {
                 found.push([&Component::HEADER[..], &literal(rest)].concat());
             } else {
-                let is_whole = rest.trim_start_matches([',', ' ', '\n']).starts_with("b\"\\0asm");
+                let other = rest.trim_start_matches([',', ' ', '\n']);
+                let name = other.split(|letter: char| !letter.is_alphanumeric()).next();
+                let of_name = format!(r#"let {} = b"\0asm"#, name.unwrap_or_default());
+                let is_whole = other.starts_with(r#"b"\0asm"#) || code.contains(&of_name);
                 assert!(is_whole, "neither a component nor what stands behind its header: {code}");
             }
         }

@@ -3,8 +3,8 @@
 use crate::proved::proved_tests::strangers::own::{Light, write_all};
 use crate::proved::tests::parts::checks::{check, check_all};
 use crate::proved::wenc_base::{
-    ByRef, Encode, Fault, Short, Tagged, Verbatim, WithSize, encode_byte, encode_list,
-    encoding_size, extend_in_room, section_size,
+    AbstractHeapType, ByRef, ByteTypes, Encode, Fault, HeapType, RefType, Short, Tagged, ValType,
+    Verbatim, WithSize, encode_byte, encode_list, encoding_size, extend_in_room, section_size,
 };
 use crate::shim::alloc::{AllocError, Global};
 use crate::shim::string::String;
@@ -44,6 +44,23 @@ fn lists_and_tuples() {
     check(&CONTENT, b"\x80\x01\x01\x61\x00");
     check(&("b", 1u32, Some(true)), b"\x01\x62\x01\x01\x01");
     check(&(), b"");
+}
+
+#[test]
+fn value_types_of_one_byte() {
+    let mut types = ByteTypes::new();
+    check(&types, b"\x00");
+    for ty in [ValType::I32, ValType::I64, ValType::F32, ValType::F64, ValType::V128] {
+        assert!(types.push(ty));
+    }
+    let heap_type = HeapType::Abstract(AbstractHeapType::Func);
+    assert!(!types.push(ValType::Ref(RefType { nullable: true, heap_type })));
+    check(&types, b"\x05\x7f\x7e\x7d\x7c\x7b");
+    for _ in 5..11 {
+        assert!(types.push(ValType::I64));
+    }
+    assert!(!types.push(ValType::I32));
+    check(&types, b"\x0b\x7f\x7e\x7d\x7c\x7b\x7e\x7e\x7e\x7e\x7e\x7e");
 }
 
 #[test]
