@@ -1,11 +1,15 @@
 //! The bytes that make an item or a section unreadable.
 
 use super::probe::{Accepted, Place, Probe};
+use super::shorter::Shorter;
 use super::walk::DEPTH;
 use super::words::Counted;
 use std::collections::TryReserveError;
 use std::fmt::{self, Display};
 use wenc::{Component, ComponentSection, ComponentSectionId, Found, RawSection, Sections};
+
+/// The number of bytes up to which an item is read whole for each change.
+const SHORT: usize = 64;
 
 /// The maximum number of bytes of a number of 32 bits.
 pub const NUMBER: usize = 5;
@@ -93,23 +97,64 @@ impl Bad<'_> {
     ///
     /// An allocation failed.
     pub fn cause(&self, left: &mut usize) -> Result<Option<Cause>, TryReserveError> {
-        let (section, outer) = ((self.id, self.count), (self.place, self.header));
-        let mut probe = Probe::new(outer, section, self.bytes, left)?;
-        let cause = if self.is_too_deep {
+        if self.is_too_deep {
+            let mut probe = self.probe(left)?;
             let place = self.at + probe.deep() - 1;
-            Some(Cause::Deep { place }).filter(|_| !probe.is_over())
-        } else {
-            self.of_bytes(&mut probe)
-        };
+            return Ok(Some(Cause::Deep { place }).filter(|_| !probe.is_over()));
+        }
+        if self.place == Place::Module || self.bytes.len() <= SHORT {
+            return self.of_bytes(left);
+        }
+        let shorter = Shorter::of(self, left)?;
+        // the rest is for the item without a text
+        let rest = *left / 8;
+        *left -= rest;
+        let cause = self.of_shorter(&shorter, left)?;
+        *left += rest;
+        let Some(Cause::Byte { place, expected: None, .. }) = cause else { return Ok(cause) };
+        for at in 0..NUMBER {
+            if let Some(shorter) = Shorter::without_text(self, at)? {
+                let other = self.of_shorter(&shorter, left)?;
+                if other.is_some_and(|other| other.place() == place) {
+                    return Ok(other);
+                }
+            }
+        }
         Ok(cause)
     }
 
+    fn probe<'p>(&'p self, left: &'p mut usize) -> Result<Probe<'p>, TryReserveError> {
+        let (section, outer) = ((self.id, self.count), (self.place, self.header));
+        Probe::new(outer, section, self.bytes, left)
+    }
+
+    /// Returns the cause in an item without some bytes of this one, as one of this.
+    fn of_shorter(
+        &self,
+        Shorter { bytes, removed }: &Shorter,
+        left: &mut usize,
+    ) -> Result<Option<Cause>, TryReserveError> {
+        let at = self.at + removed;
+        let cause = Bad { bytes, at, ..*self }.of_bytes(left)?;
+        Ok(cause.map(|cause| match cause {
+            Cause::Few { place, needed, len } if place == at => {
+                let needed = needed.map(|needed| needed + removed);
+                Cause::Few { place: self.at, needed, len: len + removed }
+            }
+            cause => cause,
+        }))
+    }
+
     /// Returns the cause of an item that isn't too deep.
-    fn of_bytes(&self, probe: &mut Probe) -> Option<Cause> {
+    fn of_bytes(&self, left: &mut usize) -> Result<Option<Cause>, TryReserveError> {
+        let mut probe = self.probe(left)?;
         let front = probe.front();
-        if probe.is_over() {
-            return None;
-        }
+        Ok(if probe.is_over() { None } else { self.of_front(&mut probe, front) })
+    }
+
+    /// Returns the cause of an item of which the front with this length can go on, and none that is
+    /// longer.
+    fn of_front(&self, probe: &mut Probe, front: usize) -> Option<Cause> {
         let Some(byte) = self.bytes.get(front).copied() else {
             let len = self.bytes.len();
             let needed = probe.missing().map(|missing| len + missing);

@@ -4,7 +4,7 @@ use super::cause::Cause;
 use std::collections::TryReserveError;
 use std::fmt::{self, Display};
 use std::io;
-use wenc::{ListFault, ModuleFault, Unread};
+use wenc::{Found, ListFault, ModuleFault, Unread};
 
 /// The exit status if memory ran out.
 pub const NO_MEMORY: u8 = 3;
@@ -169,6 +169,9 @@ impl Display for Fault {
         match *self {
             Self::Input(ref error) => error.fmt(f),
             Self::NoMemory => f.write_str("memory ran out"),
+            Self::List(ListFault::NotAComponent { place: 0, found: Found::Nothing }, _) => {
+                f.write_str("no component's header at 0x0: found an empty file")
+            }
             Self::List(fault, None) => fault.fmt(f),
             Self::List(fault, Some(cause)) => write_list(f, fault, cause),
             Self::Module(at, fault, cause) => {

@@ -94,14 +94,18 @@ impl<'o, W: Write> Json<'o, W> {
         self.put("\"")
     }
 
-    fn text_or_null(&mut self, text: Option<&str>) -> io::Result<()> {
+    /// Writes a key after its lead, a comma or a brace, and a string or null.
+    fn text_at(&mut self, lead: &str, key: &str, text: Option<impl Display>) -> io::Result<()> {
+        write!(self.out, "{lead}\"{key}\":")?;
         match text {
             Some(text) => self.text(text),
             None => self.put("null"),
         }
     }
 
-    fn number_or_null(&mut self, number: Option<impl Display>) -> io::Result<()> {
+    /// Writes a key after its lead, a comma or a brace, and a number or null.
+    fn number_at(&mut self, lead: &str, key: &str, number: Option<impl Display>) -> io::Result<()> {
+        write!(self.out, "{lead}\"{key}\":")?;
         match number {
             Some(number) => write!(self.out, "{number}"),
             None => self.put("null"),
@@ -123,25 +127,26 @@ impl<'o, W: Write> Json<'o, W> {
 
     /// Writes the id of a section, and its word.
     fn kind(&mut self, id: u8, word: Option<&str>) -> io::Result<()> {
-        write!(self.out, ",\"id\":{id},\"kind\":")?;
-        self.text_or_null(word)
+        self.number_at(",", "id", Some(id))?;
+        self.text_at(",", "kind", word)
     }
 
     fn label(&mut self, label: Option<&Label>) -> io::Result<()> {
         let Some(Label { space, from, count, name }) = label else {
             return self.put(",\"space\":null,\"index\":null,\"count\":0,\"name\":null");
         };
-        write!(self.out, ",\"space\":\"{}\",\"index\":", words::space(*space))?;
-        self.number_or_null(*from)?;
-        write!(self.out, ",\"count\":{count},\"name\":")?;
-        self.text_or_null(*name)
+        self.text_at(",", "space", Some(words::space(*space)))?;
+        self.number_at(",", "index", *from)?;
+        self.number_at(",", "count", Some(count))?;
+        self.text_at(",", "name", *name)
     }
 
     /// Writes the cause of a fault, if it is known.
     fn cause(&mut self, cause: Option<&Cause>) -> io::Result<()> {
         let Some(cause) = cause else { return Ok(()) };
-        write!(self.out, ",\"cause\":{{\"place\":{},\"message\":", cause.place())?;
-        self.text(cause)?;
+        self.put(",\"cause\":")?;
+        self.number_at("{", "place", Some(cause.place()))?;
+        self.text_at(",", "message", Some(cause))?;
         self.put("}")
     }
 
@@ -162,8 +167,7 @@ impl<'o, W: Write> Json<'o, W> {
         match content {
             Content::Component(name) => {
                 self.range(range)?;
-                self.put(",\"name\":")?;
-                self.text_or_null(*name)?;
+                self.text_at(",", "name", *name)?;
                 self.put(",\"sections\":[")?;
                 Ok(Open { list: Some("]"), has_unread: false, object: "}" })
             }
@@ -173,9 +177,8 @@ impl<'o, W: Write> Json<'o, W> {
                 Ok(Open { list: Some("]"), has_unread: true, object: "}" })
             }
             Content::Custom(name, size, contents) => {
-                self.put("{\"name\":")?;
-                self.text(name)?;
-                write!(self.out, ",\"size\":{size}")?;
+                self.text_at("{", "name", Some(name))?;
+                self.number_at(",", "size", Some(size))?;
                 let list = self.contents(*contents)?;
                 Ok(Open { list: Some(list), has_unread: true, object: "}" })
             }
@@ -269,24 +272,18 @@ impl<'o, W: Write> Json<'o, W> {
 
     /// Writes a part of a custom section, up to the bracket that ends it.
     fn entry(&mut self, entry: &Entry) -> io::Result<()> {
-        self.put(if self.is_first { "{" } else { ",{" })?;
+        let lead = if self.is_first { "{" } else { ",{" };
         match entry {
             Entry::Name(of, name) => {
                 let (space, index) = of.unzip();
-                self.put("\"space\":")?;
-                self.text_or_null(space.map(words::space))?;
-                self.put(",\"index\":")?;
-                self.number_or_null(index)?;
-                self.put(",\"name\":")?;
-                self.text(name)
+                self.text_at(lead, "space", space.map(words::space))?;
+                self.number_at(",", "index", index)?;
+                self.text_at(",", "name", Some(name))
             }
             Entry::Tool(Producer { field, name, version }) => {
-                self.put("\"field\":")?;
-                self.text(field)?;
-                self.put(",\"name\":")?;
-                self.text(name)?;
-                self.put(",\"version\":")?;
-                self.text(version)
+                self.text_at(lead, "field", Some(field))?;
+                self.text_at(",", "name", Some(name))?;
+                self.text_at(",", "version", Some(version))
             }
         }
     }
@@ -302,18 +299,15 @@ impl<'o, W: Write> Json<'o, W> {
             Part::Section { range, id, count } => {
                 self.member(range)?;
                 self.kind(*id, words::section(*id))?;
-                self.put(",\"count\":")?;
-                self.number_or_null(*count)?;
+                self.number_at(",", "count", *count)?;
                 self.put(",\"items\":[")?;
                 Ok(Open { list: Some("]"), has_unread: false, object: "}" })
             }
             Part::CoreSection { range, id, name, contents, count, bytes } => {
                 self.member(range)?;
                 self.kind(*id, words::core_section(*id))?;
-                self.put(",\"name\":")?;
-                self.text_or_null(*name)?;
-                self.put(",\"count\":")?;
-                self.number_or_null(*count)?;
+                self.text_at(",", "name", *name)?;
+                self.number_at(",", "count", *count)?;
                 self.bytes("hex", bytes)?;
                 self.core_contents(*contents)
             }
@@ -335,8 +329,7 @@ impl<'o, W: Write> Json<'o, W> {
 
 impl<W: Write> Report for Json<'_, W> {
     fn begin(&mut self, file: &OsStr) -> io::Result<()> {
-        self.put("{\"file\":")?;
-        self.text(Path::new(file).display())
+        self.text_at("{", "file", Some(Path::new(file).display()))
     }
 
     fn open(&mut self, part: &Part) -> io::Result<()> {
@@ -356,14 +349,17 @@ impl<W: Write> Report for Json<'_, W> {
 
     fn out_of_range(&mut self, _: usize, used: &UsedIndex) -> io::Result<()> {
         let Some(open) = self.open.last_mut() else { return Ok(()) };
-        let lead = if open.list == Some("") { ",\"out_of_range\":[" } else { "," };
+        let lead = if open.list == Some("") { ",\"out_of_range\":[{" } else { ",{" };
         open.list = Some("]");
         let (key, scope) = match used.scope {
             Scope::Component(out) => ("component", out),
             Scope::Type(depth) => ("type", depth),
         };
-        write!(self.out, "{lead}{{\"space\":\"{}\",\"{key}\":{scope},", words::space(used.space))?;
-        write!(self.out, "\"index\":{},\"count\":{}}}", used.index, used.count.unwrap_or_default())
+        self.text_at(lead, "space", Some(words::space(used.space)))?;
+        self.number_at(",", key, Some(scope))?;
+        self.number_at(",", "index", Some(used.index))?;
+        self.number_at(",", "count", Some(used.count.unwrap_or_default()))?;
+        self.put("}")
     }
 
     fn flush(&mut self) -> io::Result<()> {
@@ -390,10 +386,8 @@ impl<W: Write> Report for Json<'_, W> {
         match fault {
             None => self.put("null")?,
             Some(fault) => {
-                self.put("{\"place\":")?;
-                self.number_or_null(fault.place())?;
-                self.put(",\"message\":")?;
-                self.text(fault)?;
+                self.number_at("{", "place", fault.place())?;
+                self.text_at(",", "message", Some(fault))?;
                 self.cause(fault.cause())?;
                 self.put("}")?;
             }

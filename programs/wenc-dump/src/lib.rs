@@ -17,6 +17,7 @@ mod probe;
 mod report;
 mod run;
 mod select;
+mod shorter;
 mod text;
 mod walk;
 mod words;

@@ -48,6 +48,63 @@ fn long_texts_are_looked_at() {
     }
 }
 
+/// A list with this tag before it, of so many members of these bytes.
+fn list_of(tag: &[u8], number: usize, member: &[u8]) -> Vec<u8> {
+    let mut item = tag.to_vec();
+    number.encode(&mut item);
+    item.extend(member.repeat(number));
+    item
+}
+
+/// The cause in a component of this item, in which the byte at this place, counted from the end, is
+/// another one: where it is, counted from there too, and what is expected.
+fn cause_from_end(id: u8, mut item: Vec<u8>, from_end: usize, byte: u8) -> (usize, Vec<u8>) {
+    let place = item.len() - from_end;
+    item[place] = byte;
+    let bytes = alone(id, &item);
+    let (place, message) = cause(&bytes).expect("a cause");
+    (bytes.len() - place, expected(&message))
+}
+
+/// Types with many members, of which the last has a wrong byte, alone and in other types: the cause
+/// is the same as in the last member alone.
+#[test]
+fn causes_in_long_items_are_those_in_short_ones() {
+    // exports of functions, imports of them, and core functions, each with places in which a byte
+    // is wrong
+    let members: [(&[u8], &[u8], &[usize]); 3] = [
+        (b"\x42", b"\x04\0\x01f\x01\0", &[2, 6]),
+        (b"\x41", b"\x03\0\x01f\x01\0", &[2, 5, 6]),
+        (b"\x42", b"\0\x60\x01\x7f\0", &[2, 4]),
+    ];
+    for (tag, member, places) in members {
+        for from_end in places {
+            let wanted = cause_from_end(7, list_of(tag, 1, member), *from_end, 0x41);
+            assert!(wanted.0 == *from_end && !wanted.1.is_empty(), "{member:02x?}: {wanted:02x?}");
+            for number in [130, 400, 20_000] {
+                let long = list_of(tag, number, member);
+                // in a type of an instance, behind a handle
+                let nested = [b"\x42\x02\x01\x68\0\x01", &long[..]].concat();
+                for item in [long, nested] {
+                    assert_eq!(cause_from_end(7, item, *from_end, 0x41), wanted, "{member:02x?}");
+                }
+            }
+        }
+    }
+}
+
+/// Behind a long name the bytes that can be there are told, too.
+#[test]
+fn long_names_are_passed_over() {
+    for size in [3, 128, 2_000, 10_000] {
+        let mut import = vec![0];
+        "x".repeat(size).encode(&mut import);
+        import.extend([1, 0]);
+        let wanted = (2, vec![0, 1, 2, 3, 4, 5]);
+        assert_eq!(cause_from_end(10, import, 2, 0x41), wanted, "{size}");
+    }
+}
+
 /// Items of the corpus, each with its section's id, up to this size; all different.
 fn items(size: usize) -> BTreeSet<(u8, Vec<u8>)> {
     let mut items = BTreeSet::new();
@@ -94,7 +151,7 @@ fn file_of(sections: &[u8]) -> Vec<u8> {
 }
 
 /// Kinds of damage, each with a file and what is said of it.
-const KINDS: [(&[u8], &str); 20] = [
+const KINDS: [(&[u8], &str); 22] = [
     // a name of an import, of a nested item, and of a custom section
     (
         b"\x0a\x07\x01\0\x02a\xff\x01\0",
@@ -113,6 +170,10 @@ const KINDS: [(&[u8], &str); 20] = [
     (
         b"\x06\x02\x01\x09",
         "bad item 0 at 0xb in the section at 0x8: 0x09 where an alias is expected",
+    ),
+    (
+        b"\x08\x02\x01\x7f",
+        "bad item 0 at 0xb in the section at 0x8: 0x7f where a canonical function is expected",
     ),
     (
         b"\x08\x04\x01\0\0\x33",
@@ -172,6 +233,7 @@ const KINDS: [(&[u8], &str); 20] = [
          needs 7 bytes or more from 0xb on, where 1 is left",
     ),
     // headers
+    (b"\x04\x08\0asm\x01\0\0\0", "no component's header at 0xa: found a core module"),
     (
         b"\0asm\x0c\0\x01\0",
         "no component's header at 0x0: found another version of the format: version 0x1000c",

@@ -92,7 +92,7 @@ bad item 0 at 0x15 in the section at 0x12: 0x09 where an alias is expected";
 #[test]
 fn files_that_are_none_of_both() {
     let none = [
-        (&b""[..], "nothing"),
+        (&b""[..], "an empty file"),
         (b"(component)", "WebAssembly text"),
         (b"\0asm\x0c\0\x01\0", "another version of the format: version 0x1000c"),
         (b"hello", "other bytes: 68 65 6c 6c 6f"),

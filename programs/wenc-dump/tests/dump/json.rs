@@ -134,7 +134,8 @@ fn faults() {
         where an alias is expected\",\"cause\":{\"place\":21,\
         \"message\":\"0x09 at 0x15, where 0x00 to 0x05 is expected\"}}";
     expect(&[], &file("json_fault", nested), 1, out);
-    let out = "\"fault\":{\"place\":0,\"message\":\"no component's header at 0x0: found nothing\"}";
+    let out = "\"fault\":{\"place\":0,\"message\":\"no component's header at 0x0: \
+        found an empty file\"}";
     expect(&[], &file_of("json_empty", b""), 1, out);
     let module = file_of("json_bad_module", b"\0asm\x01\0\0\0\x01");
     let out = "\"module\":{\"start\":0,\"end\":9,\"sections\":[],\"unread\":8},\

@@ -163,7 +163,7 @@ fn files_after_the_one_that_memory_ran_out_in() {
     let output = limited(least() + STEP, &[large, empty], &bad);
     let out = String::from_utf8_lossy(&output.stdout);
     assert!(out.contains(&format!("{empty}:\n0x0..0x8 component, 8 bytes\n")), "{out}");
-    let bad = format!("{}: no component's header at 0x0: found nothing", bad.display());
+    let bad = format!("{}: no component's header at 0x0: found an empty file", bad.display());
     let err = format!("{large}: memory ran out\n{bad}\n");
     assert_eq!(String::from_utf8_lossy(&output.stderr), err);
     assert_eq!(output.status.code(), Some(3));

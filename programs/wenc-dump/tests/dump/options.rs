@@ -172,7 +172,7 @@ fn help_and_version() {
 #[test]
 fn standard_input_is_read() {
     expect_run(&["-"], &component(FUNCTION), (0, FUNCTION_TEXT, ""));
-    let bad = "-: no component's header at 0x0: found nothing\n";
+    let bad = "-: no component's header at 0x0: found an empty file\n";
     expect_run(&["-"], b"", (1, "", bad));
     // after `--` all are files, and this one doesn't exist
     let output = run(&["--", "--json"], b"");
@@ -187,7 +187,7 @@ fn several_files_have_their_names_in_front() {
     let front = format!("{}:\n{FUNCTION_TEXT}", good.display());
     let out = format!("{front}{}:\n{front}", bad.display());
     assert_eq!(String::from_utf8_lossy(&output.stdout), out);
-    let err = format!("{}: no component's header at 0x0: found nothing\n", bad.display());
+    let err = format!("{}: no component's header at 0x0: found an empty file\n", bad.display());
     assert_eq!(String::from_utf8_lossy(&output.stderr), err);
     assert_eq!(output.status.code(), Some(1));
 }
