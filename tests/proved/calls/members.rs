@@ -78,11 +78,12 @@ fn of_a_stranger() {
 fn counts() {
     let parts = |counts: Counts| [counts.core_types, counts.types, counts.instances];
     let kinds = [IndexSpace::CoreType, IndexSpace::Type, IndexSpace::Instance].map(Some);
-    let counted = kinds.into_iter().fold(Counts::none(), |counts, kind| counts.counted(kind, 4));
-    assert_eq!(parts(counted.counted(None, 4)), [1, 1, 1]);
+    let twice = kinds.into_iter().chain(kinds);
+    let counted = twice.fold(Counts::none(), |counts, kind| counts.counted(kind, 7));
+    assert_eq!(parts(counted.counted(None, 7)), [2, 2, 2]);
     for (at, kind) in kinds.into_iter().enumerate() {
-        let mut left = [1, 1, 1];
-        left[at] = 0;
+        let mut left = [2, 2, 2];
+        left[at] = 1;
         assert_eq!(parts(counted.uncounted(kind).uncounted(None)), left);
     }
     let export = |kind| Alias::InstanceExport { instance: 0, kind, name: "f" };
