@@ -69,13 +69,13 @@ fn facade(sources: &Sources) -> (Facade, Vec<Calls>) {
     let top = Path::new(env!("CARGO_MANIFEST_DIR"));
     let mut facade = Facade::default();
     for (path, text) in files(&top.join("src")) {
-        if !is_of(&path, &["capi", "proved", "shim"]) {
+        if !is_of(&path, &["proved", "shim"]) {
             facade.add(&text, sources);
         }
     }
     let mut targets: BTreeMap<String, Calls> = BTreeMap::new();
     for (path, text) in files(&top.join("tests")) {
-        if !is_of(&path, &["called", "capi", "eraser", "honest", "proof", "proved"]) {
+        if !is_of(&path, &["called", "eraser", "honest", "proof", "proved"]) {
             let calls = Calls::of(&lex(&text), sources);
             targets.entry(front(&path)).or_default().extend(calls);
         }
