@@ -39,8 +39,8 @@ impl<'a> Items<'a> {
     /// use wenc::view::ItemView;
     /// use wenc::{ComponentSectionId, Items, ListFault, Sections};
     ///
-    /// // imports of two functions of one type
-    /// let component = b"\0asm\x0d\0\x01\0\x0a\x0b\x02\0\x01f\x01\0\0\x01g\x01\0";
+    /// // imports of two resources
+    /// let component = b"\0asm\x0d\0\x01\0\x0a\x0b\x02\0\x01f\x03\x01\0\x01g\x03\x01";
     /// let mut items = Sections::new(component)?.next().expect("a section")?.items();
     /// let (first, _) = items.next().expect("an item")?;
     /// let (bytes, count) = items.left().expect("no error");
