@@ -14,6 +14,18 @@ struct Split<'s> {
     rest: &'s [u8],
 }
 
+impl Split<'_> {
+    /// Returns the bytes with this number between the two parts.
+    fn with(&self, number: u32) -> Result<Vec<u8>, TryReserveError> {
+        let mut bytes = Vec::new();
+        bytes.try_reserve_exact(self.front.len() + NUMBER + self.rest.len())?;
+        bytes.extend_from_slice(self.front);
+        number.encode(&mut bytes);
+        bytes.extend_from_slice(self.rest);
+        Ok(bytes)
+    }
+}
+
 /// An item without some of its bytes.
 pub struct Shorter {
     /// The other bytes.
@@ -23,15 +35,6 @@ pub struct Shorter {
 }
 
 impl Shorter {
-    fn new(Split { front, rest }: Split, number: u32) -> Result<Vec<u8>, TryReserveError> {
-        let mut bytes = Vec::new();
-        bytes.try_reserve_exact(front.len() + NUMBER + rest.len())?;
-        bytes.extend_from_slice(front);
-        number.encode(&mut bytes);
-        bytes.extend_from_slice(rest);
-        Ok(bytes)
-    }
-
     /// Returns the item without the members that can be read of the list in which it ends, and of
     /// the list in which its last member ends, and so on: with the member that can't be read alone.
     ///
@@ -53,7 +56,7 @@ impl Shorter {
             let (read, end) = bad.read_members(Split { front, rest }, count, left)?;
             // what has one byte may be a letter, of which others are a part
             let others = if usize::try_from(read) == Ok(end) { count - read } else { 1 };
-            bytes = Self::new(Split { front, rest: &rest[end..] }, others)?;
+            bytes = Split { front, rest: &rest[end..] }.with(others)?;
         }
         let removed = bad.bytes.len() - bytes.len();
         Ok(Self { bytes, removed })
@@ -71,7 +74,7 @@ impl Shorter {
         let end = usize::try_from(size).ok().and_then(|size| (at + len).checked_add(size));
         let rest = end.and_then(|end| bad.bytes.get(end..));
         let Some(rest) = rest.filter(|_| len > 1) else { return Ok(None) };
-        let bytes = Self::new(Split { front: &bad.bytes[..at], rest }, 0)?;
+        let bytes = Split { front: &bad.bytes[..at], rest }.with(0)?;
         let removed = bad.bytes.len() - bytes.len();
         Ok(Some(Self { bytes, removed }))
     }
@@ -107,7 +110,7 @@ impl Bad<'_> {
         left: &mut usize,
     ) -> Result<Option<usize>, TryReserveError> {
         let rest = split.rest.len();
-        let item = Shorter::new(split, number)?;
+        let item = split.with(number)?;
         *left = left.saturating_sub(item.len());
         let mut data = Vec::new();
         data.try_reserve_exact(self.count.len() + item.len())?;
