@@ -93,7 +93,7 @@ fn causes_in_long_items_are_those_in_short_ones() {
     }
 }
 
-/// Behind a long name the bytes that can be there are told, too.
+/// After a long name, the expected bytes are named, too.
 #[test]
 fn long_names_are_passed_over() {
     for size in [3, 128, 2_000, 10_000] {
