@@ -109,6 +109,35 @@ fn requests_refused(row: &Call, front: usize) -> usize {
     are_refused.count()
 }
 
+/// A section by hand has none of what is refused, and takes it when the call is made once more.
+#[test]
+fn each_is_refused_by_hand() {
+    let size = Size { text: text(70), ..Size::new(128, 40, 0, 50) };
+    for row in of_c().filter(|row| ![0, 1, 4, 9].contains(&row.id)) {
+        let command = (row.command)(None, &size);
+        let are_refused = (0..40).take_while(|n| {
+            let (mut section, mut model) = (Held::section(row.id.into()), Model::new());
+            let (answer, was_refused) = refusing(*n, || call(section.at(), &command));
+            if was_refused {
+                assert_eq!(answer, Err(Status::NoMemory), "{}", row.name);
+            }
+            let index = u32::from(!was_refused);
+            assert_eq!(call(section.at(), &command), Ok(index), "{}", row.name);
+            (0..=index).for_each(|_| model.add(row.id, (row.bytes)(&size)));
+            same(component_of(section), model, &row, "by hand, after a refusal");
+            was_refused
+        });
+        assert!(are_refused.count() > 0, "{}", row.name);
+    }
+}
+
+/// A component of this section.
+fn component_of(mut section: Held) -> Held {
+    let mut component = Held::by_hand();
+    assert_eq!(unsafe { wenc_section(component.at(), section.at()) }, Status::Done);
+    component
+}
+
 /// A section by hand has its items, counts them, and takes no debug name.
 #[test]
 fn each_by_hand() {
@@ -128,9 +157,7 @@ fn each_by_hand() {
             if !takes_none {
                 model.add(row.id, (row.bytes)(&size));
             }
-            let mut component = Held::by_hand();
-            assert_eq!(unsafe { wenc_section(component.at(), section.at()) }, Status::Done);
-            same(component, model, &row, "by hand");
+            same(component_of(section), model, &row, "by hand");
         }
     }
 }
@@ -150,6 +177,21 @@ fn each_alone_by_hand() {
     }
 }
 
+/// Reads a component. What has a request refused is no listing.
+fn listed(bytes: &[u8], row: &Call) -> Held {
+    let mut listing = Held::nothing();
+    let at = listing.at();
+    let list = || unsafe { wenc_list(at, bytes.as_ptr(), bytes.len(), ptr::null_mut()) };
+    let are_refused = (0..40).take_while(|n| {
+        let (status, was_refused) = refusing(*n, list);
+        let wanted = if was_refused { Status::NoMemory } else { Status::Done };
+        assert_eq!(status, wanted, "{}", row.name);
+        was_refused
+    });
+    assert!(are_refused.count() > 0, "{}", row.name);
+    listing
+}
+
 /// An item is added again from a listing and by its bytes.
 #[test]
 fn each_is_read_and_added_again() {
@@ -159,10 +201,7 @@ fn each_is_read_and_added_again() {
         let mut model = Model::new();
         row.model(&mut model, Some(&name), &size);
         let bytes = model.clone().finish();
-        let mut listing = Held::nothing();
-        let status =
-            unsafe { wenc_list(listing.at(), bytes.as_ptr(), bytes.len(), ptr::null_mut()) };
-        assert_eq!(status, Status::Done, "{}", row.name);
+        let mut listing = listed(&bytes, &row);
         assert_eq!(counts(&mut listing), model.counts, "{}", row.name);
         let (item, text) = ((row.bytes)(&size), named(&name));
         let (section, at, len) = (row.id.into(), item.as_ptr(), item.len());

@@ -86,6 +86,7 @@ fn items(bytes: &[u8]) -> (Vec<ItemRow>, Status) {
 #[test]
 fn sections_have_places() {
     let mut walk = begun(COMPONENT);
+    assert_eq!(next_item(&mut walk).map(drop), Err(Status::End));
     let sections: Vec<_> = (0..7).map(|_| next_section(&mut walk).map(section)).collect();
     let wanted = [
         [8, 7, 10, 1, 7],
@@ -360,6 +361,8 @@ fn debug_names_are_read() {
     for (name, wanted) in [(&b"component-name"[..], Status::Done), (b"name", Status::BadArgument)] {
         let (_bytes, item) = custom(name, NAMES);
         assert_eq!(unsafe { wenc_walk_names(&mut names, &item) }, wanted);
+        let status = unsafe { wenc_walk_names(ptr::null_mut(), &item) };
+        assert_eq!(status, Status::BadArgument);
     }
     let import = &items(COMPONENT).0[1];
     assert_eq!(unsafe { wenc_walk_names(&mut names, import) }, Status::BadArgument);
