@@ -188,6 +188,14 @@ const ROWS: &[Row] = &rows! { |b|
         b.try_append_names() => Ok(()),
     } "09 07 00 00 fe ff ff ff 0f 06 06 01 02 00 00 01 76 \
        00 1a 0e cn 01 09 02 01 fe ff ff ff 0f 01 76";
+    // What is unfinished is said before anything else is.
+    {
+        b.try_start(0, vec![], u32::MAX) => Ok(0),
+        drop(b.try_type_defined(None).expect("a type")) => (),
+        b.try_start(0, vec![], 1) => Err(Unfinished),
+        b.discard_unfinished() => true,
+        b.try_start(0, vec![], 1) => Err(TooMany),
+    } "09 07 00 00 ff ff ff ff 0f";
     { b.try_import("", FUNC) => Ok(0) } "0a 05 01 00 00 01 00";
     { b.try_import("a".repeat(128), FUNC) => Ok(0) } "0a 86 01 01 00 80 01 61x128 01 00";
     { b.try_type_instance(None, &nested(99)) => Ok(0) } "07 ac 02 01 420101x99 42 00";
