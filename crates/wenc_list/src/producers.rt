@@ -40,16 +40,16 @@ fn tool_of(bytes: &[u8]) -> Result<((&str, &str), &[u8]), Refusal>
 }
 
 impl<'a> ProducersParts<'a> {
-    /// Returns all parts of the section with this data, which follow the section's name.
+    /// Returns all parts of the section with these bytes after its name.
     ///
     /// # Errors
     ///
-    /// Fails with `Malformed` if no number of fields begins the data.
-    pub fn new(data: &'a [u8]) -> Result<ProducersParts<'a>, Refusal>
-        ensures begins { IfOk result (λ p. parts_left p ≡ parts_in data.now) }
-        ensures fault { IfErr result (λ e. (e ≡ Malformed) × IsMalformed (parts_in data.now)) }
+    /// Fails with `Malformed` if no number of fields begins the bytes.
+    pub fn new(bytes: &'a [u8]) -> Result<ProducersParts<'a>, Refusal>
+        ensures begins { IfOk result (λ p. parts_left p ≡ parts_in bytes.now) }
+        ensures fault { IfErr result (λ e. (e ≡ Malformed) × IsMalformed (parts_in bytes.now)) }
     {
-        let (fields, rest) = u32_of(data)?;
+        let (fields, rest) = u32_of(bytes)?;
         Ok(ProducersParts {
             tools: 0,
             fields,
