@@ -1,11 +1,14 @@
 //! The walk over a component, and over its debug names.
 
-use super::edges::{Held, named};
+use super::edges::Held;
+use super::numbers;
 use std::collections::BTreeMap;
 use std::{mem, ptr, slice, str};
+use wenc::ComponentTypeRef;
+use wenc::tree::{AliasTree, Command, NameOptions, NameTree};
 use wenc_capi::arguments::{Name, Text};
 use wenc_capi::items::*;
-use wenc_capi::life::{wenc_bytes, wenc_finish};
+use wenc_capi::life::{wenc_bytes, wenc_count, wenc_finish, wenc_len};
 use wenc_capi::listing::*;
 use wenc_capi::rows::{ItemRow, SectionRow};
 use wenc_capi::types::wenc_type;
@@ -83,87 +86,93 @@ fn items(bytes: &[u8]) -> (Vec<ItemRow>, Status) {
     }
 }
 
-#[test]
-fn sections_have_places() {
-    let mut walk = begun(COMPONENT);
-    let sections: Vec<_> = (0..7).map(|_| next_section(&mut walk).map(section)).collect();
-    let wanted = [
-        [8, 7, 10, 1, 7],
-        [15, 14, 17, 1, 10],
-        [29, 11, 31, 1, 11],
-        [40, 19, 42, 3, 6],
-        [59, 5, 61, 1, 0],
-        [64, 10, 66, 1, 1],
-        [74, 5, 76, 1, 9],
-    ];
-    assert_eq!(sections, wanted.map(Ok));
-    assert_eq!(next_section(&mut walk).map(section), Err(Status::End));
-    assert_eq!(next_section(&mut walk).map(section), Err(Status::End));
-}
-
-#[test]
-fn items_have_places() {
-    let (items, status) = items(COMPONENT);
-    assert_eq!(status, Status::End);
-    let places: Vec<_> = items.iter().map(|item| (item.place, item.len, item.section)).collect();
-    let wanted = [
-        (11, 4, 7),
-        (18, 11, 10),
-        (32, 8, 11),
-        (43, 5, 6),
-        (48, 6, 6),
-        (54, 5, 6),
-        (61, 3, 0),
-        (66, 8, 1),
-        (76, 3, 9),
-    ];
-    assert_eq!(places, wanted);
-    let spaces: Vec<_> = items.iter().map(|item| (item.space, item.indices)).collect();
-    let wanted = [(12, 1), (8, 1), (8, 1), (2, 1), (6, 1), (8, 1), (13, 0), (0, 1), (10, 2)];
-    assert_eq!(spaces, wanted);
-    assert!(items.iter().all(|item| item.index == 0));
-}
-
-/// What else a row has, beside place, space and texts.
+/// What a row has, beside its place, its spaces and its texts.
 fn rest(item: &ItemRow) -> [u32; 6] {
     [item.reference, item.of, item.alias, item.kind, item.item, item.count]
 }
 
+/// What a row has of a type, which may have no index.
+fn of_type(ty: ComponentTypeRef) -> [u32; 2] {
+    match numbers::type_ref(ty) {
+        (7, _) => [7, 0],
+        (reference, of) => [reference, of],
+    }
+}
+
+fn names_of(name: &NameTree) -> [Option<&str>; 4] {
+    let option = |of: fn(&NameOptions) -> Option<&str>| name.options.as_deref().and_then(of);
+    [
+        Some(&name.name),
+        option(|options| options.implements.as_deref()),
+        option(|options| options.version_suffix.as_deref()),
+        option(|options| options.external_id.as_deref()),
+    ]
+}
+
+/// Expects that the row tells what the command does of its item.
+pub fn is_told<'a>(row: &ItemRow, command: &'a Command) {
+    let plain = |name: &'a str| [Some(name), None, None, None];
+    let (names, [reference, of], [alias, kind, item, count]) = match command {
+        Command::Import { name, ty } => (names_of(name), of_type(*ty), [0; 4]),
+        Command::Export { name, kind, index, ty } => {
+            let target = [0, numbers::kind(*kind), *index, 0];
+            (names_of(name), ty.map_or([0; 2], of_type), target)
+        }
+        Command::Alias { alias: AliasTree::InstanceExport { instance, kind, name }, .. } => {
+            (plain(name), [0; 2], [1, numbers::kind(*kind), *instance, 0])
+        }
+        Command::Alias {
+            alias: AliasTree::CoreInstanceExport { instance, kind, name }, ..
+        } => (plain(name), [0; 2], [2, numbers::core_kind(*kind), *instance, 0]),
+        Command::Alias { alias: AliasTree::Outer { kind, count, index }, .. } => {
+            ([None; 4], [0; 2], [3, numbers::outer_kind(*kind), *index, *count])
+        }
+        Command::Custom { name, .. } => (plain(name), [0; 2], [0; 4]),
+        _ => ([None; 4], [0; 2], [0; 4]),
+    };
+    assert_eq!(texts(row.name), names);
+    assert_eq!(rest(row), [reference, of, alias, kind, item, count]);
+}
+
+/// The sections of `COMPONENT`, and its items: the place, the length, the section's id, the space,
+/// and how many indices there are in it.
+const SECTIONS: [[usize; 5]; 7] = [
+    [8, 7, 10, 1, 7],
+    [15, 14, 17, 1, 10],
+    [29, 11, 31, 1, 11],
+    [40, 19, 42, 3, 6],
+    [59, 5, 61, 1, 0],
+    [64, 10, 66, 1, 1],
+    [74, 5, 76, 1, 9],
+];
+
+const ITEMS: [(usize, usize, u32, u32, u32); 9] = [
+    (11, 4, 7, 12, 1),
+    (18, 11, 10, 8, 1),
+    (32, 8, 11, 8, 1),
+    (43, 5, 6, 2, 1),
+    (48, 6, 6, 6, 1),
+    (54, 5, 6, 8, 1),
+    (61, 3, 0, 13, 0),
+    (66, 8, 1, 0, 1),
+    (76, 3, 9, 10, 2),
+];
+
+fn places(item: &ItemRow) -> (usize, usize, u32, u32, u32) {
+    (item.place, item.len, item.section, item.space, item.indices)
+}
+
 #[test]
-fn items_have_types_and_targets() {
-    let (items, _) = items(COMPONENT);
-    assert_eq!(
-        items.iter().map(rest).collect::<Vec<_>>(),
-        [
-            [0; 6],
-            // Of the function type 0.
-            [2, 0, 0, 0, 0, 0],
-            // The function 0, as one of the function type 0.
-            [2, 0, 0, 1, 0, 0],
-            // A core type of the component around this one; the tag of a core instance; a function.
-            [0, 0, 3, 1, 2, 1],
-            [0, 0, 2, 4, 0, 0],
-            [0, 0, 1, 1, 5, 0],
-            [0; 6],
-            [0; 6],
-            [0; 6],
-        ]
-    );
-    assert_eq!(
-        items.iter().map(|item| texts(item.name)).collect::<Vec<_>>(),
-        [
-            [None; 4],
-            [Some("a"), Some("i"), None, Some("")],
-            [Some("g"), None, None, None],
-            [None; 4],
-            [Some("t"), None, None, None],
-            [Some("f"), None, None, None],
-            [Some("x"), None, None, None],
-            [None; 4],
-            [None; 4],
-        ]
-    );
-    let bytes = |item: &ItemRow| (item.bytes as usize, item.bytes_len);
+fn sections_and_items_have_places() {
+    let mut walk = begun(COMPONENT);
+    let sections = SECTIONS.map(|_| next_section(&mut walk).map(section));
+    assert_eq!(sections, SECTIONS.map(Ok));
+    for _ in 0..2 {
+        assert_eq!(next_section(&mut walk).map(section), Err(Status::End));
+    }
+    let (items, status) = items(COMPONENT);
+    assert_eq!(status, Status::End);
+    assert!(items.iter().map(places).eq(ITEMS) && items.iter().all(|item| item.index == 0));
     let at = COMPONENT.as_ptr() as usize;
     for (number, item) in items.iter().enumerate() {
         let wanted = match number {
@@ -171,7 +180,7 @@ fn items_have_types_and_targets() {
             7 => (at + 66, 8),
             _ => (0, 0),
         };
-        assert_eq!(bytes(item), wanted);
+        assert_eq!((item.bytes as usize, item.bytes_len), wanted);
     }
 }
 
@@ -365,65 +374,43 @@ fn debug_names_are_read() {
     assert_eq!(unsafe { wenc_walk_names(&mut names, import) }, Status::BadArgument);
 }
 
-/// Each type, kind and target that a call takes is the one that is read.
-#[test]
-fn numbers_are_read_as_they_were_written() {
-    let mut builder = Held::builder();
-    let (at, none, a) = (builder.at(), ptr::null_mut(), b"a".as_ptr());
-    let mut wanted = Vec::new();
-    let types = (1..8).map(|reference| (reference, 300)).chain((1..15).map(|of| (8, of)));
-    let of = |(reference, of)| if reference == 7 { [7, 0] } else { [reference, of] };
-    unsafe {
-        for (reference, number) in types {
-            assert_eq!(wenc_import(at, a, 1, reference, number, none), Status::Done);
-            let [reference, number] = of((reference, number));
-            wanted.push([reference, number, 0, 0, 0, 0]);
-            assert_eq!(wenc_export(at, a, 1, 1, 9, reference, number, none), Status::Done);
-            wanted.push([reference, number, 0, 1, 9, 0]);
-        }
-        for kind in 0..6 {
-            assert_eq!(wenc_export(at, a, 1, kind, 9, 0, 0, none), Status::Done);
-            wanted.push([0, 0, 0, kind, 9, 0]);
-            assert_eq!(wenc_alias_export(at, 8, kind, a, 1, none), Status::Done);
-            wanted.push([0, 0, 1, kind, 8, 0]);
-        }
-        for kind in 0..5 {
-            let status = wenc_alias_core_export(at, &named("n"), 7, kind, a, 1, none);
-            assert_eq!(status, Status::Done);
-            wanted.push([0, 0, 2, kind, 7, 0]);
-        }
-        for kind in 0..4 {
-            assert_eq!(wenc_alias_outer(at, ptr::null(), kind, 2, 6, none), Status::Done);
-            wanted.push([0, 0, 3, kind, 6, 2]);
-        }
-    }
-    let bytes = builder.finished();
-    let (items, status) = items(&bytes);
-    assert_eq!((items.iter().map(rest).collect::<Vec<_>>(), status), (wanted, Status::End));
-}
-
-/// A listing has the rows of the walk, with indices; its texts are its own.
+/// A listing has the sections and rows of the walk, with indices; its texts are its own.
 #[test]
 fn a_listing_has_the_rows_of_the_walk() {
-    let (walked, _) = items(COMPONENT);
-    let mut copy = COMPONENT.to_vec();
-    let mut listing = Held::nothing();
-    let (at, len) = (copy.as_ptr(), copy.len());
+    let (mut copy, mut listing, mut walk) = (COMPONENT.to_vec(), Held::nothing(), begun(COMPONENT));
+    let (at, len, none) = (copy.as_ptr(), copy.len(), ptr::null_mut());
     assert_eq!(unsafe { wenc_list(listing.at(), at, len, ptr::null_mut()) }, Status::Done);
     copy.fill(0xff);
-    let mut walked = walked.iter();
-    let mut indices = Vec::new();
-    for (number, count) in [1, 1, 1, 3, 1, 1, 1].into_iter().enumerate() {
-        for item in 0..count {
+    let (at, mut indices) = (listing.at(), Vec::new());
+    for number in 0..SECTIONS.len() {
+        let mut listed: SectionRow = unsafe { mem::zeroed() };
+        assert_eq!(unsafe { wenc_section_at(at, number, &mut listed) }, Status::Done);
+        assert_eq!(next_section(&mut walk).map(section), Ok(section(listed)));
+        for item in 0..listed.items {
             let mut row: ItemRow = unsafe { mem::zeroed() };
-            assert_eq!(unsafe { wenc_item_at(listing.at(), number, item, &mut row) }, Status::Done);
-            let wanted = walked.next().expect("an item");
-            assert_eq!((row.place, row.len), (wanted.place, wanted.len));
-            assert_eq!((texts(row.name), rest(&row)), (texts(wanted.name), rest(wanted)));
+            assert_eq!(unsafe { wenc_item_at(at, number, item, &mut row) }, Status::Done);
+            let wanted = next_item(&mut walk).expect("an item");
+            assert_eq!((places(&row), texts(row.name)), (places(&wanted), texts(wanted.name)));
+            assert_eq!((rest(&row), row.bytes_len), (rest(&wanted), wanted.bytes_len));
             indices.push(row.index);
         }
+        let status = unsafe { wenc_item_at(at, number, listed.items, ptr::null_mut()) };
+        assert_eq!(status, Status::BadArgument);
     }
     assert_eq!(indices, [0, 0, 1, 0, 0, 2, 0, 0, 0]);
+    let (mut builder, mut len) = (Held::builder(), 0);
+    let to = builder.at();
+    unsafe {
+        assert_eq!((wenc_len(at, &mut len), len), (Status::Done, SECTIONS.len()));
+        assert_eq!(wenc_section_at(at, 7, ptr::null_mut()), Status::BadArgument);
+        assert_eq!(wenc_item_at(at, 7, 0, ptr::null_mut()), Status::BadArgument);
+        assert_eq!(wenc_copy(to, ptr::null(), at, 1, 1, none), Status::BadArgument);
+        assert_eq!(wenc_copy(at, ptr::null(), to, 0, 0, none), Status::BadArgument);
+        // What isn't read has no sections, and there is no such space.
+        assert_eq!(wenc_section_at(to, 0, ptr::null_mut()), Status::BadArgument);
+        assert_eq!(wenc_len(to, ptr::null_mut()), Status::BadArgument);
+        assert_eq!(wenc_count(to, 13, ptr::null_mut()), Status::BadArgument);
+    }
 }
 
 /// Items are walked over in less than the time that a walk from the start to each takes.
