@@ -20,7 +20,7 @@
 //!   or a `clone` that the source defines itself. No crate is better than one that does something
 //!   else than was proved.
 //!
-//! `tests/honest.rs` compares each source with its Rust, with a lexer of its own, and knows the
+//! `tests/honest` compares each source with its Rust, with a lexer of its own, and knows the
 //! same list.
 
 #[path = "erase/attributes.rs"]

@@ -1,13 +1,14 @@
-//! Reads each source beside the Rust that the build script made of it. Where they part, it has to
-//! be in one of the ways that `honest/reader.rs` lists; whatever else is left out, changed, added
-//! or moved to another line is found.
+//! Whether the crate is made of the proved sources: `proof` compares their digests with PROOF, and
+//! this reads each source beside the Rust that the build script made of it. Where they part, it has
+//! to be in one of the ways that `reader` lists; whatever else is left out, changed, added or moved
+//! to another line is found.
 
-#[path = "common/erased.rs"]
+#[path = "../common/erased.rs"]
 mod erased;
-#[path = "honest/lexer.rs"]
 mod lexer;
-#[path = "honest/reader.rs"]
+mod proof;
 mod reader;
+mod sha256;
 
 use lexer::{Token, lex};
 use reader::{DERIVED_TOO, NARROWED, TREES, WAYS, compare, read};
