@@ -1,10 +1,11 @@
-//! Whether the crate is made of the proved sources: `proof` compares their digests with PROOF, and
-//! this reads each source beside the Rust that the build script made of it. Where they part, it has
-//! to be in one of the ways that `reader` lists; whatever else is left out, changed, added or moved
-//! to another line is found.
+//! Whether the crate is made of the proved sources: `proof` compares their digests with PROOF,
+//! `eraser` has what the eraser refuses, and this reads each source beside the Rust that it became.
+//! Where they part, it has to be in one of the ways that `reader` lists; whatever else is left out,
+//! changed, added or moved to another line is found.
 
 #[path = "../common/erased.rs"]
 mod erased;
+mod eraser;
 mod lexer;
 mod proof;
 mod reader;

@@ -1,9 +1,9 @@
 //! The eraser: each of its refusals with the line, what becomes of comments, and the layout of the
-//! package. `honest` compares the code of each source with what it became.
+//! package.
 
-#[path = "../build/erase.rs"]
+#[path = "../../build/erase.rs"]
 mod erase;
-#[path = "../build/tidy.rs"]
+#[path = "../../build/tidy.rs"]
 mod tidy;
 
 const CRATES: [&str; 3] = ["wenc_base", "wenc_parts", "hex"];
