@@ -30,7 +30,7 @@ mod known;
 #[path = "erase/lexer.rs"]
 mod lexer;
 
-use known::{ALLOCATING, HANDED, KEYWORDS, NARROWED, PLAIN, SHARED};
+use known::{ALLOCATING, HANDED, KEYWORDS, NARROWED, PLAIN};
 use lexer::{Kind, Token, tokens};
 use std::borrow::Cow;
 
@@ -350,7 +350,7 @@ impl<'a> Eraser<'a> {
         let is_own = (0..i).any(|j| self.stands(j, "macro_rules !") && self.at(j + 2) == name);
         if self.at(i + 2) == "in" && HANDED.contains(&name) {
             self.put(i - 1, format!("crate::shim::{name}"));
-        } else if !is_own && ![&KEYWORDS[..], &PLAIN, &SHARED].concat().contains(&name) {
+        } else if !is_own && ![&KEYWORDS[..], &PLAIN].concat().contains(&name) {
             return Err((self.line(i), "a macro that is not known"));
         }
         Ok(())
