@@ -2,6 +2,7 @@
 
 use std::borrow::Cow;
 use std::collections::{BTreeSet, HashMap, HashSet};
+use std::fmt::Debug;
 use wenc::tree::{self, AliasTree, Command, DefinedTree, ItemTree, NameTree, Space, TypeTree};
 use wenc::*;
 
@@ -11,23 +12,30 @@ fn imports(name: &str) -> ComponentImportSection {
     section
 }
 
+/// Values that were made alike are equal and print the same, and others aren't and don't.
+fn is_of_content<T: PartialEq + Debug>(
+    alike: [T; 2],
+    others: impl IntoIterator<Item = T>,
+    printed: &str,
+) {
+    assert_eq!(alike[0], alike[1]);
+    assert_eq!(format!("{:?}", alike[0]), printed);
+    others.into_iter().for_each(|other| assert_ne!(alike[0], other));
+}
+
 #[test]
 fn sections_are_compared_and_printed_by_content() {
-    assert_eq!(imports("f"), imports("f"));
-    assert_ne!(imports("f"), imports("g"));
-    assert_ne!(imports("f"), ComponentImportSection::new());
     // size, count, name without options, function, type
     let printed = "ComponentImportSection { bytes: [6, 1, 0, 1, 102, 1, 0] }";
-    assert_eq!(format!("{:?}", imports("f")), printed);
+    let others = [imports("g"), ComponentImportSection::new()];
+    is_of_content([imports("f"), imports("f")], others, printed);
 
     let (mut one, mut two) = (ItemSection::new(10), ItemSection::new(10));
     let import = ItemTree::Import { name: "f".into(), ty: ComponentTypeRef::Func(0) };
     one.item(&import).unwrap();
-    assert_ne!(one, two);
     two.raw(&[0, 1, b'f', 1, 0]).unwrap();
-    assert_eq!(one, two);
-    assert_eq!(format!("{one:?}"), "ItemSection { id: 10, len: 1, items: [0, 1, 102, 1, 0] }");
-    assert_ne!(one, ItemSection::new(11));
+    let printed = "ItemSection { id: 10, len: 1, items: [0, 1, 102, 1, 0] }";
+    is_of_content([one, two], [ItemSection::new(10), ItemSection::new(11)], printed);
 }
 
 #[test]
@@ -37,13 +45,14 @@ fn types_are_compared_and_printed_by_content() {
         ty.ty().defined_type().own(resource);
         ty
     };
-    assert_eq!(own(1), own(1));
-    assert_ne!(own(1), own(2));
-    assert_eq!(format!("{:?}", own(1)), "InstanceType { bytes: [66, 1, 1, 105, 1] }");
+    is_of_content([own(1), own(1)], [own(2)], "InstanceType { bytes: [66, 1, 1, 105, 1] }");
+    assert_eq!(format!("{:?}", CoreTypeSection::new()), "CoreTypeSection { bytes: [1, 0] }");
+    assert_eq!(format!("{:?}", ModuleType::new()), "ModuleType { bytes: [80, 0] }");
+    assert_eq!(format!("{:?}", ComponentType::new()), "ComponentType { bytes: [65, 0] }");
 
     // One that isn't finished has no bytes, and is equal to none.
     let mut begun = own(1);
-    drop(begun.ty());
+    assert_eq!(format!("{:?}", begun.ty()), "ComponentTypeEncoder { .. }");
     assert_ne!(begun, begun.clone());
     assert_eq!(format!("{begun:?}"), "InstanceType { is_finished: false, .. }");
     begun.discard_unfinished();
@@ -54,9 +63,8 @@ fn types_are_compared_and_printed_by_content() {
 fn names_are_compared_and_printed_by_content() {
     let mut names = NameMap::new();
     names.append(3, "f");
-    assert_eq!(format!("{names:?}"), "NameMap { bytes: [1, 3, 1, 102] }");
-    assert_eq!(names, names.clone());
-    assert_ne!(names, NameMap::new());
+    let printed = "NameMap { bytes: [1, 3, 1, 102] }";
+    is_of_content([names.clone(), names], [NameMap::new()], printed);
     assert_ne!(
         ProducersSection::new(),
         ProducersSection::new().field("sdk", &ProducersField::new()).clone()
@@ -70,12 +78,11 @@ fn names_are_compared_and_printed_by_content() {
 
 #[test]
 fn components_and_modules_are_compared() {
-    let mut component = Component::new();
-    assert_eq!(component, Component::default());
-    component.section(&imports("f"));
+    let component = Component::new().section(&imports("f")).clone();
     assert_ne!(component, Component::new());
-    assert_eq!(Module::new(), Module::default());
-    assert_eq!(format!("{:?}", Module::new()), "Module { bytes: [0, 97, 115, 109, 1, 0, 0, 0] }");
+    assert_eq!(Component::new(), Component::default());
+    let printed = "Module { bytes: [0, 97, 115, 109, 1, 0, 0, 0] }";
+    is_of_content([Module::new(), Module::default()], [], printed);
     assert_eq!(NestedComponentSection(&component), NestedComponentSection(&component.clone()));
     let raw = RawSection { id: 0, data: b"\x01x" };
     assert_ne!(raw, RawSection { id: 1, ..raw });
@@ -112,14 +119,31 @@ fn spaces_are_in_the_order_of_their_numbers() {
     assert!(Space::CoreModules < Space::Types);
 }
 
-#[test]
-fn ids_of_numbers() {
-    for id in 0..=u8::MAX {
-        let known = ComponentSectionId::try_from(id).map(u8::from);
-        assert_eq!(known, if id < 12 { Ok(id) } else { Err(UnknownSectionId(id)) });
-        let known = SectionId::try_from(id).map(u8::from);
-        assert_eq!(known, if id < 14 { Ok(id) } else { Err(UnknownSectionId(id)) });
+/// The numbers from 0 on are the ids of these names, which encode themselves, and no others are ids.
+fn are_ids<T>(names: &str)
+where
+    T: TryFrom<u8, Error = UnknownSectionId> + Into<u8> + Encode + Copy + PartialEq + Debug,
+{
+    let mut names = names.split(' ');
+    for number in 0..=u8::MAX {
+        let id = T::try_from(number);
+        assert_eq!(id.map(|id| format!("{id:?}")).ok().as_deref(), names.next());
+        match id {
+            Ok(id) => assert_eq!((id.into(), crate::text(&id)), (number, vec![number])),
+            Err(unknown) => assert_eq!(unknown, UnknownSectionId(number)),
+        }
     }
+}
+
+#[test]
+fn ids_of_sections() {
+    are_ids::<ComponentSectionId>(
+        "CoreCustom CoreModule CoreInstance CoreType Component Instance Alias Type \
+         CanonicalFunction Start Import Export",
+    );
+    are_ids::<SectionId>(
+        "Custom Type Import Function Table Memory Global Export Start Element Code Data DataCount Tag",
+    );
     assert_eq!(UnknownSectionId(255).to_string(), "no section has the id 255");
 }
 

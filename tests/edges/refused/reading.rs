@@ -1,6 +1,6 @@
 //! What reads components and debug names, and visits indices.
 
-use crate::{GRANTED, NAME, calmly, each_is_refused};
+use super::{GRANTED, NAME, calmly, each_is_refused};
 use std::fmt::Debug;
 use wenc::tree::{ItemTree, OuterFault, Space};
 use wenc::*;

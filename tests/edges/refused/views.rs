@@ -1,8 +1,9 @@
 //! Borrowed items, while every request for memory is refused.
 
+use super::GRANTED;
+use crate::corpus;
 use crate::seen::is_same;
 use crate::spellings::ROWS;
-use crate::{GRANTED, corpus};
 use std::hash::{DefaultHasher, Hash, Hasher};
 use std::hint::black_box;
 use wenc::tree::{ItemTree, Space, UsedIndex};

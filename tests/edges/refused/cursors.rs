@@ -1,6 +1,6 @@
 //! Cursors and comparisons with each request for memory refused in turn.
 
-use crate::{GRANTED, NAME, SINCE, calmly, refusing};
+use super::{GRANTED, NAME, SINCE, calmly, refusing};
 use std::fmt::{self, Debug, Write};
 use std::panic::{AssertUnwindSafe, catch_unwind};
 use wenc::*;

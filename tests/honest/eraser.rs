@@ -1,33 +1,20 @@
-//! The eraser: each of its rules on a few words of Rattle, and each of its refusals with the line.
-//! Blanks beside what is left out stay.
+//! The eraser: each of its refusals with the line, what becomes of comments, and the layout of the
+//! package.
 
-#[path = "../build/erase.rs"]
+#[path = "../../build/erase.rs"]
 mod erase;
-#[path = "../build/tidy.rs"]
+#[path = "../../build/tidy.rs"]
 mod tidy;
 
 const CRATES: [&str; 3] = ["wenc_base", "wenc_parts", "hex"];
 const PRELUDE: &str = "use crate::shim::prelude::*; ";
 
-/// What the words become in the crate `wenc_parts`, without the prelude.
-#[track_caller]
-fn erased(source: &str) -> String {
-    match erase::erase("wenc_parts", &CRATES, source) {
-        Ok(rust) => rust.replacen(PRELUDE, "", 1),
-        Err((line, why)) => panic!("line {line}: {why}"),
-    }
-}
-
-/// They become this.
+/// The words become this in the crate `wenc_parts`, but for the prelude.
 #[track_caller]
 fn becomes(source: &str, wanted: &str) {
-    assert_eq!(erased(source), wanted);
-}
-
-/// They stay as they are.
-#[track_caller]
-fn stays(source: &str) {
-    becomes(source, source);
+    let erased =
+        erase::erase("wenc_parts", &CRATES, source).map(|rust| rust.replacen(PRELUDE, "", 1));
+    assert_eq!(erased, Ok(wanted.into()));
 }
 
 /// They are refused in this line, for this reason.
@@ -37,50 +24,6 @@ fn refuses(source: &str, line: usize, why: &str) {
         Ok(rust) => panic!("it became {rust:?}"),
         Err(refused) => assert_eq!(refused, (line, why)),
     }
-}
-
-#[test]
-fn code_stays() {
-    stays("pub fn f<'a>(x: &'a [u8; 2]) -> u32 { x[0] as u32 + 0x1_f * 2 }\n");
-    stays("fn f() { (0clone, 12clone, 3requires, 456Clone, 789ghost) }\n");
-    stays("const T: &str = \"a \\\" requires { ghost \\\\\"; // ensures { nothing }\n");
-    stays(
-        "const C: [char; 4] = ['\"', '\\'', '{', 'é']; const B: &[u8] = b\"\\\"}\"; const N: u8 = b'\\n';\n",
-    );
-    stays("fn g() { if !matches!(1, 0..=9) && 1 != 2 { return !0; } }\n");
-    stays("#[inline(always)]\n#[cold]\n#[inline]\n#[inline(never)]\nfn f() {}\n");
-    stays("#[repr(u8)]\nenum E { A = 1 }\n");
-    becomes("", "");
-}
-
-#[test]
-fn clauses_are_left_out() {
-    becomes(
-        "fn f(x: u8) -> u8\n    requires { x < 9 }\n    ensures* big { λ y. { y ≡ \"}\" } x' }\n{\n    x\n}\n",
-        "fn f(x: u8) -> u8\n\n\n{\n    x\n}\n",
-    );
-    becomes("fn f() ensures { a - b }; fn g() {}\n", "fn f() ; fn g() {}\n");
-}
-
-#[test]
-fn methods_that_write_texts_are_inlined() {
-    becomes(
-        "trait E { fn encode(&self); }\nimpl E for S {\n    ghost a = { S };\n\n    fn encode(&self) {}\n}\n",
-        "trait E { fn encode(&self); }\nimpl E for S {\n\n\n    #[inline] fn encode(&self) {}\n}\n",
-    );
-    becomes(
-        "impl E for S {\n    #[tactic(auto)]\n    fn encode(&self) {}\n}\n",
-        "impl E for S {\n\n    #[inline] fn encode(&self) {}\n}\n",
-    );
-    stays("impl E for S {\n    #[cold]\n    fn encode(&self) {}\n}\n");
-    stays("impl S { fn encode_all(&self) {} pub fn encode(&self) {} }\n");
-    becomes(
-        "impl E for S { type A = B; fn encode(&self) {} fn a() {} fn encode(&self) {} }\n",
-        "impl E for S { type A = B; #[inline] fn encode(&self) {} fn a() {} \
-         #[inline] fn encode(&self) {} }\n",
-    );
-    stays("impl S { fn a() {} fn b() {} const C: u8 = 1; fn d() {} }\n");
-    stays("impl A for S {} trait E { fn a(); fn encode(&self); }\n");
 }
 
 #[test]
@@ -132,65 +75,6 @@ fn what_introduces_an_example_is_left_out() {
 }
 
 #[test]
-fn attributes_of_the_prover_are_left_out() {
-    becomes("#![tactic(auto)]\n#[tactic(auto, using(a::b))]\nfn f() {}\n", "\n\nfn f() {}\n");
-    becomes("#[cycle(types)]\nenum A {}\n", "\nenum A {}\n");
-}
-
-#[test]
-fn derives() {
-    stays("#[derive(Clone, Copy, Debug, PartialEq, Eq, Hash)]\nstruct S;\n");
-    becomes("#[derive(Drop)]\npub struct Holder;\n", "\npub struct Holder;\n");
-    becomes(
-        "#[derive(Drop)]\n#[cycle(types)]\npub enum TypeTree {}\n",
-        "#[derive(Clone, Debug, PartialEq, Eq, Hash)]\n\npub enum TypeTree {}\n",
-    );
-    becomes(
-        "#[derive(Drop)]\n#[derive_where(PartialEq, Eq, Debug)]\npub struct FuncType<A> {}\n",
-        "#[derive(Clone, Hash)]\n#[derive(PartialEq, Eq, Debug)]\npub struct FuncType<A> {}\n",
-    );
-}
-
-#[test]
-fn what_a_user_prints_or_does_not_call() {
-    becomes(
-        "#[derive(Clone, Copy)]\npub enum Alias {}\n",
-        "#[derive(Clone, Copy, Debug, Hash, PartialEq, Eq)]\npub enum Alias {}\n",
-    );
-    becomes(
-        "impl<A: Copy> FuncType<A> {\n    pub fn new() {}\n    pub fn other() {}\n}\n",
-        "impl<A: Copy> FuncType<A> {\n    pub(crate) fn new() {}\n    pub fn other() {}\n}\n",
-    );
-    stays("impl<A> Other<A> { pub fn new() {} } impl FuncType { fn new(x: impl B) {} }\n");
-    becomes(
-        "pub struct ListOf<'a, T> { pub left: u32, bytes: &'a [u8], pub other: T }\n",
-        "pub struct ListOf<'a, T> { pub(crate) left: u32, bytes: &'a [u8], pub other: T }\n",
-    );
-    stays("pub struct Other { pub left: u32 } impl Other { pub fn left() {} }\n");
-}
-
-#[test]
-fn bounds() {
-    becomes("fn f<T: Drop, U: Copy + Drop>() {}\n", "fn f<T , U: Copy  >() {}\n");
-    becomes("trait T: Copy + Drop + Sized {}\n", "trait T: Copy   + Sized {}\n");
-    becomes("fn f(x: impl Copy + Drop) {}\n", "fn f(x: impl Copy  ) {}\n");
-}
-
-#[test]
-fn what_may_be_refused_has_other_names() {
-    becomes(
-        "impl<A: Clone> S<A> { fn clone(&self) {} }\n",
-        "impl<A: TryClone> S<A> { fn try_clone(&self) {} }\n",
-    );
-    becomes(
-        "x.collect(a)?; collect(a); y.collected(a); z.collect\n",
-        "x.collect_using(a)?; collect(a); y.collected(a); z.collect_using\n",
-    );
-    becomes("format!(in a; \"{x}\")?\n", "crate::shim::format!(in a; \"{x}\")?\n");
-    becomes("vec![in a; 1]?\n", "crate::shim::vec![in a; 1]?\n");
-}
-
-#[test]
 fn names_that_stay_their_owners() {
     for source in ["enum Op {\n Clone,\n}", "enum Op { A,\n Clone(u8) }", "use\n a::Clone;"] {
         refuses(source, 2, "a `Clone` that is no bound");
@@ -200,85 +84,6 @@ fn names_that_stay_their_owners() {
     }
     for source in ["struct S { clone: u8 }", "s.clone", "clone(s)", "S::clone(s)", "(s.clone)()"] {
         refuses(source, 1, "a `clone` that is no method");
-    }
-    becomes("trait A: B + Clone {}\n", "trait A: B + TryClone {}\n");
-    becomes("impl<A: Clone + B> C<A> {}\n", "impl<A: TryClone + B> C<A> {}\n");
-    becomes(
-        "fn f(x: impl A + Clone) where B: Clone, {}\n",
-        "fn f(x: impl A + TryClone) where B: TryClone, {}\n",
-    );
-}
-
-#[test]
-fn roots_of_paths() {
-    becomes("use crate::a;\n", "use crate::proved::wenc_parts::a;\n");
-    becomes("pub(crate) fn f() {}\n", "pub(in crate::proved::wenc_parts) fn f() {}\n");
-    becomes("pub(in crate::a) fn f() {}\n", "pub(in crate::proved::wenc_parts::a) fn f() {}\n");
-    becomes("use std::{fmt, io};\n", "use crate::shim::{fmt, io};\n");
-    becomes("use wenc_base::Encode;\n", "use crate::proved::wenc_base::Encode;\n");
-    becomes("<T as hex::D>::d(x)\n", "<T as crate::proved::hex::D>::d(x)\n");
-    becomes(
-        "fn f<T: std::A>(x: wenc_base::B, y: crate::C) { let z: hex::D; }\n",
-        "fn f<T: crate::shim::A>(x: crate::proved::wenc_base::B, \
-         y: crate::proved::wenc_parts::C) { let z: crate::proved::hex::D; }\n",
-    );
-    stays("use self::std::x; a::wenc_base::b(wenc_base)\n");
-}
-
-#[test]
-fn the_prelude_stands_in_front_of_the_first_item() {
-    let erased = erase::erase(
-        "hex",
-        &CRATES,
-        "//! A page.\n#![tactic(auto)]\nghost use a.b;\n/// One.\nfn f() {}\n",
-    );
-    assert_eq!(
-        erased,
-        Ok("//! A page.\n\n\nuse crate::shim::prelude::*; /// One.\nfn f() {}\n".into())
-    );
-}
-
-#[test]
-fn programs_have_the_runtime() {
-    becomes("fn main(rt: HostRuntime) {}\n", "pub fn main(rt: HostRuntime) {}\n");
-}
-
-#[test]
-fn macros_of_other_files() {
-    becomes(
-        "macro_rules! given { () => { $crate::a::B } }\npub(crate) use given;\n",
-        "macro_rules! given { () => { $crate::proved::wenc_parts::a::B } }\npub(in crate::proved::wenc_parts) use given;\n",
-    );
-    stays("fn f() { given!(x, or Y) }\n");
-}
-
-#[test]
-fn errors_have_their_texts() {
-    becomes(
-        "use thiserror::Error;\n#[derive(Clone, Error)]\npub enum Fault {\n    #[error(\"no memory\")]\n    Memory(A),\n    #[error(\"at {place}\")]\n    Bad { place: u8 },\n}\n",
-        "\n#[derive(Clone , Hash)]\npub enum Fault {\n\n    Memory(A),\n\n    Bad { place: u8 },\n} \
-         impl ::core::fmt::Display for Fault { fn fmt(&self, f: &mut ::core::fmt::Formatter<'_>) -> ::core::fmt::Result \
-         { match self { Fault::Memory { .. } => write!(f, \"no memory\"), \
-         Fault::Bad { place, .. } => write!(f, \"at {place}\"), } } } \
-         impl ::core::error::Error for Fault {}\n",
-    );
-}
-
-#[test]
-fn the_last_error_may_lack_its_comma() {
-    for (variant, fields) in [("B", ""), ("B { place: u8 }", "place, ")] {
-        let text = if fields.is_empty() { "b" } else { "{place}" };
-        let erased = erased(&format!(
-            "#[derive(Eq, Error)]\npub enum E {{ #[error(\"a\")] A, \
-             #[error(\"{text}\")] {variant} }}\n",
-        ));
-        let (enumeration, display) = erased.split_once(" impl ::core::fmt::Display").expect("both");
-        assert_eq!(enumeration, format!("#[derive(Eq )]\npub enum E {{  A,  {variant} }}"));
-        assert!(display.contains(&format!(
-            "{{ match self {{ E::A {{ .. }} => write!(f, \"a\"), \
-             E::B {{ {fields}.. }} => write!(f, \"{text}\"), }} }} }}"
-        )));
-        assert!(display.ends_with("impl ::core::error::Error for E {}\n"));
     }
 }
 
@@ -384,7 +189,6 @@ fn macros_that_are_not_known() {
     refuses("include!(\"a\")\n", 1, why);
     refuses("include!{\"a\"}\n", 1, why);
     refuses("own!(a)\nmacro_rules! own { () => {} }\n", 1, why);
-    stays("macro_rules! own { ($a:ident) => { $a } }\nfn f() { own!(a) }\n");
 }
 
 #[test]

@@ -1,12 +1,8 @@
 //! `PROOF` tells of the sources that the crate is made of: their digests are those that `sha256sum`
 //! gave.
 
-#[path = "common/erased.rs"]
-mod erased;
-#[path = "proof/sha256.rs"]
-mod sha256;
-
-use sha256::sha256;
+use crate::erased;
+use crate::sha256::sha256;
 use std::collections::{BTreeMap, HashSet};
 use std::fs;
 use std::path::Path;

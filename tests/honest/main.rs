@@ -1,13 +1,15 @@
-//! Reads each source beside the Rust that the build script made of it. Where they part, it has to
-//! be in one of the ways that `honest/reader.rs` lists; whatever else is left out, changed, added
-//! or moved to another line is found.
+//! Whether the crate is made of the proved sources: `proof` compares their digests with PROOF,
+//! `eraser` has what the eraser refuses, and this reads each source beside the Rust that it became.
+//! Where they part, it has to be in one of the ways that `reader` lists; whatever else is left out,
+//! changed, added or moved to another line is found.
 
-#[path = "common/erased.rs"]
+#[path = "../common/erased.rs"]
 mod erased;
-#[path = "honest/lexer.rs"]
+mod eraser;
 mod lexer;
-#[path = "honest/reader.rs"]
+mod proof;
 mod reader;
+mod sha256;
 
 use lexer::{Token, lex};
 use reader::{DERIVED_TOO, NARROWED, TREES, WAYS, compare, read};
@@ -75,95 +77,6 @@ fn erased_sources_are_the_sources() {
     assert_eq!(counts["member that stays in this crate"], NARROWED.len());
 }
 
-/// A source with most of the ways in which the two may part.
-const SOURCE: &str = "\
-use crate::b;
-#[derive(Clone, Copy)]
-pub struct Pair<T: Drop>(u8, T);
-#[derive(Drop)]
-#[cycle(types)]
-pub enum TypeTree {
-    A,
-    ghost whole: { length a ≡ 1 },
-}
-#[inline]
-fn f(x: u8) -> Result<u8, E>
-    requires { x < 3 }
-{
-    let y = x.clone()?;
-    g(x + 12, \"text\");
-    h(1, 2);
-    Ok(y)
-}
-impl Encode for A {
-    ghost piece = { 1 };
-    fn encode(&self) {}
-}
-";
-
-/// What it has to be erased to.
-const RUST: &str = "\
-use crate::shim::prelude::*; use crate::proved::named::b;
-#[derive(Clone, Copy)]
-pub struct Pair<T>(u8, T);
-#[derive(Clone, Debug, PartialEq, Eq, Hash)]
-
-pub enum TypeTree {
-    A,
-
-}
-#[inline]
-fn f(x: u8) -> Result<u8, E>
-
-{
-    let y = x.try_clone()?;
-    g(x + 12, \"text\");
-    h(1, 2);
-    Ok(y)
-}
-impl Encode for A {
-
-    #[inline] fn encode(&self) {}
-}
-";
-
-/// Changes of that Rust, by the words that are replaced: each is to be found.
-const CHANGES: [(&str, &str, &str); 21] = [
-    ("a number", "12", "13"),
-    ("a statement that is dropped", "h(1, 2);", ""),
-    ("a statement twice", "h(1, 2);", "h(1, 2); h(1, 2);"),
-    ("arguments in another order", "h(1, 2)", "h(2, 1)"),
-    ("another word", "g(x", "h(x"),
-    ("another operator", "x + 12", "x - 12"),
-    ("a letter of a text", "text", "test"),
-    ("a blank in a text", "\"text\"", "\"text \""),
-    ("a token more", "Ok(y)", "Ok(!y)"),
-    ("a mark less", "clone()?", "clone()"),
-    ("a name that stays", "try_clone", "clone"),
-    ("a path's root", "proved::named", "proved::other"),
-    ("an attribute that is dropped", "#[inline]", ""),
-    ("an attribute that came in", "#[inline]", "#[inline] #[cold]"),
-    ("an attribute that is missing", "#[inline] fn encode", "fn encode"),
-    ("a derive that is dropped", "Clone, Copy", "Clone"),
-    ("a tree's derive", "Clone, Debug, PartialEq, Eq, Hash", "Clone"),
-    ("a clause that became code", "E>\n\n{", "E>\n{ x < 3 }\n{"),
-    ("a ghost field that stays", "A,\n\n", "A,\n    whole: u8,\n"),
-    ("a line that moved", "h(1, 2);\n", "h(1, 2);\n\n"),
-    ("the prelude", "use crate::shim::prelude::*;", ""),
-];
-
-#[test]
-fn each_change_is_found() {
-    let read = |rust: &str| read("named", SOURCE, rust, true, &mut BTreeMap::new());
-    assert_eq!(read(RUST), Ok(()));
-    for (what, from, to) in CHANGES {
-        assert!(RUST.contains(from), "{what}");
-        assert!(read(&RUST.replacen(from, to, 1)).is_err(), "{what} is not found");
-    }
-    assert!(read(&RUST[..RUST.len() - 2]).is_err(), "an end that is missing");
-    assert!(read(&format!("{RUST}fn g() {{}}")).is_err(), "an item that came in");
-}
-
 /// Sources whose words mean something else in Rust where they stay or get another name, and what
 /// they would become.
 const UNKNOWN: [(&str, &str); 16] = [
@@ -209,13 +122,16 @@ fn what_means_something_else_in_rust_is_found() {
     }
 }
 
-/// In one file in five, if it is short: each token left out, changed, and another put in after it.
+/// In one file in five, if it is short: each token left out, changed, moved to the next line with
+/// all behind it, and another put in after it.
 #[test]
 fn each_token_counts() {
     let mut sources = sources();
     sources.sort();
     let (mut planted, mut counts) = (0, BTreeMap::new());
     for (name, path, old, new) in sources.into_iter().step_by(5) {
+        let longer = format!("{new}\n");
+        assert_eq!(read(&name, &old, &longer, HAS_LINES, &mut counts).is_err(), HAS_LINES);
         let (old, mut new) = (lex(&old), lex(&new));
         for at in 0..if new.len() < 500 { new.len() } else { 0 } {
             let place = format!("{}:{}", path.display(), new[at].line);
@@ -228,8 +144,11 @@ fn each_token_counts() {
             new.insert(at, token);
             assert!(is_found(&new), "{place}: something put in");
             new.remove(at + 1);
-            planted += 3;
+            new[at..].iter_mut().for_each(|token| token.line += 1);
+            assert_eq!(is_found(&new), HAS_LINES, "{place}: moved");
+            new[at..].iter_mut().for_each(|token| token.line -= 1);
+            planted += 4;
         }
     }
-    assert!(planted > 3000, "only {planted} changes");
+    assert!(planted > 4000, "only {planted} changes");
 }

@@ -1,29 +1,12 @@
 //! Each of the system's allocations refused in turn, while components are built and listed: the
 //! call fails and changes nothing, and succeeds when it is made once more. Nothing ends the
-//! program.
-#![cfg(feature = "reader")]
-#![allow(unsafe_code, reason = "a global allocator is unsafe")]
-// What sweeps takes closures of many kinds.
-#![allow(clippy::type_complexity)]
+//! program. `calls` has each call that adds an item.
 
-#[allow(dead_code, reason = "some are for others")]
-#[path = "real/corpus.rs"]
-mod corpus;
-#[path = "refused/cursors.rs"]
 mod cursors;
-#[path = "refused/reading.rs"]
 mod reading;
-#[path = "common/refuse.rs"]
-mod refuse;
-#[allow(dead_code, reason = "some are for others")]
-#[path = "common/seen.rs"]
-mod seen;
-#[path = "common/spellings.rs"]
-mod spellings;
-#[path = "refused/views.rs"]
 mod views;
 
-use refuse::{GRANTED, SINCE, calmly, refusing};
+use crate::refuse::{GRANTED, SINCE, calmly, refusing};
 use wenc::*;
 
 /// How many calls were refused.
@@ -79,22 +62,14 @@ fn each_is_refused<T: PartialEq>(least: u32, work: impl Fn(&mut Refusals) -> T) 
     unreachable!("there are fewer requests")
 }
 
-/// How many bytes these are, and their FNV-1a of 64 bits, as upstream's own calls give them.
-#[track_caller]
-fn are_upstreams(bytes: &[u8], len: usize, hash: u64) {
-    let step = |hash: u64, byte: &u8| (hash ^ u64::from(*byte)).wrapping_mul(0x100_0000_01b3);
-    let own = bytes.iter().fold(0xcbf2_9ce4_8422_2325, step);
-    assert_eq!((bytes.len(), own), (len, hash));
-}
-
 const STRING: ComponentValType = ComponentValType::Primitive(PrimitiveValType::String);
-const NAME: &str = "a name that is longer than what a first growth makes room for";
+pub const NAME: &str = "a name that is longer than what a first growth makes room for";
 
 #[test]
 fn a_component_is_built() {
     let bytes = each_is_refused(30, |refusals| {
         let mut builder = refusals.call(ComponentBuilder::try_new);
-        for i in 0..40 {
+        for i in 0..16 {
             refusals.call(|| builder.try_import(NAME, ComponentTypeRef::Func(i)));
             refusals.call(|| builder.try_alias_export(i, NAME, ComponentExportKind::Func));
             refusals.call(|| builder.try_resource_drop(i));
@@ -117,35 +92,36 @@ fn a_component_is_built() {
         });
         builder.try_finish().expect("it takes no memory")
     });
-    are_upstreams(&bytes, 30253, 0xa1f_a008_65dd_ec10);
+    is_listed(&bytes);
     is_made_by_commands(&bytes);
     is_made_of_items(&bytes);
+    has_sections_of_items(&bytes);
 }
 
-#[test]
-fn sections_are_made_of_items() {
-    let mut builder = ComponentBuilder::default();
-    builder.component(None, ComponentBuilder::default());
-    for i in 0..40 {
-        builder.import(NAME, ComponentTypeRef::Func(i));
-        builder.export(NAME, ComponentExportKind::Func, i, None);
-        builder.type_defined(Some(NAME)).1.record([(NAME, STRING)]);
-    }
-    builder.append_names();
-    let bytes = builder.finish();
-    let listing = list(&bytes).expect("it is listed");
-    each_is_refused(10, |refusals| {
-        for (section, listed) in Sections::new(&bytes).expect("a component").zip(&listing.sections)
-        {
+fn is_listed(bytes: &[u8]) {
+    let listing = each_is_refused(30, |refusals| {
+        let no_memory = |fault| {
+            assert_eq!(fault, ListFault::NoMemory);
+            Error::NoMemory
+        };
+        refusals.call(|| list(bytes).map_err(no_memory))
+    });
+    let commands: Vec<_> = listing.into_items().map(tree::Command::from).collect();
+    assert!(tree::build(&commands).expect("there is memory").bytes == bytes);
+}
+
+/// Each section of the component is made of its items, of values and of their bytes.
+fn has_sections_of_items(bytes: &[u8]) {
+    let listing = list(bytes).expect("it is listed");
+    each_is_refused(30, |refusals| {
+        let sections = Sections::new(bytes).expect("a component");
+        for (section, listed) in sections.zip(&listing.sections) {
             let section = section.expect("a section");
             let (mut anew, mut kept) = (ItemSection::new(listed.id), ItemSection::new(listed.id));
-            for item in &listed.items {
-                refusals.call(|| anew.item(item).map(|_| ()));
-            }
-            let mut places = Vec::new();
-            calmly(|| places.extend(section.items().map(|item| item.expect("an item").0)));
-            for place in places {
-                refusals.call(|| kept.raw(&bytes[place.clone()]).map(|_| ()));
+            for (item, read) in listed.items.iter().zip(section.items()) {
+                refusals.call(|| anew.item(item).map(drop));
+                let (place, _) = read.expect("an item");
+                refusals.call(|| kept.raw(&bytes[place.clone()]).map(drop));
             }
             calmly(|| {
                 for made in [&anew, &kept] {
@@ -223,26 +199,6 @@ fn is_made_by_commands(bytes: &[u8]) {
     assert!(made == expected);
 }
 
-#[test]
-fn sections_are_made_by_hand() {
-    let bytes = each_is_refused(10, |refusals| {
-        let mut imports = ComponentImportSection::new();
-        let mut instance = InstanceType::new();
-        for i in 0..40 {
-            refusals.call(|| imports.try_import(NAME, ComponentTypeRef::Func(i)).map(|_| ()));
-            refusals.call(|| instance.try_export(NAME, ComponentTypeRef::Func(i)).map(|_| ()));
-        }
-        let mut types = ComponentTypeSection::new();
-        refusals.call(|| types.try_instance(&instance).map(|_| ()));
-        let mut component = refusals.call(Component::try_new);
-        calmly(|| {
-            component.section(&imports).section(&types);
-        });
-        component.finish()
-    });
-    are_upstreams(&bytes, 5258, 0x4af0_e550_fc43_704c);
-}
-
 /// Room for a section's id is asked for by itself. Where it alone is refused, nothing else is.
 #[test]
 fn a_section_comes_without_room_for_its_id() {
@@ -310,46 +266,11 @@ fn own_sections_are_written_in_place() {
     assert!(sink.ends_with(&[&[2, 1, b'a', 1, b'b', 2][..], &list, &list, &[1, 0x73]].concat()));
 }
 
-#[test]
-fn a_component_is_listed() {
-    let mut builder = ComponentBuilder::default();
-    for i in 0..3 {
-        builder.import(NAME, ComponentTypeRef::Func(i));
-        builder.type_defined(None).1.record([(NAME, STRING), ("b", STRING)]);
-        builder.core_instantiate_exports(None, [("m", ExportKind::Func, i)]);
-    }
-    let bytes = builder.finish();
-    are_upstreams(&bytes, 452, 0xf0dd_b91c_41d8_633a);
-    let listing = each_is_refused(10, |refusals| match list(&bytes) {
-        Err(fault) => {
-            assert_eq!(fault, ListFault::NoMemory);
-            refusals.0 += 1;
-            list(&bytes).expect("one request is refused")
-        }
-        Ok(listing) => listing,
-    });
-    assert_eq!(listing.counts, [0, 0, 0, 0, 0, 3, 0, 0, 3, 0, 0, 0, 3]);
-    let items = listing.sections.into_iter().flat_map(|section| section.items);
-    let commands: Vec<_> = items.map(tree::Command::from).collect();
-    assert_eq!(tree::build(&commands).expect("there is memory").bytes, bytes);
-}
-
-/// A component that imports the functions of these types, 16 or more, under that name.
-fn imports(types: &[u8]) -> Vec<u8> {
-    let item = |ty: &u8| [&[0x00, NAME.len() as u8], NAME.as_bytes(), &[0x01, *ty]].concat();
-    let items: Vec<u8> = types.iter().flat_map(item).collect();
-    let size = items.len() + 1;
-    let front = [0x0a, size as u8 | 0x80, (size >> 7) as u8, types.len() as u8];
-    [&b"\0asm\x0d\0\x01\0"[..], &front, &items].concat()
-}
-
-// A refused command adds nothing, and the ones after it run.
+/// A refused command adds nothing, and the ones after it run.
 #[test]
 fn commands_are_run() {
-    let name = |text: &str| tree::NameTree::from(tree::String::from(text));
-    let commands: Vec<_> = (0..20)
-        .map(|i| tree::Command::Import { name: name(NAME), ty: ComponentTypeRef::Func(i) })
-        .collect();
+    let import = |of| tree::Command::Import { name: NAME.into(), ty: ComponentTypeRef::Func(of) };
+    let commands: Vec<_> = (0..20).map(import).collect();
     each_is_refused(5, |refusals| match tree::build(&commands) {
         Err(error) => {
             assert_eq!(error, Error::NoMemory);
@@ -357,14 +278,17 @@ fn commands_are_run() {
         }
         Ok(built) => calmly(|| {
             let refused = built.answers.iter().position(Result::is_err);
-            let types: Vec<u8> = (0..20).filter(|at| refused != Some(usize::from(*at))).collect();
-            let mut answers: Vec<_> =
-                (0..types.len() as u32).map(|index| Ok(Some(index))).collect();
-            if let Some(at) = refused {
-                answers.insert(at, Err(Error::NoMemory));
-                refusals.0 += 1;
+            refusals.0 += u32::from(refused.is_some());
+            let mut wanted = ComponentBuilder::default();
+            for (at, answer) in built.answers.into_iter().enumerate() {
+                if refused == Some(at) {
+                    assert_eq!(answer, Err(Error::NoMemory));
+                } else {
+                    let index = wanted.import(NAME, ComponentTypeRef::Func(at as u32));
+                    assert_eq!(answer, Ok(Some(index)));
+                }
             }
-            assert_eq!((built.answers, built.bytes), (answers, imports(&types)));
+            assert_eq!(built.bytes, wanted.finish());
         }),
     });
 }

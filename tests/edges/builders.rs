@@ -1,6 +1,5 @@
 //! What holds of builders as values: refusals, threads, what isn't whole.
 
-use crate::hex::behind_header;
 use wenc::*;
 
 const BYTE: ComponentTypeRef =
@@ -22,7 +21,34 @@ fn what_is_too_large_is_refused() {
     let mut module = ItemSection::new(ComponentSectionId::CoreModule);
     assert_eq!(module.raw(&large).err(), Some(Error::TooLarge));
     assert!(module.is_empty());
-    assert_eq!(behind_header(b), "");
+    assert_eq!(b.finish(), Component::HEADER);
+}
+
+/// A sum of three lengths, two of which may be of bytes that overlap, is longer than an address of
+/// 32 bits reaches. Here it is 4 below, 0, 4 and 8 above 2^32.
+#[cfg(target_pointer_width = "32")]
+#[test]
+fn a_custom_section_too_large_for_32_bits_is_refused() {
+    let zeros = vec![0; (1 << 31) - 1];
+    let name = std::str::from_utf8(&zeros).expect("zeros are a text");
+    let refused = [
+        ((1 << 31) - 13, Error::NoMemory),
+        ((1 << 31) - 9, Error::NoMemory),
+        ((1 << 31) - 5, Error::NoMemory),
+        ((1 << 31) - 1, Error::TooLarge),
+    ];
+    for (len, error) in refused {
+        let section = CustomSection { name: name.into(), data: zeros[..len].into() };
+        let mut sink = vec![0xee];
+        assert!(crate::panics(|| section.encode(&mut sink)), "{len}");
+        assert_eq!(sink, [0xee]);
+        let mut component = Component::new();
+        assert!(crate::panics(|| component.section(&section).as_slice().len()), "{len}");
+        assert_eq!(component.as_slice(), Component::new().as_slice());
+        let mut b = builder();
+        assert_eq!(b.try_custom_section(&section), Err(error), "{len}");
+        assert_eq!(b.finish(), Component::HEADER);
+    }
 }
 
 #[test]
@@ -41,51 +67,17 @@ fn what_is_unfinished_is_not_finished() {
     b.finish();
 }
 
-/// Each call that adds an item is refused, too: see `calls`.
 #[test]
-fn a_type_that_is_not_whole_refuses_all_else() {
-    let mut b = builder();
+fn what_is_unfinished_is_printed_and_not_nested() {
+    let (mut b, mut outer) = (builder(), builder());
+    b.task_cancel();
     let _ = b.type_defined(Some("t"));
-    assert!(!b.is_finished());
-    assert_eq!((b.type_count(), b.core_type_count()), (1, 0));
-    assert_eq!(b.try_raw_custom_section(&[]), Err(Error::Unfinished));
-    assert_eq!(b.try_producers_section(&ProducersSection::new()), Err(Error::Unfinished));
-    assert_eq!(b.try_append_names(), Err(Error::Unfinished));
-    assert_eq!(b.try_core_type(None).err(), Some(Error::Unfinished));
-    assert_eq!(b.try_ty(None).err(), Some(Error::Unfinished));
-    assert_eq!(b.try_type_function(None).err(), Some(Error::Unfinished));
-    assert_eq!(format!("{b:?}"), "ComponentBuilder { is_finished: false, type_count: 1, .. }");
-    assert_eq!(b.try_component(None, builder()), Err(Error::Unfinished));
-    assert_eq!(b.try_finish(), Err(Error::Unfinished));
-}
-
-#[test]
-fn what_is_given_up_leaves_no_trace() {
-    let mut b = builder();
-    b.task_cancel();
-    let _ = b.type_function(Some("f")).1.params([("p", PrimitiveValType::U8)]);
-    assert!(b.discard_unfinished());
-    assert!(!b.discard_unfinished());
-    let _ = b.core_type(Some("c"));
-    assert_eq!(b.core_type_count(), 1);
-    assert!(b.discard_unfinished());
-    assert_eq!((b.type_count(), b.core_type_count()), (0, 0));
-    b.task_cancel();
-    b.type_resource(None, ValType::I32, None);
-    let printed = "ComponentBuilder { is_finished: true, core_func_count: 2, type_count: 1, .. }";
+    let printed = "ComponentBuilder { is_finished: false, core_func_count: 1, type_count: 1, .. }";
     assert_eq!(format!("{b:?}"), printed);
-    assert_eq!(behind_header(b), "08 03 02 05 05 07 04 01 3f 7f 00");
-}
-
-#[test]
-fn what_is_nested_is_given_up_also_where_it_is_refused() {
-    let mut b = builder();
-    let mut inner = builder();
-    let _ = inner.ty(None);
-    assert_eq!(b.try_component(None, inner), Err(Error::Unfinished));
-    assert_eq!((b.component_count(), b.is_finished()), (0, true));
-    assert_eq!(b.component(None, builder()), 0);
-    assert_eq!(behind_header(b), "04 08 00 61 73 6d 0d 00 01 00");
+    assert_eq!(outer.try_component(None, b), Err(Error::Unfinished));
+    assert_eq!(format!("{outer:?}"), "ComponentBuilder { is_finished: true, .. }");
+    assert_eq!(outer.component(None, builder()), 0);
+    assert_eq!(outer.finish()[8..], *b"\x04\x08\0asm\x0d\0\x01\0");
 }
 
 #[cfg(not(target_family = "wasm"))]
