@@ -4,18 +4,13 @@ use crate::Seen;
 use wenc::tree::{ItemTree, OuterFault, Scope, Space};
 use wenc::{Error, Found, ListFault};
 
-const HEADER: &[u8] = b"\0asm\x0d\0\x01\0";
-
 fn component(sections: &[&[u8]]) -> Vec<u8> {
-    [&[HEADER], sections].concat().concat()
+    crate::component(&sections.concat())
 }
 
 /// A component section with a component with these sections.
 fn nested(sections: &[&[u8]]) -> Vec<u8> {
-    let component = component(sections);
-    let size = u8::try_from(component.len()).expect("it is short");
-    assert!(size < 0x80, "its size is one byte");
-    [&[0x04, size], &component[..]].concat()
+    crate::nested(&sections.concat())
 }
 
 fn item(bytes: &[u8]) -> ItemTree {

@@ -5,8 +5,6 @@ use crate::proved::tests::sweeping::REFUSED;
 use crate::proved::wasm_encoder::command::Running;
 use crate::proved::wasm_encoder::{Command, Fault, build, list};
 use crate::shim::alloc::Global;
-use std::borrow::ToOwned;
-use std::collections::BTreeSet;
 use std::vec::Vec;
 
 /// What a command is to answer: an index, none, or a fault.
@@ -15,11 +13,9 @@ type Answer = Result<Option<u32>, Fault>;
 /// A section with one item, of whose command is asked, and the number of its index space.
 type Item = (&'static [u8], usize);
 
-/// Commands, and the name of a module; and whether some growth is that of the one in the middle, at
-/// once and one by one.
+/// Commands, and whether some growth is that of the one in the middle, at once and one by one.
 struct Case {
     items: &'static [Item],
-    name: Option<&'static str>,
     are_refused: [bool; 2],
 }
 
@@ -43,13 +39,6 @@ impl Case {
     }
 }
 
-/// What was refused: the command at a place, the whole, or nothing.
-enum Refused {
-    Command(usize),
-    Whole,
-    Nothing,
-}
-
 /// What runs commands, and returns their answers and the component.
 type Run = fn(&Refusing, &[Command]) -> Result<(Vec<Answer>, Vec<u8>), Fault>;
 
@@ -67,16 +56,11 @@ fn one_by_one(heap: &Refusing, commands: &[Command]) -> Result<(Vec<Answer>, Vec
 
 const HEADER: &[u8] = b"\x00asm\x0d\x00\x01\x00";
 
-/// The command of the item that this section has. A module has this name.
-fn command(section: &[u8], name: Option<&str>) -> Command {
+/// The command of the item that this section has.
+fn command(section: &[u8]) -> Command {
     let listing = list(Global, &[HEADER, section].concat()).unwrap();
-    let item = listing.sections.into_iter().next().unwrap().items.into_iter().next().unwrap();
-    match Command::from(item) {
-        Command::CoreModule { bytes, .. } => {
-            Command::CoreModule { debug_name: name.map(|name| name.to_owned().into()), bytes }
-        }
-        command => command,
-    }
+    let mut items = listing.sections.into_iter().flat_map(|section| section.items);
+    Command::from(items.next().unwrap())
 }
 
 /// The function that the first instance exports.
@@ -88,11 +72,6 @@ const OUTER_TYPE: Item = (b"\x06\x05\x01\x03\x02\x00\x01", 12);
 /// Both.
 const ALIASES: &[u8] = b"\x06\x0a\x02\x01\x00\x00\x01\x66\x03\x02\x00\x01";
 
-const SHORT: Item = (b"\x01\x01\xaa", 0);
-
-const LONG: Item =
-    (b"\x01\x49a name that is longer than a first growth, by far: aaaaaaaaaaaaaaaaaaaaaa", 0);
-
 /// Of a function, as the first alias is.
 const IMPORT: Item = (
     b"\x0a\x4e\x01\x00\x49a name that is longer than a first growth, by far: \
@@ -102,64 +81,51 @@ const IMPORT: Item = (
 
 const RECORD: Item = (b"\x07\x09\x01\x72\x02\x01\x61\x7f\x01\x62\x7f", 12);
 
-/// Growth number `n` is refused, where there is one.
-fn refuse(heap: &Refusing, run: Run, commands: &[Command], case: &Case, n: u64) -> Refused {
+/// Growth number `n` is refused, where there is one: that of the command at a place, or of the
+/// whole.
+fn refuse(
+    heap: &Refusing,
+    run: Run,
+    commands: &[Command],
+    case: &Case,
+    n: u64,
+) -> Option<Option<usize>> {
     heap.refuse_nth(n);
     let (answers, bytes) = match run(heap, commands) {
         Ok(ran) => ran,
         Err(fault) => {
             assert!(heap.was_refused() && fault == REFUSED);
-            return Refused::Whole;
+            return Some(None);
         }
     };
     let place = answers.iter().position(|answer| answer.is_err());
     assert_eq!(place.is_some(), heap.was_refused());
     let (wanted, behind) = case.wanted(place);
     assert_eq!((answers, bytes.strip_prefix(HEADER)), (wanted, Some(&*behind)));
-    place.map_or(Refused::Nothing, Refused::Command)
+    place.map(Some)
 }
 
-/// What is refused adds nothing, and those after it run all the same. The short module has room
-/// without a growth, and its name hasn't. Where the opening of a record is refused, so is the
-/// command; where the rest of the type is, so is the whole, but one by one the command, which is
-/// given up: the alias takes its index.
+/// What is refused adds nothing, and those after it run all the same. Where the opening of a record
+/// is refused, so is the command; where the rest of the type is, so is the whole, but one by one the
+/// command, which is given up: the alias takes its index.
 const CASES: &[Case] = &[
-    Case { items: &[FUNCTION, SHORT, OUTER_TYPE], name: None, are_refused: [false; 2] },
-    Case { items: &[FUNCTION, SHORT, OUTER_TYPE], name: Some("m"), are_refused: [true; 2] },
-    Case { items: &[FUNCTION, LONG, OUTER_TYPE], name: None, are_refused: [true; 2] },
-    Case { items: &[FUNCTION, IMPORT, OUTER_TYPE], name: None, are_refused: [true; 2] },
-    Case { items: &[RECORD], name: None, are_refused: [true; 2] },
-    Case { items: &[FUNCTION, RECORD, OUTER_TYPE], name: None, are_refused: [false, true] },
+    Case { items: &[FUNCTION, IMPORT, OUTER_TYPE], are_refused: [true; 2] },
+    Case { items: &[RECORD], are_refused: [true; 2] },
+    Case { items: &[FUNCTION, RECORD, OUTER_TYPE], are_refused: [false, true] },
 ];
-
-/// The places of the commands that are refused, growth by growth.
-fn places(heap: &Refusing, run: Run, commands: &[Command], case: &Case) -> BTreeSet<usize> {
-    let mut places = BTreeSet::new();
-    let mut whole = 0;
-    for n in 1..60 {
-        match refuse(heap, run, commands, case, n) {
-            Refused::Command(place) => _ = places.insert(place),
-            Refused::Whole => whole += 1,
-            Refused::Nothing => {
-                assert!(whole > 0, "the builder takes memory");
-                return places;
-            }
-        }
-    }
-    panic!("each of 59 growths was refused")
-}
 
 #[test]
 fn commands_are_swept() {
     let heap = Refusing::new();
     let runs: [Run; 2] = [at_once, one_by_one];
     for case in CASES {
-        let commands = case.items.iter().map(|(section, _)| command(section, case.name));
-        let commands: Vec<Command> = commands.collect();
+        let commands: Vec<Command> = case.items.iter().map(|(item, _)| command(item)).collect();
         for (run, is_refused) in runs.into_iter().zip(case.are_refused) {
-            let places = places(&heap, run, &commands, case);
-            assert!(places.contains(&0));
-            assert_eq!(places.contains(&(commands.len() / 2)), is_refused);
+            let growths = (1..60).map_while(|n| refuse(&heap, run, &commands, case, n));
+            let growths: Vec<Option<usize>> = growths.collect();
+            assert!(growths.len() < 59 && growths.contains(&None), "the builder takes memory");
+            assert!(growths.contains(&Some(0)));
+            assert_eq!(growths.contains(&Some(commands.len() / 2)), is_refused);
         }
     }
 }

@@ -1,28 +1,12 @@
-//! The indices that items contain in scopes within scopes, and nested components that are renumbered.
-//! The nodes of items. `tests/calls` visits the indices of each item.
-#![cfg(feature = "reader")]
+//! The indices that items contain. `tests/calls` visits those of each item.
 
-mod nested;
-mod nodes;
-mod scopes;
-#[path = "../common/visited.rs"]
-mod visited;
-
-use visited::{Seen, add_indices, visited};
-use wenc::tree::{ItemTree, NameTree, Scope, Space, String};
-use wenc::{Component, Error, ItemSection, Sections};
+use crate::visited::{Seen, add_indices, visited};
+use wenc::Sections;
+use wenc::tree::{Command, ItemTree, Scope, Space, build};
 
 /// An index in this component.
-fn here(space: Space, index: u32) -> Seen {
+pub fn here(space: Space, index: u32) -> Seen {
     (space, Scope::Component(0), index)
-}
-
-fn text(text: &str) -> String {
-    text.into()
-}
-
-fn name(text: &str) -> NameTree {
-    NameTree::from(String::from(text))
 }
 
 fn seen(item: &mut ItemTree) -> Vec<Seen> {
@@ -31,23 +15,9 @@ fn seen(item: &mut ItemTree) -> Vec<Seen> {
     seen
 }
 
-/// A component with this item.
-fn component_of(item: &ItemTree) -> Vec<u8> {
-    let section = (0..12).find_map(|id| {
-        let mut section = ItemSection::new(id);
-        match section.item(item) {
-            Err(Error::WrongSection) => None,
-            added => Some(added.map(|_| ()).map(|()| section).expect("it is encoded")),
-        }
-    });
-    let mut component = Component::new();
-    component.section(&section.expect("it has a section"));
-    component.finish()
-}
-
 /// The item, encoded and read in place, has the same node, and these indices in this order.
 fn expect_borrowed(tree: &ItemTree, indices: &[Seen]) {
-    let component = component_of(tree);
+    let component = build(&[Command::from(tree.clone())]).expect("there is memory").bytes;
     let mut items = Sections::new(&component).expect("a component").items();
     let (_, item) = items.next().expect("it has an item").expect("it is read");
     assert_eq!(format!("{:?}", item.node()), format!("{:?}", tree.node()));
@@ -57,7 +27,7 @@ fn expect_borrowed(tree: &ItemTree, indices: &[Seen]) {
 
 /// The item contains these indices, in this order, and each can be changed. Its node has them too,
 /// in the order of fields.
-fn expect(mut item: ItemTree, indices: &[Seen]) {
+pub fn expect(mut item: ItemTree, indices: &[Seen]) {
     let before = item.clone();
     assert_eq!(seen(&mut item), indices, "{before:?}");
     assert_eq!(item, before, "nothing was changed");
