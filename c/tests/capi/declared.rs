@@ -31,13 +31,14 @@ impl Types {
     }
 
     /// Declares something, and compares the index that is put out: 0 where none is counted.
-    fn add(
-        &mut self,
-        space: Space,
-        declare: impl FnOnce(*mut Handle) -> Done,
-    ) -> Result<(), Status> {
-        let count = &mut self.counts[space.number()];
-        assert_eq!(declare(self.held.at())?, *count);
+    fn add(&mut self, space: Space, declare: impl Fn(*mut Handle) -> Done) -> Result<(), Status> {
+        let (at, count) = (self.held.at(), &mut self.counts[space.number()]);
+        let answer = declare(at);
+        if answer.is_err() {
+            // Nothing is left, so it is declared when the call is made once more.
+            assert_eq!(calmly(|| declare(at)), Ok(*count));
+        }
+        assert_eq!(answer?, *count);
         *count += u32::from(self.spaces.contains(&space));
         self.len += 1;
         Ok(())

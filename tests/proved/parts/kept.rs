@@ -74,6 +74,11 @@ fn over_bytes() {
     holder.cut_back(0, 0);
     is_whole(&holder, 0, &[0x01, 0x00]);
     assert_eq!(holder.kept(), [0xcc].as_slice());
+    // As many members as can be counted, of which all have no bytes.
+    let (bytes, kept, _, _) = holder.into_parts();
+    let mut holder = Holder::over(bytes, kept, u32::MAX);
+    assert_eq!(holder.add_encoded(&42u32), Err(Fault::TooMany));
+    assert!(has_parts(holder, &[0xcc], 1, u32::MAX));
 }
 
 const OUTER_TYPE: Alias<'static> =
