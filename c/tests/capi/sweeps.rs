@@ -106,30 +106,28 @@ fn requests_refused(row: &Call, front: usize) -> usize {
     are_refused.count()
 }
 
-<<<<<<< HEAD
-/// A section by hand has its items, counts them, and takes no debug name. What is a section of its
-/// own has no index.
-=======
 /// A section by hand has none of what is refused, and takes it when the call is made once more.
 #[test]
 fn each_is_refused_by_hand() {
     let size = Size { text: text(70), ..Size::new(128, 40, 0, 50) };
-    for row in of_c().filter(|row| ![0, 1, 4, 9].contains(&row.id)) {
+    for row in of_c().filter(|row| !is_alone(row)) {
         let command = (row.command)(None, &size);
         let are_refused = (0..40).take_while(|n| {
-            let (mut section, mut model) = (Held::section(row.id.into()), Model::new());
+            let mut section = Held::section(row.id.into());
             let (answer, was_refused) = refusing(*n, || call(section.at(), &command));
-            if was_refused {
-                assert_eq!(answer, Err(Status::NoMemory), "{}", row.name);
-            }
-            let index = u32::from(!was_refused);
-            assert_eq!(call(section.at(), &command), Ok(index), "{}", row.name);
-            (0..=index).for_each(|_| model.add(row.id, (row.bytes)(&size)));
-            same(component_of(section), model, &row, "by hand, after a refusal");
+            assert_eq!(answer, if was_refused { Err(Status::NoMemory) } else { Ok(0) });
+            let items = if was_refused { 1 } else { 2 };
+            assert_eq!(call(section.at(), &command), Ok(items - 1), "{}", row.name);
+            assert!(component_of(section).finished() == built(&row, items, &size), "{}", row.name);
             was_refused
         });
         assert!(are_refused.count() > 0, "{}", row.name);
     }
+}
+
+/// Whether an item is a section of its own.
+fn is_alone(row: &Call) -> bool {
+    [0, 1, 4, 9].contains(&row.id)
 }
 
 /// A component of this section.
@@ -139,64 +137,34 @@ fn component_of(mut section: Held) -> Held {
     component
 }
 
-/// A section by hand has its items, counts them, and takes no debug name.
->>>>>>> 1d9042baed1f3981a380526f89307428de26910f
+/// A component of so many of these items, by a builder in Rust.
+fn built(row: &Call, items: u32, size: &Size) -> Vec<u8> {
+    let mut b = ComponentBuilder::default();
+    (0..items).for_each(|_| _ = row.builds[0](&mut b, None, size).expect("there is memory"));
+    b.finish()
+}
+
+/// A section by hand has its items, counts them, and takes no debug name. What is a section of its
+/// own has no index.
 #[test]
 fn each_by_hand() {
     for row in of_c() {
-        let is_alone = [0, 1, 4, 9].contains(&row.id);
         for size in cases(&row) {
-<<<<<<< HEAD
-            let mut component = Held::by_hand();
-            if is_alone {
+            let component = if is_alone(&row) {
+                let mut component = Held::by_hand();
                 for _ in 0..2 {
                     assert_eq!(made(&row, &mut component, None, &size), Ok(0), "{}", row.name);
                 }
+                component
             } else {
-                let mut section = with_items(&row, &size);
-                let status = unsafe { wenc_section(component.at(), section.at()) };
-                assert_eq!(status, Status::Done);
-=======
-            let (mut section, mut model) = (Held::section(row.id.into()), Model::new());
-            for index in 0..2 {
-                assert_eq!(made(&row, &mut section, None, &size), Ok(index), "{}", row.name);
-                model.add(row.id, (row.bytes)(&size));
-            }
-            let answer = made(&row, &mut section, Some("name"), &size);
-            let takes_none = row.own.is_none();
-            assert!(!takes_none || answer == Err(Status::BadArgument), "{}", row.name);
-            let mut len = 0;
-            let status = unsafe { wenc_len(section.at(), &mut len) };
-            assert_eq!((status, len), (Status::Done, if takes_none { 2 } else { 3 }));
-            if !takes_none {
-                model.add(row.id, (row.bytes)(&size));
-            }
-            same(component_of(section), model, &row, "by hand");
+                component_of(with_items(&row, &size))
+            };
+            let items = if !is_alone(&row) && row.own.is_some() { 3 } else { 2 };
+            assert!(component.finished() == built(&row, items, &size), "{} by hand", row.name);
         }
     }
 }
 
-/// What is a section of its own has no index in a component by hand.
-#[test]
-fn each_alone_by_hand() {
-    for row in of_c().filter(|row| [0, 1, 4, 9].contains(&row.id)) {
-        for size in cases(&row) {
-            let (mut component, mut model) = (Held::by_hand(), Model::new());
-            for _ in 0..2 {
-                assert_eq!(made(&row, &mut component, None, &size), Ok(0), "{}", row.name);
-                model.add(row.id, (row.bytes)(&size));
->>>>>>> 1d9042baed1f3981a380526f89307428de26910f
-            }
-            let mut b = ComponentBuilder::default();
-            for _ in 0..if !is_alone && row.own.is_some() { 3 } else { 2 } {
-                row.builds[0](&mut b, None, &size).expect("there is memory");
-            }
-            assert!(component.finished() == b.finish(), "{} by hand", row.name);
-        }
-    }
-}
-
-<<<<<<< HEAD
 /// A section with two items, or with three where there is no debug name to refuse.
 fn with_items(row: &Call, size: &Size) -> Held {
     let mut section = Held::section(row.id.into());
@@ -210,8 +178,6 @@ fn with_items(row: &Call, size: &Size) -> Held {
     section
 }
 
-/// An item is read, and added again from the listing and by its bytes, as in Rust.
-=======
 /// Reads a component. What has a request refused is no listing.
 fn listed(bytes: &[u8], row: &Call) -> Held {
     let mut listing = Held::nothing();
@@ -227,34 +193,20 @@ fn listed(bytes: &[u8], row: &Call) -> Held {
     listing
 }
 
-/// An item is added again from a listing and by its bytes.
->>>>>>> 1d9042baed1f3981a380526f89307428de26910f
+/// An item is read, and added again from the listing and by its bytes, as in Rust.
 #[test]
 fn each_is_read_and_added_again() {
     for row in calls() {
         let size = Size::small(3);
         let name = row.own.as_ref().map_or_else(|| "name".into(), |own| own(&size));
         let mut model = Model::new();
-<<<<<<< HEAD
         model.add(row.id, (row.bytes)(&size));
         let bytes = model.finish();
-        let (mut listing, (at, len)) = (Held::nothing(), (bytes.as_ptr(), bytes.len()));
-        let status = unsafe { wenc_list(listing.at(), at, len, ptr::null_mut()) };
-        assert_eq!(status, Status::Done, "{}", row.name);
+        let mut listing = listed(&bytes, &row);
         let in_rust = wenc::list(&bytes).expect("it is listed");
         assert_eq!(counted(&mut listing).map(u128::from), in_rust.counts, "{}", row.name);
         let (mut again, mut indices, text) = (Held::builder(), [UNTOUCHED; 2], named(&name));
         let mut item: ItemRow = unsafe { mem::zeroed() };
-=======
-        row.model(&mut model, Some(&name), &size);
-        let bytes = model.clone().finish();
-        let mut listing = listed(&bytes, &row);
-        assert_eq!(counts(&mut listing), model.counts, "{}", row.name);
-        let (item, text) = ((row.bytes)(&size), named(&name));
-        let (section, at, len) = (row.id.into(), item.as_ptr(), item.len());
-        let (mut copied, mut made) = (Held::builder(), Held::builder());
-        let mut indices = [UNTOUCHED; 2];
->>>>>>> 1d9042baed1f3981a380526f89307428de26910f
         let [one, two] = &mut indices;
         unsafe {
             let (to, from) = (again.at(), listing.at());
