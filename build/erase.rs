@@ -20,7 +20,7 @@
 //!   or a `clone` that the source defines itself. No crate is better than one that does something
 //!   else than was proved.
 //!
-//! `tests/honest.rs` compares each source with its Rust, with a lexer of its own, and knows the
+//! `tests/honest` compares each source with its Rust, with a lexer of its own, and knows the
 //! same list.
 
 #[path = "erase/attributes.rs"]
@@ -30,7 +30,7 @@ mod known;
 #[path = "erase/lexer.rs"]
 mod lexer;
 
-use known::{ALLOCATING, HANDED, KEYWORDS, NARROWED, PLAIN, SHARED};
+use known::{ALLOCATING, HANDED, KEYWORDS, NARROWED, PLAIN};
 use lexer::{Kind, Token, tokens};
 use std::borrow::Cow;
 
@@ -350,7 +350,7 @@ impl<'a> Eraser<'a> {
         let is_own = (0..i).any(|j| self.stands(j, "macro_rules !") && self.at(j + 2) == name);
         if self.at(i + 2) == "in" && HANDED.contains(&name) {
             self.put(i - 1, format!("crate::shim::{name}"));
-        } else if !is_own && ![&KEYWORDS[..], &PLAIN, &SHARED].concat().contains(&name) {
+        } else if !is_own && ![&KEYWORDS[..], &PLAIN].concat().contains(&name) {
             return Err((self.line(i), "a macro that is not known"));
         }
         Ok(())

@@ -135,6 +135,15 @@ impl Component {
     /// # Errors
     ///
     /// [`NoMemory`](Error::NoMemory).
+    ///
+    /// ```
+    /// use wenc::{Component, CustomSection};
+    ///
+    /// let mut component = Component::try_new()?;
+    /// component.try_section(&CustomSection { name: "n".into(), data: b"data".into() })?;
+    /// assert_eq!(component.finish(), b"\0asm\x0d\0\x01\0\0\x06\x01ndata");
+    /// # Ok::<(), wenc::Error>(())
+    /// ```
     pub fn try_new() -> Result<Self, Error> {
         Ok(Self { bytes: copied(Self::HEADER)? })
     }

@@ -201,6 +201,15 @@ impl Module {
     /// # Errors
     ///
     /// [`NoMemory`](Error::NoMemory).
+    ///
+    /// ```
+    /// use wenc::{CustomSection, Module};
+    ///
+    /// let mut module = Module::try_new()?;
+    /// module.try_section(&CustomSection { name: "n".into(), data: b"data".into() })?;
+    /// assert_eq!(module.finish(), b"\0asm\x01\0\0\0\0\x06\x01ndata");
+    /// # Ok::<(), wenc::Error>(())
+    /// ```
     pub fn try_new() -> Result<Self, Error> {
         Ok(Self { bytes: copied(Self::HEADER)? })
     }

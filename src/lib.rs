@@ -44,7 +44,7 @@
 //! order are the only reading of the finished bytes, and `list` returns that reading.
 //!
 //! That the Rust code does the same rests on the eraser, which removes the contracts (`build`,
-//! checked by `tests/honest.rs`), on the replacement of Rattle's standard library (`src/shim`), on
+//! checked by `tests/honest`), on the replacement of Rattle's standard library (`src/shim`), on
 //! equal tokens meaning the same in both languages, and on rustc. The calls with upstream's names
 //! are a layer of plain Rust that passes values on and contains no byte of the format.
 //!
@@ -162,8 +162,8 @@ pub use rewrite::{ItemSection, SectionItem};
 /// prover rejected, and a SHA-256 digest of each crate's `src`, `specs`, `proofs` and `must-fail`.
 ///
 /// A digest is that of the lines that `sha256sum` prints for a folder's files, in the order of
-/// their paths. A test of this package, `tests/proof.rs`, computes and compares the digests of the
-/// sources that it has.
+/// their paths. A test of this package, `tests/honest/proof.rs`, computes and compares the digests
+/// of the sources that it has.
 ///
 /// ```
 /// assert!(wenc::PROOF.starts_with("logic: "));

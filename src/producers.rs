@@ -1,7 +1,7 @@
 //! Reading a producers section.
 
-use crate::proved::wenc_read::{Refusal, u32_of};
-use crate::proved::wenc_view::text_of;
+use crate::proved::wenc_list::{ProducersPart, ProducersParts};
+use crate::proved::wenc_read::Refusal;
 use core::fmt;
 
 /// A tool that produced a module or a component.
@@ -40,18 +40,14 @@ pub struct Producer<'a> {
 /// assert_eq!(tools.next(), None);
 /// # Ok::<(), wenc::ListFault>(())
 /// ```
-#[derive(Clone, Debug)]
+#[derive(Clone)]
 pub struct ProducersReader<'a> {
     /// The number of bytes of the data.
     len: usize,
-    /// The number of fields that are left; `None` before it is read.
-    fields: Option<u32>,
     /// The field of the next tool.
     field: &'a str,
-    /// The number of tools that are left in this field.
-    tools: u32,
-    /// The bytes that are left; `None` after an error.
-    rest: Option<&'a [u8]>,
+    /// The parts that are left, or why there are none; `None` at the end and after an error.
+    parts: Option<Result<ProducersParts<'a>, Refusal>>,
 }
 
 impl<'a> ProducersReader<'a> {
@@ -60,44 +56,8 @@ impl<'a> ProducersReader<'a> {
 
     /// Returns the tools in the data of a section with this name.
     pub fn new(data: &'a [u8]) -> Self {
-        Self { len: data.len(), fields: None, field: "", tools: 0, rest: Some(data) }
+        Self { len: data.len(), field: "", parts: Some(ProducersParts::new(data)) }
     }
-
-    /// Reads the next tool, or nothing at the end. What was read before an error is kept.
-    fn take(&mut self, rest: &mut &'a [u8]) -> Result<Option<Producer<'a>>, Refusal> {
-        let fields = match self.fields {
-            Some(fields) => fields,
-            None => take(rest, u32_of)?,
-        };
-        self.fields = Some(fields);
-        for left in (0..fields).rev() {
-            if self.tools > 0 {
-                break;
-            }
-            let mut after = *rest;
-            self.field = take(&mut after, text_of)?;
-            self.tools = take(&mut after, u32_of)?;
-            (self.fields, *rest) = (Some(left), after);
-        }
-        if self.tools == 0 {
-            return if rest.is_empty() { Ok(None) } else { Err(Refusal::Malformed) };
-        }
-        let mut after = *rest;
-        let (name, version) = (take(&mut after, text_of)?, take(&mut after, text_of)?);
-        *rest = after;
-        self.tools -= 1;
-        Ok(Some(Producer { field: self.field, name, version }))
-    }
-}
-
-/// Reads a value, after which the rest is left.
-fn take<'a, T>(
-    rest: &mut &'a [u8],
-    read: impl FnOnce(&'a [u8]) -> Result<(T, &'a [u8]), Refusal>,
-) -> Result<T, Refusal> {
-    let (value, after) = read(rest)?;
-    *rest = after;
-    Ok(value)
 }
 
 /// # Errors
@@ -107,14 +67,28 @@ impl<'a> Iterator for ProducersReader<'a> {
     type Item = Result<Producer<'a>, ProducersFault>;
 
     fn next(&mut self) -> Option<Self::Item> {
-        let mut rest = self.rest.take()?;
-        match self.take(&mut rest) {
-            Ok(tool) => {
-                self.rest = tool.map(|_| rest);
-                tool.map(Ok)
+        let Ok(mut parts) = self.parts.take()? else {
+            return Some(Err(ProducersFault { place: 0 }));
+        };
+        loop {
+            match parts.next() {
+                Ok(Some(ProducersPart::Field(name))) => self.field = name,
+                Ok(Some(ProducersPart::Tool(name, version))) => {
+                    self.parts = Some(Ok(parts));
+                    return Some(Ok(Producer { field: self.field, name, version }));
+                }
+                Ok(None) => return None,
+                Err(_) => {
+                    return Some(Err(ProducersFault { place: self.len - parts.rest.len() }));
+                }
             }
-            Err(_) => Some(Err(ProducersFault { place: self.len - rest.len() })),
         }
+    }
+}
+
+impl fmt::Debug for ProducersReader<'_> {
+    fn fmt(&self, f: &mut fmt::Formatter<'_>) -> fmt::Result {
+        f.debug_struct("ProducersReader").field("field", &self.field).finish_non_exhaustive()
     }
 }
 

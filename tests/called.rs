@@ -75,7 +75,7 @@ fn facade(sources: &Sources) -> (Facade, Vec<Calls>) {
     }
     let mut targets: BTreeMap<String, Calls> = BTreeMap::new();
     for (path, text) in files(&top.join("tests")) {
-        if !is_of(&path, &["called", "eraser", "honest", "proof", "proved"]) {
+        if !is_of(&path, &["called", "honest", "proved"]) {
             let calls = Calls::of(&lex(&text), sources);
             targets.entry(front(&path)).or_default().extend(calls);
         }

@@ -10,9 +10,6 @@ pub const HANDED: [&str; 2] = ["format", "vec"];
 /// Macros with the same meaning in Rattle and in Rust.
 pub const PLAIN: [&str; 5] = ["concat", "matches", "unreachable", "write", "writeln"];
 
-/// Macros of the sources that other files of their crate use.
-pub const SHARED: [&str; 1] = ["given"];
-
 /// Words, other than names, that may precede a `!` or a path.
 pub const KEYWORDS: [&str; 15] = [
     "as", "break", "dyn", "else", "extern", "for", "if", "impl", "in", "match", "mut", "ref",

@@ -71,11 +71,8 @@ impl Calls {
 }
 
 /// Generic functions of the tests that call a trait's method for the type that they are given.
-const HELPERS: [(&str, &[&str]); 6] = [
+const HELPERS: [(&str, &[&str]); 3] = [
     ("encode", &["check", "check_all", "is", "sweep_encode"]),
-    ("tree_of", &["tree"]),
-    ("view_of", &["reads", "tree"]),
-    ("append_to", &["module_section_is"]),
     ("append_to_component", &["section_is"]),
-    ("id", &["module_section_is", "section_is"]),
+    ("id", &["section_is"]),
 ];

@@ -1,14 +1,12 @@
 //! Public calls with memory for all that they ask for, each against bytes in hexadecimal: those that
 //! no call of the facade makes.
 
-mod commands;
 mod members;
 mod parents;
 mod program;
-mod views;
 
 use crate::proved::tests::hex::digits;
-use crate::proved::wenc_base::{Encode, Section};
+use crate::proved::wenc_base::Encode;
 use crate::proved::wenc_parts::ComponentSection;
 use crate::shim::alloc::Global;
 use crate::shim::vec::Vec;
@@ -24,12 +22,5 @@ fn is<T: Encode>(value: &T, wanted: &str) {
 fn section_is<S: ComponentSection>(section: &S, id: u8, wanted: &str) {
     let mut sink = Vec::new(Global);
     section.append_to_component(&mut sink).unwrap();
-    assert_eq!((section.id(), digits(&sink).as_str()), (id, wanted));
-}
-
-/// The section has this id and these bytes in a core module.
-fn module_section_is<S: Section>(section: &S, id: u8, wanted: &str) {
-    let mut sink = Vec::new(Global);
-    section.append_to(&mut sink).unwrap();
     assert_eq!((section.id(), digits(&sink).as_str()), (id, wanted));
 }

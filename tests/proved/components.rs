@@ -1,63 +1,13 @@
-//! Components, modules and types with declarations: sections of a stranger's own, and each request
-//! for memory refused in turn.
+//! Components, and types with declarations: each request of what adds to them and of their copies
+//! refused in turn.
 
-use super::hex::digits;
 use super::refusing::Refusing;
 use super::sweeping::{TEXT, refused_in_turn, sweep_encode};
-use crate::proved::proved_tests::strangers::own::{Large, Own};
-use crate::proved::wenc_base::{Encode, Fault, Module, RawCustomSection};
+use crate::proved::wenc_base::{Encode, RawCustomSection};
 use crate::proved::wenc_parts::Component;
-use crate::proved::wenc_sections::ComponentAliasSection;
 use crate::proved::wenc_types::{ComponentType, InstanceType, ModuleType};
 use crate::shim::alloc::Global;
 use crate::shim::vec::Vec;
-
-const COMPONENT: [u8; 8] = [0, 0x61, 0x73, 0x6d, 0x0d, 0, 1, 0];
-
-const MODULE: [u8; 8] = [0, 0x61, 0x73, 0x6d, 1, 0, 0, 0];
-
-const OWN: Own<'static> = Own(&[0x2a]);
-
-const RAW: RawCustomSection<'static> = RawCustomSection(&[0xaa]);
-
-/// A section that is refused leaves nothing, and a copy goes its own way.
-#[test]
-fn components() {
-    assert_eq!(<Component>::HEADER, COMPONENT);
-    let mut component = Component::new(Global).unwrap();
-    assert_eq!(component.section(&Large), Err(Fault::TooLarge));
-    assert_eq!(component.as_slice(), COMPONENT.as_slice());
-    component.section(&OWN).unwrap();
-    let mut copy = component.try_clone().unwrap();
-    let none: ComponentAliasSection = ComponentAliasSection::new(Global);
-    component.section(&none).unwrap();
-    component.section(&RAW).unwrap();
-    assert_eq!(component.section(&Large), Err(Fault::TooLarge));
-    component.section(&OWN).unwrap();
-    let wanted = "0061736d0d000100632a06010000aa632a";
-    assert_eq!(digits(component.as_slice()), wanted);
-    assert_eq!(digits(&component.finish()), wanted);
-    copy.section(&OWN).unwrap();
-    assert_eq!(digits(&copy.finish()), "0061736d0d000100632a632a");
-}
-
-/// A section that a module refuses leaves nothing, and a copy of the module goes its own way.
-#[test]
-fn modules() {
-    assert_eq!(<Module>::HEADER, MODULE);
-    let mut module = Module::new(Global).unwrap();
-    assert_eq!(module.section(&Large), Err(Fault::TooLarge));
-    assert_eq!(module.as_slice(), MODULE.as_slice());
-    let mut copy = module.try_clone().unwrap();
-    module.section(&RAW).unwrap();
-    module.section(&OWN).unwrap();
-    assert_eq!(module.section(&Large), Err(Fault::TooLarge));
-    let wanted = "0061736d0100000000aa622a";
-    assert_eq!(digits(module.as_slice()), wanted);
-    assert_eq!(digits(&module.finish()), wanted);
-    copy.section(&OWN).unwrap();
-    assert_eq!(digits(&copy.finish()), "0061736d01000000622a");
-}
 
 /// With up to eight sections of one byte there, the room ends at each place.
 #[test]
@@ -65,21 +15,19 @@ fn components_are_swept() {
     let heap = Refusing::new();
     let (_, requests) = refused_in_turn(&heap, || Component::new(&heap));
     let mut growths = 0;
-    for count in 0..9 {
-        for body in [&[], TEXT] {
-            let mut component = Component::new(&heap).unwrap();
-            (0..count).for_each(|_| component.section(&RawCustomSection(&[])).unwrap());
-            let before = component.as_slice().to_vec();
-            let (copy, copies) = refused_in_turn(&heap, || component.try_clone());
-            let ((), more) = refused_in_turn(&heap, || {
-                let outcome = component.section(&RawCustomSection(body));
-                assert!(outcome.is_ok() || component.as_slice() == before);
-                outcome
-            });
-            assert_eq!(component.as_slice(), [&before, &[0][..], body].concat());
-            assert_eq!((copy.as_slice(), copies), (&before[..], 1));
-            growths += more;
-        }
+    for (count, body) in (0..9).flat_map(|count| [(count, &[][..]), (count, TEXT)]) {
+        let mut component = Component::new(&heap).unwrap();
+        (0..count).for_each(|_| component.section(&RawCustomSection(&[])).unwrap());
+        let before = component.as_slice().to_vec();
+        let (copy, copies) = refused_in_turn(&heap, || component.try_clone());
+        let ((), more) = refused_in_turn(&heap, || {
+            let outcome = component.section(&RawCustomSection(body));
+            assert!(outcome.is_ok() || component.as_slice() == before);
+            outcome
+        });
+        assert_eq!(component.as_slice(), [&before, &[0][..], body].concat());
+        assert_eq!((copy.as_slice(), copies), (&before[..], 1));
+        growths += more;
     }
     assert!(requests > 0 && growths > 0);
 }

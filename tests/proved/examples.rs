@@ -1,6 +1,6 @@
 //! The examples of the doc comments and the proved callers, run. Expected bytes are outside
 //! answers: those of components from Rust's `wasm-encoder` 0.263.0; those of values, core types,
-//! modules and custom sections from the format's rows.
+//! modules and custom sections from the format's rows. `tests/real/shown.rs` reads each.
 
 use crate::proved::proved_tests::by_hand::by_hand;
 use crate::proved::proved_tests::examples::{
@@ -15,100 +15,48 @@ use crate::proved::wenc_list::{ItemTree, ItemView, Names};
 use crate::shim::alloc::Global;
 use crate::shim::vec::Vec;
 
-/// These bytes were written.
-fn writes(written: Result<Vec<u8>, Fault>, bytes: &[u8]) {
-    assert_eq!(written.unwrap().as_slice(), bytes);
-}
-
-/// What was made has this text.
-fn makes<T: Encode>(made: Result<T, Fault>, text: &[u8]) {
+/// What is made is written as these bytes.
+fn written<T: Encode>(made: Result<T, Fault>) -> Result<Vec<u8>, Fault> {
     let mut sink = Vec::new(Global);
-    made.unwrap().encode(&mut sink).unwrap();
-    assert_eq!(sink.as_slice(), text);
+    made?.encode(&mut sink)?;
+    Ok(sink)
 }
 
-const ENCODE: &[u8] = b"\x01f\x02\x01\x02";
-
-const HOLDER: &[u8] = b"\x04\x01\x01f\x00";
-
-const MODULE: &[u8] = b"\0asm\x01\0\0\0\x00\x02\x01x";
-
-const NAME_MAP: &[u8] = b"\x01\x00\x03now";
-
-const CANON: &[u8] = b"\x03\x03";
-
-/// Components that builders made.
-const BUILDER: &[u8] =
-    b"\0asm\x0d\0\x01\0\x0a\x06\x01\x00\x01f\x03\x01\x0b\x07\x01\x00\x01g\x03\x00\x00";
-
-const BUILDER_TYPES: &[u8] =
-    b"\0asm\x0d\0\x01\0\x07\x03\x01\x6b\x73\x0b\x0a\x01\x00\x04name\x03\x00\x00";
-
-const BY_HAND: &[u8] =
-    b"\0asm\x0d\0\x01\0\x0a\x06\x01\x00\x01i\x03\x01\x06\x05\x01\x03\x02\x00\x00\
-    \x0b\x07\x01\x00\x01g\x03\x01\x00";
-
-/// A component around a core module, which exports "run".
-const WRAPPED: &[u8] = b"\0asm\x0d\0\x01\0\
-    \x01\x21\0asm\x01\0\0\0\x01\x04\x01\x60\x00\x00\x03\x02\x01\x00\x07\x07\x01\x03run\x00\x00\
-    \x0a\x04\x01\x02\x00\x0b\x02\x04\x01\x00\x00\x00\x06\x09\x01\x00\x00\x01\x00\x03run\
-    \x07\x05\x01\x40\x00\x01\x00\x08\x06\x01\x00\x00\x00\x00\x00\
-    \x0b\x09\x01\x00\x03run\x01\x00\x00";
+/// Each example has written these bytes.
+macro_rules! write {
+    ($($example:expr => $bytes:literal;)*) => {
+        $(assert_eq!($example.unwrap().as_slice(), $bytes, "{}", stringify!($example));)*
+    };
+}
 
 #[test]
 fn values_and_builders() {
-    writes(base::encode(Global), ENCODE);
-    writes(base::holder(Global), HOLDER);
-    writes(base::module(Global), MODULE);
-    writes(base::names(Global), NAME_MAP);
-    writes(trees::canon(Global), CANON);
-    writes(builder::builder(Global), BUILDER);
-    writes(builder::types(Global), BUILDER_TYPES);
-    writes(by_hand(Global), BY_HAND);
-    let module = &WRAPPED[10..43];
-    assert_eq!(module[..8], *b"\0asm\x01\0\0\0");
-    writes(wrapped(Global, module), WRAPPED);
+    write! {
+        base::encode(Global) => b"\x01f\x02\x01\x02";
+        base::holder(Global) => b"\x04\x01\x01f\x00";
+        base::module(Global) => b"\0asm\x01\0\0\0\x00\x02\x01x";
+        base::names(Global) => b"\x01\x00\x03now";
+        trees::canon(Global) => b"\x03\x03";
+        builder::builder(Global) =>
+            b"\0asm\x0d\0\x01\0\x0a\x06\x01\x00\x01f\x03\x01\x0b\x07\x01\x00\x01g\x03\x00\x00";
+        builder::types(Global) =>
+            b"\0asm\x0d\0\x01\0\x07\x03\x01\x6b\x73\x0b\x0a\x01\x00\x04name\x03\x00\x00";
+        by_hand(Global) =>
+            b"\0asm\x0d\0\x01\0\x0a\x06\x01\x00\x01i\x03\x01\x06\x05\x01\x03\x02\x00\x00\
+            \x0b\x07\x01\x00\x01g\x03\x01\x00";
+        wrapped(Global, MODULE) =>
+            b"\0asm\x0d\0\x01\0\
+            \x01\x21\0asm\x01\0\0\0\x01\x04\x01\x60\x00\x00\x03\x02\x01\x00\
+            \x07\x07\x01\x03run\x00\x00\x0a\x04\x01\x02\x00\x0b\
+            \x02\x04\x01\x00\x00\x00\x06\x09\x01\x00\x00\x01\x00\x03run\
+            \x07\x05\x01\x40\x00\x01\x00\x08\x06\x01\x00\x00\x00\x00\x00\
+            \x0b\x09\x01\x00\x03run\x01\x00\x00";
+    }
 }
 
-/// Components by hand.
-const CUSTOM: &[u8] = b"\0asm\x0d\0\x01\0\x00\x07\x05notes\x2a";
-
-const PRODUCERS: &[u8] =
-    b"\0asm\x0d\0\x01\0\x00\x1f\x09producers\x01\x08language\x01\x04Rust\x042024";
-
-const COMPONENT: &[u8] = b"\0asm\x0d\0\x01\0\x0a\x09\x01\x00\x04file\x03\x01";
-
-const ALIASES: &[u8] = b"\0asm\x0d\0\x01\0\x0a\x09\x01\x00\x04file\x03\x01\
-    \x06\x05\x01\x03\x02\x00\x00";
-
-const EXPORTS: &[u8] = b"\0asm\x0d\0\x01\0\x0a\x09\x01\x00\x04file\x03\x01\
-    \x0b\x0c\x01\x00\x06handle\x03\x00\x00";
-
-const IMPORTS: &[u8] = b"\0asm\x0d\0\x01\0\x0a\x11\x02\x00\x04file\x03\x01\x00\x03log\x03\x00\x00";
-
-const CORE_INSTANCES: &[u8] = b"\0asm\x0d\0\x01\0\x01\x08\0asm\x01\0\0\0\x08\x02\x01\x05\
-    \x02\x15\x02\x01\x01\x06cancel\x00\x00\x00\x00\x01\x03env\x12\x00";
-
-const INSTANCES: &[u8] = b"\0asm\x0d\0\x01\0\x0a\x09\x01\x00\x04file\x03\x01\
-    \x04\x08\0asm\x0d\0\x01\0\
-    \x05\x16\x02\x01\x01\x00\x04file\x03\x00\x00\x00\x01\x05files\x05\x00";
-
-const MODULES: &[u8] = b"\0asm\x0d\0\x01\0\x01\x0c\0asm\x01\0\0\0\x00\x02\x01x";
-
-const NESTED: &[u8] = b"\0asm\x0d\0\x01\0\x04\x0c\0asm\x0d\0\x01\0\x00\x02\x01x";
-
-const START: &[u8] = b"\0asm\x0d\0\x01\0\x07\x08\x01\x40\x01\x01n\x79\x01\x00\
-    \x0a\x0b\x02\x00\x01f\x01\x00\x00\x01v\x02\x79\x09\x04\x00\x01\x00\x00";
-
-const CORE_TYPES: &[u8] = b"\0asm\x0d\0\x01\0\x03\x05\x01\x60\x01\x7e\x00";
-
-const TYPES: &[u8] = b"\0asm\x0d\0\x01\0\x07\x0c\x02\x72\x01\x04name\x73\x3f\x7f\x00";
-
-const NAMES: &[u8] =
-    b"\0asm\x0d\0\x01\0\x00\x20\x0ecomponent-name\x00\x06\x05clock\x01\x07\x01\x01\x00\x03now";
-
-const FUNCTIONS: &[u8] = b"\0asm\x0d\0\x01\0\x0a\x09\x01\x00\x04file\x03\x01\
-    \x08\x08\x02\x03\x00\x09\x01\x00\x01\x01";
+/// A core module that exports "run".
+const MODULE: &[u8] = b"\0asm\x01\0\0\0\x01\x04\x01\x60\x00\x00\x03\x02\x01\x00\
+    \x07\x07\x01\x03run\x00\x00\x0a\x04\x01\x02\x00\x0b";
 
 /// A start, after an imported function and an imported value with which it is called.
 fn started() -> Result<Vec<u8>, Fault> {
@@ -130,80 +78,75 @@ fn started() -> Result<Vec<u8>, Fault> {
 
 #[test]
 fn sections_by_hand() {
-    writes(base::custom(Global), CUSTOM);
-    writes(base::producers(Global), PRODUCERS);
-    writes(sections::component(Global), COMPONENT);
-    writes(sections::aliases(Global), ALIASES);
-    writes(sections::exports(Global), EXPORTS);
-    writes(sections::imports(Global), IMPORTS);
-    writes(sections::core_instances(Global), CORE_INSTANCES);
-    writes(sections::instances(Global), INSTANCES);
-    writes(sections::module(Global), MODULES);
-    writes(sections::nested(Global), NESTED);
-    writes(started(), START);
-    writes(sections::core_types(Global), CORE_TYPES);
-    writes(sections::types(Global), TYPES);
-    writes(sections::names(Global), NAMES);
-    writes(canon::functions(Global), FUNCTIONS);
+    write! {
+        base::custom(Global) => b"\0asm\x0d\0\x01\0\x00\x07\x05notes\x2a";
+        base::producers(Global) =>
+            b"\0asm\x0d\0\x01\0\x00\x1f\x09producers\x01\x08language\x01\x04Rust\x042024";
+        sections::component(Global) => b"\0asm\x0d\0\x01\0\x0a\x09\x01\x00\x04file\x03\x01";
+        sections::aliases(Global) =>
+            b"\0asm\x0d\0\x01\0\x0a\x09\x01\x00\x04file\x03\x01\x06\x05\x01\x03\x02\x00\x00";
+        sections::exports(Global) =>
+            b"\0asm\x0d\0\x01\0\x0a\x09\x01\x00\x04file\x03\x01\
+            \x0b\x0c\x01\x00\x06handle\x03\x00\x00";
+        sections::imports(Global) =>
+            b"\0asm\x0d\0\x01\0\x0a\x11\x02\x00\x04file\x03\x01\x00\x03log\x03\x00\x00";
+        sections::core_instances(Global) =>
+            b"\0asm\x0d\0\x01\0\x01\x08\0asm\x01\0\0\0\x08\x02\x01\x05\
+            \x02\x15\x02\x01\x01\x06cancel\x00\x00\x00\x00\x01\x03env\x12\x00";
+        sections::instances(Global) =>
+            b"\0asm\x0d\0\x01\0\x0a\x09\x01\x00\x04file\x03\x01\x04\x08\0asm\x0d\0\x01\0\
+            \x05\x16\x02\x01\x01\x00\x04file\x03\x00\x00\x00\x01\x05files\x05\x00";
+        sections::module(Global) =>
+            b"\0asm\x0d\0\x01\0\x01\x0c\0asm\x01\0\0\0\x00\x02\x01x";
+        sections::nested(Global) =>
+            b"\0asm\x0d\0\x01\0\x04\x0c\0asm\x0d\0\x01\0\x00\x02\x01x";
+        started() =>
+            b"\0asm\x0d\0\x01\0\x07\x08\x01\x40\x01\x01n\x79\x01\x00\
+            \x0a\x0b\x02\x00\x01f\x01\x00\x00\x01v\x02\x79\x09\x04\x00\x01\x00\x00";
+        sections::core_types(Global) => b"\0asm\x0d\0\x01\0\x03\x05\x01\x60\x01\x7e\x00";
+        sections::types(Global) => b"\0asm\x0d\0\x01\0\x07\x0c\x02\x72\x01\x04name\x73\x3f\x7f\x00";
+        sections::names(Global) =>
+            b"\0asm\x0d\0\x01\0\x00\x20\x0ecomponent-name\x00\x06\x05clock\
+            \x01\x07\x01\x01\x00\x03now";
+        canon::functions(Global) =>
+            b"\0asm\x0d\0\x01\0\x0a\x09\x01\x00\x04file\x03\x01\
+            \x08\x08\x02\x03\x00\x09\x01\x00\x01\x01";
+    }
 }
-
-const ALIAS: &[u8] = b"\x03\x02\x01\x02";
-
-/// Types by encoders.
-const DECLARATIONS: &[u8] = b"\x42\x01\x00\x60\x00\x00";
-
-const MODULE_TYPE: &[u8] = b"\x50\x02\x01\x60\x00\x01\x7f\x03\x06answer\x00\x00";
-
-const COMPONENT_TYPE: &[u8] = b"\x11\x01\x41\x02\x01\x70\x7d\x03\x00\x05bytes\x03\x00\x00";
-
-const INSTANCE_TYPE: &[u8] = b"\x10\x01\x42\x02\x01\x6b\x73\x04\x00\x04name\x03\x00\x00";
-
-const TWO_CORE_TYPES: &[u8] = b"\x0c\x02\x60\x00\x01\x7c\x50\x01\x02\x10\x01\x01\x00";
-
-const TWO_TYPES: &[u8] = b"\x06\x02\x3f\x7f\x00\x69\x00";
-
-const DEFINED_TYPES: &[u8] = b"\x13\x02\x72\x02\x04name\x73\x06street\x73\x6b\x73";
-
-const FUNC_TYPE: &[u8] = b"\x0b\x01\x40\x01\x04line\x73\x01\x00";
 
 #[test]
 fn types_by_encoders() {
-    makes(types::declarations(Global), DECLARATIONS);
-    makes(types::module_type(Global), MODULE_TYPE);
-    makes(types::component_type(Global), COMPONENT_TYPE);
-    makes(types::instance_type(Global), INSTANCE_TYPE);
-    makes(types::core_types(Global), TWO_CORE_TYPES);
-    makes(types::types(Global), TWO_TYPES);
-    makes(types::defined_types(Global), DEFINED_TYPES);
-    makes(types::func_type(Global), FUNC_TYPE);
-    let holder = base::core_type(Global).unwrap();
+    write! {
+        written(types::declarations(Global)) => b"\x42\x01\x00\x60\x00\x00";
+        written(types::module_type(Global)) =>
+            b"\x50\x02\x01\x60\x00\x01\x7f\x03\x06answer\x00\x00";
+        written(types::component_type(Global)) =>
+            b"\x11\x01\x41\x02\x01\x70\x7d\x03\x00\x05bytes\x03\x00\x00";
+        written(types::instance_type(Global)) =>
+            b"\x10\x01\x42\x02\x01\x6b\x73\x04\x00\x04name\x03\x00\x00";
+        written(types::core_types(Global)) =>
+            b"\x0c\x02\x60\x00\x01\x7c\x50\x01\x02\x10\x01\x01\x00";
+        written(types::types(Global)) => b"\x06\x02\x3f\x7f\x00\x69\x00";
+        written(types::defined_types(Global)) =>
+            b"\x13\x02\x72\x02\x04name\x73\x06street\x73\x6b\x73";
+        written(types::func_type(Global)) => b"\x0b\x01\x40\x01\x04line\x73\x01\x00";
+    }
     let mut sink = Vec::new(Global);
-    holder.encode_section(&mut sink).unwrap();
+    base::core_type(Global).unwrap().encode_section(&mut sink).unwrap();
     assert_eq!(sink.as_slice(), b"\x05\x01\x60\x01\x7f\x00");
 }
 
-/// Trees of items, and parts of items.
-const CORE_TYPE: &[u8] = b"\x50\x02\x01\x60\x00\x01\x7f\x03\x06answer\x00\x00";
-
-const FLAGS: &[u8] = b"\x6e\x02\x04read\x05write";
-
-const TYPE: &[u8] = b"\x42\x02\x01\x40\x00\x01\x00\x04\x00\x04stop\x01\x00";
-
-const CORE_INSTANCE: &[u8] = b"\x00\x01\x01\x03env\x12\x00";
-
-const INSTANCE: &[u8] = b"\x01\x01\x00\x03now\x01\x00";
-
-const EXTERN_NAME: &[u8] = b"\x02\x10wall:clock/now@1\x01\x01\x04.2.3";
-
 #[test]
 fn trees_and_parts() {
-    makes(trees::core_type(Global), CORE_TYPE);
-    makes(trees::defined(Global), FLAGS);
-    makes(trees::ty(Global), TYPE);
-    makes(trees::core_instance(Global), CORE_INSTANCE);
-    makes(trees::instance(Global), INSTANCE);
-    makes(Ok(parts::alias()), ALIAS);
-    makes(Ok(parts::extern_name()), EXTERN_NAME);
+    write! {
+        written(trees::core_type(Global)) => b"\x50\x02\x01\x60\x00\x01\x7f\x03\x06answer\x00\x00";
+        written(trees::defined(Global)) => b"\x6e\x02\x04read\x05write";
+        written(trees::ty(Global)) => b"\x42\x02\x01\x40\x00\x01\x00\x04\x00\x04stop\x01\x00";
+        written(trees::core_instance(Global)) => b"\x00\x01\x01\x03env\x12\x00";
+        written(trees::instance(Global)) => b"\x01\x01\x00\x03now\x01\x00";
+        written(Ok(parts::alias())) => b"\x03\x02\x01\x02";
+        written(Ok(parts::extern_name())) => b"\x02\x10wall:clock/now@1\x01\x01\x04.2.3";
+    }
 }
 
 /// After what was there.
@@ -215,14 +158,18 @@ fn sections_behind() {
     assert!(count == 1 && bytes.as_slice() == b"\x03\x02\x03\x02\x01\x02".as_slice());
     let (count, copy) = sections::counted(Global).unwrap();
     assert_eq!(count, 1);
-    makes(Ok(copy), b"\x09\x01\x00\x03log\x01\x00\x00");
+    assert_eq!(written(Ok(copy)).unwrap().as_slice(), b"\x09\x01\x00\x03log\x01\x00\x00");
 }
 
 /// A component that imports one type.
 const RUN: &[u8] = b"\0asm\x0d\0\x01\0\x0a\x09\x01\x00\x04file\x03\x01";
 
 /// What is printed of a script.
-const SCRIPT: &[u8] = b"0\n0061736d0d00010001080061736d01000000\n";
+fn script() -> Result<Vec<u8>, Fault> {
+    let (status, out) = program::script(Global);
+    assert_eq!(status, 0);
+    Ok(out)
+}
 
 #[test]
 fn runs() {
@@ -245,8 +192,8 @@ fn runs() {
     assert!(matches!(names, Names::Component("c")) && rest == b"\x09");
     assert_eq!(list::sum_of(b"\x02\x80\x01\x07\x2a"), Ok((135, &b"\x2a"[..])));
     let (tree, rest) = list::alias_tree(Global, b"\x03\x02\x01\x02\x2a").unwrap();
-    makes(Ok(tree.as_alias()), ALIAS);
-    assert_eq!(rest, b"\x2a".as_slice());
-    let (status, out) = program::script(Global);
-    assert!(status == 0 && out.as_slice() == SCRIPT);
+    assert!(tree.as_alias() == parts::alias() && rest == b"\x2a");
+    write! {
+        script() => b"0\n0061736d0d00010001080061736d01000000\n";
+    }
 }

@@ -1,18 +1,50 @@
-//! The lister: worked components, bytes that are not read, components of which each byte is changed,
-//! each request for memory refused in turn, and what `build` makes. `tests/rewrite.rs` has other
-//! spellings.
+//! The lister and other readers on each machine: what they say of worked and of damaged components,
+//! what a failed call leaves, and what `build` makes. `tests/reading` has the others.
 
 pub mod built;
+#[cfg(feature = "reader")]
 mod changed;
-mod checks;
-mod cursor;
-mod cut;
-mod depth;
-mod faults;
-mod names;
-mod numbers;
-mod rows;
+#[cfg(feature = "reader")]
+mod damaged;
+mod failed;
+mod read;
+#[cfg(feature = "reader")]
 #[path = "../common/sections.rs"]
 mod sections;
-mod unfilled;
-mod unread;
+
+use std::vec::Vec;
+
+/// A component with these sections.
+fn component(sections: &[u8]) -> Vec<u8> {
+    [b"\0asm\x0d\0\x01\0", sections].concat()
+}
+
+/// Reads the component as a listing, by owned items and by borrowed ones: these are the same, or
+/// all end with the same fault, which comes once.
+#[cfg(feature = "reader")]
+#[track_caller]
+fn read(bytes: &[u8]) -> Result<crate::Listing, crate::ListFault> {
+    let listing = crate::list(bytes);
+    let Ok(sections) = crate::Sections::new(bytes) else { return listing };
+    let (mut views, mut trees) = (sections.items(), sections.trees());
+    let mut items = Vec::new();
+    let fault = loop {
+        match (views.next(), trees.next()) {
+            (Some(Ok((place, view))), Some(Ok((range, tree)))) => {
+                assert!(place == range && view.to_tree() == tree, "{bytes:x?}");
+                items.push(tree);
+            }
+            (view, tree) => {
+                let ends = [view.and_then(Result::err), tree.and_then(Result::err)];
+                assert!(ends[0] == ends[1], "{bytes:x?}");
+                break ends[0];
+            }
+        }
+    };
+    assert!(views.next().is_none() && trees.next().is_none());
+    match &listing {
+        Ok(listing) => assert!(fault.is_none() && listing.items().eq(&items), "{bytes:x?}"),
+        Err(other) => assert_eq!(fault.as_ref(), Some(other), "{bytes:x?}"),
+    }
+    listing
+}

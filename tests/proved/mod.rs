@@ -5,8 +5,8 @@
 // Tables of rows have long types.
 #![allow(clippy::type_complexity)]
 
-mod builder;
 mod calls;
+mod commands;
 mod components;
 mod examples;
 mod hex;
@@ -16,4 +16,3 @@ mod program;
 mod refusing;
 mod shim;
 mod sweeping;
-mod trees;

@@ -51,13 +51,23 @@ pub fn sweep_encode<E: Encode>(value: &E) {
     sweep(|sink| value.encode(sink));
 }
 
-/// A value without a text is encoded without memory.
-pub fn takes_no_memory<E: Encode>(value: &E) {
+/// The value is written as this, after a byte that the sink has, whichever request was refused
+/// before. One without bytes makes none.
+pub fn check<E: Encode>(value: &E, wanted: &[u8]) {
     let heap = Refusing::new();
-    let mut sink = Vec::new(&heap);
-    heap.refuse_all();
+    let mut sink = Vec::from_slice(&heap, &[0x99]).unwrap();
+    if wanted.is_empty() {
+        heap.refuse_all();
+    } else {
+        sweep_encode(value);
+    }
     value.encode(&mut sink).unwrap();
-    assert!(sink.is_empty() && heap.requests() == 0);
+    assert_eq!(sink.strip_prefix(&[0x99]), Some(wanted));
+}
+
+/// Each of these is written as what stands beside it.
+pub fn check_all<E: Encode>(rows: &[(E, &[u8])]) {
+    rows.iter().for_each(|(value, wanted)| check(value, wanted));
 }
 
 /// Makes a call with each of its requests refused in turn, until it succeeds: what it gives then,

@@ -1,54 +1,12 @@
-//! The same by a cursor.
+//! Sections and items one by one.
 
-use crate::seen::{is_name, is_same};
-use crate::{component, corpus};
+use crate::component;
 use wenc::tree::Space;
 use wenc::view::ItemView;
-use wenc::{ComponentSectionId, ListFault, Sections, Unread, list};
+use wenc::{ComponentSectionId, ListFault, Sections, Unread};
 
 fn sections(bytes: &[u8]) -> Sections<'_> {
     Sections::new(bytes).expect("it is a component")
-}
-
-/// A cursor finds what a listing has.
-#[test]
-fn listings_and_cursors_find_the_same() {
-    let (mut items, mut imports, mut exports) = (0, 0, 0);
-    for (name, bytes) in corpus() {
-        let Ok(listing) = list(&bytes) else { continue };
-        let found = sections(&bytes).trees().map(|item| item.expect("it is read"));
-        let (ranges, found): (Vec<_>, Vec<_>) = found.unzip();
-        assert!(found.iter().eq(listing.items()), "{name}");
-        assert!(ranges.is_sorted_by(|one, next| one.end <= next.start), "{name}");
-        let views = sections(&bytes).items().map(|item| item.expect("it is read"));
-        let (places, views): (Vec<_>, Vec<_>) = views.unzip();
-        assert!(views.len() == found.len() && places == ranges, "{name}");
-        assert!(views.into_iter().zip(&found).all(|(view, tree)| is_same(view, tree)), "{name}");
-        items += found.len();
-
-        let found: Result<Vec<_>, _> = sections(&bytes).imports().collect();
-        let found = found.expect("they are read");
-        assert_eq!(found.len(), listing.imports().count(), "{name}");
-        imports += found.len();
-        for ((view, ty), (tree, of)) in found.into_iter().zip(listing.imports()) {
-            assert!(is_name(view, tree) && ty == of, "{name}");
-        }
-
-        let found: Result<Vec<_>, _> = sections(&bytes).exports().collect();
-        let found = found.expect("they are read");
-        assert_eq!(found.len(), listing.exports().count(), "{name}");
-        exports += found.len();
-        for ((view, kind, index), (tree, of, at)) in found.into_iter().zip(listing.exports()) {
-            assert!(is_name(view, tree) && (kind, index) == (of, at), "{name}");
-        }
-
-        assert_eq!(sections(&bytes).names(), listing.names(), "{name}");
-        for space in Space::ALL {
-            let count = sections(&bytes).index_count(space);
-            assert_eq!(count, Ok(listing.count(space)), "{name}");
-        }
-    }
-    assert!(items > 1500 && imports > 30 && exports > 40, "{items} {imports} {exports}");
 }
 
 /// Two imports of which the second isn't read, between sections that are.
@@ -117,14 +75,6 @@ fn a_cursor_goes_on_from_where_it_is() {
     assert_eq!((range.clone(), name.name), (36..42, "b"));
     assert_eq!(rest.imports().count(), 0);
     assert_eq!(rest.count(), 1);
-}
-
-#[test]
-fn names_are_found_without_what_is_bad() {
-    let names = b"\x00\x16\x0ecomponent-name\x01\x05\x01\x01\x00\x01g";
-    let bytes = component(&[BAD_IMPORT, names, b"\x0c\x00", names].concat());
-    let names = sections(&bytes).names();
-    assert_eq!(names.get(Space::Funcs, 0), Some("g"));
 }
 
 /// What is printed says how far it has come.

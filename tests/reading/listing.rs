@@ -1,6 +1,6 @@
 //! What a listing has, by kind.
 
-use crate::{component, corpus};
+use crate::component;
 use wenc::tree::{ItemTree, Space};
 use wenc::{ComponentExportKind as Kind, ComponentTypeRef as Ref, Listing, list};
 
@@ -62,33 +62,6 @@ fn each_index_has_its_definition() {
     let definitions = many.definitions().expect("there is memory");
     assert_eq!(definitions.get(Space::Values, 0), many.items().next());
     assert_eq!(definitions.get(Space::Values, u32::MAX), many.items().nth(1));
-}
-
-/// Each item of the corpus defines the indices from the count of those before it on.
-#[test]
-fn definitions_of_the_corpus() {
-    let mut found = 0;
-    for (name, bytes) in corpus() {
-        let Ok(listing) = list(&bytes) else { continue };
-        let definitions = listing.definitions().expect("there is memory");
-        let mut next = [0u32; 13];
-        for item in listing.items() {
-            let Some((space, count)) = item.indices() else { continue };
-            let index = &mut next[space.number()];
-            let definition = listing.definition(space, *index).expect("it is there");
-            assert!(std::ptr::eq(definition, item), "{name}: {space:?} {index}");
-            let definition = definitions.get(space, *index).expect("it is there");
-            assert!(std::ptr::eq(definition, item), "{name}: {space:?} {index}");
-            *index += count;
-            found += 1;
-        }
-        for space in Space::ALL {
-            assert_eq!(listing.count(space), next[space.number()].into(), "{name}");
-            assert_eq!(listing.definition(space, next[space.number()]), None, "{name}");
-            assert_eq!(definitions.get(space, next[space.number()]), None, "{name}");
-        }
-    }
-    assert!(found > 1000, "{found} definitions");
 }
 
 #[test]

@@ -1,44 +1,70 @@
-//! What is found in a component and in a core module.
+//! What is found in a component and in a core module, and written again.
 #![cfg(feature = "reader")]
 
+mod commands;
 mod core_sections;
+#[allow(dead_code, reason = "some are for others")]
+#[path = "../real/corpus.rs"]
+mod corpus;
 mod cursor;
+mod faults;
+mod indices;
 mod large;
 mod listing;
 mod names;
 mod nested;
+mod nodes;
 mod out_of_range;
+mod outer;
 mod places;
 mod producers;
+mod real;
+mod rewrite;
+mod scopes;
+#[allow(dead_code, reason = "some are for others")]
+#[path = "../common/sections.rs"]
+mod sections;
 #[path = "../common/seen.rs"]
 mod seen;
+#[path = "../common/spellings.rs"]
+mod spellings;
 mod views;
+#[path = "../common/visited.rs"]
+mod visited;
 
-use std::path::Path;
-use wenc::Component;
-
-/// The real components of the corpus, with their names, in their order.
-fn corpus() -> Vec<(String, Vec<u8>)> {
-    let folder = Path::new(env!("CARGO_MANIFEST_DIR")).join("tests/real/corpus/wasm");
-    let files = std::fs::read_dir(folder).expect("the corpus is there");
-    let mut found: Vec<_> = files
-        .map(|file| file.expect("a file").path())
-        .map(|path| (path.display().to_string(), std::fs::read(&path).expect("its bytes")))
-        .collect();
-    found.sort();
-    assert!(found.len() > 40, "{} components", found.len());
-    found
-}
+use indices::{expect, here};
+use visited::Seen;
+use wenc::tree::{NameTree, String as Text};
+use wenc::*;
 
 /// A component with these sections.
 fn component(sections: &[u8]) -> Vec<u8> {
     [&Component::HEADER[..], sections].concat()
 }
 
+/// A section with this content, whose size is one byte.
+fn section(id: u8, content: &[u8]) -> Vec<u8> {
+    let size = u8::try_from(content.len()).expect("it is short");
+    assert!(size < 0x80, "its size is one byte");
+    [&[id, size], content].concat()
+}
+
 /// A component section with a component with these sections.
 fn nested(sections: &[u8]) -> Vec<u8> {
-    let component = component(sections);
-    let size = u8::try_from(component.len()).expect("it is short");
-    assert!(size < 0x80, "its size is one byte");
-    [&[0x04, size], &component[..]].concat()
+    section(4, &component(sections))
+}
+
+/// The bytes of these digits, between which spaces may stand.
+fn bytes(hexadecimal: &str) -> Vec<u8> {
+    let digits = hexadecimal.replace(' ', "");
+    let byte = |at| u8::from_str_radix(&digits[at..at + 2], 16).expect("two digits");
+    (0..digits.len()).step_by(2).map(byte).collect()
+}
+
+fn text(text: &str) -> Text {
+    text.into()
+}
+
+fn name(text: &str) -> NameTree {
+    Text::from(text).into()
 }

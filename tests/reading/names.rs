@@ -1,6 +1,6 @@
 //! Debug names.
 
-use crate::component;
+use crate::{bytes, component};
 use wenc::tree::{ItemTree, Space, String};
 use wenc::view::ItemView;
 use wenc::{
@@ -81,18 +81,20 @@ fn the_first_name_is_kept() {
 fn what_is_not_read_is_told() {
     // a name of the component, a subsection of another id, and then none
     let front = b"\x00\x02\x01a\x09\x01\xff";
-    let bad: [&[u8]; 6] = [
-        b"\x00",
-        b"\x00\x01",
-        b"\x00\x01\x01",
-        b"\x00\x03\x01ab",
-        b"\x01\x02\x06\x00",
-        b"\x01\x00",
+    let bad = [
+        // a name that is longer than its subsection, shorter, or no text
+        "00 0001 000101 000201 00020261 0003016161 000201ff",
+        // a kind that is none, or isn't there
+        "0100 01020600 010100 0103000500 0103001300",
+        // more or fewer names than are counted
+        "01020101 01050102000161 01030100ff 0109010100808080808000",
+        // a size that is none, or past the end
+        "0180 0902 0906ffffffff",
     ];
-    for bad in bad {
+    for bad in bad.iter().flat_map(|words| words.split(' ')) {
         let mut names = DebugNames::new();
-        let told = names.read(&section(&[front, bad].concat()));
-        assert_eq!(told, Err(NamesFault::BadSubsection { place: 7 }), "{bad:x?}");
+        let told = names.read(&section(&[&front[..], &bytes(bad)].concat()));
+        assert_eq!(told, Err(NamesFault::BadSubsection { place: 7 }), "{bad}");
         assert_eq!(names.component(), Some("a"));
     }
     let mut names = DebugNames::new();

@@ -1,10 +1,7 @@
 //! Nested components, section by section.
 
-use crate::{component, corpus, nested};
-use wenc::tree::{ItemTree, Vec as List};
-use wenc::{
-    ComponentSectionId, Found, ListFault, ListedSection, SectionReader, Sections, Unread, list,
-};
+use crate::{component, nested};
+use wenc::{Found, ListFault, SectionReader, Sections};
 
 type Next = Result<(usize, SectionReader<'static>), ListFault>;
 
@@ -65,60 +62,4 @@ fn faults_are_placed_in_the_outermost() {
     let bytes = component(b"\x04\x08\0asm\x01\0\0\0");
     let module = ListFault::NotAComponent { place: 10, found: Found::CoreModule };
     assert_eq!(found(&bytes, 1), [Ok((0, 4, 8, 18)), Err(module)]);
-
-    let count = component(&nested(b"\x06\x01\x80"));
-    let unread = Some(Unread::Count { place: 20 });
-    let section = ComponentSectionId::Alias;
-    let bad = ListFault::BadItem { place: 18, section, unread, byte: Some(0x80) };
-    assert_eq!(found(&count, 1)[1], Err(bad));
-
-    let item = component(&nested(b"\x0a\x07\x02\x00\x01f\x01\x00\xff"));
-    let sections = Sections::new(&item).expect("it is a component").nested(1);
-    let (_, imports) = sections.last().expect("a section").expect("it is framed");
-    let items: Vec<_> = imports.items().collect();
-    assert_eq!(items[0].as_ref().expect("it is read").0, 21..26);
-    let unread = Some(Unread::Item { number: 1, place: 26 });
-    let section = ComponentSectionId::Import;
-    let bad = ListFault::BadItem { place: 18, section, unread, byte: Some(0xff) };
-    assert_eq!(items[1], Err(bad));
-}
-
-/// The sections of a listing and of the components in it, with the depth of each, and its place in
-/// the outermost.
-fn listed(bytes: &[u8], depth: usize, from: usize) -> Vec<(usize, usize, List<ItemTree>)> {
-    let mut found = Vec::new();
-    for ListedSection { place, items, .. } in list(bytes).expect("it is listed").sections {
-        let inner = match items.as_slice() {
-            [ItemTree::Component(inner)] => Vec::from(inner.clone()),
-            _ => Vec::new(),
-        };
-        found.push((depth, from + place, items));
-        if !inner.is_empty() {
-            let at = bytes[place..].windows(inner.len()).position(|bytes| bytes == inner);
-            found.extend(listed(&inner, depth + 1, from + place + at.expect("it is there")));
-        }
-    }
-    found
-}
-
-/// What is found in real components is what listings of them and of those in them have.
-#[test]
-fn the_corpus_has_nested_components() {
-    let (mut sections, mut nested) = (0, 0);
-    for (name, bytes) in corpus() {
-        let cursor = Sections::new(&bytes).expect("it is a component").nested(8);
-        let cursor: Result<Vec<_>, ListFault> = cursor.collect();
-        let read = |(depth, section): (usize, SectionReader<'_>)| {
-            let items: Result<Vec<_>, ListFault> = section.trees().collect();
-            let items = items?.into_iter().map(|(_, item)| item).collect::<List<_>>();
-            Ok((depth, section.range().start, items))
-        };
-        let cursor =
-            cursor.and_then(|all| all.into_iter().map(read).collect::<Result<Vec<_>, _>>());
-        let Ok(cursor) = cursor else { continue };
-        assert!(cursor == listed(&bytes, 0, 0), "{name}");
-        sections += cursor.len();
-        nested += cursor.iter().filter(|(depth, ..)| *depth > 0).count();
-    }
-    assert!(sections > 500 && nested > 50, "{sections} {nested}");
 }

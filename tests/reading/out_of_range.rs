@@ -1,16 +1,9 @@
 //! Indices that are out of range: what each declaration defines, and where.
 
-use crate::{component, nested};
+use crate::{component, nested, section};
 use wenc::tree::{IndexCounts, Node, Scope, Scopes, Space};
 use wenc::view::ItemView;
 use wenc::{ListFault, OutOfRange, Sections};
-
-/// A section with this content.
-fn section(id: u8, content: &[u8]) -> Vec<u8> {
-    let size = u8::try_from(content.len()).expect("it is short");
-    assert!(size < 0x80, "its size is one byte");
-    [&[id, size], content].concat()
-}
 
 fn found(component: &[u8]) -> Result<Vec<OutOfRange>, ListFault> {
     Sections::new(component)?.out_of_range(100).collect()

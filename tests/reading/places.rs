@@ -1,41 +1,12 @@
 //! Readers that begin at a place in a component, or go on from one.
 
-use crate::{component, corpus};
+use crate::component;
 use wenc::tree::Space;
 use wenc::view::ItemView;
 use wenc::{
     ComponentSectionId, DebugName, DebugNames, Items, ListFault, NamesFault, NamesReader, Sections,
-    Unread, list,
+    Unread,
 };
-
-/// From the end of each section and of each item on, what follows is read.
-#[test]
-fn real_components_are_read_on_from_each_place() {
-    let (mut sections_len, mut items_len) = (0, 0);
-    for (name, bytes) in corpus() {
-        let Ok(mut sections) = Sections::new(&bytes) else { continue };
-        if list(&bytes).is_err() {
-            continue;
-        }
-        while let Some(Ok(section)) = sections.next() {
-            let place = sections.offset().expect("no error");
-            assert_eq!(place, section.range().end, "{name}");
-            let mut rest = Sections::at(&bytes, place).expect("it is within");
-            let next = rest.next().map(|next| next.map(|section| section.range()));
-            assert_eq!(next, sections.clone().next().map(|next| next.map(|of| of.range())));
-            sections_len += 1;
-            let mut items = section.items();
-            while let Some(Ok(_)) = items.next() {
-                let (range, count) = items.left().expect("no error");
-                let mut rest = Items::at(&bytes, section.id(), range, count).expect("within");
-                assert_eq!(rest.next(), items.clone().next(), "{name}");
-                items_len += 1;
-            }
-            assert_eq!(items.left(), Some((place..place, 0)), "{name}");
-        }
-    }
-    assert!(sections_len > 500 && items_len > 1500, "{sections_len} {items_len}");
-}
 
 /// Whatever the numbers are, items within the bytes are read, or an error comes once, and the end
 /// is reached after no more items than there are bytes.

@@ -1,11 +1,6 @@
 //! Tools in producers sections.
 
-use crate::{component, corpus};
-use wenc::view::ItemView;
-use wenc::{
-    ComponentSection, CoreSections, Producer, ProducersFault, ProducersReader, ProducersSection,
-    Sections,
-};
+use wenc::{Encode, Producer, ProducersFault, ProducersReader, ProducersSection};
 
 fn tools(data: &[u8]) -> Vec<Result<Producer<'_>, ProducersFault>> {
     ProducersReader::new(data).collect()
@@ -35,16 +30,10 @@ fn long_texts_and_many_tools_are_read() {
         let mut field = wenc::ProducersField::new();
         (0..size).for_each(|_| _ = field.value("a", "1"));
         section.field(&name, &field);
-        let mut bytes = component(&[]);
-        section.append_to_component(&mut bytes);
-        let items = Sections::new(&bytes).expect("a component").items();
-        let [(_, ItemView::Custom { name: label, data })] =
-            &items.collect::<Result<Vec<_>, _>>().expect("they are read")[..]
-        else {
-            panic!("one section")
-        };
-        assert_eq!(*label, ProducersReader::SECTION);
-        assert_eq!(tools(data), vec![Ok(tool(&name, "a", "1")); size]);
+        let mut bytes = Vec::new();
+        section.encode(&mut bytes);
+        let at = bytes.windows(9).position(|name| name == b"producers").expect("its name") + 9;
+        assert_eq!(tools(&bytes[at..]), vec![Ok(tool(&name, "a", "1")); size]);
     }
 }
 
@@ -75,42 +64,4 @@ fn what_is_not_read_is_a_fault() {
     }
     let fault = ProducersFault { place: 10 };
     assert_eq!(fault.to_string(), "bad producers at 0xa");
-}
-
-/// The section that has the same tools is the one of the component or of the module.
-fn is_written_again(data: &[u8]) -> usize {
-    let mut section = ProducersSection::new();
-    let tools: Vec<_> =
-        ProducersReader::new(data).collect::<Result<_, _>>().expect("they are read");
-    for field in tools.chunk_by(|one, other| one.field == other.field) {
-        let mut values = wenc::ProducersField::new();
-        field.iter().for_each(|tool| _ = values.value(tool.name, tool.version));
-        section.field(field[0].field, &values);
-    }
-    let mut bytes = component(&[]);
-    section.append_to_component(&mut bytes);
-    assert!(bytes.ends_with(data), "{tools:?}");
-    tools.len()
-}
-
-#[test]
-fn tools_of_real_components_are_read() {
-    let (mut sections, mut tools) = (0, 0);
-    for (_, bytes) in corpus() {
-        let Ok(all) = Sections::new(&bytes) else { continue };
-        for (_, item) in all.items().flatten() {
-            let custom = match item {
-                ItemView::Custom { name: ProducersReader::SECTION, data } => vec![data],
-                ItemView::Module(module) => {
-                    let sections = CoreSections::new(module).expect("a module").flatten();
-                    let named = sections.filter(|one| one.name == Some(ProducersReader::SECTION));
-                    named.map(|section| section.data).collect()
-                }
-                _ => continue,
-            };
-            sections += custom.len();
-            tools += custom.into_iter().map(is_written_again).sum::<usize>();
-        }
-    }
-    assert!(sections > 100 && tools > sections, "{tools} tools in {sections} sections");
 }

@@ -34,11 +34,16 @@ fn byte(digits: &[u8]) -> u8 {
     u8::from_str_radix(digits, 16).expect("two of them")
 }
 
-/// The constants of a source that are bytes, with their names.
-fn constants(source: &str) -> Vec<(&str, Vec<u8>)> {
-    let defined = source.split("\nconst ").skip(1);
-    let defined = defined.filter_map(|code| code.split_once(": &[u8] ="));
-    defined.map(|(name, code)| (name, literal(code))).collect()
+/// The rows of a source that say which bytes an example writes, by the example's name.
+fn rows(source: &str) -> Vec<(&str, Vec<u8>)> {
+    let rows = source.split(";\n").filter_map(|row| row.split_once(" =>"));
+    let rows = rows.map(|(call, code)| (call.lines().last().unwrap_or(call), code.trim_start()));
+    let rows = rows.filter(|(_, code)| code.starts_with("b\""));
+    rows.map(|(call, code)| {
+        let call = call.trim().trim_start_matches("written(").trim_start_matches("Ok(");
+        (call.split('(').next().unwrap_or(call), literal(code))
+    })
+    .collect()
 }
 
 /// A component of one section with this id, and bytes after that.
@@ -56,23 +61,36 @@ fn section(id: u8, content: &[&[u8]]) -> Vec<u8> {
 
 /// Sections of types without their ids.
 const SECTIONS: &[(&str, u8)] = &[
-    ("COMPONENT_TYPE", 7),
-    ("INSTANCE_TYPE", 7),
-    ("TWO_CORE_TYPES", 3),
-    ("TWO_TYPES", 7),
-    ("DEFINED_TYPES", 7),
-    ("FUNC_TYPE", 7),
+    ("types::component_type", 7),
+    ("types::instance_type", 7),
+    ("types::core_types", 3),
+    ("types::types", 7),
+    ("types::defined_types", 7),
+    ("types::func_type", 7),
 ];
 
 /// Types, with the id of the section in which they stand.
-const TYPES: &[(&str, u8)] =
-    &[("DECLARATIONS", 7), ("MODULE_TYPE", 3), ("CORE_TYPE", 3), ("FLAGS", 7), ("TYPE", 7)];
+const TYPES: &[(&str, u8)] = &[
+    ("types::declarations", 7),
+    ("types::module_type", 3),
+    ("trees::core_type", 3),
+    ("trees::defined", 7),
+    ("trees::ty", 7),
+];
 
 /// Numbers, names, items and maps of names, which are parts of a component.
-const PARTS: &[&str] =
-    &["ENCODE", "HOLDER", "NAME_MAP", "CANON", "ALIAS", "CORE_INSTANCE", "INSTANCE", "EXTERN_NAME"];
+const PARTS: &[&str] = &[
+    "base::encode",
+    "base::holder",
+    "base::names",
+    "trees::canon",
+    "parts::alias",
+    "trees::core_instance",
+    "trees::instance",
+    "parts::extern_name",
+];
 
-/// The component that a constant is, or that has it; none of a part.
+/// The component that an example writes, or that has what it writes; none of a part.
 fn component(name: &str, bytes: &[u8]) -> Option<Vec<u8>> {
     let among = |table: &[(&str, u8)]| table.iter().find(|row| row.0 == name).map(|row| row.1);
     if let Some(id) = among(SECTIONS) {
@@ -97,11 +115,11 @@ fn component(name: &str, bytes: &[u8]) -> Option<Vec<u8>> {
 #[test]
 fn components_of_proved_examples_are_valid() {
     let source = text("tests/proved/examples.rs");
-    let constants = constants(&source);
-    let made = constants.iter().filter_map(|(name, bytes)| Some((name, component(name, bytes)?)));
+    let rows = rows(&source);
+    let made = rows.iter().filter_map(|(name, bytes)| Some((name, component(name, bytes)?)));
     let made: Vec<_> = made.collect();
-    assert_eq!(made.len(), 33, "components are found");
-    assert_eq!(made.len() + PARTS.len(), constants.len(), "each is used once");
+    assert_eq!(made.len(), 32, "components are found");
+    assert_eq!(made.len() + PARTS.len(), rows.len(), "each is used once");
     let Some(linker) = linker("proved examples") else { return };
     for (name, component) in made {
         assert_eq!(told_but_of_starts(&linker, &component), None, "{name}");

@@ -3,8 +3,8 @@
 use crate::declared;
 use crate::edges::named;
 use crate::numbers::{
-    builtin, core_kind, core_value, kind, maybe_value, option, outer_kind, primitive, type_ref,
-    value,
+    builtin, builtin_with, core_kind, core_value, kind, maybe_value, option, outer_kind, primitive,
+    type_ref, value,
 };
 use crate::refuse::calmly;
 use wenc::tree::{
@@ -161,7 +161,7 @@ fn instance(handle: *mut Handle, debug_name: &Option<String>, instance: &Instanc
 fn canon(handle: *mut Handle, debug_name: &Option<String>, canon: &CanonTree) -> Done {
     use CanonTree::*;
     let pairs_of = |options: &[CanonicalOption]| pairs(options.iter().map(|of| option(*of)));
-    let (number, first, options) = match canon {
+    match canon {
         Lift { core_func, ty, options } => {
             let o = pairs_of(options);
             let (at, len) = (o.as_ptr(), o.len());
@@ -181,19 +181,14 @@ fn canon(handle: *mut Handle, debug_name: &Option<String>, canon: &CanonTree) ->
         ContextSet { ty, slot } => {
             return called!(wenc_context(handle, 2, core_value(*ty).0, *slot));
         }
-        StreamRead { ty, options } => (1, *ty, options),
-        StreamWrite { ty, options } => (2, *ty, options),
-        FutureRead { ty, options } => (3, *ty, options),
-        FutureWrite { ty, options } => (4, *ty, options),
-        ErrorContextNew(options) => (5, 77, options),
-        ErrorContextDebugMessage(options) => (6, 77, options),
-        _ => {
-            let (number, first, second) = builtin(canon).expect("it has a number");
-            return called!(wenc_builtin(handle, number, first, second));
-        }
-    };
-    let o = pairs_of(options);
-    called!(wenc_builtin_with(handle, number, first, o.as_ptr(), o.len()))
+        _ => {}
+    }
+    if let Some((number, first, options)) = builtin_with(canon) {
+        let o = pairs_of(options);
+        return called!(wenc_builtin_with(handle, number, first, o.as_ptr(), o.len()));
+    }
+    let (number, first, second) = builtin(canon).expect("it has a number");
+    called!(wenc_builtin(handle, number, first, second))
 }
 
 /// Names alone: their numbers aren't used.

@@ -5,6 +5,8 @@
 #[path = "../../../tests/calls/call.rs"]
 mod call;
 mod called;
+#[path = "../../../tests/common/counts.rs"]
+mod counts;
 mod declared;
 mod edges;
 #[path = "../../../tests/calls/format.rs"]

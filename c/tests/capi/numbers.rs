@@ -136,6 +136,20 @@ pub fn field(CoreFieldType { element_type, mutable }: CoreFieldType) -> (u32, u3
     (of.0 + if mutable { 512 } else { 0 }, of.1)
 }
 
+/// The number of a builtin with options, its first argument, which it needn't take, and the options.
+pub fn builtin_with(canon: &CanonTree) -> Option<(u32, u32, &[CanonicalOption])> {
+    use CanonTree::*;
+    Some(match canon {
+        StreamRead { ty, options } => (1, *ty, options),
+        StreamWrite { ty, options } => (2, *ty, options),
+        FutureRead { ty, options } => (3, *ty, options),
+        FutureWrite { ty, options } => (4, *ty, options),
+        ErrorContextNew(options) => (5, 77, options),
+        ErrorContextDebugMessage(options) => (6, 77, options),
+        _ => return None,
+    })
+}
+
 /// The number of a builtin, and its two arguments: one that it doesn't take is anything.
 pub fn builtin(canon: &CanonTree) -> Option<(u32, u32, u32)> {
     use CanonTree::*;

@@ -1,19 +1,23 @@
-//! Each row of the table of calls by the call for C: in a builder, in a section by hand, with each
-//! request for memory refused in turn, and read and added again.
+//! Each row of the table of calls by the call for C: in a builder, whose bytes are the table's; and,
+//! as the calls for Rust make it, by hand, with each request for memory refused in turn, and read and
+//! added again.
 
 use crate::call::Call;
 use crate::called::{Done, UNTOUCHED, call};
+use crate::counts;
 use crate::edges::{Held, named};
 use crate::format::Model;
 use crate::refuse::{calmly, refusing};
 use crate::size::{Size, cases, text};
 use crate::table::calls;
-use std::ptr;
+use crate::walk::is_told;
+use std::{mem, ptr};
+use wenc::ComponentBuilder;
 use wenc::tree::{Command, InstanceTree, Space};
 use wenc_capi::Status;
-use wenc_capi::items::wenc_component_bytes;
 use wenc_capi::life::*;
 use wenc_capi::listing::*;
+use wenc_capi::rows::ItemRow;
 use wenc_capi::sections::*;
 
 /// Those that C has: of a named export of an instance it has plain names alone.
@@ -33,7 +37,10 @@ fn made(row: &Call, held: &mut Held, name: Option<&str>, size: &Size) -> Done {
     call(held.at(), &command)
 }
 
-fn counts(held: &mut Held) -> [u32; 13] {
+/// How many items are in each space, and the component with its debug names.
+type Finished = ([u32; 13], Vec<u8>);
+
+fn counted(held: &mut Held) -> [u32; 13] {
     Space::ALL.map(|space| {
         let mut count = UNTOUCHED;
         let status = unsafe { wenc_count(held.at(), space.number() as u32, &mut count) };
@@ -42,19 +49,10 @@ fn counts(held: &mut Held) -> [u32; 13] {
     })
 }
 
-/// Both are equal; what differs isn't printed, since it may be long.
-#[track_caller]
-fn same(held: Held, model: Model, row: &Call, what: &str) {
-    assert!(held.finished() == model.finish(), "{}, {what}", row.name);
-}
-
-/// The same with a section of debug names.
-#[track_caller]
-fn same_with_names(mut held: Held, mut model: Model, row: &Call, what: &str) {
-    assert_eq!(counts(&mut held), model.counts, "{}, {what}", row.name);
+fn finished(mut held: Held) -> Finished {
+    let counts = counted(&mut held);
     assert_eq!(unsafe { wenc_append_names(held.at()) }, Status::Done);
-    model.append_names();
-    same(held, model, row, what);
+    (counts, held.finished())
 }
 
 #[test]
@@ -64,14 +62,12 @@ fn each_call() {
             let (mut held, mut model) = (Held::builder(), Model::new());
             for name in [None, Some(text(size.index as usize % 32_768))] {
                 let index = row.model(&mut model, name.as_deref(), &size);
-                assert_eq!(
-                    made(&row, &mut held, name.as_deref(), &size),
-                    Ok(index),
-                    "{}",
-                    row.name
-                );
+                let made = made(&row, &mut held, name.as_deref(), &size);
+                assert_eq!(made, Ok(index), "{}", row.name);
             }
-            same_with_names(held, model, &row, "in a builder");
+            let counts = model.counts;
+            model.append_names();
+            assert!(finished(held) == (counts, model.finish()), "{}", row.name);
         }
     }
 }
@@ -91,19 +87,20 @@ fn requests_refused(row: &Call, front: usize) -> usize {
     let size = Size { text: text(70), ..Size::new(128, 40, 0, 50) };
     let name = Some("an-interface-with-a-long-name");
     let command = (row.command)(name.map(Into::into), &size);
+    let begun = || {
+        let mut held = Held::builder();
+        (0..front).for_each(|_| assert!(made(row, &mut held, None, &size).is_ok()));
+        held
+    };
+    let (before, mut undisturbed) = (finished(begun()), begun());
+    let index = call(undisturbed.at(), &command);
+    let after = finished(undisturbed);
+    assert!(index.is_ok() && before != after, "{}", row.name);
     let are_refused = (0..40).take_while(|n| {
-        let (mut held, mut model) = (Held::builder(), Model::new());
-        for _ in 0..front {
-            let index = row.model(&mut model, None, &size);
-            assert_eq!(made(row, &mut held, None, &size), Ok(index));
-        }
+        let mut held = begun();
         let (answer, was_refused) = refusing(*n, || call(held.at(), &command));
-        if was_refused {
-            assert_eq!(answer, Err(Status::NoMemory), "{}", row.name);
-        } else {
-            assert_eq!(answer, Ok(row.model(&mut model, name, &size)), "{}", row.name);
-        }
-        same_with_names(held, model, row, "after a refusal");
+        assert_eq!(answer, if was_refused { Err(Status::NoMemory) } else { index });
+        assert!(finished(held) == *if was_refused { &before } else { &after }, "{}", row.name);
         was_refused
     });
     are_refused.count()
@@ -113,22 +110,24 @@ fn requests_refused(row: &Call, front: usize) -> usize {
 #[test]
 fn each_is_refused_by_hand() {
     let size = Size { text: text(70), ..Size::new(128, 40, 0, 50) };
-    for row in of_c().filter(|row| ![0, 1, 4, 9].contains(&row.id)) {
+    for row in of_c().filter(|row| !is_alone(row)) {
         let command = (row.command)(None, &size);
         let are_refused = (0..40).take_while(|n| {
-            let (mut section, mut model) = (Held::section(row.id.into()), Model::new());
+            let mut section = Held::section(row.id.into());
             let (answer, was_refused) = refusing(*n, || call(section.at(), &command));
-            if was_refused {
-                assert_eq!(answer, Err(Status::NoMemory), "{}", row.name);
-            }
-            let index = u32::from(!was_refused);
-            assert_eq!(call(section.at(), &command), Ok(index), "{}", row.name);
-            (0..=index).for_each(|_| model.add(row.id, (row.bytes)(&size)));
-            same(component_of(section), model, &row, "by hand, after a refusal");
+            assert_eq!(answer, if was_refused { Err(Status::NoMemory) } else { Ok(0) });
+            let items = if was_refused { 1 } else { 2 };
+            assert_eq!(call(section.at(), &command), Ok(items - 1), "{}", row.name);
+            assert!(component_of(section).finished() == built(&row, items, &size), "{}", row.name);
             was_refused
         });
         assert!(are_refused.count() > 0, "{}", row.name);
     }
+}
+
+/// Whether an item is a section of its own.
+fn is_alone(row: &Call) -> bool {
+    [0, 1, 4, 9].contains(&row.id)
 }
 
 /// A component of this section.
@@ -138,43 +137,45 @@ fn component_of(mut section: Held) -> Held {
     component
 }
 
-/// A section by hand has its items, counts them, and takes no debug name.
+/// A component of so many of these items, by a builder in Rust.
+fn built(row: &Call, items: u32, size: &Size) -> Vec<u8> {
+    let mut b = ComponentBuilder::default();
+    (0..items).for_each(|_| _ = row.builds[0](&mut b, None, size).expect("there is memory"));
+    b.finish()
+}
+
+/// A section by hand has its items, counts them, and takes no debug name. What is a section of its
+/// own has no index.
 #[test]
 fn each_by_hand() {
-    for row in of_c().filter(|row| ![0, 1, 4, 9].contains(&row.id)) {
+    for row in of_c() {
         for size in cases(&row) {
-            let (mut section, mut model) = (Held::section(row.id.into()), Model::new());
-            for index in 0..2 {
-                assert_eq!(made(&row, &mut section, None, &size), Ok(index), "{}", row.name);
-                model.add(row.id, (row.bytes)(&size));
-            }
-            let answer = made(&row, &mut section, Some("name"), &size);
-            let takes_none = row.own.is_none();
-            assert!(!takes_none || answer == Err(Status::BadArgument), "{}", row.name);
-            let mut len = 0;
-            let status = unsafe { wenc_len(section.at(), &mut len) };
-            assert_eq!((status, len), (Status::Done, if takes_none { 2 } else { 3 }));
-            if !takes_none {
-                model.add(row.id, (row.bytes)(&size));
-            }
-            same(component_of(section), model, &row, "by hand");
+            let component = if is_alone(&row) {
+                let mut component = Held::by_hand();
+                for _ in 0..2 {
+                    assert_eq!(made(&row, &mut component, None, &size), Ok(0), "{}", row.name);
+                }
+                component
+            } else {
+                component_of(with_items(&row, &size))
+            };
+            let items = if !is_alone(&row) && row.own.is_some() { 3 } else { 2 };
+            assert!(component.finished() == built(&row, items, &size), "{} by hand", row.name);
         }
     }
 }
 
-/// What is a section of its own has no index in a component by hand.
-#[test]
-fn each_alone_by_hand() {
-    for row in of_c().filter(|row| [0, 1, 4, 9].contains(&row.id)) {
-        for size in cases(&row) {
-            let (mut component, mut model) = (Held::by_hand(), Model::new());
-            for _ in 0..2 {
-                assert_eq!(made(&row, &mut component, None, &size), Ok(0), "{}", row.name);
-                model.add(row.id, (row.bytes)(&size));
-            }
-            same(component, model, &row, "by hand");
-        }
-    }
+/// A section with two items, or with three where there is no debug name to refuse.
+fn with_items(row: &Call, size: &Size) -> Held {
+    let mut section = Held::section(row.id.into());
+    let names = [None, None, Some("name")];
+    let made = names.map(|name| made(row, &mut section, name, size));
+    let (third, wanted) =
+        if row.own.is_some() { (Ok(2), 3) } else { (Err(Status::BadArgument), 2) };
+    assert_eq!(made, [Ok(0), Ok(1), third], "{}", row.name);
+    let mut len = 0;
+    assert_eq!((unsafe { wenc_len(section.at(), &mut len) }, len), (Status::Done, wanted));
+    section
 }
 
 /// Reads a component. What has a request refused is no listing.
@@ -192,40 +193,38 @@ fn listed(bytes: &[u8], row: &Call) -> Held {
     listing
 }
 
-/// An item is added again from a listing and by its bytes.
+/// An item is read, and added again from the listing and by its bytes, as in Rust.
 #[test]
 fn each_is_read_and_added_again() {
     for row in calls() {
         let size = Size::small(3);
         let name = row.own.as_ref().map_or_else(|| "name".into(), |own| own(&size));
         let mut model = Model::new();
-        row.model(&mut model, Some(&name), &size);
-        let bytes = model.clone().finish();
+        model.add(row.id, (row.bytes)(&size));
+        let bytes = model.finish();
         let mut listing = listed(&bytes, &row);
-        assert_eq!(counts(&mut listing), model.counts, "{}", row.name);
-        let (item, text) = ((row.bytes)(&size), named(&name));
-        let (section, at, len) = (row.id.into(), item.as_ptr(), item.len());
-        let (mut copied, mut made) = (Held::builder(), Held::builder());
-        let mut indices = [UNTOUCHED; 2];
+        let in_rust = wenc::list(&bytes).expect("it is listed");
+        assert_eq!(counted(&mut listing).map(u128::from), in_rust.counts, "{}", row.name);
+        let (mut again, mut indices, text) = (Held::builder(), [UNTOUCHED; 2], named(&name));
+        let mut item: ItemRow = unsafe { mem::zeroed() };
         let [one, two] = &mut indices;
         unsafe {
-            let (to, from) = (copied.at(), listing.at());
+            let (to, from) = (again.at(), listing.at());
+            assert_eq!(wenc_item_at(from, 0, 0, &mut item), Status::Done, "{}", row.name);
             assert_eq!(wenc_copy(to, &text, from, 0, 0, one), Status::Done, "{}", row.name);
-            assert_eq!(wenc_item(made.at(), section, &text, at, len, two), Status::Done);
+            let (at, len) = (bytes[item.place..].as_ptr(), item.len);
+            let status = wenc_item(to, row.id.into(), &text, at, len, two);
+            assert_eq!(status, Status::Done, "{}", row.name);
         }
-        assert_eq!(indices, [0, 0], "{}", row.name);
-        same_with_names(copied, model.clone(), &row, "copied");
-        same_with_names(made, model, &row, "by its bytes");
+        let space = row.space.map_or(13, |space| space.number() as u32);
+        let places = (item.index, item.section, item.space, item.indices);
+        assert_eq!(places, (0, row.id.into(), space, row.takes), "{}", row.name);
+        is_told(&item, &(row.command)(Some(name.as_str().into()), &size));
+        let (mut b, read) = (ComponentBuilder::default(), in_rust.items().next().expect("an item"));
+        let wanted = [(); 2].map(|()| b.item(Some(&name), read).unwrap_or(0));
+        assert_eq!(indices, wanted, "{}", row.name);
+        let counts = counts::counts(&b);
+        b.append_names();
+        assert!(finished(again) == (counts, b.finish()), "{}", row.name);
     }
-}
-
-/// A component by hand takes bytes that begin another.
-#[test]
-fn nested_bytes_have_no_index() {
-    let (mut component, bytes) = (Held::by_hand(), b"\0asm\x0d\0\x01\0");
-    let mut index = UNTOUCHED;
-    let (at, name) = (component.at(), ptr::null());
-    let status = unsafe { wenc_component_bytes(at, name, bytes.as_ptr(), 8, &mut index) };
-    assert_eq!((status, index), (Status::Done, 0));
-    assert_eq!(component.finished()[8..], [&[4, 8], &bytes[..]].concat());
 }

@@ -1,11 +1,16 @@
 //! The walk over a component, and over its debug names.
 
-use super::edges::{Held, named};
+use super::edges::Held;
+use super::numbers;
 use std::collections::BTreeMap;
+use std::ops::Range;
 use std::{mem, ptr, slice, str};
+use wenc::tree::{AliasTree, Command, NameOptions, NameTree};
+use wenc::view::ItemView;
+use wenc::{ComponentTypeRef, SectionReader, Sections};
 use wenc_capi::arguments::{Name, Text};
 use wenc_capi::items::*;
-use wenc_capi::life::{wenc_bytes, wenc_finish};
+use wenc_capi::life::{wenc_bytes, wenc_count, wenc_finish, wenc_len};
 use wenc_capi::listing::*;
 use wenc_capi::rows::{ItemRow, SectionRow};
 use wenc_capi::types::wenc_type;
@@ -66,113 +71,81 @@ fn section(row: SectionRow) -> [usize; 5] {
     [row.place, row.len, row.content, row.items, row.id as usize]
 }
 
-/// All items of a component, with what follows the last.
-fn items(bytes: &[u8]) -> (Vec<ItemRow>, Status) {
-    let (mut walk, mut items) = (begun(bytes), Vec::new());
+/// All sections and items of a component, with what follows the last.
+fn walked(bytes: &[u8]) -> (Vec<SectionRow>, Vec<ItemRow>, Status) {
+    let (mut walk, mut sections, mut items) = (begun(bytes), Vec::new(), Vec::new());
+    assert_eq!(next_item(&mut walk).map(drop), Err(Status::End), "no section is begun");
     loop {
         match next_section(&mut walk) {
-            Ok(_) => loop {
-                match next_item(&mut walk) {
-                    Ok(item) => items.push(item),
-                    Err(Status::End) => break,
-                    Err(status) => return (items, status),
-                }
-            },
-            Err(status) => return (items, status),
+            Ok(section) => sections.push(section),
+            Err(status) => return (sections, items, status),
+        }
+        loop {
+            match next_item(&mut walk) {
+                Ok(item) => items.push(item),
+                Err(Status::End) => break,
+                Err(status) => return (sections, items, status),
+            }
         }
     }
 }
 
-#[test]
-fn sections_have_places() {
-    let mut walk = begun(COMPONENT);
-    let sections: Vec<_> = (0..7).map(|_| next_section(&mut walk).map(section)).collect();
-    let wanted = [
-        [8, 7, 10, 1, 7],
-        [15, 14, 17, 1, 10],
-        [29, 11, 31, 1, 11],
-        [40, 19, 42, 3, 6],
-        [59, 5, 61, 1, 0],
-        [64, 10, 66, 1, 1],
-        [74, 5, 76, 1, 9],
-    ];
-    assert_eq!(sections, wanted.map(Ok));
-    assert_eq!(next_section(&mut walk).map(section), Err(Status::End));
-    assert_eq!(next_section(&mut walk).map(section), Err(Status::End));
+/// All items of a component, with what follows the last.
+fn items(bytes: &[u8]) -> (Vec<ItemRow>, Status) {
+    let (_, items, status) = walked(bytes);
+    (items, status)
 }
 
-#[test]
-fn items_have_places() {
-    let (items, status) = items(COMPONENT);
-    assert_eq!(status, Status::End);
-    let places: Vec<_> = items.iter().map(|item| (item.place, item.len, item.section)).collect();
-    let wanted = [
-        (11, 4, 7),
-        (18, 11, 10),
-        (32, 8, 11),
-        (43, 5, 6),
-        (48, 6, 6),
-        (54, 5, 6),
-        (61, 3, 0),
-        (66, 8, 1),
-        (76, 3, 9),
-    ];
-    assert_eq!(places, wanted);
-    let spaces: Vec<_> = items.iter().map(|item| (item.space, item.indices)).collect();
-    let wanted = [(12, 1), (8, 1), (8, 1), (2, 1), (6, 1), (8, 1), (13, 0), (0, 1), (10, 2)];
-    assert_eq!(spaces, wanted);
-    assert!(items.iter().all(|item| item.index == 0));
-}
-
-/// What else a row has, beside place, space and texts.
+/// What a row has, beside its place, its spaces and its texts.
 fn rest(item: &ItemRow) -> [u32; 6] {
     [item.reference, item.of, item.alias, item.kind, item.item, item.count]
 }
 
-#[test]
-fn items_have_types_and_targets() {
-    let (items, _) = items(COMPONENT);
-    assert_eq!(
-        items.iter().map(rest).collect::<Vec<_>>(),
-        [
-            [0; 6],
-            // Of the function type 0.
-            [2, 0, 0, 0, 0, 0],
-            // The function 0, as one of the function type 0.
-            [2, 0, 0, 1, 0, 0],
-            // A core type of the component around this one; the tag of a core instance; a function.
-            [0, 0, 3, 1, 2, 1],
-            [0, 0, 2, 4, 0, 0],
-            [0, 0, 1, 1, 5, 0],
-            [0; 6],
-            [0; 6],
-            [0; 6],
-        ]
-    );
-    assert_eq!(
-        items.iter().map(|item| texts(item.name)).collect::<Vec<_>>(),
-        [
-            [None; 4],
-            [Some("a"), Some("i"), None, Some("")],
-            [Some("g"), None, None, None],
-            [None; 4],
-            [Some("t"), None, None, None],
-            [Some("f"), None, None, None],
-            [Some("x"), None, None, None],
-            [None; 4],
-            [None; 4],
-        ]
-    );
-    let bytes = |item: &ItemRow| (item.bytes as usize, item.bytes_len);
-    let at = COMPONENT.as_ptr() as usize;
-    for (number, item) in items.iter().enumerate() {
-        let wanted = match number {
-            6 => (at + 63, 1),
-            7 => (at + 66, 8),
-            _ => (0, 0),
-        };
-        assert_eq!(bytes(item), wanted);
+/// What a row has of a type, which may have no index.
+fn of_type(ty: ComponentTypeRef) -> [u32; 2] {
+    match numbers::type_ref(ty) {
+        (7, _) => [7, 0],
+        (reference, of) => [reference, of],
     }
+}
+
+fn names_of(name: &NameTree) -> [Option<&str>; 4] {
+    let option = |of: fn(&NameOptions) -> Option<&str>| name.options.as_deref().and_then(of);
+    [
+        Some(&name.name),
+        option(|options| options.implements.as_deref()),
+        option(|options| options.version_suffix.as_deref()),
+        option(|options| options.external_id.as_deref()),
+    ]
+}
+
+/// Expects that the row tells what the command does of its item.
+pub fn is_told<'a>(row: &ItemRow, command: &'a Command) {
+    let plain = |name: &'a str| [Some(name), None, None, None];
+    let (names, [reference, of], [alias, kind, item, count]) = match command {
+        Command::Import { name, ty } => (names_of(name), of_type(*ty), [0; 4]),
+        Command::Export { name, kind, index, ty } => {
+            let target = [0, numbers::kind(*kind), *index, 0];
+            (names_of(name), ty.map_or([0; 2], of_type), target)
+        }
+        Command::Alias { alias: AliasTree::InstanceExport { instance, kind, name }, .. } => {
+            (plain(name), [0; 2], [1, numbers::kind(*kind), *instance, 0])
+        }
+        Command::Alias {
+            alias: AliasTree::CoreInstanceExport { instance, kind, name }, ..
+        } => (plain(name), [0; 2], [2, numbers::core_kind(*kind), *instance, 0]),
+        Command::Alias { alias: AliasTree::Outer { kind, count, index }, .. } => {
+            ([None; 4], [0; 2], [3, numbers::outer_kind(*kind), *index, *count])
+        }
+        Command::Custom { name, .. } => (plain(name), [0; 2], [0; 4]),
+        _ => ([None; 4], [0; 2], [0; 4]),
+    };
+    assert_eq!(texts(row.name), names);
+    assert_eq!(rest(row), [reference, of, alias, kind, item, count]);
+}
+
+fn places(item: &ItemRow) -> (usize, usize, u32, u32, u32) {
+    (item.place, item.len, item.section, item.space, item.indices)
 }
 
 /// Empty texts and bytes are `""`, which a program may read as a string.
@@ -187,27 +160,6 @@ fn what_is_empty_is_a_string() {
     }
     let lens = [items[0].name.name.len, items[0].bytes_len, items[1].bytes_len];
     assert_eq!(lens, [0; 3]);
-}
-
-/// A section and an item whose sizes take one byte, two, and three.
-#[test]
-fn sizes_are_read() {
-    for (len, size, name_len, content) in [
-        (20, &b"\x19"[..], &b"\x14"[..], 10),
-        (200, b"\xce\x01", b"\xc8\x01", 11),
-        (20_000, b"\xa7\x9c\x01", b"\xa0\x9c\x01", 12),
-    ] {
-        let name = b"n".repeat(len);
-        let bytes =
-            [b"\0asm\x0d\0\x01\0\x0a", size, b"\x01\0", name_len, &name, b"\x01\0"].concat();
-        let mut walk = begun(&bytes);
-        let row = next_section(&mut walk).map(section);
-        assert_eq!(row, Ok([8, bytes.len() - 8, content, 1, 10]));
-        let item = next_item(&mut walk).unwrap_or_else(|status| panic!("{status:?}"));
-        assert_eq!((item.place, item.len), (content + 1, bytes.len() - content - 1));
-        assert_eq!(text(item.name.name).map(str::len), Some(len));
-        assert_eq!(next_item(&mut walk).err(), Some(Status::End));
-    }
 }
 
 #[test]
@@ -360,72 +312,48 @@ fn debug_names_are_read() {
     for (name, wanted) in [(&b"component-name"[..], Status::Done), (b"name", Status::BadArgument)] {
         let (_bytes, item) = custom(name, NAMES);
         assert_eq!(unsafe { wenc_walk_names(&mut names, &item) }, wanted);
-        let status = unsafe { wenc_walk_names(ptr::null_mut(), &item) };
-        assert_eq!(status, Status::BadArgument);
     }
     let import = &items(COMPONENT).0[1];
     assert_eq!(unsafe { wenc_walk_names(&mut names, import) }, Status::BadArgument);
 }
 
-/// Each type, kind and target that a call takes is the one that is read.
-#[test]
-fn numbers_are_read_as_they_were_written() {
-    let mut builder = Held::builder();
-    let (at, none, a) = (builder.at(), ptr::null_mut(), b"a".as_ptr());
-    let mut wanted = Vec::new();
-    let types = (1..8).map(|reference| (reference, 300)).chain((1..15).map(|of| (8, of)));
-    let of = |(reference, of)| if reference == 7 { [7, 0] } else { [reference, of] };
-    unsafe {
-        for (reference, number) in types {
-            assert_eq!(wenc_import(at, a, 1, reference, number, none), Status::Done);
-            let [reference, number] = of((reference, number));
-            wanted.push([reference, number, 0, 0, 0, 0]);
-            assert_eq!(wenc_export(at, a, 1, 1, 9, reference, number, none), Status::Done);
-            wanted.push([reference, number, 0, 1, 9, 0]);
-        }
-        for kind in 0..6 {
-            assert_eq!(wenc_export(at, a, 1, kind, 9, 0, 0, none), Status::Done);
-            wanted.push([0, 0, 0, kind, 9, 0]);
-            assert_eq!(wenc_alias_export(at, 8, kind, a, 1, none), Status::Done);
-            wanted.push([0, 0, 1, kind, 8, 0]);
-        }
-        for kind in 0..5 {
-            let status = wenc_alias_core_export(at, &named("n"), 7, kind, a, 1, none);
-            assert_eq!(status, Status::Done);
-            wanted.push([0, 0, 2, kind, 7, 0]);
-        }
-        for kind in 0..4 {
-            assert_eq!(wenc_alias_outer(at, ptr::null(), kind, 2, 6, none), Status::Done);
-            wanted.push([0, 0, 3, kind, 6, 2]);
-        }
-    }
-    let bytes = builder.finished();
-    let (items, status) = items(&bytes);
-    assert_eq!((items.iter().map(rest).collect::<Vec<_>>(), status), (wanted, Status::End));
-}
-
-/// A listing has the rows of the walk, with indices; its texts are its own.
+/// A listing has the sections and rows of the walk, with indices; its texts are its own.
 #[test]
 fn a_listing_has_the_rows_of_the_walk() {
-    let (walked, _) = items(COMPONENT);
-    let mut copy = COMPONENT.to_vec();
-    let mut listing = Held::nothing();
-    let (at, len) = (copy.as_ptr(), copy.len());
+    let (mut copy, mut listing, mut walk) = (COMPONENT.to_vec(), Held::nothing(), begun(COMPONENT));
+    let (at, len, none) = (copy.as_ptr(), copy.len(), ptr::null_mut());
     assert_eq!(unsafe { wenc_list(listing.at(), at, len, ptr::null_mut()) }, Status::Done);
     copy.fill(0xff);
-    let mut walked = walked.iter();
-    let mut indices = Vec::new();
-    for (number, count) in [1, 1, 1, 3, 1, 1, 1].into_iter().enumerate() {
-        for item in 0..count {
+    let (at, mut indices) = (listing.at(), Vec::new());
+    for number in 0..7 {
+        let mut listed: SectionRow = unsafe { mem::zeroed() };
+        assert_eq!(unsafe { wenc_section_at(at, number, &mut listed) }, Status::Done);
+        assert_eq!(next_section(&mut walk).map(section), Ok(section(listed)));
+        for item in 0..listed.items {
             let mut row: ItemRow = unsafe { mem::zeroed() };
-            assert_eq!(unsafe { wenc_item_at(listing.at(), number, item, &mut row) }, Status::Done);
-            let wanted = walked.next().expect("an item");
-            assert_eq!((row.place, row.len), (wanted.place, wanted.len));
-            assert_eq!((texts(row.name), rest(&row)), (texts(wanted.name), rest(wanted)));
+            assert_eq!(unsafe { wenc_item_at(at, number, item, &mut row) }, Status::Done);
+            let wanted = next_item(&mut walk).expect("an item");
+            assert_eq!((places(&row), texts(row.name)), (places(&wanted), texts(wanted.name)));
+            assert_eq!((rest(&row), row.bytes_len), (rest(&wanted), wanted.bytes_len));
             indices.push(row.index);
         }
+        let status = unsafe { wenc_item_at(at, number, listed.items, ptr::null_mut()) };
+        assert_eq!(status, Status::BadArgument);
     }
     assert_eq!(indices, [0, 0, 1, 0, 0, 2, 0, 0, 0]);
+    let (mut builder, mut len) = (Held::builder(), 0);
+    let to = builder.at();
+    unsafe {
+        assert_eq!((wenc_len(at, &mut len), len), (Status::Done, 7));
+        assert_eq!(wenc_section_at(at, 7, ptr::null_mut()), Status::BadArgument);
+        assert_eq!(wenc_item_at(at, 7, 0, ptr::null_mut()), Status::BadArgument);
+        assert_eq!(wenc_copy(to, ptr::null(), at, 1, 1, none), Status::BadArgument);
+        assert_eq!(wenc_copy(at, ptr::null(), to, 0, 0, none), Status::BadArgument);
+        // What isn't read has no sections, and there is no such space.
+        assert_eq!(wenc_section_at(to, 0, ptr::null_mut()), Status::BadArgument);
+        assert_eq!(wenc_len(to, ptr::null_mut()), Status::BadArgument);
+        assert_eq!(wenc_count(to, 13, ptr::null_mut()), Status::BadArgument);
+    }
 }
 
 /// Items are walked over in less than the time that a walk from the start to each takes.
@@ -508,41 +436,72 @@ fn relisted(bytes: &[u8]) -> Vec<u8> {
     wenc::tree::build(&commands).expect("there is memory").bytes
 }
 
-/// Real components, and debug names in them, beside what Rust reads.
-#[test]
-fn real_components_are_read_as_in_rust() {
-    let folder = concat!(env!("CARGO_MANIFEST_DIR"), "/../tests/real/corpus/wasm");
-    let (mut items_len, mut names_len) = (0, 0);
-    for file in std::fs::read_dir(folder).expect("the corpus is there") {
-        let bytes = std::fs::read(file.expect("a file").path()).expect("it can be read");
-        let Ok(sections) = wenc::Sections::new(&bytes) else { continue };
-        let mut names = BTreeMap::new();
-        let wanted: Vec<_> = sections.items().map_while(Result::ok).collect();
-        let is_whole = sections.items().all(|item| item.is_ok());
-        let (rows, status) = items(&bytes);
-        assert_eq!((rows.len(), status == Status::End), (wanted.len(), is_whole));
-        for (row, (range, view)) in rows.iter().zip(&wanted) {
-            assert_eq!(row.place..row.place + row.len, *range);
-            let indices = view.indices().map_or((13, 0), |(of, n)| (of.number() as u32, n));
-            assert_eq!((row.space, row.indices), indices);
-            let mut walk = unsafe { mem::zeroed() };
-            if unsafe { wenc_walk_names(&mut walk, row) } == Status::Done {
-                while let Ok((space, index, name)) = next_name(&mut walk) {
-                    names.entry((space, index)).or_insert_with(|| String::from(name));
-                }
+/// What a row has of a section and of an item is what Rust reads.
+fn is_section(row: SectionRow, read: &SectionReader<'_>) {
+    let (range, content) = (read.range(), read.raw().data.len());
+    let count = usize::try_from(read.count()).expect("few items");
+    let places = [range.start, range.len(), range.end - content, count, read.id().into()];
+    assert_eq!(section(row), places);
+}
+
+fn is_item(row: &ItemRow, range: Range<usize>, view: ItemView<'_>) {
+    let indices = view.indices().map_or((13, 0), |(of, n)| (of.number() as u32, n));
+    assert_eq!((row.place..row.place + row.len, row.index), (range, 0));
+    assert_eq!((row.space, row.indices), indices);
+    is_told(row, &view.to_tree().into());
+    let bytes = match view {
+        ItemView::Module(bytes) | ItemView::Component(bytes) => Some(bytes),
+        ItemView::Custom { data, .. } => Some(data),
+        _ => None,
+    };
+    let slice = || unsafe { slice::from_raw_parts(row.bytes, row.bytes_len) };
+    assert_eq!((!row.bytes.is_null()).then(slice), bytes);
+}
+
+/// The debug names of items, each once.
+fn names_of_items(rows: &[ItemRow]) -> BTreeMap<(u32, u32), &'static str> {
+    let mut names = BTreeMap::new();
+    for row in rows {
+        let mut walk = unsafe { mem::zeroed() };
+        if unsafe { wenc_walk_names(&mut walk, row) } == Status::Done {
+            while let Ok((space, index, name)) = next_name(&mut walk) {
+                names.entry((space, index)).or_insert(name);
             }
         }
-        let all = sections.names();
-        let of_items =
-            all.iter().map(|(space, index, name)| ((space.number() as u32, index), name));
-        let of_component = all.component().map(|name| ((13, 0), name));
-        let wanted: Vec<_> = of_items.chain(of_component).collect();
-        let read: Vec<_> = names.iter().map(|(of, name)| (*of, &name[..])).collect();
-        assert!(read == wanted || !is_whole, "{read:?}");
-        if is_whole {
-            assert_eq!(copied(&bytes, &rows), relisted(&bytes));
-        }
-        (items_len, names_len) = (items_len + rows.len(), names_len + names.len());
+    }
+    names
+}
+
+/// The rows of a walk are what Rust reads, and so are the debug names. Returns how many items and
+/// names there are.
+fn is_read_as_in_rust(bytes: &[u8], sections: Sections<'_>) -> (usize, usize) {
+    let wanted: Vec<_> = sections.items().map_while(Result::ok).collect();
+    let is_whole = sections.items().all(|item| item.is_ok());
+    let (rows, items, status) = walked(bytes);
+    assert_eq!((items.len(), status == Status::End), (wanted.len(), is_whole));
+    let read = sections.clone().map(|read| read.expect("a section"));
+    rows.into_iter().zip(read).for_each(|(row, read)| is_section(row, &read));
+    items.iter().zip(wanted).for_each(|(row, (range, view))| is_item(row, range, view));
+    let (names, all) = (names_of_items(&items), sections.names());
+    let of_items = all.iter().map(|(space, index, name)| ((space.number() as u32, index), name));
+    let all = of_items.chain(all.component().map(|name| ((13, 0), name)));
+    assert!(names.iter().map(|(of, name)| (*of, *name)).eq(all) || !is_whole, "{names:?}");
+    if is_whole {
+        assert_eq!(copied(bytes, &items), relisted(bytes));
+    }
+    (items.len(), names.len())
+}
+
+#[test]
+fn components_are_read_as_in_rust() {
+    let folder = concat!(env!("CARGO_MANIFEST_DIR"), "/../tests/real/corpus/wasm");
+    let files = std::fs::read_dir(folder).expect("the corpus is there");
+    let read = files.map(|file| std::fs::read(file.expect("a file").path()).expect("its bytes"));
+    let (mut items_len, mut names_len) = (0, 0);
+    for bytes in read.chain([COMPONENT.to_vec()]) {
+        let Ok(sections) = Sections::new(&bytes) else { continue };
+        let (items, names) = is_read_as_in_rust(&bytes, sections);
+        (items_len, names_len) = (items_len + items, names_len + names);
     }
     assert!(items_len > 500 && names_len > 50, "{items_len} items, {names_len} names");
 }

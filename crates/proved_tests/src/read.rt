@@ -1,7 +1,9 @@
 //! Values read from the beginning of bytes.
-ghost use Rattle.std.specs.Prelude.{◌≡◌, ◌≤◌, ◌<◌, [], ◌∷◌, ℕ, List, IfOk, IfErr};
+ghost use Rattle.std.specs.Prelude.{◌≡◌, ◌≤◌, ◌<◌, [], ◌∷◌, ℕ, List, IfOk, IfErr, Ok};
 ghost use Rattle.wenc_base.specs.Prelude.{u32 as number, Wide, times, read_u32};
-ghost use Rattle.wenc_list.specs.Prelude.{names_view, subsection_by_id};
+ghost use Rattle.wenc_base.specs.Prelude.{Producers, list, producers_field};
+ghost use Rattle.wenc_list.specs.Prelude.{names_view, parts_left, producers_parts};
+ghost use Rattle.wenc_list.specs.Prelude.{subsection_by_id};
 ghost use Rattle.wenc_parts.specs.Prelude.{AliasOf, alias, alias_view};
 ghost use Rattle.wenc_read.specs.Prelude.{GivesAlways};
 ghost use Rattle.wenc_read.specs.declared.refusal.NestedRefusal.TheVariants.{Flat, TooDeep};
@@ -10,8 +12,8 @@ ghost use Rattle.wenc_sections.specs.Prelude.{Subsection};
 ghost use Rattle.wenc_types.specs.Prelude.{DefType, def_type, depth};
 ghost use Rattle.wenc_view.specs.Prelude.{type_seen};
 
-use wenc_list::laws::names_are_exact;
-use wenc_list::{Names, names_of};
+use wenc_list::laws::{names_are_exact, parts_are_of_fields};
+use wenc_list::{Names, ProducersParts, names_of};
 use wenc_parts::Alias;
 use wenc_read::laws::readers_are_exact;
 use wenc_read::{NestedRefusal, Refusal, u32_of};
@@ -73,4 +75,16 @@ pub fn names_read(bytes: &[u8]) -> Result<(Names<'_>, &[u8]), Refusal>
 {
     names_are_exact(bytes);
     names_of(bytes)
+}
+
+/// Returns the parts of the producers that the bytes spell. It never fails on such bytes.
+pub fn producers_read(bytes: &[u8]) -> Result<ProducersParts<'_>, Refusal>
+    ensures read { (fields : List Producers)
+        → (list producers_field fields).Reads Wide bytes.now []
+        → IfOk result (λ p. parts_left p ≡ Ok (producers_parts fields)) }
+    ensures never { (fields : List Producers)
+        → (list producers_field fields).Reads Wide bytes.now [] → IfErr result (λ _. ⊥) }
+{
+    parts_are_of_fields();
+    ProducersParts::new(bytes)
 }

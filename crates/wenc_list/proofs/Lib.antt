@@ -6,3 +6,4 @@ pub mod Taken
 pub mod Walked
 pub mod Faults
 pub mod OwnBytes
+pub mod Parts

@@ -2,6 +2,7 @@ pub mod Cursor
 pub mod Items
 pub mod Listing
 pub mod Names
+pub mod Producers
 pub mod Unread
 pub mod inside
 pub mod laws

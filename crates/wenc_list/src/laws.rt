@@ -9,8 +9,10 @@ ghost use Rattle.wenc_list.specs.Prelude.{IsFaultHere, SectionItems, ListFault, 
 ghost use Rattle.wenc_list.specs.declared.fault.ListFault.TheVariants.{Memory, TooDeep};
 
 mod of_names;
+mod of_producers;
 
 pub use of_names::names_are_exact;
+pub use of_producers::parts_are_of_fields;
 use std::alloc::Allocator;
 
 /// Bytes that are read widely as sections in which no type is deeper than 100 have no fault but

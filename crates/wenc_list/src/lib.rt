@@ -14,6 +14,7 @@ pub mod laws;
 mod listing;
 mod members;
 mod names;
+mod producers;
 mod sections;
 mod unread;
 
@@ -23,4 +24,5 @@ pub use item::ItemTree;
 pub use item_view::ItemView;
 pub use listing::{ListedSection, Listing, list};
 pub use names::{ItemName, Names, behind_module_header, names_of, part_of};
+pub use producers::{ProducersPart, ProducersParts};
 pub use unread::{Unread, first_unread};

@@ -200,6 +200,9 @@ impl Bad<'_> {
         let before = self.bytes[..at].iter().rev().take(NUMBER - 1);
         let before = before.take_while(|byte| **byte > 0x7f).count();
         let first = (at - before..=at).find(|first| begins_number(probe, *first))?;
+        if begins_type(probe, first) {
+            return None;
+        }
         let (number, len) = number(&self.bytes[first..]).ok()??;
         let (end, number) = (first + len, usize::try_from(number).ok()?);
         let left = self.bytes.len() - end;
@@ -212,6 +215,12 @@ impl Bad<'_> {
 /// Returns whether a number begins at this byte: no other form begins with both of these bytes.
 fn begins_number(probe: &mut Probe, first: usize) -> bool {
     probe.accepts(first, 0) && probe.accepts(first, 0x80)
+}
+
+/// Returns whether a number that begins at this byte is a type of values: of one byte it is an index
+/// below 64 or a primitive type.
+fn begins_type(probe: &mut Probe, first: usize) -> bool {
+    !probe.accepts(first, 0x40) && probe.accepts(first, 0x7f)
 }
 
 /// Returns the number that begins the bytes, and the number of its bytes.

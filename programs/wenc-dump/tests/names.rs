@@ -1,6 +1,6 @@
 //! The debug names that follow the indices of an item, in each form that contains an index.
 
-#[path = "../../../tests/indices/scopes.rs"]
+#[path = "../../../tests/reading/scopes.rs"]
 mod scopes;
 #[allow(dead_code, reason = "some is for others")]
 #[path = "../../../tests/common/sections.rs"]

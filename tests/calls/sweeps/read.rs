@@ -8,7 +8,7 @@ use crate::seen::is_same;
 use crate::size::{Size, cases};
 use crate::table::calls;
 use crate::visited::{add_indices, visited};
-use wenc::tree::{Command, ItemTree, Node, Scope, build};
+use wenc::tree::{Command, ItemTree, Node, Scope};
 use wenc::view::ItemView;
 use wenc::*;
 
@@ -60,7 +60,7 @@ fn is_visited(call: &Call, size: &Size, mut item: ItemTree) {
 
 fn is_read(call: &Call, size: &Size) {
     let mut model = Model::new();
-    model.add(call.id, (call.bytes)(size));
+    model.add(call.id, call.item(size));
     let bytes = model.finish();
     let listing = list(&bytes).unwrap_or_else(|fault| panic!("{}: {fault:?}", call.name));
     let [listed] = listing.sections.as_slice() else { panic!("there is one section") };
@@ -82,10 +82,10 @@ fn is_read(call: &Call, size: &Size) {
     assert!(is_same(view, tree) && view.to_tree() == *tree && read == *tree, "{}", call.name);
     assert!(visited(view.node()) == (call.indices)(size), "{}: in place", call.name);
     assert!(format!("{:?}", view.node()) == format!("{:?}", tree.node()), "{}", call.name);
-    assert!(bytes[place] == (call.bytes)(size), "{}", call.name);
+    assert!(bytes[place] == call.item(size), "{}", call.name);
     let (mut anew, mut kept) = (ItemSection::new(call.id), ItemSection::new(call.id));
     anew.item(tree).expect("it is added");
-    kept.raw(&(call.bytes)(size)).expect("it is added");
+    kept.raw(&call.item(size)).expect("it is added");
     let in_component = |section: &dyn Fn(&mut Component)| {
         let mut whole = Component::new();
         section(&mut whole);
@@ -115,25 +115,5 @@ fn is_added(call: &Call, size: &Size, tree: &ItemTree, view: ItemView<'_>) {
 fn each_item() {
     for call in calls() {
         cases(&call).for_each(|size| is_read(&call, &size));
-    }
-}
-
-/// All items in one component.
-#[test]
-fn all_items() {
-    for size in [1, 2, 127, 128].map(Size::small) {
-        let (mut b, mut model) = (ComponentBuilder::default(), Model::new());
-        let calls = calls();
-        for call in calls.iter().chain(calls.iter().rev()) {
-            let index = call.model(&mut model, None, &size);
-            assert_eq!(call.builds[0](&mut b, None, &size), Ok(index), "{}", call.name);
-        }
-        let bytes = b.finish();
-        same(&bytes, &model.clone().finish(), &calls[0], "all");
-        let listing = list(&bytes).expect("it is listed");
-        assert_eq!(listing.counts, model.counts.map(u128::from));
-        let commands: Vec<_> = listing.into_items().map(Command::from).collect();
-        let built = build(&commands).expect("it is built");
-        same(&built.bytes, &bytes, &calls[0], "all again");
     }
 }

@@ -1,16 +1,16 @@
 //! Parts of items, canonical functions by their rows, sections of a stranger's own, and what
 //! declarations count as.
 
-use super::{is, module_section_is, section_is};
+use super::{is, section_is};
 use crate::proved::proved_tests::strangers::own::Own;
 use crate::proved::tests::hex::digits;
 use crate::proved::wenc_base::{
     CompositeType, Fault, FuncType, GroupTree, Guarded, Module, NameMap, ProducersField,
-    ProducersSection, SubType, ValType,
+    ProducersSection, Section, SubType, ValType,
 };
 use crate::proved::wenc_builder::ComponentBuilder;
 use crate::proved::wenc_canon::{
-    AddsSlotRow, CanonicalFunctionSection, CanonicalOption, NotCancellable, rows,
+    AddsSlotRow, CanonicalFunctionSection, CanonicalOption, NotCancellable, rows, rows::Row,
 };
 use crate::proved::wenc_parts::{Alias, ComponentExportKind, ComponentValType, ResultList};
 use crate::proved::wenc_sections::{NamesOf, Space};
@@ -18,24 +18,26 @@ use crate::proved::wenc_types::counts::{Counts, IndexSpace, space_of_alias, spac
 use crate::shim::alloc::Global;
 use crate::shim::vec::Vec;
 
+const ROWS: [Row; 3] = [rows::STREAM_READ, rows::RESOURCE_DROP, rows::CONTEXT_GET];
+
 /// A function with options and two without, by their rows.
 fn by_rows<B: AddsSlotRow>(to: &mut B) -> Result<B::Answer, Fault> {
     let options = [CanonicalOption::UTF8, CanonicalOption::Memory(0)];
-    to.add_row_with(rows::STREAM_READ, &128u32, options.into_iter())?;
-    to.add_row(rows::RESOURCE_DROP, &128u32)?;
-    to.add_slot_row(rows::CONTEXT_GET, ValType::I32, 0)
+    to.add_row_with(ROWS[0], &128u32, options.into_iter())?;
+    to.add_row(ROWS[1], &128u32)?;
+    to.add_slot_row(ROWS[2], ValType::I32, 0)
 }
-
-const BY_ROWS: &str = "080e030f8001020003000380010a7f00";
 
 #[test]
 fn rows_are_added() {
+    let [read, drop, get] = ROWS.map(|row| row.1);
+    let wanted = [8, 14, 3, read, 0x80, 1, 2, 0, 3, 0, drop, 0x80, 1, get, 0x7f, 0];
     let mut section = CanonicalFunctionSection::new(Global);
     by_rows(&mut section).unwrap();
-    section_is(&section, 8, BY_ROWS);
+    section_is(&section, 8, &digits(&wanted));
     let mut builder = ComponentBuilder::new(Global).unwrap();
     assert_eq!(by_rows(&mut builder), Ok(2));
-    assert_eq!(digits(&builder.finish().unwrap()[8..]), BY_ROWS);
+    assert_eq!(builder.finish().unwrap()[8..], wanted);
 }
 
 #[test]
@@ -64,7 +66,9 @@ fn parts() {
 #[test]
 fn of_a_stranger() {
     let own = Own(&[0x2a]);
-    module_section_is(&own, 98, "622a");
+    let mut sink = Vec::new(Global);
+    own.append_to(&mut sink).unwrap();
+    assert_eq!((Section::id(&own), sink.as_slice()), (98, b"\x62\x2a".as_slice()));
     section_is(&own, 99, "632a");
     let mut module = Module::new(Global).unwrap();
     module.section(&own).unwrap();

@@ -1,7 +1,7 @@
 //! Members of a holder.
 
 use super::refusals::{LARGE, OPEN};
-use crate::proved::tests::parts::checks::check;
+use crate::proved::tests::sweeping::check;
 use crate::proved::wenc_base::{Encode, Fault, Holder, Parent, Verbatim};
 use crate::shim::alloc::Global;
 use crate::shim::vec::Vec;
@@ -134,66 +134,4 @@ fn refused_pieces() {
     is_begun(to, 1, &[1], true);
     to.end_with(&2u32).unwrap();
     is_whole(to, 1, &[3, 1, 1, 2]);
-}
-
-/// Writes at a member and ends it.
-fn close(to: &mut Holder) -> Answer {
-    to.append(&[3])?;
-    to.append_encoded(&"f")?;
-    to.append_listed(&[2, 3], ["g"].into_iter())?;
-    to.append_value(&7u32)?;
-    append_list(to, &[0x60], LIST)?;
-    to.close(&[4])
-}
-
-const CLOSED: &[u8] = &[19, 2, 0xaa, 1, 2, 3, 1, 0x66, 2, 3, 1, 1, 0x67, 7, 0x60, 2, 1, 0x80, 1, 4];
-
-#[test]
-fn piece_by_piece() {
-    let mut holder = Holder::new(Global);
-    holder.add_encoded(&Verbatim(&[0xaa])).unwrap();
-    holder.open(&[1, 2]).unwrap();
-    is_begun(&holder, 2, &[0xaa, 1, 2], true);
-    close(&mut holder).unwrap();
-    is_whole(&holder, 2, CLOSED);
-    holder = Holder::new(Global);
-    holder.open(&[9]).unwrap();
-    end_with_list(&mut holder, &[8], &["f"]).unwrap();
-    holder.open(&[]).unwrap();
-    holder.append_encoded(&7u32).unwrap();
-    append_list(&mut holder, &[], &[]).unwrap();
-    holder.end_member();
-    is_whole(&holder, 2, &[8, 2, 9, 8, 1, 1, 0x66, 7, 0]);
-    holder = Holder::new(Global);
-    holder.open(&[1]).unwrap();
-    holder.append_between(&7u32, ["f"].into_iter(), &Verbatim(&[8, 9])).unwrap();
-    holder.end_member();
-    is_whole(&holder, 1, &[8, 1, 1, 7, 1, 1, 0x66, 8, 9]);
-    holder = Holder::new(Global);
-    holder.open(&[]).unwrap();
-    is_begun(&holder, 1, &[], true);
-    holder.finish_member();
-    is_whole(&holder, 1, &[0x01, 0x01]);
-}
-
-// A copy and what it was copied from go their own ways; and a member is given up.
-#[test]
-fn copies_and_discards() {
-    let mut holder = Holder::new(Global);
-    holder.add_encoded(&Verbatim(&[0xaa])).unwrap();
-    let mut one = holder.try_clone().unwrap();
-    holder.open(&[1]).unwrap();
-    let opened = holder.try_clone().unwrap();
-    holder.append_encoded(&Verbatim(&[2])).unwrap();
-    is_begun(&opened, 2, &[0xaa, 1], true);
-    let begun = holder.try_clone().unwrap();
-    assert!(holder.discard_unfinished());
-    is_whole(&holder, 1, ONE);
-    assert!(!holder.discard_unfinished());
-    is_whole(&holder, 1, ONE);
-    is_begun(&begun, 2, &[0xaa, 1, 2], false);
-    holder.add_encoded(&Verbatim(&[0xbb])).unwrap();
-    is_whole(&one, 1, ONE);
-    one.add_encoded(&Verbatim(&[0xcc])).unwrap();
-    is_whole(&holder, 2, &[0x03, 0x02, 0xaa, 0xbb]);
 }

@@ -1,10 +1,10 @@
 //! Holders with bytes in front of their members, and sections over them.
 
-use super::checks::check;
 use super::holder::{UNFINISHED, is_begun, is_whole};
 use crate::proved::proved_tests::holders::{
     aliases, filled, functions, gone_back, over_four_bytes, unfinished_aliases,
 };
+use crate::proved::tests::sweeping::check;
 use crate::proved::wenc_base::{Fault, Holder, Verbatim};
 use crate::proved::wenc_canon::AddsBuiltin;
 use crate::proved::wenc_parts::{Alias, ComponentOuterAliasKind};

@@ -1,7 +1,7 @@
 //! Values that are refused.
 
 use crate::proved::proved_tests::strangers::own::Item;
-use crate::proved::tests::parts::checks::check;
+use crate::proved::tests::sweeping::check;
 use crate::proved::wenc_base::{Encode, Fault, Tagged, encode_list};
 use crate::proved::wenc_parts::ComponentSection;
 use crate::shim::vec::Vec;

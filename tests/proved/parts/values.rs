@@ -1,7 +1,7 @@
 //! Numbers, texts, lists, and values that are made of others.
 
 use crate::proved::proved_tests::strangers::own::{Light, write_all};
-use crate::proved::tests::parts::checks::{check, check_all};
+use crate::proved::tests::sweeping::{check, check_all};
 use crate::proved::wenc_base::{
     AbstractHeapType, ByRef, ByteTypes, Encode, Fault, HeapType, RefType, Short, Tagged, ValType,
     Verbatim, WithSize, encode_byte, encode_list, encoding_size, extend_in_room, section_size,
@@ -12,25 +12,20 @@ use crate::shim::vec::Vec;
 use std::string::ToString;
 use std::vec;
 
-const CONTENT: (u32, &str, bool) = (128, "a", false);
-
 #[test]
 fn numbers_and_texts() {
-    check(&624485u32, b"\xe5\x8e\x26");
-    check(&0u32, b"\x00");
-    check(&128u32, b"\x80\x01");
-    check(&4294967295u32, b"\xff\xff\xff\xff\x0f");
     check(&18446744073709551615u64, b"\xff\xff\xff\xff\xff\xff\xff\xff\xff\x01");
-    check(&128usize, b"\x80\x01");
-    check(&-1i64, b"\x7f");
-    check(&-64i64, b"\x40");
-    check(&-65i64, b"\xbf\x7f");
-    check(&63i64, b"\x3f");
-    check(&64i64, b"\xc0\x00");
-    check(&9223372036854775807i64, b"\xff\xff\xff\xff\xff\xff\xff\xff\xff\x00");
-    check(&-9223372036854775808i64, b"\x80\x80\x80\x80\x80\x80\x80\x80\x80\x7f");
+    let signed: [(i64, &[u8]); 7] = [
+        (-1, b"\x7f"),
+        (-64, b"\x40"),
+        (-65, b"\xbf\x7f"),
+        (63, b"\x3f"),
+        (64, b"\xc0\x00"),
+        (i64::MAX, b"\xff\xff\xff\xff\xff\xff\xff\xff\xff\x00"),
+        (i64::MIN, b"\x80\x80\x80\x80\x80\x80\x80\x80\x80\x7f"),
+    ];
+    check_all(&signed);
     check_all(&[(false, b"\x00"), (true, b"\x01")]);
-    check_all::<&str>(&[("f", b"\x01\x66"), ("", b"\x00")]);
     check(&String::from_str(Global, "f").unwrap(), b"\x01\x66");
 }
 
@@ -40,8 +35,6 @@ fn lists_and_tuples() {
     check_all::<&[u32]>(&[(&[1, 128, 3], b"\x03\x01\x80\x01\x03"), (&[], b"\x00")]);
     check::<&[(&str, u32)]>(&[("a", 1), ("", 2)].as_slice(), b"\x02\x01\x61\x01\x00\x02");
     check_all::<Option<u32>>(&[(None, b"\x00"), (Some(5), b"\x01\x05")]);
-    check(&(1u32, "a"), b"\x01\x01\x61");
-    check(&CONTENT, b"\x80\x01\x01\x61\x00");
     check(&("b", 1u32, Some(true)), b"\x01\x62\x01\x01\x01");
     check(&(), b"");
 }
@@ -71,30 +64,18 @@ fn values_around_values() {
     check(&ByRef(&128u32), b"\x80\x01");
     check(&WithSize(&()), b"\x00");
     check(&WithSize(&"ab"), b"\x03\x02\x61\x62");
-    check(&WithSize(&CONTENT), b"\x05\x80\x01\x01\x61\x00");
+    check(&WithSize(&(128u32, "a", false)), b"\x05\x80\x01\x01\x61\x00");
 }
 
-#[test]
-fn of_a_stranger() {
-    let (red, green) = (Light::Red, Light::Green);
-    check_all(&[(red, b"r"), (green, b"g")]);
-    check_all(&[(Some(green), b"\x01g"), (None, b"\x00")]);
-    check::<&[Light]>(&[red, green, red].as_slice(), b"\x03rgr");
-}
-
-const IN_ONE_SINK: &[u8] =
-    &[0x99, 0x03, 0x01, 0x80, 0x01, 0x03, 0x00, 0x02, 0x72, 0x67, 0x01, 0x72, 0x00, 0x00];
-
-// Of the values of a vector, of those of a slice, and of a type that the crates below don't know.
+// Of the values of a vector, and of a type that the crates below don't know.
 #[test]
 fn lists_in_one_sink() {
     let mut sink = Vec::from(vec![0x99]);
-    let values: Vec<u32> = Vec::from(vec![1, 128, 3]);
-    encode_list(values.into_iter(), &mut sink).unwrap();
+    encode_list(Vec::from(vec![1u32, 128, 3]).into_iter(), &mut sink).unwrap();
     encode_list([0usize; 0].into_iter(), &mut sink).unwrap();
     write_all(&[Light::Red, Light::Green], Some(Light::Red), &mut sink).unwrap();
     write_all(&[], None::<Light>, &mut sink).unwrap();
-    assert_eq!(sink.as_slice(), IN_ONE_SINK);
+    assert_eq!(sink.as_slice(), b"\x99\x03\x01\x80\x01\x03\x00\x02rg\x01r\x00\x00");
 }
 
 // After 126 bytes and their number the size has one byte, and after 127 it has two.
@@ -102,19 +83,6 @@ const LONG_SIZES: &[(usize, &[u8])] =
     &[(126, &[0x99, 0x7f, 0x7e]), (127, &[0x99, 0x80, 0x01, 0x7f])];
 
 const ZEROS: [u8; 127] = [0; 127];
-
-const SIZES: &[(u32, usize)] = &[
-    (127, 1),
-    (128, 2),
-    (16383, 2),
-    (16384, 3),
-    (624485, 3),
-    (2097151, 3),
-    (2097152, 4),
-    (268435455, 4),
-    (268435456, 5),
-    (4294967295, 5),
-];
 
 type SectionSize = (u32, u64, Result<u32, Fault>);
 
@@ -134,9 +102,11 @@ const SECTION_SIZES: &[SectionSize] = &[
 
 #[test]
 fn sizes() {
-    for (n, size) in SIZES {
-        assert_eq!(encoding_size(*n), *size);
+    for bytes in 1..5 {
+        let more = 1 << (7 * bytes);
+        assert_eq!((encoding_size(more - 1), encoding_size(more)), (bytes, bytes + 1));
     }
+    assert_eq!(encoding_size(u32::MAX), 5);
     for (count, body, wanted) in SECTION_SIZES {
         assert_eq!(section_size(*count, *body), *wanted);
     }

@@ -151,7 +151,7 @@ fn file_of(sections: &[u8]) -> Vec<u8> {
 }
 
 /// Kinds of damage, each with a file and what is said of it.
-const KINDS: [(&[u8], &str); 22] = [
+const KINDS: [(&[u8], &str); 26] = [
     // a name of an import, of a nested item, and of a custom section
     (
         b"\x0a\x07\x01\0\x02a\xff\x01\0",
@@ -179,6 +179,27 @@ const KINDS: [(&[u8], &str); 22] = [
         b"\x08\x04\x01\0\0\x33",
         "bad item 0 at 0xb in the section at 0x8: \
          needs 5 bytes or more from 0xb on, where 3 are left",
+    ),
+    // types of values: of a field, in a list, of two bytes, and of a core function
+    (
+        b"\x07\x06\x01\x72\x01\x01a\x41",
+        "bad item 0 at 0xb in the section at 0x8: \
+         0x41 at 0xf, where 0x00 to 0x3f, 0x64 or 0x73 to 0xff is expected",
+    ),
+    (
+        b"\x07\x03\x01\x70\x65",
+        "bad item 0 at 0xb in the section at 0x8: \
+         0x65 at 0xc, where 0x00 to 0x3f, 0x64 or 0x73 to 0xff is expected",
+    ),
+    (
+        b"\x07\x07\x01\x72\x01\x01a\xc1\x41",
+        "bad item 0 at 0xb in the section at 0x8: \
+         0x41 at 0x10, where 0x00 to 0x3f or 0x80 to 0xff is expected",
+    ),
+    (
+        b"\x03\x05\x01\x60\x01\x41\0",
+        "bad item 0 at 0xb in the section at 0x8: \
+         0x41 at 0xd, where 0x63 to 0x64, 0x69 to 0x74 or 0x7b to 0x7f is expected",
     ),
     // too few bytes for a name, for a size and for a count
     (

@@ -1,0 +1,116 @@
+//! Cursors and comparisons with each request for memory refused in turn.
+
+use super::{GRANTED, NAME, SINCE, calmly, refusing};
+use std::fmt::{self, Debug, Write};
+use std::panic::{AssertUnwindSafe, catch_unwind};
+use wenc::*;
+
+/// The iterator's values with each request for memory refused in turn: the one of that request is
+/// this error, and is the last. There are so many requests.
+fn each_is_refused<I, T, E>(start: impl Fn() -> I, no_memory: E, requests: u32)
+where
+    I: Iterator<Item = Result<T, E>>,
+    E: Debug + PartialEq,
+{
+    for n in 0..=requests {
+        let mut values = calmly(&start);
+        let (failed, is_refused) = refusing(n, || values.by_ref().find_map(Result::err));
+        assert_eq!(is_refused, n < requests, "request {n}");
+        assert_eq!(failed.is_some(), is_refused, "request {n}");
+        assert!(failed.is_none_or(|error| error == no_memory), "request {n}");
+        assert!(values.next().is_none(), "request {n}");
+    }
+}
+
+/// A core module with an import of a function, an export and a custom section.
+const MODULE: &[u8] = b"\0asm\x01\0\0\0\x02\x07\x01\x01m\x01f\0\x05\
+    \x07\x05\x01\x01g\0\0\0\x03\x01x\x07";
+
+/// Core modules are read in place.
+#[test]
+fn core_modules() {
+    let sections = || CoreSections::new(MODULE).expect("a module");
+    let read = || sections().map(|section| section.expect("a section").items().count()).sum();
+    let (items, is_refused): (usize, bool) = refusing(0, read);
+    assert_eq!((items, is_refused), (2, false));
+}
+
+/// So many components in one another.
+fn nested(count: usize) -> Vec<u8> {
+    let inner = (count > 1).then(|| nested(count - 1));
+    let section = inner.map(|inner| [&[4, inner.len() as u8], &inner[..]].concat());
+    [&Component::HEADER[..], &section.unwrap_or_default()].concat()
+}
+
+#[test]
+fn nested_components() {
+    for (count, requests) in [(3, 0), (9, 0), (10, 1), (11, 1)] {
+        let component = nested(count);
+        let sections = || Sections::new(&component).expect("a component").nested(count);
+        assert_eq!(sections().count(), count - 1);
+        assert_eq!(sections().map(|section| section.expect("a section").0).max(), Some(count - 2));
+        each_is_refused(sections, ListFault::NoMemory, requests);
+    }
+}
+
+/// What components and their indices are kept for the next ones.
+#[test]
+fn indices_out_of_range() {
+    // a component, and one in which a list is of a type that isn't there
+    for (component, found, requests) in [
+        (&nested(1)[..], 0, 0),
+        (&nested(3), 0, 1),
+        (&nested(6), 0, 2),
+        (b"\0asm\x0d\0\x01\0\x07\x05\x02\x70\x09\x70\x09", 2, 2),
+    ] {
+        let all = || Sections::new(component).expect("a component").out_of_range(8);
+        assert_eq!(all().filter(|one| one.is_ok()).count(), found);
+        each_is_refused(all, ListFault::NoMemory, requests);
+    }
+}
+
+/// What is printed, and not kept.
+struct Nowhere;
+
+impl Write for Nowhere {
+    fn write_str(&mut self, _: &str) -> fmt::Result {
+        Ok(())
+    }
+}
+
+/// What a call returns of which request `n` is refused, or why it panics, and whether that request
+/// came.
+fn refused<T>(n: u32, call: impl Fn() -> T) -> (Result<T, Option<String>>, bool) {
+    GRANTED.set(Some(n));
+    let result = catch_unwind(AssertUnwindSafe(call));
+    let is_refused = GRANTED.take().is_none();
+    SINCE.set(None);
+    (result.map_err(|panic| panic.downcast_ref::<String>().cloned()), is_refused)
+}
+
+fn no_memory<T>() -> Result<T, Option<String>> {
+    Err(Some("no memory".to_owned()))
+}
+
+#[test]
+fn headers() {
+    assert_eq!(refused(0, Component::new), (no_memory(), true));
+    assert_eq!(refused(1, Component::new), (Ok(Component::new()), false));
+    assert_eq!(refused(0, Module::new), (no_memory(), true));
+    assert_eq!(refused(1, Module::new), (Ok(Module::new()), false));
+}
+
+/// What compares or prints by the bytes panics where these can't be had.
+#[test]
+fn contents() {
+    let mut imports = ComponentImportSection::new();
+    imports.import(NAME, ComponentTypeRef::Func(0));
+    let other = imports.clone();
+    for n in [0, 1] {
+        assert_eq!(refused(n, || imports == other), (no_memory(), true));
+    }
+    assert_eq!(refused(2, || imports == other), (Ok(true), false));
+    let is_printed = || write!(Nowhere, "{imports:?}").is_ok();
+    assert_eq!(refused(0, is_printed), (no_memory(), true));
+    assert_eq!(refused(1, is_printed), (Ok(true), false));
+}

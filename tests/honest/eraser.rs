@@ -1,0 +1,345 @@
+//! The eraser: each of its refusals with the line, what becomes of comments, and the layout of the
+//! package.
+
+#[path = "../../build/erase.rs"]
+mod erase;
+#[path = "../../build/tidy.rs"]
+mod tidy;
+
+const CRATES: [&str; 3] = ["wenc_base", "wenc_parts", "hex"];
+const PRELUDE: &str = "use crate::shim::prelude::*; ";
+
+/// The words become this in the crate `wenc_parts`, but for the prelude.
+#[track_caller]
+fn becomes(source: &str, wanted: &str) {
+    let erased =
+        erase::erase("wenc_parts", &CRATES, source).map(|rust| rust.replacen(PRELUDE, "", 1));
+    assert_eq!(erased, Ok(wanted.into()));
+}
+
+/// They are refused in this line, for this reason.
+#[track_caller]
+fn refuses(source: &str, line: usize, why: &str) {
+    match erase::erase("wenc_parts", &CRATES, source) {
+        Ok(rust) => panic!("it became {rust:?}"),
+        Err(refused) => assert_eq!(refused, (line, why)),
+    }
+}
+
+#[test]
+fn ghost_items_are_left_out_with_their_comments() {
+    becomes(
+        "ghost use Rattle.std.specs.Prelude.{◌≡◌, length};\n\nuse super::A;\n",
+        "\n\nuse super::A;\n",
+    );
+    becomes(
+        "trait T {\n    /// What is read.\n    ghost form: { Self → Type 0 } = { λ x. x };\n\n    /// It stays.\n    fn f();\n}\n",
+        "trait T {\n\n\n\n    /// It stays.\n    fn f();\n}\n",
+    );
+    becomes(
+        "struct S {\n    // A remark stays.\n    a: u8,\n    ghost whole: { a < 9 },\n}\n",
+        "struct S {\n    // A remark stays.\n    a: u8,\n\n}\n",
+    );
+    becomes("impl T for S { ghost form = { S } ; }\n", "impl T for S {  }\n");
+}
+
+#[test]
+fn examples_are_left_out() {
+    becomes(
+        "/// What it does.\n///\n/// ```\n/// let x = Vec::new(alloc);\n/// ```\n/// And more.\nfn f() {}\n",
+        "/// What it does.\n///\n\n\n\n/// And more.\nfn f() {}\n",
+    );
+}
+
+#[test]
+fn what_introduces_an_example_is_left_out() {
+    let example = "/// ```\n/// f();\n/// ```\nfn f() {}\n";
+    for (docs, left) in [
+        ("/// What it does. As here\n/// or here:\n///\n", "/// What it does.\n\n///\n"),
+        ("/// What it does.\n/// Here:\n", "/// What it does.\n\n"),
+        ("/// What it does.\n///\n/// Here:\n///\n", "/// What it does.\n///\n\n///\n"),
+        ("struct S;\n/// Here:\n///\n", "struct S;\n\n///\n"),
+        ("/// One: two.\n///\n", "/// One: two.\n///\n"),
+        ("/// A list:\n/// one.\n", "/// A list:\n/// one.\n"),
+    ] {
+        becomes(&format!("{docs}{example}"), &format!("{left}\n\n\nfn f() {{}}\n"));
+    }
+    becomes(
+        "//! What it does.\n//!\n//! Here\n//!\n//! or here:\n//!\n\
+         //! ```\n//! f();\n//! ```\nfn f() {}\n",
+        "//! What it does.\n//!\n//! Here\n//!\n\n//!\n\n\n\nfn f() {}\n",
+    );
+    // What an example has of its own is no introduction.
+    let own = "/// It goes\n/// on\n/// ```\n/// // a:\n/// b();\n/// ```\nfn f() {}\n";
+    becomes(own, "/// It goes\n/// on\n\n\n\n\nfn f() {}\n");
+}
+
+#[test]
+fn names_that_stay_their_owners() {
+    for source in ["enum Op {\n Clone,\n}", "enum Op { A,\n Clone(u8) }", "use\n a::Clone;"] {
+        refuses(source, 2, "a `Clone` that is no bound");
+    }
+    for source in ["Clone::clone(x)", "a + Clone;", "f::<Clone>()", "struct Clone;"] {
+        refuses(source, 1, "a `Clone` that is no bound");
+    }
+    for source in ["struct S { clone: u8 }", "s.clone", "clone(s)", "S::clone(s)", "(s.clone)()"] {
+        refuses(source, 1, "a `clone` that is no method");
+    }
+}
+
+#[test]
+fn texts_that_are_not_known() {
+    refuses("\n/* a */ fn f() {}\n", 2, "a block comment");
+    refuses("const A: &str = r\"a\";\n", 1, "a raw text or name");
+    refuses("\n\nlet r#fn = 1;\n", 3, "a raw text or name");
+    refuses("const A: &[u8] = br\"a\";\n", 1, "a text with a prefix that is not known");
+    refuses("\nconst A: &CStr = c\"a\";\n", 2, "a text with a prefix that is not known");
+    refuses("const A: &str = \"a;\n", 1, "a text without an end");
+    refuses("let c = '\\", 1, "a character without an end");
+    refuses("let é = 1;\n", 1, "a letter or a sign that is not ASCII");
+}
+
+#[test]
+fn ghost_forms_that_are_not_known() {
+    let why = "a ghost item that is not known";
+    refuses("\nghost fn f() {}\n", 2, why);
+    refuses("trait T {\n    ghost law<x>: { a };\n}\n", 2, why);
+    refuses("ghost a = { b } = { c };\n", 1, why);
+    refuses("ghost a;\n", 1, why);
+    refuses("ghost a: b;\n", 1, "a clause or a ghost item without a block");
+    refuses("ghost { a }\n", 1, "a ghost item without a name");
+    refuses("ghost use a.b\n", 1, "a ghost item without an end");
+    refuses("struct S {\n    pub ghost a: { b },\n}\n", 2, "a word in front of a ghost item");
+    refuses("fn f()\n    requires a b { c }\n{}\n", 2, "a clause or a ghost item without a block");
+    refuses("fn f()\n    ensures { a { b }\n", 2, "a block without an end");
+    refuses("fn f()\n    ensures { a -- b\n }\n{}\n", 2, "a comment in a clause");
+    refuses("fn f() ensures { '}' }\n{}\n", 1, "a character in a clause");
+}
+
+#[test]
+fn attributes_that_are_not_known() {
+    let why = "an attribute that is not known";
+    refuses("\n#[allow(dead_code)]\nfn f() {}\n", 2, why);
+    refuses("#[cfg(unix)]\nfn f() {}\n", 1, why);
+    refuses("#[repr(packed)]\nstruct S;\n", 1, why);
+    refuses("#[unsafe(no_mangle)]\npub fn f() {}\n", 1, why);
+    refuses("#[unsafe(no_mangle)]\nextern \"C\" fn f() {}\n", 1, why);
+    refuses("#[unsafe(naked)]\npub extern \"C\" fn f() {}\n", 1, why);
+    refuses("#[must_use]\nfn f() {}\n", 1, why);
+    refuses("#[test]\nfn t() {}\n", 1, why);
+    refuses("#[cfg(test)]\nmod checks;\n", 1, why);
+    refuses("#![derive(Clone)]\n", 1, why);
+    refuses("enum E {\n    #[error(\"a\")]\n    A,\n}\n", 2, why);
+    refuses("#[tactic(auto]\nfn f() {}\n", 1, "a bracket without an end");
+}
+
+#[test]
+fn derives_that_are_not_known() {
+    let why = "a derive that is not known";
+    refuses("\n#[derive(Clone, Default)]\nstruct S;\n", 2, why);
+    refuses("#[derive(Clone, Drop)]\nstruct S;\n", 1, why);
+    refuses("#[derive(Error)]\npub enum E {}\n", 1, why);
+    refuses("#[derive()]\nstruct S;\n", 1, why);
+    refuses("#[derive(a::Clone)]\nstruct S;\n", 1, why);
+    refuses("#[derive_where(Eq; T)]\nstruct S;\n", 1, why);
+    for no_enum in ["pub struct E;", "enum E {}", "pub enum E<A> {}", "pub enum E;"] {
+        let source = format!("#[derive(Clone, Error)]\n{no_enum}\n");
+        refuses(&source, 2, "an error that is no enum");
+    }
+    refuses(
+        "#[derive(Clone, Error)]\npub enum E {\n    A,\n}\n",
+        3,
+        "a variant of an error without its text",
+    );
+}
+
+#[test]
+fn uses_of_drop_that_are_no_bounds() {
+    let why = "a use of `Drop` that is no bound";
+    refuses("impl Drop for S {\n    fn drop(self) {}\n}\n", 1, why);
+    refuses("\nuse a::Drop;\n", 2, why);
+    refuses("fn f<T: Drop + Copy>() {}\n", 1, why);
+    refuses("trait T: Drop {}\n", 1, why);
+    refuses("use a::{Drop, B};\n", 1, why);
+}
+
+#[test]
+fn what_calls_c_or_is_unsafe() {
+    let why = "an `extern` that is not known";
+    refuses("\npub extern \"C\" fn f() {}\n", 2, why);
+    refuses("extern \"C\" { fn f(); }\n", 1, why);
+    refuses("fn f(g: extern \"C\" fn()) {}\n", 1, why);
+    let why = "an `unsafe`";
+    refuses("fn f() { unsafe { g() } }\n", 1, why);
+    refuses("\nunsafe impl Send for S {}\n", 2, why);
+    refuses("unsafe fn f() {}\n", 1, why);
+}
+
+#[test]
+fn macros_that_are_not_known() {
+    let why = "a macro that is not known";
+    refuses("fn f() {\n    println!(rt; \"a\")\n}\n", 2, why);
+    refuses("debug_assert!(a)\n", 1, why);
+    refuses("prove!(a)\n", 1, why);
+    refuses("print!(in a; b)\n", 1, why);
+    refuses("\nformat!(\"a\")\n", 2, why);
+    refuses("vec![1]\n", 1, why);
+    refuses("assert!(rt; a)\n", 1, why);
+    refuses("panic!(self.rt; \"a\")\n", 1, why);
+    refuses("include!(\"a\")\n", 1, why);
+    refuses("include!{\"a\"}\n", 1, why);
+    refuses("own!(a)\nmacro_rules! own { () => {} }\n", 1, why);
+}
+
+#[test]
+fn paths_that_are_not_known() {
+    refuses("\nuse ::std::fmt;\n", 2, "a path that begins with `::`");
+    refuses("f(::core::mem::take(x))\n", 1, "a path that begins with `::`");
+    refuses("use core::mem;\n", 1, "a path that begins with a crate of the kit");
+    refuses("use alloc::vec;\n", 1, "a path that begins with a crate of the kit");
+    refuses("\nuse wenc_base as b;\n", 2, "a crate that is no path's root");
+    refuses("extern crate std;\n", 1, "a crate that is no path's root");
+    refuses("mod a;\nmod hex;\n", 2, "a module with the name of a crate");
+    refuses("mod a;\nmod b {\n    fn f() {}\n}\n", 2, "a module that is no file");
+    refuses("fn f(x: core::A) {}\n", 1, "a path that begins with a crate of the kit");
+    refuses("fn f(x: ::std::A) {}\n", 1, "a path that begins with `::`");
+    refuses("fn f(x: thiserror::A) {}\n", 1, "a path that begins with a crate of the kit");
+    refuses("mod thiserror;\n", 1, "a module with the name of a crate");
+    refuses("use thiserror::Display;\n", 1, "a use of `thiserror` that is not known");
+    refuses("\n/// ```\nfn f() {}\n", 2, "an example without an end");
+    refuses("/// ```\n// x\n/// ```\nfn f() {}\n", 2, "an example outside of documentation");
+}
+
+/// Rattle with all that is left out, as the published package has it.
+const PAGE: &str = "\
+//! A crate.
+//!
+//! ```
+//! f(3)?;
+//! ```
+ghost use specs.A.{a, b};
+
+use thiserror::Error;
+mod inner;
+
+/// It is *whole*.
+///
+/// ```
+/// f(3)?;
+/// ```
+#[tactic(auto)]
+#[derive(Drop)]
+pub struct Pair<T: Drop>
+where
+    T: Encode,
+{
+    first: T,
+    ghost whole: { length a ≡ 1 },
+}
+
+#[derive(Debug, Error)]
+pub enum Fault {
+    #[error(\"at {place}\")]
+    At { place: usize },
+    #[error(\"no memory\")]
+    Memory,
+}
+
+pub fn f(x: u8) -> Result<u8, Fault>
+    requires { x < 3 }
+    ensures { IfOk result (λ y. { y ≡ x }) }
+{
+    let y = x;
+
+    {
+        g(y);
+    }
+    Ok(y)
+}
+
+impl Encode for Pair {
+    ghost piece = { 1 };
+
+    fn encode(
+        &self,
+    ) -> u8
+        ensures { nothing }
+    {
+        1
+    }
+
+    ghost last = { 2 };
+}
+
+impl Model for Pair {
+    ghost Value = { List };
+}
+
+trait Longer {
+    fn len(&self) -> u8
+        ensures { IsSize result };
+}
+";
+
+const TIDY: &str = "\
+//! A crate.
+
+use crate::shim::prelude::*;
+
+mod inner;
+
+/// It is *whole*.
+pub struct Pair<T>
+where
+    T: Encode,
+{
+    first: T,
+}
+
+#[derive(Debug, Hash)]
+pub enum Fault {
+    At { place: usize },
+    Memory,
+}
+
+impl ::core::fmt::Display for Fault {
+    fn fmt(&self, f: &mut ::core::fmt::Formatter<'_>) -> ::core::fmt::Result {
+        match self {
+            Fault::At { place, .. } => write!(f, \"at {place}\"),
+            Fault::Memory { .. } => write!(f, \"no memory\"),
+        }
+    }
+}
+
+impl ::core::error::Error for Fault {}
+
+pub fn f(x: u8) -> Result<u8, Fault> {
+    let y = x;
+
+    {
+        g(y);
+    }
+    Ok(y)
+}
+
+impl Encode for Pair {
+    #[inline]
+    fn encode(
+        &self,
+    ) -> u8 {
+        1
+    }
+}
+
+impl Model for Pair {}
+
+trait Longer {
+    fn len(&self) -> u8;
+}
+";
+
+#[test]
+fn the_package_has_no_line_of_what_is_left_out() {
+    let erased = erase::erase("wenc_parts", &CRATES, PAGE).unwrap_or_else(|why| panic!("{why:?}"));
+    assert_eq!(tidy::tidy(PAGE, &erased), TIDY);
+}

@@ -1,0 +1,154 @@
+//! Whether the crate is made of the proved sources: `proof` compares their digests with PROOF,
+//! `eraser` has what the eraser refuses, and this reads each source beside the Rust that it became.
+//! Where they part, it has to be in one of the ways that `reader` lists; whatever else is left out,
+//! changed, added or moved to another line is found.
+
+#[path = "../common/erased.rs"]
+mod erased;
+mod eraser;
+mod lexer;
+mod proof;
+mod reader;
+mod sha256;
+
+use lexer::{Token, lex};
+use reader::{DERIVED_TOO, NARROWED, TREES, WAYS, compare, read};
+use std::collections::BTreeMap;
+use std::fs;
+use std::path::{Path, PathBuf};
+
+/// Whether each token is in the line that it has in the source: not in the published package, where
+/// no line is left of contracts.
+const HAS_LINES: bool = cfg!(in_repository);
+
+/// The sources, each with what it was erased to: the crate, the path, the text and the Rust.
+fn sources() -> Vec<(String, PathBuf, String, String)> {
+    let erased = erased::folder();
+    let sources = Path::new(env!("CARGO_MANIFEST_DIR")).join("crates");
+    let mut found = Vec::new();
+    for entry in fs::read_dir(erased).expect("the Rust is there") {
+        let rust = entry.expect("the folder can be read").path();
+        if rust.is_dir() {
+            let name = rust.file_name().expect("it has a name").to_string_lossy().into_owned();
+            let source = sources.join(&name).join("src");
+            gather(&name, &source, &rust, &mut found);
+        }
+    }
+    found
+}
+
+fn gather(name: &str, from: &Path, to: &Path, found: &mut Vec<(String, PathBuf, String, String)>) {
+    let names = |folder: &Path| {
+        let entries = fs::read_dir(folder).expect("the folder can be read");
+        let mut names: Vec<PathBuf> =
+            entries.map(|entry| entry.expect("an entry").path().with_extension("")).collect();
+        names.sort();
+        names.iter().map(|path| path.file_name().expect("a name").to_owned()).collect::<Vec<_>>()
+    };
+    assert_eq!(names(from), names(to), "each file has its Rust, and no other is there");
+    for entry in fs::read_dir(from).expect("the folder can be read") {
+        let path = entry.expect("an entry").path();
+        let rust = to.join(path.file_name().expect("a name"));
+        if path.is_dir() {
+            gather(name, &path, &rust, found);
+        } else {
+            let old = fs::read_to_string(&path).expect("the source");
+            let new = fs::read_to_string(rust.with_extension("rs")).expect("the Rust");
+            found.push((name.to_owned(), path, old, new));
+        }
+    }
+}
+
+#[test]
+fn erased_sources_are_the_sources() {
+    let mut counts = BTreeMap::new();
+    let sources = sources();
+    assert!(sources.len() > 150, "only {} files", sources.len());
+    for (name, path, old, new) in sources {
+        if let Err(why) = read(&name, &old, &new, HAS_LINES, &mut counts) {
+            panic!("{}:{why}", path.display());
+        }
+    }
+    println!("{counts:#?}");
+    let unused: Vec<&&str> = WAYS.iter().filter(|way| !counts.contains_key(**way)).collect();
+    assert!(unused.is_empty(), "nothing differs in these ways any more: {unused:?}");
+    assert_eq!(counts["derive of a tree"], TREES.len());
+    assert_eq!(counts["derive of more"], DERIVED_TOO.len());
+    assert_eq!(counts["member that stays in this crate"], NARROWED.len());
+}
+
+/// Sources whose words mean something else in Rust where they stay or get another name, and what
+/// they would become.
+const UNKNOWN: [(&str, &str); 16] = [
+    ("fn f(x: std::A) {}", "fn f(x: std::A) {}"),
+    ("fn f<T: std::A>() {}", "fn f<T: std::A>() {}"),
+    ("fn f() { let x: wenc_base::A; }", "fn f() { let x: wenc_base::A; }"),
+    ("struct S { a: crate::A }", "struct S { a: crate::A }"),
+    ("fn f(x: core::A) {}", "fn f(x: core::A) {}"),
+    ("use alloc::vec;", "use alloc::vec;"),
+    ("use thiserror::Display;", "use thiserror::Display;"),
+    ("mod inner { fn f() {} }", "mod inner { fn f() {} }"),
+    ("pub mod inner {}", "pub mod inner {}"),
+    ("enum Op { Clone, Copy }", "enum Op { TryClone, Copy }"),
+    ("enum Op { Copy, Clone }", "enum Op { Copy, Clone }"),
+    ("fn f() { Clone::clone(x) }", "fn f() { TryClone::try_clone(x) }"),
+    ("use a::Clone;", "use a::TryClone;"),
+    ("struct S { clone: u8 }", "struct S { try_clone: u8 }"),
+    ("fn f() { s.clone }", "fn f() { s.try_clone }"),
+    ("fn f() { clone(s) }", "fn f() { clone(s) }"),
+];
+
+#[test]
+fn what_means_something_else_in_rust_is_found() {
+    let read = |source: &str, rust: &str| {
+        let rust = format!("use crate::shim::prelude::*; {rust}");
+        read("named", source, &rust, true, &mut BTreeMap::new())
+    };
+    for (source, rust) in UNKNOWN {
+        assert!(read(source, rust).is_err(), "{source}");
+    }
+    for (source, rust) in [
+        ("fn f(x: std::A) {}", "fn f(x: crate::shim::A) {}"),
+        ("fn f<T: wenc_base::A>() {}", "fn f<T: crate::proved::wenc_base::A>() {}"),
+        ("struct S { a: crate::A }", "struct S { a: crate::proved::named::A }"),
+        ("mod inner; use self::core::A;", "mod inner; use self::core::A;"),
+        (
+            "fn f<T: Clone>() where A: B + Clone, {}",
+            "fn f<T: TryClone>() where A: B + TryClone, {}",
+        ),
+        ("fn clone() { s.clone() }", "fn try_clone() { s.try_clone() }"),
+    ] {
+        assert_eq!(read(source, rust), Ok(()), "{source}");
+    }
+}
+
+/// In one file in five, if it is short: each token left out, changed, moved to the next line with
+/// all behind it, and another put in after it.
+#[test]
+fn each_token_counts() {
+    let mut sources = sources();
+    sources.sort();
+    let (mut planted, mut counts) = (0, BTreeMap::new());
+    for (name, path, old, new) in sources.into_iter().step_by(5) {
+        let longer = format!("{new}\n");
+        assert_eq!(read(&name, &old, &longer, HAS_LINES, &mut counts).is_err(), HAS_LINES);
+        let (old, mut new) = (lex(&old), lex(&new));
+        for at in 0..if new.len() < 500 { new.len() } else { 0 } {
+            let place = format!("{}:{}", path.display(), new[at].line);
+            let mut is_found =
+                |new: &[Token]| compare(&name, &old, new, HAS_LINES, &mut counts).is_err();
+            let token = new.remove(at);
+            assert!(is_found(&new), "{place}: left out");
+            new.insert(at, Token { line: token.line, text: format!("{}x", token.text) });
+            assert!(is_found(&new), "{place}: changed");
+            new.insert(at, token);
+            assert!(is_found(&new), "{place}: something put in");
+            new.remove(at + 1);
+            new[at..].iter_mut().for_each(|token| token.line += 1);
+            assert_eq!(is_found(&new), HAS_LINES, "{place}: moved");
+            new[at..].iter_mut().for_each(|token| token.line -= 1);
+            planted += 4;
+        }
+    }
+    assert!(planted > 4000, "only {planted} changes");
+}

@@ -1,0 +1,172 @@
+//! `PROOF` tells of the sources that the crate is made of: their digests are those that `sha256sum`
+//! gave.
+
+use crate::erased;
+use crate::sha256::sha256;
+use std::collections::{BTreeMap, HashSet};
+use std::fs;
+use std::path::Path;
+
+/// The digests that `PROOF` has, by the folder.
+fn told() -> BTreeMap<&'static str, &'static str> {
+    wenc::PROOF
+        .lines()
+        .filter_map(|line| line.split_once("  "))
+        .map(|(sum, at)| (at, sum))
+        .collect()
+}
+
+/// The files below a folder, by their paths from the crate's own.
+fn gather(crate_folder: &Path, at: &str, found: &mut BTreeMap<String, Vec<u8>>) {
+    for entry in fs::read_dir(crate_folder.join(at)).expect("the folder can be read") {
+        let entry = entry.expect("an entry");
+        let path = format!("{at}/{}", entry.file_name().to_str().expect("a name in UTF-8"));
+        if entry.path().is_dir() {
+            gather(crate_folder, &path, found);
+        } else {
+            found.insert(path, fs::read(entry.path()).expect("the file can be read"));
+        }
+    }
+}
+
+/// The digest of what `sha256sum` prints of files.
+fn digest(files: &BTreeMap<String, Vec<u8>>) -> String {
+    let lines = files.iter().map(|(path, bytes)| format!("{}  {path}\n", sha256(bytes)));
+    sha256(lines.collect::<String>().as_bytes())
+}
+
+/// Each folder of proved sources that is here, with its files: in the repository all, in a package
+/// those of `src`.
+fn folders() -> BTreeMap<String, BTreeMap<String, Vec<u8>>> {
+    let crates = Path::new(env!("CARGO_MANIFEST_DIR")).join("crates");
+    let mut found = BTreeMap::new();
+    for entry in fs::read_dir(&crates).expect("the folder can be read") {
+        let folder = entry.expect("an entry").path();
+        let name = folder.file_name().and_then(|name| name.to_str()).expect("a name");
+        for part in ["src", "specs", "proofs", "must-fail"] {
+            if folder.join(part).is_dir() {
+                let files = found.entry(format!("{name}/{part}")).or_default();
+                gather(&folder, part, files);
+            }
+        }
+    }
+    found
+}
+
+#[test]
+fn sources_are_the_proved_ones() {
+    let told = told();
+    let folders = folders();
+    for (at, files) in &folders {
+        let wanted = told.get(at.as_str()).unwrap_or_else(|| panic!("PROOF has no {at}"));
+        assert_eq!(digest(files), *wanted, "{at} was changed after it was proved");
+    }
+    // Of each crate that Rust was made of there was a digest.
+    let mut made = 0;
+    for entry in fs::read_dir(erased::folder()).expect("the Rust is there") {
+        let rust = entry.expect("an entry").path();
+        if rust.is_dir() {
+            let name = rust.file_name().and_then(|name| name.to_str()).expect("a name");
+            assert!(folders.contains_key(&format!("{name}/src")), "no sources of {name}");
+            made += 1;
+        }
+    }
+    assert!(made >= 13, "only {made} crates");
+}
+
+#[test]
+fn a_changed_source_has_another_digest() {
+    let at = "wenc_base/src";
+    let files = folders().remove(at).expect("the sources of wenc_base");
+    for path in files.keys() {
+        let mut changed = files.clone();
+        changed.get_mut(path).expect("a file").push(b' ');
+        assert_ne!(digest(&changed), told()[at], "{path}");
+        let mut moved = files.clone();
+        let bytes = moved.remove(path).expect("a file");
+        moved.insert(format!("{path}_"), bytes);
+        assert_ne!(digest(&moved), told()[at], "{path}");
+    }
+}
+
+fn public_functions(text: &[u8]) -> usize {
+    let text = std::str::from_utf8(text).expect("a source is UTF-8");
+    text.lines().filter(|line| line.trim_start().starts_with("pub fn ")).count()
+}
+
+#[test]
+fn numbers_are_those_of_the_files() {
+    let number = |before: &str| {
+        let line = wenc::PROOF.lines().find_map(|line| line.strip_prefix(before));
+        line.and_then(|number| number.parse::<usize>().ok()).unwrap_or_else(|| panic!("{before}?"))
+    };
+    assert!(wenc::PROOF.starts_with("logic: "));
+    assert!(wenc::PROOF.lines().any(|line| line.starts_with("kits: rattle-kit-")));
+    // Private functions, those of traits and derived ones are proved too.
+    let sources = folders().into_iter().filter(|(at, _)| at.ends_with("/src"));
+    let public =
+        sources.flat_map(|(_, files)| files.into_values()).map(|text| public_functions(&text));
+    let public = public.sum::<usize>();
+    assert!(public > 0 && number("functions proved: ") > public, "{public} public functions");
+    // In a package there are no edits.
+    let edits = folders().into_iter().filter(|(at, _)| at.ends_with("/must-fail"));
+    let edits = edits.map(|(_, files)| files.len()).sum::<usize>();
+    assert!(edits == 0 || edits == number("edits refused: "), "{edits} edits");
+}
+
+/// The definitions that the guide quotes are lines of `specs`.
+#[test]
+fn quoted_definitions_are_in_the_sources() {
+    let folder = Path::new(env!("CARGO_MANIFEST_DIR"));
+    let specs = folders().into_iter().filter(|(at, _)| at.ends_with("/specs"));
+    let specs = specs.flat_map(|(_, files)| files.into_values()).collect::<Vec<_>>();
+    if specs.is_empty() {
+        // A package has none.
+        return assert!(!folder.join("crates/wenc_base/specs").exists());
+    }
+    let guide = folder.join("docs/DEFINITIONS.md");
+    let guide = fs::read_to_string(guide).expect("the guide can be read");
+    let specs = specs.iter().map(|text| std::str::from_utf8(text).expect("a source is UTF-8"));
+    let lines = specs.flat_map(str::lines).map(str::trim).collect::<HashSet<_>>();
+    let mut quoted = 0;
+    for line in guide.lines().filter_map(|line| line.strip_prefix("    ")) {
+        assert!(lines.contains(line), "{line}");
+        quoted += 1;
+    }
+    assert!(quoted > 0);
+}
+
+/// The callers that the pages of the crates show are those of `proved_tests`.
+#[test]
+fn callers_on_the_pages_are_proved_ones() {
+    let crates = Path::new(env!("CARGO_MANIFEST_DIR")).join("crates");
+    let sources = folders().remove("proved_tests/src").expect("the sources of facts");
+    let mut shown = 0;
+    for entry in fs::read_dir(&crates).expect("the folder can be read") {
+        let page = entry.expect("an entry").path().join("CALLING.md");
+        // Programs have none.
+        let Ok(page) = fs::read_to_string(page) else { continue };
+        for block in page.split("```rust\n").skip(1) {
+            let (code, _) = block.split_once("```").expect("the block ends");
+            let is_in = |text: &Vec<u8>| String::from_utf8_lossy(text).contains(code);
+            assert!(sources.values().any(is_in), "{code}");
+            shown += 1;
+        }
+    }
+    assert_eq!(shown, 10);
+}
+
+#[test]
+fn digests_are_those_of_the_standard() {
+    for (text, wanted) in [
+        (&b""[..], "e3b0c44298fc1c149afbf4c8996fb92427ae41e4649b934ca495991b7852b855"),
+        (b"abc", "ba7816bf8f01cfea414140de5dae2223b00361a396177a9cb410ff61f20015ad"),
+        (
+            b"abcdbcdecdefdefgefghfghighijhijkijkljklmklmnlmnomnopnopq",
+            "248d6a61d20638b8e5c026930c3e6039a33ce45964ff2167f6ecedd419db06c1",
+        ),
+        (&[b'a'; 1_000_000], "cdc76e5c9914fb9281a1c7e284d73e67f1809a48a497200e046d39ccc7112cd0"),
+    ] {
+        assert_eq!(sha256(text), wanted);
+    }
+}

@@ -1,0 +1,105 @@
+//! Numbers and types that bytes begin with, and sections of which nothing is unread.
+
+use super::component;
+use crate::proved::tests::hex::bytes;
+use crate::proved::wenc_decode::room_for;
+use crate::proved::wenc_list::first_unread;
+use crate::proved::wenc_parts::{ComponentValType, ResultList};
+use crate::proved::wenc_read::{NestedRefusal, Refusal, flag_of, u64_of};
+use crate::proved::wenc_view::{TypeView, View, type_at};
+use crate::shim::alloc::AllocError;
+use std::fmt::Debug;
+
+/// Bytes, and the value that they begin with and how many of them it has, or none.
+type Row<T> = (&'static [u8], Option<(T, usize)>);
+
+const FLAGS: [Row<bool>; 5] = [
+    (b"\x00\x01", Some((false, 1))),
+    (b"\x01", Some((true, 1))),
+    (b"\x02", None),
+    (b"\x80\x00", None),
+    (b"", None),
+];
+
+const LONG: [Row<u64>; 8] = [
+    (b"\x00\x2a", Some((0, 1))),
+    (b"\x80\x80\x04", Some((65536, 3))),
+    (b"\xff\xff\xff\xff\xff\xff\xff\xff\xff\x01", Some((18446744073709551615, 10))),
+    (b"\x81\x80\x80\x80\x80\x80\x80\x80\x80\x00", Some((1, 10))),
+    (b"\xff\xff\xff\xff\xff\xff\xff\xff\xff\x03", None),
+    (b"\x80\x80\x80\x80\x80\x80\x80\x80\x80\x80\x00", None),
+    (b"\xff\xff", None),
+    (b"", None),
+];
+
+const RESULTS: [Row<ResultList>; 4] = [
+    (b"\x00\xc0\x00\x2a", Some((ResultList(Some(ComponentValType::Type(64))), 3))),
+    (b"\x01\x00\x2a", Some((ResultList(None), 2))),
+    (b"\x01\x01", None),
+    (b"\x00", None),
+];
+
+/// Each of these bytes is read as what stands beside it.
+fn are<T: Copy + PartialEq + Debug>(
+    rows: &[Row<T>],
+    read: impl Fn(&'static [u8]) -> Result<(T, &'static [u8]), Refusal>,
+) {
+    for (bytes, wanted) in rows {
+        let wanted = wanted.map(|(value, len)| (value, &bytes[len..]));
+        assert_eq!(read(bytes), wanted.ok_or(Refusal::Malformed), "{bytes:02x?}");
+    }
+}
+
+#[test]
+fn values() {
+    are(&FLAGS, flag_of);
+    are(&LONG, u64_of);
+    are(&RESULTS, ResultList::view_of);
+}
+
+/// Values that have no room are counted as none.
+#[test]
+fn room() {
+    let rows = [(0, 0, 0), (0, 3, 0), (3, 3, 3), (2, 3, 2), (4, 3, 0), (4294967295, 3, 0)];
+    for (count, len, wanted) in rows {
+        assert_eq!(room_for(count, &[0; 3][..len]), wanted);
+    }
+}
+
+/// An instance type in another, as deep as is asked.
+#[test]
+fn depth() {
+    let bytes = bytes("4201014201016e002a");
+    let Ok((TypeView::Instance(decls), [0x2a])) = type_at(2, &bytes) else { panic!("a type") };
+    assert_eq!((decls.len(), decls.count()), (1, 1));
+    assert_eq!(type_at(1, &bytes), Err(NestedRefusal::TooDeep));
+    assert_eq!(type_at(2, &bytes[..6]), Err(NestedRefusal::from(Refusal::Malformed)));
+}
+
+#[test]
+fn refusals() {
+    assert_eq!(NestedRefusal::from(Refusal::from(AllocError)), NestedRefusal::from(AllocError));
+    assert_eq!(Refusal::from(AllocError), Refusal::Memory);
+}
+
+/// Sections, and the place of one that is read, or of none.
+const READ: [(&str, usize); 10] = [
+    ("", 0),
+    ("", 8),
+    ("", usize::MAX),
+    ("060100", 8),
+    ("060100", 12),
+    ("0601000a06010001660100", 11),
+    ("010109", 8),
+    // No section begins there, or a custom one without a name.
+    ("06", 8),
+    ("0c00", 8),
+    ("00020261", 8),
+];
+
+#[test]
+fn nothing_is_unread() {
+    for (sections, place) in READ {
+        assert_eq!(first_unread(&component(&bytes(sections)), place), None, "{sections} {place}");
+    }
+}

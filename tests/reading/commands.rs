@@ -1,0 +1,38 @@
+//! Commands that are refused, and their lists and texts.
+
+use crate::{component, name, text};
+use wenc::tree::{self, Command};
+use wenc::*;
+
+#[test]
+fn a_refused_command_changes_nothing() {
+    let import = || Command::Import { name: name("f"), ty: ComponentTypeRef::Func(0) };
+    let start = |results| Command::Start { function: 0, args: vec![].into(), results };
+    let nested = vec![import(), start(u32::MAX), start(1), import()].into();
+    let mut builder = ComponentBuilder::default();
+    let refused = Command::Component { debug_name: Some(text("n")), commands: nested };
+    assert_eq!(builder.command(&refused), Err(Error::TooMany));
+    assert_eq!((builder.component_count(), builder.func_count()), (0, 0));
+    assert_eq!(builder.command(&import()), Ok(Some(0)));
+
+    // An encoder of its own that a user dropped is the user's to give up.
+    drop(builder.type_defined(None));
+    let ty = tree::TypeTree::Instance(vec![].into());
+    let ty = Command::Type { debug_name: None, ty };
+    assert_eq!(builder.command(&ty), Err(Error::Unfinished));
+    assert!(builder.discard_unfinished());
+    assert_eq!(builder.command(&ty), Ok(Some(0)));
+    let expected = component(b"\x0a\x06\x01\x00\x01f\x01\x00\x07\x03\x01\x42\x00");
+    assert_eq!(builder.finish(), expected);
+}
+
+#[test]
+fn lists_and_texts_are_those_of_rust() {
+    let list: tree::Vec<u8> = vec![1, 2].into();
+    assert_eq!(Vec::from(list.clone()), [1, 2]);
+    assert_eq!(list, tree::Vec::from([1, 2]));
+    assert_eq!(list, [1, 2].into_iter().collect::<wenc::tree::Vec<_>>());
+    let given: String = text("x").into();
+    assert_eq!(given, "x");
+    assert_eq!(tree::Box::from(3).into_inner(), 3);
+}

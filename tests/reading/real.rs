@@ -1,0 +1,199 @@
+//! Real components, by all that reads them.
+
+use crate::corpus;
+use crate::seen::{is_name, is_same};
+use wenc::tree::{ItemTree, Space, Vec as List};
+use wenc::*;
+
+/// How many there are.
+#[derive(Debug, Default, PartialEq)]
+struct Found {
+    components: usize,
+    items: usize,
+    imports: usize,
+    exports: usize,
+    nested: usize,
+    modules: usize,
+    module_sections: usize,
+    producers: usize,
+    tools: usize,
+}
+
+#[test]
+fn components() {
+    let mut all = Found::default();
+    for (_, bytes) in corpus::components() {
+        let Ok(listing) = list(&bytes) else { continue };
+        let sections = Sections::new(&bytes).expect("a component");
+        all.components += 1;
+        all.items += are_items(sections, &listing);
+        are_found(sections, &listing, &mut all);
+        are_defined(&listing);
+        are_read_on(&bytes);
+        are_nested(&bytes, &mut all);
+        listing.items().for_each(|item| are_in_modules(item, &mut all));
+    }
+    let wanted = Found {
+        components: 40,
+        items: 1840,
+        imports: 45,
+        exports: 166,
+        nested: 359,
+        modules: 100,
+        module_sections: 697,
+        producers: 139,
+        tools: 179,
+    };
+    assert_eq!(all, wanted);
+}
+
+/// Owned items and borrowed ones are those of the listing. Returns how many there are.
+fn are_items(sections: Sections<'_>, listing: &Listing) -> usize {
+    let (views, trees) = (sections.items(), sections.trees());
+    let mut listed = listing.items();
+    for (view, tree) in views.zip(trees) {
+        let ((place, view), (range, tree)) = (view.expect("an item"), tree.expect("an item"));
+        assert!(place == range && is_same(view, &tree) && listed.next() == Some(&tree));
+    }
+    assert!(listed.next().is_none());
+    sections.items().count()
+}
+
+/// Imports, exports, names and counts are those of the listing.
+fn are_found(sections: Sections<'_>, listing: &Listing, all: &mut Found) {
+    let mut listed = listing.imports();
+    for found in sections.imports() {
+        let ((view, ty), (tree, of)) = (found.expect("it is read"), listed.next().expect("it is"));
+        assert!(is_name(view, tree) && ty == of);
+        all.imports += 1;
+    }
+    assert!(listed.next().is_none());
+    let mut listed = listing.exports();
+    for found in sections.exports() {
+        let (view, kind, index) = found.expect("it is read");
+        let (tree, of, at) = listed.next().expect("it is listed");
+        assert!(is_name(view, tree) && (kind, index) == (of, at));
+        all.exports += 1;
+    }
+    assert!(listed.next().is_none());
+    assert_eq!(sections.names(), listing.names());
+    for space in Space::ALL {
+        assert_eq!(sections.index_count(space), Ok(listing.count(space)));
+    }
+}
+
+/// Each item defines the indices from the count of those before it on.
+fn are_defined(listing: &Listing) {
+    let definitions = listing.definitions().expect("there is memory");
+    let mut next = [0u32; 13];
+    for item in listing.items() {
+        let Some((space, count)) = item.indices() else { continue };
+        let index = &mut next[space.number()];
+        for found in [listing.definition(space, *index), definitions.get(space, *index)] {
+            assert!(std::ptr::eq(found.expect("it is there"), item), "{space:?} {index}");
+        }
+        *index += count;
+    }
+    for space in Space::ALL {
+        let index = next[space.number()];
+        assert_eq!(listing.count(space), index.into());
+        assert_eq!((listing.definition(space, index), definitions.get(space, index)), (None, None));
+    }
+}
+
+/// From the end of each section and of each item on, what follows is read.
+fn are_read_on(bytes: &[u8]) {
+    let mut sections = Sections::new(bytes).expect("a component");
+    while let Some(section) = sections.next() {
+        let section = section.expect("it is framed");
+        let place = sections.offset().expect("no error");
+        assert_eq!(place, section.range().end);
+        let range = |next: Option<Result<SectionReader<'_>, _>>| next.map(|of| of.unwrap().range());
+        let mut rest = Sections::at(bytes, place).expect("it is within");
+        assert_eq!(range(rest.next()), range(sections.clone().next()));
+        let mut items = section.items();
+        while let Some(item) = items.next() {
+            item.expect("it is read");
+            let (range, count) = items.left().expect("no error");
+            let mut rest = Items::at(bytes, section.id(), range, count).expect("it is within");
+            assert_eq!(rest.next(), items.clone().next());
+        }
+        assert_eq!(items.left(), Some((place..place, 0)));
+    }
+}
+
+/// The sections of a listing and of the components in it, with the depth of each, and its place in
+/// the outermost.
+fn listed(bytes: &[u8], depth: usize, from: usize) -> Vec<(usize, usize, List<ItemTree>)> {
+    let mut found = Vec::new();
+    for ListedSection { place, items, .. } in list(bytes).expect("it is listed").sections {
+        let inner = match items.as_slice() {
+            [ItemTree::Component(inner)] => Vec::from(inner.clone()),
+            _ => Vec::new(),
+        };
+        found.push((depth, from + place, items));
+        if !inner.is_empty() {
+            let at = bytes[place..].windows(inner.len()).position(|bytes| bytes == inner);
+            found.extend(listed(&inner, depth + 1, from + place + at.expect("it is there")));
+        }
+    }
+    found
+}
+
+/// Sections of components in others are those of listings of these.
+fn are_nested(bytes: &[u8], all: &mut Found) {
+    let sections = Sections::new(bytes).expect("a component").nested(8);
+    let read = |section: Result<(usize, SectionReader<'_>), ListFault>| {
+        let (depth, section) = section?;
+        let items = section.trees().map(|item| Ok(item?.1)).collect::<Result<Vec<_>, _>>()?;
+        Ok((depth, section.range().start, List::from(items)))
+    };
+    // some have an item that isn't read in one
+    let found: Result<Vec<_>, ListFault> = sections.map(read).collect();
+    let Ok(found) = found else { return };
+    assert!(found == listed(bytes, 0, 0));
+    all.nested += found.iter().filter(|(depth, ..)| *depth > 0).count();
+}
+
+/// The ranges of a module's sections follow one another, from its header to its end. Its producers
+/// and those of a component are written again.
+fn are_in_modules(item: &ItemTree, all: &mut Found) {
+    match item {
+        ItemTree::Custom { name, data } if &**name == ProducersReader::SECTION => {
+            is_written_again(data, all);
+        }
+        ItemTree::Module(module) => {
+            let mut end = 8;
+            for section in CoreSections::new(module).expect("a module") {
+                let section = section.expect("a section");
+                assert_eq!((section.range.start, module[end]), (end, section.id));
+                assert!(module[section.range.clone()].ends_with(section.data));
+                assert!(section.kind().is_some());
+                end = section.range.end;
+                all.module_sections += 1;
+                if section.name == Some(ProducersReader::SECTION) {
+                    is_written_again(section.data, all);
+                }
+            }
+            assert_eq!(end, module.len());
+            all.modules += 1;
+        }
+        _ => {}
+    }
+}
+
+fn is_written_again(data: &[u8], all: &mut Found) {
+    let mut section = ProducersSection::new();
+    let tools: Vec<_> =
+        ProducersReader::new(data).collect::<Result<_, _>>().expect("they are read");
+    for field in tools.chunk_by(|one, other| one.field == other.field) {
+        let mut values = ProducersField::new();
+        field.iter().for_each(|tool| _ = values.value(tool.name, tool.version));
+        section.field(field[0].field, &values);
+    }
+    let mut bytes = Vec::new();
+    section.encode(&mut bytes);
+    assert!(bytes.ends_with(data), "{tools:?}");
+    all.producers += 1;
+    all.tools += tools.len();
+}
