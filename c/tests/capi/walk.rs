@@ -312,6 +312,8 @@ fn debug_names_are_read() {
     for (name, wanted) in [(&b"component-name"[..], Status::Done), (b"name", Status::BadArgument)] {
         let (_bytes, item) = custom(name, NAMES);
         assert_eq!(unsafe { wenc_walk_names(&mut names, &item) }, wanted);
+        let status = unsafe { wenc_walk_names(ptr::null_mut(), &item) };
+        assert_eq!(status, Status::BadArgument);
     }
     let import = &items(COMPONENT).0[1];
     assert_eq!(unsafe { wenc_walk_names(&mut names, import) }, Status::BadArgument);
