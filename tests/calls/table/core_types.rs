@@ -1,7 +1,7 @@
 //! Core types: of functions, structs and arrays, recursion groups, and types of core modules.
 
 use crate::bytes;
-use crate::call::{Call, Declare, Seen, here};
+use crate::call::{Build, Call, Declare, Seen, here};
 use crate::refuse::calmly;
 use crate::size::{Size, times};
 use wenc::tree::{
@@ -225,16 +225,13 @@ fn row(
 ) -> Call {
     let as_tree =
         move |ty: ComponentCoreTypeEncoder<'_>, a: &Size| ty.try_tree(&calmly(|| tree(a)));
+    let build: Build = Box::new(move |b, name, a| {
+        let (index, ty) = b.try_core_type(name)?;
+        write(ty, a).map(|()| index)
+    });
+    let command = move |debug_name, a: &Size| Command::CoreType { debug_name, ty: tree(a).into() };
+    let space = Some(Space::CoreTypes);
     Call {
-        name,
-        id: 3,
-        space: Some(Space::CoreTypes),
-        takes: 1,
-        own: None,
-        builds: vec![Box::new(move |b, name, a| {
-            let (index, ty) = b.try_core_type(name)?;
-            write(ty, a).map(|()| index)
-        })],
         hands: vec![
             Box::new(move |hand, a| write(hand.core_types.try_ty()?, a)),
             Box::new(move |hand, a| as_tree(hand.core_types.try_ty()?, a)),
@@ -245,12 +242,7 @@ fn row(
             (0x00, Box::new(move |types, a| as_tree(types.component.try_core_type()?, a))),
         ],
         members,
-        command: Box::new(move |debug_name, a| Command::CoreType {
-            debug_name,
-            ty: tree(a).into(),
-        }),
-        indices: Box::new(indices),
-        bytes: Box::new(bytes),
+        ..Call::new(name, (3, space, 1), vec![build], command, indices, bytes)
     }
 }
 
