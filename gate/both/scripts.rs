@@ -1,59 +1,16 @@
 //! Scripts for `wenc`, whose format docs/SCRIPTS.md describes.
 
+#[allow(dead_code, reason = "some are for tests")]
+#[path = "../../tests/proved/program/vectors.rs"]
+mod vectors;
+
 use crate::random::Random;
+use std::str;
 
 const KINDS: [&str; 6] = ["module", "func", "value", "type", "instance", "component"];
 
 /// The characters of names.
 const LETTERS: [&str; 12] = ["a", "b", "run", "-", ":", "/", "@1", "Z", "é", "€", "𝄞", "\t"];
-
-/// Builtins, and the words after each: `i` is an index, `b` a flag.
-const BUILTINS: [(&str, &str); 40] = [
-    ("resource.new", "i"),
-    ("resource.drop", "i"),
-    ("resource.rep", "i"),
-    ("task.cancel", ""),
-    ("subtask.cancel", "b"),
-    ("thread.yield", ""),
-    ("subtask.drop", ""),
-    ("stream.new", "i"),
-    ("stream.cancel-read", "ib"),
-    ("stream.cancel-write", "ib"),
-    ("stream.drop-readable", "i"),
-    ("stream.drop-writable", "i"),
-    ("future.new", "i"),
-    ("future.cancel-read", "ib"),
-    ("future.cancel-write", "ib"),
-    ("future.drop-readable", "i"),
-    ("future.drop-writable", "i"),
-    ("error-context.drop", ""),
-    ("waitable-set.new", ""),
-    ("waitable-set.wait", "i"),
-    ("waitable-set.poll", "i"),
-    ("waitable-set.drop", ""),
-    ("waitable.join", ""),
-    ("backpressure.inc", ""),
-    ("backpressure.dec", ""),
-    ("thread.index", ""),
-    ("thread.new-indirect", "ii"),
-    ("thread.resume-later", ""),
-    ("thread.suspend", ""),
-    ("thread.suspend-then-resume", ""),
-    ("thread.yield-then-resume", ""),
-    ("thread.suspend-then-promote", ""),
-    ("thread.yield-then-promote", ""),
-    ("stream.forward", "i"),
-    ("future.forward", "i"),
-    ("thread.spawn-ref", "i"),
-    ("thread.spawn-indirect", "ii"),
-    ("thread.available-parallelism", ""),
-    // The operands of these can't be given as words.
-    ("task.return", "i"),
-    ("future.read", "i"),
-];
-
-/// The functions of the table that a script can name.
-const SAID: usize = BUILTINS.len() - 2;
 
 /// Returns a script, some of whose lines may be bad.
 pub fn script(random: &mut Random) -> Vec<u8> {
@@ -94,12 +51,24 @@ fn start(random: &mut Random) -> String {
     line
 }
 
+/// Functions of the component model, with operands: a number above 1 is an index, another a flag.
+fn functions() -> Vec<&'static str> {
+    let scripts = vectors::words::VECTORS.iter();
+    let texts = scripts.map(|vector| str::from_utf8(vector.script).expect("it is text"));
+    texts.flat_map(str::lines).filter(|line| line.contains('.')).collect()
+}
+
 fn builtin(random: &mut Random) -> String {
-    let known = if random.one_in(100) { BUILTINS.len() } else { SAID };
-    let (verb, fields) = random.one_of(&BUILTINS[..known]);
+    if random.one_in(100) {
+        // Their operands can't be given as words.
+        return format!("{} {}", random.one_of(&["task.return", "future.read"]), number(random));
+    }
+    let line = random.one_of(&functions());
+    let (verb, operands) = line.split_once(' ').unwrap_or((line, ""));
     let mut line = verb.to_string();
-    for field in fields.chars() {
-        let value = if field == 'i' { number(random) } else { random.below(2).to_string() };
+    for operand in operands.split_terminator(' ') {
+        let is_flag = ["0", "1"].contains(&operand);
+        let value = if is_flag { random.below(2).to_string() } else { number(random) };
         line += &format!(" {value}");
     }
     line

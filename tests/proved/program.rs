@@ -1,6 +1,5 @@
 //! The program: scripts, listings, streams that fail, and runs that want memory.
 
-mod commands;
 mod lines;
 mod lists;
 mod memory;

@@ -3,6 +3,7 @@
 #[cfg(unix)]
 #[path = "program/manual.rs"]
 mod manual;
+#[allow(dead_code, reason = "some are for the library's own tests")]
 #[path = "../../../tests/proved/program/vectors.rs"]
 mod vectors;
 
@@ -43,76 +44,37 @@ fn expect<A: AsRef<OsStr>>(
 
 const NO_ARGUMENTS: [&str; 0] = [];
 
+const COUNTS: &str = "10 1\n11 1\n0 0 0 0 0 0 0 0 2 0 0 0 0\n";
+
+/// Arguments and an input, with the status, what is printed, and what is said.
+type Run = (&'static [&'static str], &'static str, (i32, &'static str, &'static str));
+
+const RUNS: [Run; 10] = [
+    // a carriage return before the end of a line belongs to the last word
+    (&[], "alias-export 0 func n\r\n", (0, "0\n0061736d0d000100060701010000026e0d\n", "")),
+    (&[], "import f func 0\r\n", (1, "", "line 1\n")),
+    (&[], "import f func 0\n\nnope\n", (1, "", "line 3\n")),
+    (
+        &[],
+        "start 0 4294967295\nstart 0 1\n",
+        (2, "0\nrefused 2\n0061736d0d00010009070000ffffffff0f\n", ""),
+    ),
+    (&["list"], "0061736D0D0001000a060100016601000b0701000167010000\n", (0, COUNTS, "")),
+    (&["list"], "0061736d0d0001000600\n", (3, "", "BadItem at 8\n")),
+    (&["list"], "00\r\n", (1, "", "line 1\n")),
+    (&["List"], "import f func 0\n", (1, "", "usage\n")),
+    (&[""], "import f func 0\n", (1, "", "usage\n")),
+    (&["list", ""], "0061736d0d000100", (1, "", "usage\n")),
+];
+
 #[test]
-fn scripts_are_run() {
+fn scripts_are_run_and_components_listed() {
     for vector in vectors::all() {
         let out = str::from_utf8(vector.out).expect("it is text");
         expect(NO_ARGUMENTS, vector.script, (vector.status.into(), out, ""));
     }
-}
-
-/// A carriage return before the end of a line belongs to the last word.
-#[test]
-fn a_carriage_return_is_in_the_last_word() {
-    let out = "0\n0061736d0d000100060a01010000056e616d650d\n";
-    expect(NO_ARGUMENTS, b"alias-export 0 func name\r\n", (0, out, ""));
-    for bad in [&b"import f func 0\r\n"[..], b"append-names\r\n", b"core-module -\r\n", b"\r\n"] {
-        expect(NO_ARGUMENTS, bad, (1, "", "line 1\n"));
-    }
-}
-
-#[test]
-fn bad_scripts_are_told_by_their_line() {
-    for (script, line) in vectors::bad::VECTORS {
-        expect(NO_ARGUMENTS, script, (1, "", &format!("line {line}\n")));
-    }
-}
-
-#[test]
-fn what_is_refused_adds_nothing() {
-    let script = b"start 0 4294967295\nstart 0 1\nresource.drop 5\n";
-    let out = "0\nrefused 2\n0\n0061736d0d00010009070000ffffffff0f0803010305\n";
-    expect(NO_ARGUMENTS, script, (2, out, ""));
-}
-
-#[test]
-fn components_are_listed() {
-    let listings = [
-        ("0061736d0d000100", "0 0 0 0 0 0 0 0 0 0 0 0 0\n"),
-        (
-            "0061736D0D0001000a060100016601000b0701000167010000\n",
-            "10 1\n11 1\n0 0 0 0 0 0 0 0 2 0 0 0 0\n",
-        ),
-        (
-            "0061736d0d00010009070700ffffffff0f09070700ffffffff0f",
-            "9 1\n9 1\n0 0 0 0 0 0 0 0 0 0 8589934590 0 0\n",
-        ),
-    ];
-    for (digits, out) in listings {
-        expect(["list"], digits.as_bytes(), (0, out, ""));
-    }
-}
-
-#[test]
-fn what_is_not_listed_is_told() {
-    let faults = [
-        ("", "NotAComponent at 0\n"),
-        ("0061736d0d000100060501", "BadSection at 8\n"),
-        ("0061736d0d0001000600\n", "BadItem at 8\n"),
-        ("0061736d0d00010006020109", "BadItem at 8\n"),
-    ];
-    for (digits, err) in faults {
-        expect(["list"], digits.as_bytes(), (3, "", err));
-    }
-    for digits in ["0", "0g", " 00", "00\n\n", "00\r\n"] {
-        expect(["list"], digits.as_bytes(), (1, "", "line 1\n"));
-    }
-}
-
-#[test]
-fn other_arguments_have_the_usage_told() {
-    for args in [&["x"][..], &[""], &["List"], &["list", "list"], &["list", ""]] {
-        expect(args, b"import f func 0\n", (1, "", "usage\n"));
+    for (args, input, end) in RUNS {
+        expect(args, input.as_bytes(), end);
     }
 }
 

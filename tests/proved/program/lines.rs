@@ -1,26 +1,22 @@
-//! Each word of a script with one word too many, one too few, a number past its range, and a flag
-//! that is none.
+//! Lines of scripts that say nothing: each word with one word too many, one too few, a number past
+//! its range, and a flag that is none.
 
-use super::commands::{ITEMS, RESOURCES_AND_TASKS, STREAMS_AND_FUTURES, THREADS};
 use super::outcome::expect;
+use super::vectors::{bad, words};
 use crate::proved::proved_tests::callers::accepted_text;
+use crate::proved::wenc::line::command;
 use crate::shim::alloc::Global;
 use std::string::String;
 use std::vec::Vec;
-use std::{format, vec};
+use std::{format, str, vec};
 
-/// Lines of items that are bad. The others are made of the lines of canonical functions.
-const ITEMS_THAT_ARE_BAD: &[&str] = &[
-    "import f func 9 9",
-    "import f func",
-    "import f func 4294967296",
+/// Bad lines beside those of `vectors/bad.rs`: of items, of functions with options, and others. The
+/// rest is made of the lines of functions.
+const BAD: &[&str] = &[
     "import f func 00000000009999999999",
     "export f func 9 9",
-    "export f func",
     "export f func 4294967296",
     "alias-export 9 func f 9",
-    "alias-export 9 func",
-    "alias-export 4294967296 func f",
     "core-module 00 9",
     "core-module",
     "core-module 0",
@@ -34,13 +30,27 @@ const ITEMS_THAT_ARE_BAD: &[&str] = &[
     "start 4294967296 1",
     "start 1 4294967296",
     "start 1 1 4294967296",
+    "lift 0 0",
+    "lower 0",
+    "task.return",
+    "context.get 0",
+    "context.set 0",
+    "stream.write 0",
+    "future.read 0",
+    "future.write 0",
+    "error-context.new",
+    "error-context.debug-message",
+    "import",
+    "import f func 0\r",
+    " ",
 ];
 
-fn is_bad(script: &str) {
-    expect(script, &[], script.as_bytes(), &(1, b"", b"line 1\n"));
+fn is_bad(line: &str) {
+    expect(line, &[], line.as_bytes(), &(1, b"", b"line 1\n"));
+    assert!(command(Global, line.as_bytes()).unwrap().is_none(), "{line}");
 }
 
-/// Lines made of one of a canonical function, whose numbers are all indices but a last flag.
+/// Lines made of one of a function, whose numbers are all indices but a last flag.
 fn made_of(line: &str) -> Vec<String> {
     let words: Vec<&str> = line.split(' ').collect();
     let mut made = vec![format!("{line} 9"), format!("{line} 0")];
@@ -58,12 +68,23 @@ fn made_of(line: &str) -> Vec<String> {
 
 #[test]
 fn each_word() {
-    ITEMS_THAT_ARE_BAD.iter().for_each(|line| is_bad(line));
-    for (line, _) in ITEMS {
-        assert!(accepted_text(Global, line.as_bytes()).is_some(), "{line}");
+    BAD.iter().for_each(|line| is_bad(line));
+    for (line, _) in bad::VECTORS.iter().filter(|(script, _)| !script.contains(&b'\n')) {
+        assert!(command(Global, line).unwrap().is_none(), "{line:?}");
     }
-    for (line, _) in [RESOURCES_AND_TASKS, STREAMS_AND_FUTURES, THREADS].into_iter().flatten() {
-        assert!(accepted_text(Global, line.as_bytes()).is_some(), "{line}");
-        made_of(line).iter().for_each(|script| is_bad(script));
+    for line in [&b""[..], b"import f func 0\n"] {
+        assert!(command(Global, line).unwrap().is_none(), "{line:?}");
     }
+    let (mut lines, mut functions) = (0, 0);
+    for line in
+        words::VECTORS.iter().flat_map(|vector| str::from_utf8(vector.script)).flat_map(str::lines)
+    {
+        assert!(accepted_text(Global, line.as_bytes()).is_some(), "{line}");
+        lines += 1;
+        if line.contains('.') {
+            functions += 1;
+            made_of(line).iter().for_each(|line| is_bad(line));
+        }
+    }
+    assert_eq!((lines, functions), (66, 43));
 }

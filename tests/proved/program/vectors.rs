@@ -5,14 +5,8 @@
 pub mod bad;
 #[path = "vectors/edges.rs"]
 mod edges;
-#[path = "vectors/long.rs"]
-mod long;
-#[path = "vectors/long_words.rs"]
-mod long_words;
-#[path = "vectors/short.rs"]
-mod short;
 #[path = "vectors/words.rs"]
-mod words;
+pub mod words;
 
 /// A script, and the status and the standard output of its run.
 pub struct Vector {
@@ -28,6 +22,5 @@ const fn run(status: u8, script: &'static [u8], out: &'static [u8]) -> Vector {
 
 /// Those of which each line can be read.
 pub fn all() -> impl Iterator<Item = &'static Vector> {
-    let all = [edges::VECTORS, short::VECTORS, long::VECTORS, words::VECTORS, long_words::VECTORS];
-    all.into_iter().flatten()
+    edges::VECTORS.iter().chain(words::VECTORS)
 }
