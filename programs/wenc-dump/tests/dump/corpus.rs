@@ -1,8 +1,7 @@
 //! What is printed of the components of the corpus.
 
+use crate::dump;
 use crate::values::Value;
-use crate::{dump, file_of};
-use std::ffi::OsStr;
 use std::fs;
 use std::path::{Path, PathBuf};
 use std::process::Output;
@@ -21,13 +20,6 @@ fn digest(bytes: &[u8]) -> u64 {
         .fold(0xcbf2_9ce4_8422_2325, |hash, byte| (hash ^ u64::from(*byte)).wrapping_mul(prime))
 }
 
-#[test]
-fn digests_are_fnv() {
-    assert_eq!(digest(b""), 0xcbf2_9ce4_8422_2325);
-    assert_eq!(digest(b"a"), 0xaf63_dc4c_8601_ec8c);
-    assert_eq!(digest(b"foobar"), 0x8594_4171_f739_67e8);
-}
-
 /// The names of the components.
 pub fn names() -> Vec<String> {
     let files = fs::read_dir(corpus("wasm")).expect("the corpus is there");
@@ -40,80 +32,32 @@ pub fn names() -> Vec<String> {
 }
 
 /// The lines of what is printed and their digest, with what is said of the component.
-fn line(name: &str, format: &str, output: &Output) -> String {
+fn line(name: &str, output: &Output) -> String {
     let lines = output.stdout.iter().filter(|byte| **byte == b'\n').count();
     let err = String::from_utf8_lossy(&output.stderr);
     let whys = err.lines().filter_map(|line| line.split_once(".wasm: "));
     let why: String = whys.map(|(_, why)| format!(", {why}")).collect();
     assert_eq!(output.status.code(), Some((!why.is_empty()).into()), "{name}");
-    format!("{name}{format}: {lines} lines, {:016x}{why}\n", digest(&output.stdout))
+    format!("{name}: {lines} lines, {:016x}{why}\n", digest(&output.stdout))
 }
 
-/// The stored output at this path. Where it is to be another, this one is written, and the test
-/// fails: `dumps` is `write`.
-fn stored(path: &Path, output: &[u8], dumps: Option<&OsStr>) -> String {
-    if dumps.is_some_and(|dumps| dumps == "write") {
-        fs::write(path, output).expect("it can be written");
-        panic!("{}: written", path.display());
-    }
-    fs::read_to_string(path).expect("it is there")
-}
-
-/// The stored output of the corpus, which `DUMPS=write` in the environment writes.
-fn stored_in_corpus(path: &str, output: &[u8]) -> String {
-    stored(&corpus(path), output, std::env::var_os("DUMPS").as_deref())
-}
-
-#[test]
-fn only_write_writes_what_is_stored() {
-    let path = file_of("stored.txt", b"old");
-    for dumps in [None, Some(""), Some("1"), Some("WRITE"), Some("write ")] {
-        assert_eq!(stored(&path, b"new", dumps.map(OsStr::new)), "old", "{dumps:?}");
-        assert_eq!(fs::read(&path).expect("it is there"), b"old", "{dumps:?}");
-    }
-    let written = std::panic::catch_unwind(|| stored(&path, b"new", Some(OsStr::new("write"))));
-    let message = written.expect_err("the test fails");
-    assert!(message.downcast_ref::<String>().is_some_and(|text| text.ends_with(": written")));
-    assert_eq!(fs::read(&path).expect("it is there"), b"new");
-}
-
-/// `corpus/dumps.txt` has two lines for each component, of its text and of that with all bytes.
+/// `corpus/dumps.txt` has a line for each component, of its text with all bytes. `DUMPS=write` in
+/// the environment writes it again.
 #[test]
 fn the_corpus() {
-    let mut lines = String::new();
-    for name in names() {
-        let file = corpus(&format!("wasm/{name}.wasm"));
-        for (options, format) in [(&[][..], ""), (&["--hex"], " in hexadecimal")] {
-            lines += &line(&name, format, &dump(options, &file));
-        }
+    let dumped = |name: &String| line(name, &dump(&["-x"], &corpus(&format!("wasm/{name}.wasm"))));
+    let lines: String = names().iter().map(dumped).collect();
+    let path = corpus("dumps.txt");
+    if std::env::var_os("DUMPS").is_some_and(|wish| wish == "write") {
+        fs::write(&path, &lines).expect("it can be written");
+        panic!("{}: written", path.display());
     }
-    let stored = stored_in_corpus("dumps.txt", lines.as_bytes());
+    let stored = fs::read_to_string(path).expect("it is there");
     for (is, wanted) in lines.lines().zip(stored.lines()) {
         assert_eq!(is, wanted);
     }
     let faults = lines.lines().filter(|line| line.contains(" in the section at ")).count();
-    assert_eq!((lines.lines().count(), stored.lines().count(), faults), (92, 92, 12));
-}
-
-fn expect_whole(name: &str) {
-    let output = dump(&[], &corpus(&format!("wasm/{name}.wasm")));
-    let wanted = stored_in_corpus(&format!("dumps/{name}.txt"), &output.stdout);
-    assert_eq!(String::from_utf8_lossy(&output.stdout), wanted, "{name}");
-}
-
-#[test]
-fn whole_output_of_an_empty_component() {
-    expect_whole("29-empty");
-}
-
-#[test]
-fn whole_output_of_resources() {
-    expect_whole("10-resource-export");
-}
-
-#[test]
-fn whole_output_of_a_start() {
-    expect_whole("35-start");
+    assert_eq!((lines.lines().count(), stored.lines().count(), faults), (46, 46, 6));
 }
 
 /// No line that can be folded is longer than 100 columns: what is, is one text or one name.

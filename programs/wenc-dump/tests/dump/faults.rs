@@ -4,39 +4,6 @@ use crate::{dump, expect, expect_of, file_of};
 use std::path::Path;
 
 #[test]
-fn faults_of_sections_and_items() {
-    let bad = "\
-bad item 1 at 0x10 in the section at 0x8: the section ends where an import is expected";
-    let out = "\
-0x0..0x10 component, 16 bytes
-  0x8..0x10 import section, 8 bytes, 2 items
-    0xb func 0: import \"f\" Func(0)
-    0x10 items that aren't read
-";
-    expect("bad_item", b"\x0a\x06\x02\0\x01f\x01\0", out, Some(bad));
-    let out = "0x0..0xb component, 11 bytes\n  0x8 no section\n    0x8: 06 05 01\n";
-    let bad = "bad section at 0x8: needs 5 bytes or more from 0xa on, where 1 is left";
-    expect("bad_section", b"\x06\x05\x01", out, Some(bad));
-    let bad = "\
-bad count at 0xa in the section at 0x8: needs 2 bytes or more from 0xa on, where 1 is left";
-    let out = "\
-0x0..0xb component, 11 bytes
-  0x8..0xb alias section, 3 bytes
-    0xa no count
-      0xa: 80
-";
-    expect("bad_count", b"\x06\x01\x80", out, Some(bad));
-    let bad = "bytes behind the last item at 0xb in the section at 0x8";
-    let out = "\
-0x0..0xc component, 12 bytes
-  0x8..0xc alias section, 4 bytes, 0 items
-    0xb bytes behind the last item
-      0xb: 00
-";
-    expect("behind", b"\x06\x02\0\0", out, Some(bad));
-}
-
-#[test]
 fn types_too_deep_are_a_fault() {
     // 101 instance types, each the only declaration of the one around it
     let mut ty = vec![0x42, 0];
@@ -53,40 +20,6 @@ fn types_too_deep_are_a_fault() {
     let bad = "\
 too deep item 0 at 0xc in the section at 0x8: the type at 0x138 is in more than 100 others";
     expect("too_deep_type", &section, out, Some(bad));
-}
-
-#[test]
-fn faults_of_nested_components() {
-    let out = "\
-0x0..0x16 component, 22 bytes
-  0x8..0x16 component section, 14 bytes, 1 item
-    0xa..0x16 component 0, 12 bytes
-      0x12..0x16 alias section, 4 bytes, 1 item
-        0x15 items that aren't read
-          0x15: 09
-";
-    let nested = b"\x04\x0c\0asm\x0d\0\x01\0\x06\x02\x01\x09";
-    let bad = "\
-bad item 0 at 0x15 in the section at 0x12: 0x09 where an alias is expected";
-    expect("bad_nested", nested, out, Some(bad));
-    let out = "\
-0x0..0xd component, 13 bytes
-  0x8..0xd component section, 5 bytes, 1 item
-    0xa..0xd component 0, 3 bytes
-      0xa no component's header
-        0xa: 00 61 73
-";
-    let bad = "no component's header at 0xa: found other bytes: 00 61 73";
-    expect("no_component", b"\x04\x03\0as", out, Some(bad));
-    let out = "\
-0x0..0x12 component, 18 bytes
-  0x8..0x12 component section, 10 bytes, 1 item
-    0xa..0x12 component 0, 8 bytes
-      0xa no component's header
-        0xa: 00 61 73 6d 01 00 00 00
-";
-    let bad = "no component's header at 0xa: found a core module";
-    expect("module_as_component", b"\x04\x08\0asm\x01\0\0\0", out, Some(bad));
 }
 
 #[test]
@@ -146,34 +79,6 @@ bad item 0 at 0x20: needs 1 byte or more from 0x20 on, where 0 are left";
 /// is read; one that is cut.
 const BAD_SECTIONS: &[u8] = b"\0asm\x01\0\0\0\x01\0\x41\0\0\x01\x07\x03\x02\0\0\x0b\x01\0\x01\x7f";
 
-#[test]
-fn sections_of_core_modules_are_faults() {
-    let out = "\
-0x0..0x18 core module, 24 bytes
-  0x8..0xa type section, 2 bytes
-    0xa no count
-  0xa..0xc section 65, 2 bytes
-    0xa unknown section
-      0xa: 41 00
-  0xc..0xf custom section, 3 bytes
-    0xc no name
-      0xc: 00 01 07
-  0xf..0x13 function section, 4 bytes, 0 items
-    0x12 bytes behind the last item
-      0x12: 00
-  0x13..0x16 data section, 3 bytes, 0 items
-  0x16 no core section
-    0x16: 01 7f
-";
-    let bad = "\
-bad count at 0xa: needs 1 byte or more from 0xa on, where 0 are left
-unknown section 65 at 0xa
-custom section without a name at 0xc: needs 8 bytes or more from 0xe on, where 1 is left
-bytes behind the last item at 0x12
-bad core section at 0x16: needs 127 bytes or more from 0x18 on, where 0 are left";
-    expect_of(&[], &file_of("bad_sections", BAD_SECTIONS), out, Some(bad));
-}
-
 /// What follows the module is printed too.
 #[test]
 fn sections_of_core_modules_in_components_are_faults() {
@@ -205,20 +110,6 @@ bytes behind the last item at 0x1c
 bad core section at 0x20: needs 127 bytes or more from 0x22 on, where 0 are left";
     let sections = [b"\x01\x18", BAD_SECTIONS, b"\x06\x01\0"].concat();
     expect("bad_sections_nested", &sections, out, Some(bad));
-}
-
-#[test]
-fn nested_modules_that_are_none_are_faults() {
-    let out = "\
-0x0..0x12 component, 18 bytes
-  0x8..0xf core module section, 7 bytes, 1 item
-    0xa..0xf core module 0, 5 bytes
-      0xa no core module's header
-        0xa: 68 65 6c 6c 6f
-  0xf..0x12 alias section, 3 bytes, 0 items
-";
-    let bad = "no core module's header at 0xa: found other bytes: 68 65 6c 6c 6f";
-    expect("no_module", b"\x01\x05hello\x06\x01\0", out, Some(bad));
 }
 
 /// Sections that aren't read, and some that are.

@@ -1,7 +1,7 @@
 //! Text of worked components and core modules.
 
-use crate::{FUNCTION, FUNCTION_TEXT, component, expect, expect_of, file, file_of};
-use wenc_dump::{Streams, Terminal, colours_are_wanted, run as dump};
+use crate::{FUNCTION, FUNCTION_TEXT, component, expect, expect_of, file_of, run};
+use wenc_dump::{Terminal, colours_are_wanted};
 
 #[test]
 fn sections_and_items() {
@@ -246,33 +246,11 @@ fn a_member_without_room_in_100_columns_is_folded() {
     expect("member_has_none", &variant(72), &format!("{front}{lines}{back}"), None);
 }
 
-#[test]
-fn a_terminal_has_colours() {
-    let arguments = ["wenc-dump".into(), file("coloured", FUNCTION).into_os_string()];
-    let (mut out, mut err) = (Vec::new(), Vec::new());
-    let mut streams = Streams { input: &mut &b""[..], out: &mut out, err: &mut err };
-    let terminal = Terminal { has_colours: true, columns: None };
-    let status = dump(arguments.into_iter(), terminal, &mut streams);
-    let wanted = "\
-\x1b[2m0x0..0x17\x1b[0m component, 23 bytes
-  \x1b[2m0x8..0xf\x1b[0m type section, 7 bytes, 1 item
-    \x1b[2m0xb\x1b[0m \x1b[36mtype 0\x1b[0m: Func { is_async: false, params: [], result: None }
-  \x1b[2m0xf..0x17\x1b[0m import section, 8 bytes, 1 item
-    \x1b[2m0x12\x1b[0m \x1b[36mfunc 0\x1b[0m: import \x1b[32m\"f\"\x1b[0m Func(0)
-";
-    assert_eq!((status, String::from_utf8_lossy(&out).as_ref()), (0, wanted));
-    assert!(err.is_empty());
-}
-
 /// What the program prints of the component with these sections, and its status.
 fn printed(sections: &[u8], options: &[&str], has_colours: bool) -> (String, u8) {
-    let bytes = component(sections);
-    let arguments = ["wenc-dump"].iter().chain(options).chain(&["-"]).map(Into::into);
-    let (mut out, mut err) = (Vec::new(), Vec::new());
-    let mut streams = Streams { input: &mut &bytes[..], out: &mut out, err: &mut err };
     let terminal = Terminal { has_colours, columns: None };
-    let status = dump(arguments, terminal, &mut streams);
-    (String::from_utf8(out).expect("it is text"), status)
+    let (status, out, _) = run(options, &component(sections), terminal);
+    (out, status)
 }
 
 /// Names and texts have a colour, the points behind a name that is cut have none.
@@ -328,33 +306,4 @@ fn no_color_and_dumb_terminals_have_none() {
     assert!(!wanted(false, None, None) && !wanted(false, None, Some("xterm")));
     assert!(!wanted(true, Some("1"), Some("xterm")) && !wanted(true, Some("0"), None));
     assert!(!wanted(true, None, Some("dumb")) && !wanted(true, Some(""), Some("dumb")));
-}
-
-/// A custom section and one without items, of a module that is by itself.
-#[test]
-fn short_core_module() {
-    let module = b"\0asm\x01\0\0\0\0\x02\x01x\x01\x01\0";
-    let out = "\
-0x0..0xf core module, 15 bytes
-  0x8..0xc custom section \"x\", 4 bytes
-  0xc..0xf type section, 3 bytes, 0 items
-";
-    expect_of(&[], &file_of("short_core_module", module), out, None);
-}
-
-#[test]
-fn names_of_the_component_and_of_a_function() {
-    let names = b"\0\x1a\x0ecomponent-name\0\x02\x01c\x01\x05\x01\x01\0\x01g";
-    let out = "\
-0x0..0x33 component \"c\", 51 bytes
-  0x8..0xf type section, 7 bytes, 1 item
-    0xb type 0: Func { is_async: false, params: [], result: None }
-  0xf..0x17 import section, 8 bytes, 1 item
-    0x12 func 0 \"g\": import \"f\" Func(0)
-  0x17..0x33 custom section, 28 bytes, 1 item
-    0x19 custom \"component-name\", 11 bytes
-      component \"c\"
-      func 0 \"g\"
-";
-    expect("debug_names", &[FUNCTION, names].concat(), out, None);
 }
