@@ -1,6 +1,6 @@
-//! The corpus listed, and made again by commands and by sections.
+//! The corpus listed, and made again in each way.
 
-use crate::{by_hand, corpus};
+use crate::{corpus, features, random};
 use wenc::tree::{Command, ItemTree, build};
 use wenc::{
     Component, ComponentBuilder, Encode, ItemSection, ListFault, Listing, SectionReader, Sections,
@@ -20,7 +20,11 @@ pub fn built(commands: &[Command]) -> Vec<u8> {
 
 /// The corpus's components and those that are nested in them, with their names, in their order.
 pub fn all() -> Vec<(String, Vec<u8>)> {
-    let mut all = corpus::components();
+    with_nested(corpus::components())
+}
+
+/// These and those that are nested in them.
+fn with_nested(mut all: Vec<(String, Vec<u8>)>) -> Vec<(String, Vec<u8>)> {
     let mut at = 0;
     while let Some((name, bytes)) = all.get(at) {
         let name = name.clone();
@@ -34,58 +38,6 @@ pub fn all() -> Vec<(String, Vec<u8>)> {
         at += 1;
     }
     all
-}
-
-/// Where the first byte differs.
-fn differs(one: &[u8], other: &[u8]) -> usize {
-    let at = one.iter().zip(other).position(|(one, other)| one != other);
-    at.unwrap_or(one.len().min(other.len()))
-}
-
-#[test]
-fn what_is_refused_stands_in_a_list() {
-    let mut told = Vec::new();
-    for (name, bytes) in all() {
-        match list(&bytes) {
-            Ok(_) => {}
-            Err(ListFault::BadItem { place, .. }) => told.push(format!("{name} BadItem {place}")),
-            Err(fault) => told.push(format!("{name}: {fault}")),
-        }
-    }
-    let stored = corpus::text("refused.txt");
-    let stored = stored.lines().map(|line| line.split(": ").next().expect("a line"));
-    assert_eq!(told, stored.collect::<Vec<_>>());
-}
-
-#[test]
-fn all_others_are_made_again_by_commands() {
-    let (mut components, mut made) = (0, 0);
-    for (name, bytes) in all() {
-        let Ok(listing) = list(&bytes) else { continue };
-        let commands: Vec<Command> = items(listing).map(Command::from).collect();
-        let again = built(&commands);
-        assert!(again == bytes, "{name}: others from byte {} on", differs(&again, &bytes));
-        let mut builder = ComponentBuilder::default();
-        for command in &commands {
-            builder.command(command).expect(&name);
-        }
-        assert!(builder.finish() == bytes, "{name}: others by one builder");
-        components += 1;
-        made += commands.len();
-    }
-    assert_eq!((components, made), (68, 2555));
-}
-
-#[test]
-fn all_others_are_made_again_by_sections() {
-    let mut components = 0;
-    for (name, bytes) in all() {
-        let Ok(listing) = list(&bytes) else { continue };
-        let again = by_hand::component(&listing);
-        assert!(again == bytes, "{name}: others from byte {} on", differs(&again, &bytes));
-        components += 1;
-    }
-    assert_eq!(components, 68);
 }
 
 /// The sections of a component, all of which are framed.
@@ -102,15 +54,16 @@ fn kept(bytes: &[u8]) -> Vec<u8> {
     component.finish()
 }
 
-/// The component section by section, item by item: those whose number is among these are written
-/// anew, and the others kept.
-fn by_items(bytes: &[u8], is_anew: impl Fn(usize) -> bool) -> Vec<u8> {
+/// The component section by section, item by item: of two items in turn one is written anew, and
+/// the other kept.
+fn by_items(bytes: &[u8], anew: usize) -> Vec<u8> {
     let mut component = Component::new();
     for section in sections(bytes) {
         let mut made = ItemSection::new(section.id());
         for (number, item) in section.trees().enumerate() {
             let (place, item) = item.expect("an item");
-            let added = if is_anew(number) { made.item(&item) } else { made.raw(&bytes[place]) };
+            let is_anew = number % 2 == anew;
+            let added = if is_anew { made.item(&item) } else { made.raw(&bytes[place]) };
             added.expect("it is added");
         }
         component.section(&made);
@@ -127,57 +80,32 @@ fn by_trees(listing: &Listing) -> Vec<u8> {
     component.finish()
 }
 
-#[test]
-fn all_are_made_again_by_their_sections_as_they_stand() {
-    let mut components = 0;
-    for (name, bytes) in all() {
-        assert!(kept(&bytes) == bytes, "{name}");
-        components += 1;
+/// The component by the builder.
+fn by_builder(commands: &[Command]) -> Vec<u8> {
+    let mut builder = ComponentBuilder::default();
+    for command in commands {
+        builder.command(command).expect("it is accepted");
     }
-    assert_eq!(components, 74);
+    builder.finish()
 }
 
-#[test]
-fn all_others_are_made_again_item_by_item() {
-    let mut components = 0;
-    for (name, bytes) in all() {
-        let Ok(listing) = list(&bytes) else { continue };
-        assert!(by_trees(&listing) == bytes, "{name}");
-        for anew in [0, 1] {
-            assert!(by_items(&bytes, |number| number % 2 == anew) == bytes, "{name}");
-        }
-        components += 1;
+/// The component is made again of what is listed of these bytes. Returns how many items it has.
+fn is_made_again(name: &str, text: &[u8], bytes: &[u8]) -> usize {
+    let listing = list(text).expect(name);
+    let trees = by_trees(&listing);
+    let commands: Vec<Command> = items(listing).map(Command::from).collect();
+    let ways = [
+        ("trees", trees),
+        ("commands", built(&commands)),
+        ("a builder", by_builder(&commands)),
+        ("items in even places", by_items(text, 0)),
+        ("items in odd places", by_items(text, 1)),
+    ];
+    for (way, again) in ways {
+        let differs = again.iter().zip(bytes).position(|(one, other)| one != other);
+        assert!(again == bytes, "{name}: others by {way}, from byte {differs:?} on");
     }
-    assert_eq!(components, 68);
-}
-
-/// The bytes of the tree that an item is; `None` of an item that is none.
-fn encoded(item: &ItemTree) -> Option<Vec<u8>> {
-    let mut bytes = Vec::new();
-    match item {
-        ItemTree::CoreInstance(tree) => tree.encode(&mut bytes),
-        ItemTree::CoreType(tree) => tree.encode(&mut bytes),
-        ItemTree::Instance(tree) => tree.encode(&mut bytes),
-        ItemTree::Alias(tree) => tree.encode(&mut bytes),
-        ItemTree::Type(tree) => tree.encode(&mut bytes),
-        ItemTree::Canon(tree) => tree.encode(&mut bytes),
-        _ => return None,
-    }
-    Some(bytes)
-}
-
-#[test]
-fn trees_of_all_others_have_their_bytes() {
-    let mut trees = 0;
-    for (name, bytes) in all().into_iter().filter(|(_, bytes)| list(bytes).is_ok()) {
-        for item in sections(&bytes).flat_map(|section| section.trees()) {
-            let (place, item) = item.expect("an item");
-            let Some(encoded) = encoded(&item) else { continue };
-            assert!(encoded == bytes[place], "{name}: {item:?}");
-            trees += 1;
-        }
-    }
-    assert_eq!(trees, 1801);
+    commands.len()
 }
 
 /// The number, in five bytes.
@@ -201,23 +129,36 @@ fn widened(bytes: &[u8]) -> Vec<u8> {
         let size = padded(count.len() + content.len());
         wide.extend([&[section.id()], &size[..], &count, content].concat());
     }
+    assert!(wide.len() >= bytes.len() + 3 * sections(bytes).count());
     wide
 }
 
+/// Sections are kept as they stand. Those that are listed are written anew, also if sizes and
+/// counts were padded; the others are those in a list.
 #[test]
-fn padded_sizes_and_counts_are_kept_or_written_anew() {
-    let mut components = 0;
+fn all_are_made_again() {
+    let (mut told, mut components, mut made) = (Vec::new(), 0, 0);
     for (name, bytes) in all() {
-        let Ok(listing) = list(&bytes) else { continue };
-        let wide = widened(&bytes);
-        assert!(wide.len() >= bytes.len() + 3 * listing.sections.len(), "{name}");
-        assert!(kept(&wide) == wide, "{name}");
-        assert!(by_items(&wide, |_| false) == bytes, "{name}");
-        let listing = list(&wide).expect(&name);
-        assert!(by_trees(&listing) == bytes, "{name}");
-        let commands: Vec<Command> = items(listing).map(Command::from).collect();
-        assert!(built(&commands) == bytes, "{name}");
-        components += 1;
+        assert!(kept(&bytes) == bytes, "{name}");
+        match list(&bytes) {
+            Ok(_) => {
+                let wide = widened(&bytes);
+                assert!(kept(&wide) == wide, "{name}");
+                is_made_again(&name, &wide, &bytes);
+                made += is_made_again(&name, &bytes, &bytes);
+                components += 1;
+            }
+            Err(ListFault::BadItem { place, .. }) => told.push(format!("{name} BadItem {place}")),
+            Err(fault) => told.push(format!("{name}: {fault}")),
+        }
     }
-    assert_eq!(components, 68);
+    let refused = corpus::text("refused.txt");
+    let refused = refused.lines().map(|line| line.split(": ").next().expect("a line"));
+    assert_eq!(told, refused.collect::<Vec<_>>());
+    assert_eq!((components, made), (68, 2555));
+    let seeds = (9..=12).map(|seed| (format!("seed {seed}"), random::components(seed, 2, true).0));
+    let others = seeds.chain([("features".into(), features::known())]);
+    let others = with_nested(others.collect());
+    others.iter().for_each(|(name, bytes)| _ = is_made_again(name, bytes, bytes));
+    assert_eq!(others.len(), 327);
 }

@@ -1,22 +1,14 @@
-//! Components with one feature each, around the same core module: what upstream's validator says of
-//! it is what is stored.
-
-mod others;
+//! Features that upstream's validator knows, in one component, and what it refuses.
 
 use crate::corpus;
 use crate::interfaces::*;
-use crate::toolchain::linker;
-use std::fmt::Write;
 use wenc::CanonicalOption::*;
 use wenc::ComponentExportKind as Kind;
 use wenc::*;
 
-pub(crate) type Builder = ComponentBuilder;
+type Builder = ComponentBuilder;
 
-/// A feature's name, and how it is added to what each of these components has.
-type Feature = (&'static str, fn(&mut Builder));
-
-/// Types that each of the components has, by their indices.
+/// Types that each component has, by their indices.
 const STREAM: u32 = 0;
 const FUTURE: u32 = 1;
 const RESOURCE: u32 = 2;
@@ -57,149 +49,284 @@ fn base(core: &[u8]) -> Builder {
     b
 }
 
-/// Features that are calls of the builder.
-macro_rules! calls {
-    ($($name:literal: $($call:ident $args:tt),+;)*) => {
-        const CALLS: &[Feature] = &[$(($name, |b| { $(b.$call $args;)+ })),*];
+fn add_lifted_and_lowered(b: &mut Builder) {
+    b.lift_func(None, 1, NUM, []);
+    b.lift_func(None, 2, TEXT, [UTF8, MEMORY, REALLOC, PostReturn(3)]);
+    b.lift_func(None, 2, TEXT, [UTF16, MEMORY, REALLOC]);
+    b.lift_func(None, 2, TEXT, [CompactUTF16, MEMORY, REALLOC]);
+    b.lift_func(None, 0, ASYNC, [Async]);
+    b.lift_func(None, 1, ASYNC, [Async, Callback(5)]);
+    b.lift_func(None, 0, UNIT, [Gc]);
+    b.lower_func(None, 0, []);
+    b.lower_func(None, 1, [UTF8, MEMORY, REALLOC]);
+    b.lower_func(None, 2, [Async, MEMORY]);
+}
+
+fn add_tasks(b: &mut Builder) {
+    b.resource_new(RESOURCE);
+    b.resource_drop(RESOURCE);
+    b.resource_rep(RESOURCE);
+    b.task_cancel();
+    b.task_return(None, []);
+    b.task_return(Some(U32), []);
+    b.task_return(Some(STRING), [MEMORY, UTF8]);
+    b.subtask_cancel(false);
+    b.subtask_cancel(true);
+    b.subtask_drop();
+    b.context_get(ValType::I32, 0);
+    b.context_set(ValType::I32, 0);
+    b.error_context_new([UTF8, MEMORY]);
+    b.error_context_debug_message([UTF16, MEMORY, REALLOC]);
+    b.error_context_drop();
+    b.waitable_set_new();
+    b.waitable_set_wait(0);
+    b.waitable_set_poll(0);
+    b.waitable_set_drop();
+    b.waitable_join();
+    b.backpressure_inc();
+    b.backpressure_dec();
+}
+
+fn add_streams_and_futures(b: &mut Builder) {
+    b.stream_new(STREAM);
+    b.stream_read(STREAM, [MEMORY]);
+    b.stream_read(STREAM, [Async, MEMORY]);
+    b.stream_write(STREAM, [MEMORY]);
+    b.stream_cancel_read(STREAM, false);
+    b.stream_cancel_read(STREAM, true);
+    b.stream_cancel_write(STREAM, true);
+    b.stream_drop_readable(STREAM);
+    b.stream_drop_writable(STREAM);
+    b.future_new(FUTURE);
+    b.future_read(FUTURE, [MEMORY]);
+    b.future_write(FUTURE, [Async, MEMORY]);
+    b.future_cancel_read(FUTURE, true);
+    b.future_cancel_write(FUTURE, false);
+    b.future_drop_readable(FUTURE);
+    b.future_drop_writable(FUTURE);
+}
+
+/// Functions that moved between versions.
+fn add_threads(b: &mut Builder) {
+    b.thread_yield();
+    b.thread_index();
+    b.thread_new_indirect(0, 0);
+    b.thread_suspend();
+    b.thread_available_parallelism();
+}
+
+fn add_imports_and_exports(b: &mut Builder) {
+    b.import("resource", ComponentTypeRef::Type(TypeBounds::SubResource));
+    b.import("equal", EQUAL);
+    let value = b.import("value", ComponentTypeRef::Value(U32));
+    b.export("again", Kind::Func, 0, Some(ComponentTypeRef::Func(UNIT)));
+    b.export("its-type", Kind::Type, RESOURCE, None);
+    b.export("equal-again", Kind::Type, STREAM, Some(EQUAL));
+    b.export("value-again", Kind::Value, value, None);
+    let bag = b.instantiate_exports(Some("bag"), [("one", Kind::Func, 0), ("two", Kind::Func, 1)]);
+    b.export("bag", Kind::Instance, bag, None);
+    let data = [1, 2, 3];
+    b.custom_section(&CustomSection { name: "any".into(), data: data.as_slice().into() });
+}
+
+/// A type of structs with these fields.
+fn structure(
+    fields: &[(StorageType, bool)],
+    is_final: bool,
+    supertype_idx: Option<u32>,
+) -> SubType {
+    let field = |&(element_type, mutable): &_| FieldType { element_type, mutable };
+    let fields = fields.iter().map(field).collect();
+    let inner = CompositeInnerType::Struct(StructType { fields });
+    let composite_type = CompositeType { inner, shared: false, descriptor: None, describes: None };
+    SubType { is_final, supertype_idx, composite_type }
+}
+
+/// Types of functions, arrays and structs.
+fn add_core_types(b: &mut Builder) {
+    let params = [ValType::I32, ValType::V128, ValType::FUNCREF];
+    b.core_type(None).1.core().function(params, [ValType::F64]);
+    b.core_type(None).1.core().array(&StorageType::I8, true);
+    let fields = [(StorageType::I16, false), (StorageType::Val(ValType::I64), true)];
+    let fields = fields.map(|(element_type, mutable)| FieldType { element_type, mutable });
+    b.core_type(None).1.core().struct_(fields);
+    let byte = (StorageType::I8, false);
+    let (index, ty) = b.core_type(None);
+    ty.core().subtype(&structure(&[], false, None));
+    b.core_type(None).1.core().subtype(&structure(&[byte], false, Some(index)));
+    b.core_type(None).1.core().subtype(&structure(&[byte], true, Some(index + 1)));
+    let (index, ty) = b.core_type(None);
+    let to = |index| ValType::Ref(RefType { nullable: true, heap_type: HeapType::Concrete(index) });
+    let field = |index| (StorageType::Val(to(index)), true);
+    let other = structure(&[field(index)], true, None);
+    ty.core().rec([structure(&[field(index + 1)], false, None), other]);
+    b.core_type(None).1.core().rec([]);
+    add_core_heap_types(b);
+}
+
+fn add_core_heap_types(b: &mut Builder) {
+    use AbstractHeapType::*;
+    let all = [Func, Extern, Any, None, NoExtern, NoFunc, Eq, Struct, Array, I31, Exn, NoExn];
+    let reference = |nullable, ty| {
+        ValType::Ref(RefType { nullable, heap_type: HeapType::Abstract { shared: false, ty } })
     };
+    let params = all.map(|ty| [reference(true, ty), reference(false, ty)]);
+    b.core_type(Option::None).1.core().function(params.concat(), []);
 }
 
-calls! {
-    "lift": lift_func(None, 1, NUM, []);
-    "lift-utf8": lift_func(None, 2, TEXT, [UTF8, MEMORY, REALLOC, PostReturn(3)]);
-    "lift-utf16": lift_func(None, 2, TEXT, [UTF16, MEMORY, REALLOC]);
-    "lift-compact": lift_func(None, 2, TEXT, [CompactUTF16, MEMORY, REALLOC]);
-    "lift-async": lift_func(None, 0, ASYNC, [Async]);
-    "lift-callback": lift_func(None, 1, ASYNC, [Async, Callback(5)]);
-    "lift-gc": lift_func(None, 0, UNIT, [Gc]);
-    "lower": lower_func(None, 0, []);
-    "lower-text": lower_func(None, 1, [UTF8, MEMORY, REALLOC]);
-    "lower-async": lower_func(None, 2, [Async, MEMORY]);
-    "resource.new": resource_new(RESOURCE);
-    "resource.drop": resource_drop(RESOURCE);
-    "resource.rep": resource_rep(RESOURCE);
-    "task.cancel": task_cancel();
-    "task.return-none": task_return(None, []);
-    "task.return-u32": task_return(Some(U32), []);
-    "task.return-text": task_return(Some(STRING), [MEMORY, UTF8]);
-    "subtask.cancel": subtask_cancel(false), subtask_cancel(true);
-    "subtask.drop": subtask_drop();
-    "context": context_get(ValType::I32, 0), context_set(ValType::I32, 0);
-    "context-i64": context_get(ValType::I64, 0);
-    "stream.new": stream_new(STREAM);
-    "stream.read": stream_read(STREAM, [MEMORY]);
-    "stream.read-async": stream_read(STREAM, [Async, MEMORY]);
-    "stream.write": stream_write(STREAM, [MEMORY]);
-    "stream.cancel-read": stream_cancel_read(STREAM, false), stream_cancel_read(STREAM, true);
-    "stream.cancel-write": stream_cancel_write(STREAM, true);
-    "stream.drop": stream_drop_readable(STREAM), stream_drop_writable(STREAM);
-    "stream.forward": stream_forward(STREAM);
-    "future.new": future_new(FUTURE);
-    "future.read": future_read(FUTURE, [MEMORY]);
-    "future.write": future_write(FUTURE, [Async, MEMORY]);
-    "future.cancel-read": future_cancel_read(FUTURE, true);
-    "future.cancel-write": future_cancel_write(FUTURE, false);
-    "future.drop": future_drop_readable(FUTURE), future_drop_writable(FUTURE);
-    "future.forward": future_forward(FUTURE);
-    "error-context.new": error_context_new([UTF8, MEMORY]);
-    "error-context.message": error_context_debug_message([UTF16, MEMORY, REALLOC]);
-    "error-context.drop": error_context_drop();
-    "waitable-set.new": waitable_set_new();
-    "waitable-set.wait": waitable_set_wait(0);
-    "waitable-set.poll": waitable_set_poll(0);
-    "waitable-set.drop": waitable_set_drop();
-    "waitable.join": waitable_join();
-    "backpressure": backpressure_inc(), backpressure_dec();
-    "thread.yield": thread_yield();
-    "thread.index": thread_index();
-    "thread.new-indirect": thread_new_indirect(0, 0);
-    "thread.resume-later": thread_resume_later();
-    "thread.suspend": thread_suspend();
-    "thread.suspend-then-resume": thread_suspend_then_resume();
-    "thread.yield-then-resume": thread_yield_then_resume();
-    "thread.suspend-then-promote": thread_suspend_then_promote();
-    "thread.yield-then-promote": thread_yield_then_promote();
-    "thread.spawn-ref": thread_spawn_ref(0);
-    "thread.spawn-indirect": thread_spawn_indirect(0, 0);
-    "thread.available-parallelism": thread_available_parallelism();
-    "export-ascribed": export("again", Kind::Func, 0, Some(ComponentTypeRef::Func(UNIT)));
-    "export-type": export("it", Kind::Type, RESOURCE, None);
-    "export-type-eq": export("it", Kind::Type, STREAM, Some(EQUAL));
-    "import-type-sub": import("r", ComponentTypeRef::Type(TypeBounds::SubResource));
-    "import-type-eq": import("r", EQUAL);
-    "names-appended": append_names();
-    "unknown-index": resource_drop(99);
-    "bad-name": import("Not Kebab", ComponentTypeRef::Func(UNIT));
+fn add_core_module_types(b: &mut Builder) {
+    let memory = |minimum, maximum, memory64, shared| {
+        EntityType::Memory(MemoryType { minimum, maximum, memory64, shared, page_size_log2: None })
+    };
+    let table = |element_type, table64, maximum| {
+        let (minimum, shared) = (1, false);
+        EntityType::Table(TableType { element_type, table64, minimum, maximum, shared })
+    };
+    let global = GlobalType { val_type: ValType::I64, mutable: true, shared: false };
+    let tag = TagType { kind: TagKind::Exception, func_type_idx: 0 };
+    let mut module = ModuleType::new();
+    module.ty().function([ValType::I32], []);
+    module.alias_outer_core_type(1, 0);
+    module.import("m", "f", EntityType::Function(0));
+    module.import("m", "t", table(RefType::FUNCREF, false, Some(2)));
+    module.import("m", "m", memory(1, None, false, false));
+    module.import("m", "g", EntityType::Global(global));
+    module.import("m", "x", EntityType::Tag(tag));
+    module.export("f", EntityType::Function(1));
+    module.export("big", memory(1, Some(1 << 20), true, false));
+    module.export("shared", memory(1, Some(2), false, true));
+    module.export("t64", table(RefType::EXTERNREF, true, None));
+    b.core_type(None).1.module(&module);
+    let mut module = ModuleType::new();
+    module.ty().subtype(&structure(&[], false, None));
+    b.core_type(None).1.module(&module);
 }
 
-/// The features' names, in their order, each with its component.
-fn components() -> impl Iterator<Item = (&'static str, Vec<u8>)> {
-    let core = corpus::read("features.wasm");
-    let mut features: Vec<&Feature> = CALLS.iter().chain(others::OTHERS).collect();
-    features.sort_by_key(|(name, _)| *name);
-    features.into_iter().map(move |(name, add)| {
-        let mut builder = base(&core);
-        add(&mut builder);
-        (*name, builder.finish())
-    })
+fn add_core_module_import(b: &mut Builder) {
+    let mut ty = ModuleType::new();
+    ty.ty().function([], []);
+    ty.export("f", EntityType::Function(0));
+    let (index, encoder) = b.core_type(None);
+    encoder.module(&ty);
+    let ty = ComponentTypeRef::Module(index);
+    let module = b.import("a-module", ty);
+    let instance = b.core_instantiate(None, module, [] as [(&str, ModuleArg); 0]);
+    b.core_alias_export(None, instance, "f", ExportKind::Func);
+    b.export("its-module", ComponentExportKind::Module, module, Some(ty));
 }
 
-/// A line for each component, in the order of their names: `valid`, or what the validator says,
-/// without the place.
-fn verdicts() -> Option<(String, String)> {
-    let linker = linker("a component for each feature")?;
-    let mut told = String::new();
-    for (name, component) in components() {
-        let refused = linker.refuses(&component);
-        let said = refused.as_deref().unwrap_or("valid").split(" (at offset").next();
-        writeln!(told, "{name}: {}", said.expect("a word")).expect("there is memory");
+fn add_core_instances(b: &mut Builder) {
+    let module = b"\0asm\x01\0\0\0\x01\x04\x01\x60\0\0\x0d\x03\x01\0\0\
+        \x06\x06\x01\x7f\0\x41\0\x0b\x07\x09\x02\x01t\x04\0\x01g\x03\0";
+    let module = b.core_module_raw(None, module);
+    let instance = b.core_instantiate(None, module, [] as [(&str, ModuleArg); 0]);
+    let tag = b.core_alias_export(None, instance, "t", ExportKind::Tag);
+    let global = b.core_alias_export(None, instance, "g", ExportKind::Global);
+    let exports = [("t", ExportKind::Tag, tag), ("g", ExportKind::Global, global)];
+    b.core_instantiate_exports(None, exports);
+
+    let exports =
+        [("f", ExportKind::Func, 0), ("m", ExportKind::Memory, 0), ("t", ExportKind::Table, 0)];
+    let bag = b.core_instantiate_exports(Some("bag"), exports);
+    let module = b"\0asm\x01\0\0\0\x01\x04\x01\x60\0\0\x02\x07\x01\x01a\x01f\0\0";
+    let module = b.core_module_raw(None, module);
+    b.core_instantiate(None, module, [("a", ModuleArg::Instance(bag))]);
+}
+
+fn add_component_type(b: &mut Builder) {
+    let mut inner = ComponentType::new();
+    let ty = inner.func(false, &[], None);
+    inner.import("f", ComponentTypeRef::Func(ty));
+    inner.export("g", ComponentTypeRef::Func(ty));
+    inner.core_type().core().function([], []);
+    inner.alias(Alias::Outer { kind: ComponentOuterAliasKind::Type, count: 1, index: STREAM });
+    inner.alias(Alias::Outer { kind: ComponentOuterAliasKind::CoreType, count: 1, index: 0 });
+    let ty = b.type_component(None, &inner);
+    let deep = (0..50).fold(ComponentType::new(), |inner, _| {
+        let mut outer = ComponentType::new();
+        outer.ty().component(&inner);
+        outer
+    });
+    b.type_component(None, &deep);
+    let component = b.import("c", ComponentTypeRef::Component(ty));
+    let instance = b.instantiate(None, component, [("f", Kind::Func, 0)]);
+    let g = b.alias_export(instance, "g", Kind::Func);
+    b.export("g", Kind::Func, g, None);
+}
+
+fn add_instance_type(b: &mut Builder) {
+    let mut inner = InstanceType::new();
+    let r = resource(&mut inner, "r");
+    let own = inner.defined(|ty| ty.own(r));
+    inner.export_func("make", &[], Some(own));
+    let ty = b.type_instance(Some("makes"), &inner);
+    let instance = b.import("a:b/c@1.2.3", ComponentTypeRef::Instance(ty));
+    let alias = b.alias_export(instance, "r", Kind::Type);
+    assert_ne!(alias, RESOURCE);
+    b.resource_drop(alias);
+    b.export("a:b/c@1.2.3", Kind::Instance, instance, None);
+}
+
+fn add_nested(b: &mut Builder) {
+    use ComponentOuterAliasKind::*;
+    let mut inner = Builder::default();
+    for (kind, index) in [(Type, TEXT), (CoreType, 0), (CoreModule, 0)] {
+        inner.alias(None, Alias::Outer { kind, count: 1, index });
     }
-    Some((linker.version(), told))
+    let f = inner.import("f", ComponentTypeRef::Func(0));
+    inner.export("g", Kind::Func, f, None);
+    inner.append_names();
+    let component = b.component(Some("inner"), inner);
+    let instance = b.instantiate(Some("it"), component, [("f", Kind::Func, 1)]);
+    b.export("it", Kind::Instance, instance, None);
+    b.export("inner", Kind::Component, component, None);
 }
 
-/// What stands in `corpus/verdicts.txt` was said by these versions. Others may know what came
-/// later, or have moved what isn't of the standard yet; but what the others find valid stays so, if
-/// it isn't about threads.
-const VERSIONS: [&str; 2] = ["0.245.1", "0.246.2"];
-
-/// What no version finds valid, though each may say it in its own words.
-const NEVER_VALID: [&str; 3] = ["bad-name", "resource-in-component-type", "unknown-index"];
-
-/// The stored lines from which those of this version differ, where they may not.
-fn differing<'a>(stored: &'a str, told: &str, version: &str) -> Vec<&'a str> {
-    assert_eq!(stored.lines().count(), told.lines().count());
-    let is_told = |(line, other): &(&str, &str)| {
-        let [(name, verdict), (of, other)] =
-            [line, other].map(|line| line.split_once(": ").expect("a verdict"));
-        assert_eq!(name, of);
-        match verdict {
-            _ if VERSIONS.contains(&version) => verdict == other,
-            "valid" => other == "valid" || name.starts_with("thread."),
-            _ => other != "valid" || !NEVER_VALID.contains(&name),
-        }
-    };
-    let lines = stored.lines().zip(told.lines());
-    lines.filter(|lines| !is_told(lines)).map(|(line, _)| line).collect()
+/// A component that has what all of these add.
+fn with(add: &[fn(&mut Builder)]) -> Vec<u8> {
+    let mut b = base(&corpus::read("features.wasm"));
+    add.iter().for_each(|add| add(&mut b));
+    b.append_names();
+    b.finish()
 }
 
-#[test]
-fn features_have_the_verdicts_that_are_stored() {
-    let stored = corpus::text("verdicts.txt");
-    let named = stored.lines().filter_map(|line| line.split_once(": ")).map(|(name, _)| name);
-    assert!(named.eq(components().map(|(name, _)| name)), "each feature has a verdict");
-    let Some((version, told)) = verdicts() else { return };
-    let differing = differing(&stored, &told, &version);
-    assert!(differing.is_empty(), "wit-component {version}: {differing:?}");
+/// What each version of the validator knows.
+pub fn known() -> Vec<u8> {
+    with(&[
+        add_lifted_and_lowered,
+        add_tasks,
+        add_streams_and_futures,
+        add_imports_and_exports,
+        add_core_types,
+        add_core_module_types,
+        add_core_module_import,
+        add_core_instances,
+        add_component_type,
+        add_instance_type,
+        add_nested,
+    ])
 }
 
-/// What is compared of another version, and of one of those.
-#[test]
-fn other_versions_have_words_of_their_own() {
-    let stored = "bad-name: no\nlift: valid\nof-later: unknown\nthread.index: valid\n";
-    let other = "bad-name: never\nlift: valid\nof-later: valid\nthread.index: moved\n";
-    assert_eq!(differing(stored, other, "0.300.0"), [""; 0]);
-    let all = ["bad-name: no", "of-later: unknown", "thread.index: valid"];
-    assert_eq!(differing(stored, other, VERSIONS[0]), all);
-    let wrong = "bad-name: valid\nlift: no\nof-later: unknown\nthread.index: valid\n";
-    assert_eq!(differing(stored, wrong, "0.300.0"), ["bad-name: no", "lift: valid"]);
+/// What some do.
+pub fn threads() -> Vec<u8> {
+    with(&[add_threads])
+}
+
+/// Components that none accepts, and why.
+pub fn refused() -> [(Vec<u8>, &'static str); 3] {
+    [
+        (with(&[|b| _ = b.resource_drop(99)]), "unknown type 99: type index out of bounds"),
+        (
+            with(&[|b| _ = b.import("Not Kebab", ComponentTypeRef::Func(UNIT))]),
+            "import name `Not Kebab` is not a valid extern name",
+        ),
+        (
+            with(&[|b| {
+                let mut inner = ComponentType::new();
+                inner.ty().resource(ValType::I32, None);
+                b.type_component(None, &inner);
+            }]),
+            "resources can only be defined within a concrete component",
+        ),
+    ]
 }

@@ -9,16 +9,16 @@
 #![cfg(feature = "reader")]
 
 mod again;
-mod by_hand;
 mod corpus;
 mod docs;
 mod examples;
 mod features;
+mod indices;
 mod interfaces;
 mod names;
-mod out_of_range;
 mod random;
-mod renumbered;
 mod shown;
 mod toolchain;
+mod upstream;
+mod valid;
 mod worlds;

@@ -1,12 +1,10 @@
-//! Random components that are valid by construction, many in one, for the validator: each index
-//! that a call answers is used by later calls where only an item of its kind and type is valid.
+//! Random components that are valid by construction, many in one: each index that a call answers is
+//! used by later calls where only an item of its kind and type is valid.
 
 mod canonicals;
 mod types;
 
 use crate::corpus;
-use crate::toolchain::linker;
-use wenc::tree::Command;
 use wenc::*;
 
 /// Numbers that a seed makes.
@@ -181,7 +179,7 @@ impl Maker<'_> {
 }
 
 /// A component that holds random ones, and how many there are in these with them, and calls.
-fn components(seed: u64, count: usize, has_names: bool) -> (Vec<u8>, usize, usize) {
+pub fn components(seed: u64, count: usize, has_names: bool) -> (Vec<u8>, usize, usize) {
     let core = corpus::read("features.wasm");
     let mut maker = Maker { random: Random(seed), core: &core, components: 0, calls: 0, has_names };
     let mut outer = ComponentBuilder::default();
@@ -191,60 +189,4 @@ fn components(seed: u64, count: usize, has_names: bool) -> (Vec<u8>, usize, usiz
         outer.component(None, inner);
     }
     (outer.finish(), maker.components, maker.calls)
-}
-
-#[test]
-fn a_thousand_random_components_are_valid() {
-    let Some(linker) = linker("random components") else { return };
-    let (mut components, mut calls) = (0, 0);
-    for seed in 1..=8 {
-        let (bytes, more_components, more_calls) = self::components(seed, 4, true);
-        assert_eq!(linker.refuses(&bytes), None, "seed {seed}");
-        components += more_components;
-        calls += more_calls;
-    }
-    assert!(components > 1000 && calls > 50_000, "{components} components, {calls} calls");
-}
-
-/// Seeds, and what upstream's own calls make of them without debug names: how many bytes, and their
-/// FNV-1a of 64 bits. Upstream writes the names of instances twice.
-const UPSTREAM: [(u64, usize, u64); 8] = [
-    (1, 385483, 0x3f9d_e789_ed17_8fd4),
-    (2, 312283, 0x626b_8fb8_4239_adfe),
-    (3, 197968, 0xcdde_56a9_35e7_c44c),
-    (4, 542466, 0xbf72_1209_caf3_9850),
-    (5, 435250, 0x6074_da03_7bc3_6fe7),
-    (6, 309509, 0x2bf6_dddd_1412_0b7a),
-    (7, 339126, 0x645b_a69e_71e4_321c),
-    (8, 99976, 0x0d00_8286_ae95_dc26),
-];
-
-#[test]
-fn random_components_are_upstreams() {
-    for (seed, len, hash) in UPSTREAM {
-        let bytes = components(seed, 4, false).0;
-        let step = |hash: u64, byte: &u8| (hash ^ u64::from(*byte)).wrapping_mul(0x100_0000_01b3);
-        let own = bytes.iter().fold(0xcbf2_9ce4_8422_2325, step);
-        assert_eq!((bytes.len(), own), (len, hash), "seed {seed}");
-    }
-}
-
-#[test]
-fn random_components_are_listed_and_made_again() {
-    for seed in 9..=12 {
-        check(&components(seed, 2, true).0, seed);
-    }
-}
-
-/// A component and those that are nested in it, made again by commands and by sections.
-fn check(bytes: &[u8], seed: u64) {
-    let listing = list(bytes).expect("it is listed");
-    assert!(crate::by_hand::component(&listing) == bytes, "seed {seed}");
-    for item in listing.sections.iter().flat_map(|section| &section.items) {
-        if let tree::ItemTree::Component(inner) = item {
-            check(inner, seed);
-        }
-    }
-    let commands: Vec<Command> = crate::again::items(listing).map(Command::from).collect();
-    assert!(crate::again::built(&commands) == bytes, "seed {seed}");
 }

@@ -17,18 +17,15 @@ enum Texts {
     Utf16,
 }
 
-const WORLDS: [World; 14] = [
+const WORLDS: [World; 11] = [
     ("01-flat", "t:flat/flat", Texts::Utf8, flat),
     ("04-variants", "t:variants/variants", Texts::Utf8, variants),
-    ("07-fixed-lists", "t:fixed/fixed", Texts::Utf8, fixed),
-    ("08-maps", "t:maps/maps", Texts::Utf8, maps),
     ("09-resource-import", "t:res/res", Texts::Utf8, resources),
     ("10-resource-export", "t:rex/rex", Texts::Utf8, exported_resources),
     ("14-use-types", "t:uses/uses", Texts::Utf8, uses),
     ("16-packages", "t:packages/packages@2.0.0", Texts::Utf8, packages),
     ("21-async-export", "t:ase/ase", Texts::Utf8, async_export),
     ("22-streams-import", "t:str/str", Texts::Utf8, streams),
-    ("24-error-context", "t:err/err", Texts::Utf8, errors),
     ("27-interfaces-inline", "t:inline/inline", Texts::Utf8, inline),
     ("29-empty", "t:empty/empty", Texts::Utf8, empty),
     ("30-utf16", "t:utf-sixteen/u16w", Texts::Utf16, utf16),
@@ -82,9 +79,6 @@ const F32: Val = primitive(PrimitiveValType::F32);
 const F64: Val = primitive(PrimitiveValType::F64);
 const S64: Val = primitive(PrimitiveValType::S64);
 const U64: Val = primitive(PrimitiveValType::U64);
-const CHAR: Val = primitive(PrimitiveValType::Char);
-const BOOL: Val = primitive(PrimitiveValType::Bool);
-const ERROR_CONTEXT: Val = primitive(PrimitiveValType::ErrorContext);
 
 /// A type that a world imports under a name.
 fn import_type(of: &mut ComponentType, name: &str, ty: Val) -> Val {
@@ -139,27 +133,6 @@ fn variants(of: &mut ComponentType) {
     of.import("t:variants/trees", ty);
     let ty = interface(of, trees);
     of.export("t:variants/trees", ty);
-}
-
-fn fixed(of: &mut ComponentType) {
-    let four = of.defined(|ty| ty.fixed_length_list(U32, 4));
-    import_func(of, "sum", &[("x", four)], Some(U32));
-    let bytes = of.defined(|ty| ty.fixed_length_list(U8, 3));
-    let row = of.defined(|ty| ty.fixed_length_list(F64, 2));
-    let rows = of.defined(|ty| ty.fixed_length_list(row, 3));
-    of.export_func("back", &[("x", bytes)], Some(rows));
-    let long = of.defined(|ty| ty.fixed_length_list(STRING, 1000));
-    of.export_func("long", &[("x", long)], Some(U32));
-}
-
-fn maps(of: &mut ComponentType) {
-    let counts = of.defined(|ty| ty.map(STRING, U32));
-    import_func(of, "count", &[("x", counts)], Some(U32));
-    let inner = of.defined(|ty| ty.map(CHAR, BOOL));
-    let list = of.defined(|ty| ty.list(inner));
-    let outer = of.defined(|ty| ty.map(U32, list));
-    let texts = of.defined(|ty| ty.map(STRING, STRING));
-    of.export_func("turn", &[("x", outer)], Some(texts));
 }
 
 fn files(of: &mut InstanceType) {
@@ -305,13 +278,6 @@ fn streams(of: &mut ComponentType) {
     });
     of.import("t:str/io", io);
     of.export_func("run", &[], None);
-}
-
-fn errors(of: &mut ComponentType) {
-    let result = of.defined(|ty| ty.result(Some(U32), Some(ERROR_CONTEXT)));
-    import_func(of, "fail", &[], Some(result));
-    let option = of.defined(|ty| ty.option(ERROR_CONTEXT));
-    of.export_func("catch", &[("e", ERROR_CONTEXT)], Some(option));
 }
 
 fn inline(of: &mut ComponentType) {

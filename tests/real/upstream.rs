@@ -1,5 +1,7 @@
-//! One component of all kinds of items at each size, whose bytes upstream's own calls give too.
+//! Components whose bytes upstream's own calls give too: one of all kinds of items at each size, and
+//! random ones.
 
+use crate::random;
 use wenc::*;
 
 const STRING: PrimitiveValType = PrimitiveValType::String;
@@ -67,7 +69,7 @@ fn whole(n: usize) -> Vec<u8> {
 }
 
 /// Sizes, and how many bytes the component has and their FNV-1a of 64 bits, by upstream's calls.
-const UPSTREAMS: [(usize, usize, u64); 8] = [
+const SIZES: [(usize, usize, u64); 8] = [
     (0, 234, 0xc9fc_f1fa_f022_9fa3),
     (1, 310, 0xd536_57dc_63b7_4653),
     (127, 9_908, 0x1f2c_fd97_09e5_7789),
@@ -78,12 +80,25 @@ const UPSTREAMS: [(usize, usize, u64); 8] = [
     (20_000, 1_880_374, 0xe960_b1a3_8493_055e),
 ];
 
+/// The same of seeds, without debug names, as upstream writes those of instances twice.
+const SEEDS: [(u64, usize, u64); 8] = [
+    (1, 385483, 0x3f9d_e789_ed17_8fd4),
+    (2, 312283, 0x626b_8fb8_4239_adfe),
+    (3, 197968, 0xcdde_56a9_35e7_c44c),
+    (4, 542466, 0xbf72_1209_caf3_9850),
+    (5, 435250, 0x6074_da03_7bc3_6fe7),
+    (6, 309509, 0x2bf6_dddd_1412_0b7a),
+    (7, 339126, 0x645b_a69e_71e4_321c),
+    (8, 99976, 0x0d00_8286_ae95_dc26),
+];
+
 #[test]
-fn they_are_upstreams() {
-    for (n, len, hash) in UPSTREAMS {
-        let bytes = whole(n);
+fn lengths_and_hashes() {
+    let sizes = SIZES.map(|(n, len, hash)| (whole(n), len, hash));
+    let seeds = SEEDS.map(|(seed, len, hash)| (random::components(seed, 4, false).0, len, hash));
+    for (bytes, len, hash) in sizes.into_iter().chain(seeds) {
         let step = |hash: u64, byte: &u8| (hash ^ u64::from(*byte)).wrapping_mul(0x100_0000_01b3);
         let own = bytes.iter().fold(0xcbf2_9ce4_8422_2325, step);
-        assert_eq!((bytes.len(), own), (len, hash), "size {n}");
+        assert_eq!((bytes.len(), own), (len, hash));
     }
 }
