@@ -94,6 +94,8 @@ const ROWS: &[Row] = &rows! { |b|
     {} "";
     { b.try_import("f", FUNC) => Ok(0), b.try_export("g", Func, 0, None) => Ok(1) }
         "0a 06 01 00 01 66 01 00 0b 07 01 00 01 67 01 00 00";
+    { b.try_alias(None, FIRST) => Ok(0), b.try_alias(None, SECOND) => Ok(0) }
+        "06 0a 02 01 00 00 01 66 03 02 00 01";
     { b.try_core_alias_export(None, 0, "m", ExportKind::Memory) => Ok(0) }
         "06 07 01 00 02 01 00 01 6d";
     { b.try_lift_func(None, 1, 2, OPTIONS) => Ok(0) }
@@ -142,8 +144,14 @@ const ROWS: &[Row] = &rows! { |b|
         b.command(&Command::AppendNames) => Ok(None),
     } "08 03 01 03 00 00 23 0e cn 01 12 00 00 01 00 0d 72 65 73 6f 75 72 63 65 2e 64 72 6f 70 \
        00 23 0e cn 01 12 00 00 01 00 0d 72 65 73 6f 75 72 63 65 2e 64 72 6f 70";
+    { ty(b.try_ty(None), |ty| ty.try_component(&ComponentType::new())) => Ok(0) }
+        "07 03 01 41 00";
     { b.try_type_component(None, &ComponentType::new()) => Ok(0) }
         "07 03 01 41 00";
+    { b.try_thread_yield_then_promote() => Ok(0), b.try_append_names() => Ok(()) }
+        "08 03 01 2d 00 00 2f 0e cn 01 1e 00 00 01 00 19 \
+         74 68 72 65 61 64 2e 79 69 65 6c 64 2d 74 68 65 6e 2d 70 72 6f 6d 6f 74 65";
+    { b.try_append_names() => Ok(()) } "";
     { b.try_core_module_raw(None, &[0; 128]) => Ok(0) } "01 80 01 00x128";
     { b.try_resource_drop(0) => Ok(0), b.try_task_cancel() => Ok(1) } "08 04 02 03 00 05";
     {
@@ -191,6 +199,9 @@ const ROWS: &[Row] = &rows! { |b|
     { b.try_import("", FUNC) => Ok(0) } "0a 05 01 00 00 01 00";
     { b.try_import("a".repeat(128), FUNC) => Ok(0) } "0a 86 01 01 00 80 01 61x128 01 00";
     { b.try_type_instance(None, &nested(99)) => Ok(0) } "07 ac 02 01 420101x99 42 00";
+    { b.try_thread_spawn_indirect(1, 2) => Ok(0), b.try_append_names() => Ok(()) }
+        "08 04 01 41 01 02 00 2b 0e cn 01 1a 00 00 01 00 15 \
+         74 68 72 65 61 64 2e 73 70 61 77 6e 2d 69 6e 64 69 72 65 63 74";
     {
         b.try_alias(None, FIRST) => Ok(0),
         b.try_type_defined(Some("t")).map(|(index, _)| index) => Ok(0),
