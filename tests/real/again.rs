@@ -1,6 +1,6 @@
 //! The corpus listed, and made again in each way.
 
-use crate::{corpus, random};
+use crate::{corpus, features, random};
 use wenc::tree::{Command, ItemTree, build};
 use wenc::{
     Component, ComponentBuilder, Encode, ItemSection, ListFault, Listing, SectionReader, Sections,
@@ -20,7 +20,11 @@ pub fn built(commands: &[Command]) -> Vec<u8> {
 
 /// The corpus's components and those that are nested in them, with their names, in their order.
 pub fn all() -> Vec<(String, Vec<u8>)> {
-    let mut all = corpus::components();
+    with_nested(corpus::components())
+}
+
+/// These and those that are nested in them.
+fn with_nested(mut all: Vec<(String, Vec<u8>)>) -> Vec<(String, Vec<u8>)> {
     let mut at = 0;
     while let Some((name, bytes)) = all.get(at) {
         let name = name.clone();
@@ -86,7 +90,7 @@ fn by_builder(commands: &[Command]) -> Vec<u8> {
 }
 
 /// The component is made again of what is listed of these bytes. Returns how many items it has.
-pub fn is_made_again(name: &str, text: &[u8], bytes: &[u8]) -> usize {
+fn is_made_again(name: &str, text: &[u8], bytes: &[u8]) -> usize {
     let listing = list(text).expect(name);
     let trees = by_trees(&listing);
     let commands: Vec<Command> = items(listing).map(Command::from).collect();
@@ -129,16 +133,6 @@ fn widened(bytes: &[u8]) -> Vec<u8> {
     wide
 }
 
-/// The component is made again, and so are those that are nested in it.
-fn are_made_again(bytes: &[u8], seed: u64) {
-    is_made_again(&format!("seed {seed}"), bytes, bytes);
-    for item in items(list(bytes).expect("it is listed")) {
-        if let ItemTree::Component(inner) = item {
-            are_made_again(&inner, seed);
-        }
-    }
-}
-
 /// Sections are kept as they stand. Those that are listed are written anew, also if sizes and
 /// counts were padded; the others are those in a list.
 #[test]
@@ -162,5 +156,9 @@ fn all_are_made_again() {
     let refused = refused.lines().map(|line| line.split(": ").next().expect("a line"));
     assert_eq!(told, refused.collect::<Vec<_>>());
     assert_eq!((components, made), (68, 2555));
-    (9..=12).for_each(|seed| are_made_again(&random::components(seed, 2, true).0, seed));
+    let seeds = (9..=12).map(|seed| (format!("seed {seed}"), random::components(seed, 2, true).0));
+    let others = seeds.chain([("features".into(), features::known())]);
+    let others = with_nested(others.collect());
+    others.iter().for_each(|(name, bytes)| _ = is_made_again(name, bytes, bytes));
+    assert_eq!(others.len(), 327);
 }

@@ -3,7 +3,7 @@
 
 use crate::again;
 use wenc::tree::{ItemTree, Space};
-use wenc::{ComponentBuilder, DebugNames, Listing, list};
+use wenc::{ComponentBuilder, DebugNames, Listing, Sections, list};
 
 /// The bytes after the name of a section of names.
 fn section(item: &ItemTree) -> Option<&[u8]> {
@@ -13,9 +13,9 @@ fn section(item: &ItemTree) -> Option<&[u8]> {
     }
 }
 
-/// The component's items once more, with these debug names, and a section of them that the builder
+/// The component's items once more, with these debug names: the section of them that the builder
 /// writes.
-fn named(listing: &Listing, names: &DebugNames) -> Listing {
+fn written(listing: &Listing, names: &DebugNames) -> ItemTree {
     let (mut builder, mut next) = (ComponentBuilder::default(), [0; 13]);
     for item in listing.items() {
         let name = item.indices().and_then(|(space, count)| {
@@ -29,7 +29,13 @@ fn named(listing: &Listing, names: &DebugNames) -> Listing {
             builder.item(name, item);
         }
     }
-    list(&builder.finish()).expect("it is listed")
+    let bytes = builder.finish();
+    let mut sections = Sections::new(&bytes).expect("it is a component");
+    let mut sections = std::iter::from_fn(|| sections.next_raw());
+    let name = [&[0x0e], DebugNames::SECTION.as_bytes()].concat();
+    let data = sections.find_map(|(_, section)| section.data.strip_prefix(&*name));
+    let data = data.expect("there are names").to_vec().into();
+    ItemTree::Custom { name: DebugNames::SECTION.into(), data }
 }
 
 /// Whether these are the other bytes with some of them said twice: upstream writes the names of
@@ -57,8 +63,8 @@ fn debug_names_are_written_again() {
         let Ok(listing) = list(&bytes) else { continue };
         let Some(data) = listing.items().find_map(section) else { continue };
         let mut names = listing.names();
-        let again = named(&listing, &names);
-        let written = again.items().find_map(section).expect("there are names");
+        let again = written(&listing, &names);
+        let written = section(&again).expect("it has names");
         if let Some((_, old, new)) = RENAMED.iter().find(|(of, ..)| *of == name) {
             let (_, index, _) = names.iter().find(|(.., name)| name == old).expect("the old name");
             names.insert(Space::CoreFuncs, index, *new);
@@ -69,7 +75,9 @@ fn debug_names_are_written_again() {
             assert!(says_twice(data, written), "{name}: other names");
             but_twice += 1;
         }
-        assert!(again.names() == names, "{name}");
+        let mut read = DebugNames::new();
+        read.read(&again).expect("they are read");
+        assert!(read == names, "{name}");
     }
     assert_eq!((equal, but_twice, renamed), (15, 23, 2));
 }

@@ -1,9 +1,14 @@
 //! Rows of calls and the bytes that they write, in hexadecimal: literals that were worked out from
 //! the text of the format. `tests/calls` puts its bytes together instead.
 #![cfg(feature = "reader")]
+#![allow(unsafe_code, reason = "a global allocator is unsafe")]
 
 mod builder;
 mod listed;
+#[allow(dead_code, reason = "some are for others")]
+#[path = "../common/refuse.rs"]
+mod refuse;
+mod refused;
 mod runs;
 mod sections;
 #[allow(dead_code, reason = "some are for others")]

@@ -133,3 +133,37 @@ fn a_component_type() {
     is_behind(component.as_slice(), wanted);
     is_listed(component.as_slice());
 }
+
+const UNFINISHED: Error = Error::Unfinished;
+
+/// The encoder of the section's type is dropped.
+#[test]
+fn an_unfinished_core_type() {
+    let mut types = CoreTypeSection::new();
+    drop(types.ty());
+    assert_eq!((types.len(), types.is_finished()), (1, false));
+    assert_eq!(types.try_ty().err(), Some(UNFINISHED));
+}
+
+/// The component type has one whose encoder is dropped.
+#[test]
+fn an_unfinished_component_type() {
+    let (mut ty, mut types) = (ComponentType::new(), ComponentTypeSection::new());
+    drop(ty.ty());
+    assert_eq!(types.try_component(&ty).err(), Some(UNFINISHED));
+    assert_eq!((types.is_finished(), types.len()), (true, 0));
+    assert_eq!(types.ty().try_component(&ty), Err(UNFINISHED));
+    assert_eq!((types.is_finished(), types.len()), (false, 1));
+}
+
+#[test]
+fn an_instance_type_is_given_up() {
+    let mut ty = InstanceType::new();
+    drop(ty.ty());
+    assert_eq!(ty.len(), 1);
+    assert!(ty.discard_unfinished());
+    assert_eq!((ty.len(), ty.type_count()), (0, 0));
+    let mut bytes = Vec::new();
+    ty.encode(&mut bytes);
+    assert_eq!(bytes, [0x42, 0x00]);
+}

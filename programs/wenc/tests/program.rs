@@ -46,15 +46,19 @@ const NO_ARGUMENTS: [&str; 0] = [];
 
 const COUNTS: &str = "10 1\n11 1\n0 0 0 0 0 0 0 0 2 0 0 0 0\n";
 
-/// Arguments and inputs, with the status, what is printed, and what is said.
-#[rustfmt::skip]
-const RUNS: [(&[&str], &str, (i32, &str, &str)); 10] = [
+/// Arguments and an input, with the status, what is printed, and what is said.
+type Run = (&'static [&'static str], &'static str, (i32, &'static str, &'static str));
+
+const RUNS: [Run; 10] = [
     // a carriage return before the end of a line belongs to the last word
     (&[], "alias-export 0 func n\r\n", (0, "0\n0061736d0d000100060701010000026e0d\n", "")),
     (&[], "import f func 0\r\n", (1, "", "line 1\n")),
     (&[], "import f func 0\n\nnope\n", (1, "", "line 3\n")),
-    (&[], "start 0 4294967295\nstart 0 1\n",
-        (2, "0\nrefused 2\n0061736d0d00010009070000ffffffff0f\n", "")),
+    (
+        &[],
+        "start 0 4294967295\nstart 0 1\n",
+        (2, "0\nrefused 2\n0061736d0d00010009070000ffffffff0f\n", ""),
+    ),
     (&["list"], "0061736D0D0001000a060100016601000b0701000167010000\n", (0, COUNTS, "")),
     (&["list"], "0061736d0d0001000600\n", (3, "", "BadItem at 8\n")),
     (&["list"], "00\r\n", (1, "", "line 1\n")),

@@ -5,6 +5,10 @@
 pub mod bad;
 #[path = "vectors/edges.rs"]
 mod edges;
+#[path = "vectors/long.rs"]
+mod long;
+#[path = "vectors/short.rs"]
+mod short;
 #[path = "vectors/words.rs"]
 pub mod words;
 
@@ -22,5 +26,5 @@ const fn run(status: u8, script: &'static [u8], out: &'static [u8]) -> Vector {
 
 /// Those of which each line can be read.
 pub fn all() -> impl Iterator<Item = &'static Vector> {
-    edges::VECTORS.iter().chain(words::VECTORS)
+    [edges::VECTORS, short::VECTORS, long::VECTORS, words::VECTORS].into_iter().flatten()
 }

@@ -7,19 +7,14 @@ use std::collections::BTreeSet;
 use std::fs;
 use std::ops::Range;
 use wenc::{ComponentSection, Encode, ListFault, RawSection, Sections, Unread, list};
-use wenc_dump::{Streams, Terminal};
+use wenc_dump::Terminal;
 
 /// One in so many damages is tried. Programs that aren't optimized are slow.
 const STEP: usize = if cfg!(debug_assertions) { 9 } else { 3 };
 
-/// Runs the program on these bytes. Returns its status, what it prints and what it says.
-fn run(options: &[&str], mut bytes: &[u8]) -> (u8, String, String) {
-    let (mut out, mut err) = (Vec::new(), Vec::new());
-    let mut streams = Streams { input: &mut bytes, out: &mut out, err: &mut err };
-    let arguments = ["wenc-dump"].iter().chain(options).chain(&["-"]).map(Into::into);
-    let status = wenc_dump::run(arguments, Terminal::default(), &mut streams);
-    let [out, err] = [out, err].map(|text| String::from_utf8(text).expect("it is text"));
-    (status, out, err)
+/// Runs the program on these bytes, where there is no terminal.
+fn run(options: &[&str], bytes: &[u8]) -> (u8, String, String) {
+    crate::run(options, bytes, Terminal::default())
 }
 
 /// The byte offset of the first fault's cause, and its words.

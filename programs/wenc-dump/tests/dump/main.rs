@@ -21,6 +21,7 @@ mod values;
 use std::fs;
 use std::path::{Path, PathBuf};
 use std::process::{Command, Output};
+use wenc_dump::{Streams, Terminal};
 
 const PROGRAM: &str = env!("CARGO_BIN_EXE_wenc-dump");
 
@@ -39,6 +40,17 @@ const FUNCTION_TEXT: &str = "\
 /// Runs the program with these options on a file.
 fn dump(options: &[&str], file: &Path) -> Output {
     Command::new(PROGRAM).args(options).arg(file).output().expect("the program stands there")
+}
+
+/// Does what the program does with these bytes as its input, for this terminal. Returns its status,
+/// what it prints and what it says.
+fn run(options: &[&str], mut bytes: &[u8], terminal: Terminal) -> (u8, String, String) {
+    let (mut out, mut err) = (Vec::new(), Vec::new());
+    let mut streams = Streams { input: &mut bytes, out: &mut out, err: &mut err };
+    let arguments = ["wenc-dump"].iter().chain(options).chain(&["-"]).map(Into::into);
+    let status = wenc_dump::run(arguments, terminal, &mut streams);
+    let [out, err] = [out, err].map(|text| String::from_utf8(text).expect("it is text"));
+    (status, out, err)
 }
 
 /// A file with these bytes.

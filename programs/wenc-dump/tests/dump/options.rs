@@ -120,12 +120,8 @@ fn output_is_coloured_always_or_never() {
         expect_run(&[never, "-"], &component, (0, FUNCTION_TEXT, ""));
     }
     let terminal = Terminal { has_colours: true, columns: Some(40) };
-    let (mut out, mut err) = (Vec::new(), Vec::new());
-    let mut input = &component[..];
-    let mut streams = Streams { input: &mut input, out: &mut out, err: &mut err };
-    let arguments = ["wenc-dump", "--color=never", "--width=100", "-"].map(Into::into);
-    assert_eq!(wenc_dump::run(arguments.into_iter(), terminal, &mut streams), 0);
-    assert_eq!((String::from_utf8_lossy(&out).as_ref(), err.len()), (FUNCTION_TEXT, 0));
+    let printed = crate::run(&["--color=never", "--width=100"], &component, terminal);
+    assert_eq!(printed, (0, FUNCTION_TEXT.into(), String::new()));
 }
 
 #[test]

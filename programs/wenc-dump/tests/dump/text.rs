@@ -1,7 +1,7 @@
 //! Text of worked components and core modules.
 
-use crate::{FUNCTION, FUNCTION_TEXT, component, expect, expect_of, file_of};
-use wenc_dump::{Streams, Terminal, colours_are_wanted, run as dump};
+use crate::{FUNCTION, FUNCTION_TEXT, component, expect, expect_of, file_of, run};
+use wenc_dump::{Terminal, colours_are_wanted};
 
 #[test]
 fn sections_and_items() {
@@ -248,13 +248,9 @@ fn a_member_without_room_in_100_columns_is_folded() {
 
 /// What the program prints of the component with these sections, and its status.
 fn printed(sections: &[u8], options: &[&str], has_colours: bool) -> (String, u8) {
-    let bytes = component(sections);
-    let arguments = ["wenc-dump"].iter().chain(options).chain(&["-"]).map(Into::into);
-    let (mut out, mut err) = (Vec::new(), Vec::new());
-    let mut streams = Streams { input: &mut &bytes[..], out: &mut out, err: &mut err };
     let terminal = Terminal { has_colours, columns: None };
-    let status = dump(arguments, terminal, &mut streams);
-    (String::from_utf8(out).expect("it is text"), status)
+    let (status, out, _) = run(options, &component(sections), terminal);
+    (out, status)
 }
 
 /// Names and texts have a colour, the points behind a name that is cut have none.
