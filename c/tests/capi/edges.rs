@@ -291,7 +291,7 @@ fn wrong_arguments_of_other_items_are_named() {
         7 c"section" [0] wenc_item(at, 12, NONE, A, 1, OUT);
         5 c"bytes" [0] wenc_item(at, 0, NONE, b"\x02x".as_ptr(), 2, OUT);
         5 c"bytes" [0] wenc_item(at, 2, NONE, A, 1, OUT);
-        5 c"bytes" [0] wenc_item(at, 7, NONE, b"\x40\0\x01\0\0".as_ptr(), 5, OUT);
+        5 c"bytes" [0] wenc_item(at, 7, NONE, b"\x40\0\x01\0\0"[..].as_ptr(), 5, OUT);
         5 c"bytes" [0] wenc_item(at, 9, NONE, A, 1, OUT);
         6 c"bytes" [0] wenc_item(at, 7, NONE, deep.as_ptr(), deep.len(), OUT);
         7 c"listing" [0] wenc_copy(at, NONE, at, 0, 0, OUT);

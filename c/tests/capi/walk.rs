@@ -481,7 +481,7 @@ fn is_read_as_in_rust(bytes: &[u8], sections: Sections<'_>) -> (usize, usize) {
     let is_whole = sections.items().all(|item| item.is_ok());
     let (rows, items, status) = walked(bytes);
     assert_eq!((items.len(), status == Status::End), (wanted.len(), is_whole));
-    let read = sections.clone().map(|read| read.expect("a section"));
+    let read = sections.map(|read| read.expect("a section"));
     rows.into_iter().zip(read).for_each(|(row, read)| is_section(row, &read));
     items.iter().zip(wanted).for_each(|(row, (range, view))| is_item(row, range, view));
     let (names, all) = (names_of_items(&items), sections.names());
