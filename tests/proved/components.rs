@@ -3,11 +3,9 @@
 
 use super::refusing::Refusing;
 use super::sweeping::{TEXT, refused_in_turn, sweep_encode};
-use crate::proved::wenc_base::{Encode, RawCustomSection};
+use crate::proved::wenc_base::RawCustomSection;
 use crate::proved::wenc_parts::Component;
 use crate::proved::wenc_types::{ComponentType, InstanceType, ModuleType};
-use crate::shim::alloc::Global;
-use crate::shim::vec::Vec;
 
 /// With up to eight sections of one byte there, the room ends at each place.
 #[test]
@@ -32,22 +30,15 @@ fn components_are_swept() {
     assert!(requests > 0 && growths > 0);
 }
 
-fn written(value: &impl Encode) -> Vec<u8> {
-    let mut bytes = Vec::new(Global);
-    value.encode(&mut bytes).unwrap();
-    bytes
-}
-
 /// Types with declarations, and how one is added.
 macro_rules! are_swept {
     ($heap:ident $($ty:ident |$of:ident| $add:expr;)*) => {$(
         for count in 0..9 {
             let mut $of = $ty::new(&$heap);
             (0..count).for_each(|_| $add.unwrap());
-            sweep_encode(&$of);
             let (mut copy, requests) = refused_in_turn(&$heap, || $of.try_clone());
             assert_eq!((requests > 0, copy.type_count()), (count > 0, count));
-            assert_eq!(written(&copy), written(&$of));
+            assert_eq!(sweep_encode(&copy), sweep_encode(&$of));
             let $of = &mut copy;
             $add.unwrap();
             assert_eq!(copy.type_count(), count + 1);
