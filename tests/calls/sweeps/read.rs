@@ -59,8 +59,8 @@ fn is_visited(call: &Call, size: &Size, mut item: ItemTree) {
 }
 
 fn is_read(call: &Call, size: &Size) {
-    let mut model = Model::new();
-    model.add(call.id, call.item(size));
+    let (mut model, item) = (Model::new(), call.item(size));
+    model.add(call.id, item.clone());
     let bytes = model.finish();
     let listing = list(&bytes).unwrap_or_else(|fault| panic!("{}: {fault:?}", call.name));
     let [listed] = listing.sections.as_slice() else { panic!("there is one section") };
@@ -82,10 +82,10 @@ fn is_read(call: &Call, size: &Size) {
     assert!(is_same(view, tree) && view.to_tree() == *tree && read == *tree, "{}", call.name);
     assert!(visited(view.node()) == (call.indices)(size), "{}: in place", call.name);
     assert!(format!("{:?}", view.node()) == format!("{:?}", tree.node()), "{}", call.name);
-    assert!(bytes[place] == call.item(size), "{}", call.name);
+    assert!(bytes[place] == item, "{}", call.name);
     let (mut anew, mut kept) = (ItemSection::new(call.id), ItemSection::new(call.id));
     anew.item(tree).expect("it is added");
-    kept.raw(&call.item(size)).expect("it is added");
+    kept.raw(&item).expect("it is added");
     let in_component = |section: &dyn Fn(&mut Component)| {
         let mut whole = Component::new();
         section(&mut whole);
