@@ -1,5 +1,5 @@
-//! Public calls with memory for all that they ask for, each against bytes in hexadecimal: those that
-//! no call of the facade makes.
+//! Public calls with memory for all that they ask for, each against bytes in hexadecimal: those
+//! that no call of the facade makes.
 
 mod members;
 mod parents;

@@ -106,8 +106,8 @@ fn refuse(
 }
 
 /// What is refused adds nothing, and those after it run all the same. Where the opening of a record
-/// is refused, so is the command; where the rest of the type is, so is the whole, but one by one the
-/// command, which is given up: the alias takes its index.
+/// is refused, so is the command; where the rest of the type is, so is the whole, but one by one
+/// the command, which is given up: the alias takes its index.
 const CASES: &[Case] = &[
     Case { items: &[FUNCTION, IMPORT, OUTER_TYPE], are_refused: [true; 2] },
     Case { items: &[RECORD], are_refused: [true; 2] },

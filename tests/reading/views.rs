@@ -1,5 +1,5 @@
-//! Items that borrow from a component's bytes: copies of their parts, faults and comparisons. `calls`
-//! reads each item.
+//! Items that borrow from a component's bytes: copies of their parts, their lists, comparisons.
+//! `calls` reads each item.
 
 use crate::component;
 use std::collections::HashSet;

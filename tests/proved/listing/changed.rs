@@ -1,5 +1,6 @@
-//! Worked components that are cut, or have a byte changed: no such bytes are too bad to be answered,
-//! and no two that differ in one byte are read as the same, but for the first byte of a name.
+//! Worked components that are cut, or have a byte changed: no such bytes are too bad to be
+//! answered, and no two that differ in one byte are read as the same, but for the first byte of a
+//! name.
 
 use super::sections::{EACH_KIND, ROWS, Row};
 use super::{component, read};

@@ -10,7 +10,7 @@ use crate::tree::Space;
 use crate::{ComponentSectionId, Encode, ListFault, Sections, Unread};
 use std::vec::Vec;
 
-/// Items that can't be read, each a word in hexadecimal, with the id of a section that has one item.
+/// Items that can't be read, each a word in hexadecimal, with the id of a section of one item.
 const ITEMS: &[(u8, &str)] = &[
     // Numbers of six bytes, and with bits set that they have no room for.
     (8, "02828080808000 02ffffffff1f 028080808010"),
