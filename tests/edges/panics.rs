@@ -1,5 +1,5 @@
-//! Names and types that panic where they are converted, and what has no iterator: whoever catches it
-//! finds all as it was, or unfinished. `calls` has iterators that panic.
+//! Names and types that panic where they are converted, and calls without an iterator: afterwards
+//! all is as it was, or unfinished. `calls` has iterators that panic.
 
 use crate::panics;
 use crate::refused::NAME;

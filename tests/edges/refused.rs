@@ -220,8 +220,8 @@ fn a_section_comes_without_room_for_its_id() {
     assert_eq!(module.as_slice(), wanted);
 }
 
-/// Sections and values of this crate are written to the sink itself: where that has room, nothing is
-/// asked for.
+/// Sections and values of this crate are written to the sink itself: where that has room, nothing
+/// is asked for.
 #[test]
 fn own_sections_are_written_in_place() {
     let (module, nested) = (Module::new(), Component::new());

@@ -119,7 +119,8 @@ fn spaces_are_in_the_order_of_their_numbers() {
     assert!(Space::CoreModules < Space::Types);
 }
 
-/// The numbers from 0 on are the ids of these names, which encode themselves, and no others are ids.
+/// The numbers from 0 on are the ids of these names, which encode themselves, and no others are
+/// ids.
 fn are_ids<T>(names: &str)
 where
     T: TryFrom<u8, Error = UnknownSectionId> + Into<u8> + Encode + Copy + PartialEq + Debug,

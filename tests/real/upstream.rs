@@ -1,5 +1,5 @@
-//! Components whose bytes upstream's own calls give too: one of all kinds of items at each size, and
-//! random ones.
+//! Components whose bytes upstream's own calls give too: one of all kinds of items at each size,
+//! and random ones.
 
 use crate::random;
 use wenc::*;

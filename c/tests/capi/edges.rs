@@ -473,8 +473,8 @@ fn items_of_many_sections_are_found() {
     assert!(begun.elapsed().as_secs() < 60, "{:?}", begun.elapsed());
 }
 
-/// Reads bytes: the status, and what isn't read, as the section, its place, part and item, which are
-/// written whatever is wrong.
+/// Reads bytes: the status, and what isn't read, as the section, its place, part and item, which
+/// are written whatever is wrong.
 fn listed(handle: *mut Handle, bytes: *const u8, len: usize) -> (Status, [usize; 4]) {
     let mut unread = UnreadPart { section: 7, place: 7, part: 7, item: 7 };
     let status = unsafe { wenc_list(handle, bytes, len, &mut unread) };

@@ -136,7 +136,8 @@ pub fn field(CoreFieldType { element_type, mutable }: CoreFieldType) -> (u32, u3
     (of.0 + if mutable { 512 } else { 0 }, of.1)
 }
 
-/// The number of a builtin with options, its first argument, which it needn't take, and the options.
+/// The number of a builtin with options, its first argument, which it needn't take, and the
+/// options.
 pub fn builtin_with(canon: &CanonTree) -> Option<(u32, u32, &[CanonicalOption])> {
     use CanonTree::*;
     Some(match canon {

@@ -1,6 +1,6 @@
-//! Each row of the table of calls by the call for C: in a builder, whose bytes are the table's; and,
-//! as the calls for Rust make it, by hand, with each request for memory refused in turn, and read and
-//! added again.
+//! Each row of the table of calls by the call for C: in a builder, whose bytes are the table's;
+//! and, as the calls for Rust make it, by hand, with each request for memory refused in turn, and
+//! read and added again.
 
 use crate::call::Call;
 use crate::called::{Done, UNTOUCHED, call};

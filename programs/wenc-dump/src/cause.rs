@@ -217,8 +217,8 @@ fn begins_number(probe: &mut Probe, first: usize) -> bool {
     probe.accepts(first, 0) && probe.accepts(first, 0x80)
 }
 
-/// Returns whether a number that begins at this byte is a type of values: of one byte it is an index
-/// below 64 or a primitive type.
+/// Returns whether a number that begins at this byte is a type of values: of one byte it is an
+/// index below 64 or a primitive type.
 fn begins_type(probe: &mut Probe, first: usize) -> bool {
     !probe.accepts(first, 0x40) && probe.accepts(first, 0x7f)
 }
