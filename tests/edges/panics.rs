@@ -125,7 +125,7 @@ fn builders() {
     }
 }
 
-/// Nobody knows which parameters are written, so nothing ends the type. Where none came, they are
+/// Some parameters may be written, so nothing ends the type. Where none came, they are
 /// passed again.
 #[test]
 fn parameters() {
