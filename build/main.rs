@@ -1,9 +1,11 @@
 //! Erases the proved sources in `crates/` to Rust: a file for each of theirs, and `crates.rs`,
 //! which declares a module for each crate.
 //!
-//! It is the build script of the library and of the program `wenc`. Run in the repository with a
-//! folder as its argument, it writes the sources that the published package has instead of a build
-//! script.
+//! It is the build script of the library and of the program `wenc`. Run in the repository as
+//!
+//! - `erase FOLDER`, it writes the sources that the published package has instead of a build script;
+//! - `erase --code FOLDER`, it writes what it takes for code: the proved sources without their
+//!   clauses and ghost items, which `gate/erased` compares with what the prover takes for code.
 
 mod erase;
 mod tidy;
@@ -34,9 +36,15 @@ const ALLOWED: &str = "#[allow(clippy::all, dead_code, missing_docs, unused_brac
      #[allow(unused_imports, unused_variables)]\n";
 
 fn main() {
-    match std::env::args_os().nth(1) {
-        Some(folder) => erase_all(Path::new("crates"), Path::new(&folder), tidy::tidy),
-        None => build(),
+    let words: Vec<String> = std::env::args().skip(1).collect();
+    let sources = Path::new("crates");
+    match words.iter().map(String::as_str).collect::<Vec<_>>()[..] {
+        [] => build(),
+        ["--code", folder] => write_code(sources, Path::new(folder)),
+        [folder] => erase_all(sources, Path::new(folder), |name, known, text| {
+            erase::erase(name, known, text).map(|erased| tidy::tidy(text, &erased))
+        }),
+        _ => panic!("usage: erase [--code] FOLDER"),
     }
 }
 
@@ -57,7 +65,7 @@ fn build() {
         println!("cargo::rustc-cfg=script");
     }
     let out = PathBuf::from(variable("OUT_DIR")).join("proved");
-    erase_all(&top.join("crates"), &out, |_, erased| erased.to_owned());
+    erase_all(&top.join("crates"), &out, erase::erase);
 }
 
 /// Returns the crates, each group with the condition under which it is compiled.
@@ -70,11 +78,19 @@ fn parts() -> [(&'static [&'static str], &'static str); 4] {
     ]
 }
 
-/// Lays out an erased source.
-type Layout = fn(&str, &str) -> String;
+/// Makes another text of a source, given the name of its crate, and all crates.
+type Make = fn(&str, &[&str], &str) -> Result<String, erase::Refused>;
+
+/// Writes the code of all crates of a folder into another folder.
+fn write_code(sources: &Path, out: &Path) {
+    for name in parts().iter().flat_map(|(names, _)| *names) {
+        let folders = (&*sources.join(name).join("src"), &*out.join(name).join("src"));
+        make_folder((name, &[]), folders, "rt", |_, _, text| erase::without_ghosts(text));
+    }
+}
 
 /// Erases all crates of a folder into another folder.
-fn erase_all(sources: &Path, out: &Path, layout: Layout) {
+fn erase_all(sources: &Path, out: &Path, make: Make) {
     let parts = parts();
     let known: Vec<&str> =
         parts.iter().flat_map(|(names, _)| *names).chain(&BY_HAND).copied().collect();
@@ -83,7 +99,7 @@ fn erase_all(sources: &Path, out: &Path, layout: Layout) {
     for (names, condition) in parts {
         for name in names {
             let source = sources.join(name).join("src");
-            erase_folder(name, &known, (&source, &out.join(name)), layout);
+            make_folder((name, &known), (&source, &out.join(name)), "rs", make);
             let root = if source.join("lib.rt").exists() { "lib.rs" } else { "main.rs" };
             let path = format!("#[path = \"{name}/{root}\"]\n");
             declared += &format!("{condition}{ALLOWED}{path}pub mod {name};\n");
@@ -96,8 +112,13 @@ fn variable(name: &str) -> String {
     std::env::var(name).unwrap_or_else(|_| panic!("cargo sets {name}"))
 }
 
-/// Erases each file of a folder and its subfolders into another folder.
-fn erase_folder(name: &str, known: &[&str], (from, to): (&Path, &Path), layout: Layout) {
+/// Makes a file, with this extension, of each file of a folder and its subfolders.
+fn make_folder(
+    (name, known): (&str, &[&str]),
+    (from, to): (&Path, &Path),
+    extension: &str,
+    make: Make,
+) {
     let made = fs::create_dir_all(to);
     made.unwrap_or_else(|error| panic!("{}: {error}", to.display()));
     let entries = fs::read_dir(from);
@@ -105,12 +126,12 @@ fn erase_folder(name: &str, known: &[&str], (from, to): (&Path, &Path), layout: 
         let path = entry.expect("the folder can be read").path();
         let target = to.join(path.file_name().expect("it has a name"));
         if path.is_dir() {
-            erase_folder(name, known, (&path, &target), layout);
+            make_folder((name, known), (&path, &target), extension, make);
         } else if path.extension().is_some_and(|extension| extension == "rt") {
             let text = fs::read_to_string(&path);
             let text = text.unwrap_or_else(|error| panic!("{}: {error}", path.display()));
-            match erase::erase(name, known, &text) {
-                Ok(erased) => write(&target.with_extension("rs"), &layout(&text, &erased)),
+            match make(name, known, &text) {
+                Ok(made) => write(&target.with_extension(extension), &made),
                 Err((line, why)) => panic!("{}:{line}: {why}", path.display()),
             }
         }

@@ -321,8 +321,6 @@ static void check_error(const wenc_handle *handle, enum wenc_status status) {
     REQUIRE(status == WENC_NO_HANDLE && wenc_last_error(handle, &error) == WENC_NO_HANDLE);
     return;
   }
-  /* These only read. */
-  if (strcmp(name, "wenc_section_at") == 0 || strcmp(name, "wenc_item_at") == 0) return;
   REQUIRE(wenc_last_error(handle, &error) == WENC_DONE && error.status == status);
   if (error.argument == NULL) {
     REQUIRE(status == WENC_NO_MEMORY || status == WENC_TOO_MANY || status == WENC_TOO_LARGE);

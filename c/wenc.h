@@ -1,7 +1,7 @@
 /* wenc: writing and reading WebAssembly components, for C.
  *
- * README.md beside this says how to build the library. Of the C library it needs malloc,
- * realloc, free and abort, and memcpy, memmove, memset and bcmp or memcmp.
+ * Of the C library libwenc needs malloc, realloc, free and abort, and memcpy, memmove, memset and
+ * bcmp or memcmp.
  *
  * A handle owns one thing on the heap: a component that is built item by item (wenc_new) or section
  * by section (wenc_by_hand_new), the type of a component, an instance or a core module
@@ -11,7 +11,8 @@
  *  - Each call but wenc_free, wenc_version and wenc_status_text returns a status, which is
  *    WENC_DONE or says why the call failed. A call that fails changes nothing: neither what its
  *    handles own, nor what its arguments point to; except that wenc_list writes which part it can't
- *    read. wenc_last_error says which argument was wrong.
+ *    read. If the first argument is a handle that owns something, wenc_last_error then says which
+ *    argument was wrong.
  *
  *  - A text is UTF-8 without a terminating 0; bytes are any bytes. Both are passed as a pointer and
  *    a number of bytes, and the call keeps no pointer to them. If the number is 0, the pointer may
@@ -38,10 +39,11 @@
  *  - A pointer that isn't NULL points to as many values as its number says, aligned as their type
  *    is. Memory that a call writes to overlaps no other argument.
  *
- *  - A call that takes a `const wenc_handle *` only reads what the handle owns: several threads may
- *    make such calls by one handle, or by copies of it, at a time. While any other call by the
- *    handle is made, no other thread uses it. A handle may move to another thread. The same holds
- *    for a walk, which has nothing in common with its copies but the component's bytes.
+ *  - A call that takes a `const wenc_handle *` only reads what the handle owns, and records why it
+ *    fails: several threads may make such calls by one handle, or by copies of it, at a time. While
+ *    any other call by the handle is made, no other thread uses it. A handle may move to another
+ *    thread. The same holds for a walk, which has nothing in common with its copies but the
+ *    component's bytes.
  *
  *  - No call is made from a signal handler, nor in the child of a fork of a process with more than
  *    one thread.
@@ -483,7 +485,8 @@ typedef struct {
 typedef struct {
   /* The argument that is wrong, by its name in this header, with a terminating 0; "ref" also if its
    * `of` is wrong, and "handle" for a call that the handle doesn't take, whatever the handle is
-   * called. NULL if no argument is wrong. It is never freed. */
+   * called. NULL if no argument is wrong by itself: if there is no memory, or what was there and
+   * what is added are too many or too large together. It is never freed. */
   const char *argument;
   /* The number of the member that is wrong, counting from 0, if the argument is an array. */
   size_t member;
@@ -534,8 +537,8 @@ typedef struct {
   enum wenc_section section;
   /* The index space; WENC_SPACES for a custom section, which has no index. */
   enum wenc_space space;
-  /* The number of indices that it defines: 1, but for a start its results, for a custom section 0.
-   * */
+  /* The number of indices that it defines: 1, but for a start its results, for a recursion group
+   * its types, for a custom section 0. */
   uint32_t indices;
   /* The type of an import, or that ascribed to an export. */
   enum wenc_ref ref;
@@ -614,8 +617,10 @@ const char *wenc_status_text(enum wenc_status status);
 /* ---- handles
  *
  * The calls that begin something take a handle that owns nothing. Otherwise they return
- * WENC_BAD_ARGUMENT, or WENC_NO_HANDLE if the pointer is NULL. They can also return WENC_NO_MEMORY.
- * */
+ * WENC_BAD_ARGUMENT, of which wenc_last_error says "handle", or WENC_NO_HANDLE if the pointer is
+ * NULL. They can also return WENC_NO_MEMORY. If they fail, a handle that owns nothing still owns
+ * nothing, so that there is no error to ask for: WENC_BAD_ARGUMENT is then for the one other
+ * argument that can be wrong, which their comments name. */
 
 /* Begins a component that is built item by item. */
 WENC_CHECKED enum wenc_status wenc_new(wenc_handle *handle);
@@ -632,12 +637,14 @@ WENC_CHECKED enum wenc_status wenc_by_hand_new(wenc_handle *handle);
  * the calls that add core types; to a module's type: those that add core types,
  * wenc_core_type_import, wenc_core_type_export, and wenc_alias_outer of WENC_OUTER_CORE_TYPE. The
  * type has index spaces of its own: `*index` is the index of the declared type, core type or
- * instance there, and 0 for anything else, which isn't counted. */
+ * instance there, and 0 for anything else, which isn't counted. WENC_BAD_ARGUMENT for another
+ * `kind`. */
 WENC_CHECKED enum wenc_status wenc_types_new(wenc_handle *handle, enum wenc_kind kind);
 
 /* Begins a section of core instances, core types, instances, aliases, types, functions, imports or
  * exports. It takes the calls that add such items, without a debug name: `*index` is the number of
- * items that were in it before. Declared types are added to it by wenc_type. */
+ * items that were in it before. Declared types are added to it by wenc_type. WENC_BAD_ARGUMENT for
+ * another `section`. */
 WENC_CHECKED enum wenc_status wenc_section_new(wenc_handle *handle, enum wenc_section section);
 
 /* Begins a section of debug names. */
@@ -650,9 +657,9 @@ void wenc_free(wenc_handle *handle);
  * allocate, and may be called again. WENC_BAD_ARGUMENT, WENC_NO_HANDLE. */
 WENC_CHECKED enum wenc_status wenc_finish(wenc_handle *handle, const uint8_t **bytes, size_t *len);
 
-/* Writes why the last call failed that did, of those that take this handle first, as a
- * `wenc_handle *`, after it was filled. Its status is WENC_DONE if there is none.
- * WENC_NO_HANDLE. */
+/* Writes why the last call failed that did, of those that take this handle first, since it was
+ * filled; of calls that several threads make at a time by one handle, it is any that failed. A call
+ * that succeeds changes nothing here. The status is WENC_DONE if none failed. WENC_NO_HANDLE. */
 WENC_CHECKED enum wenc_status wenc_last_error(const wenc_handle *handle, wenc_error *error);
 
 /* Copies a finished component to `bytes`. WENC_BAD_ARGUMENT if `len` isn't its number of bytes;
@@ -660,8 +667,9 @@ WENC_CHECKED enum wenc_status wenc_last_error(const wenc_handle *handle, wenc_er
 WENC_CHECKED enum wenc_status wenc_bytes(const wenc_handle *handle, uint8_t *bytes, size_t len);
 
 /* Counts the items in an index space: of a component that is built item by item, or was read; or
- * the types, core types and instances of a type. WENC_BAD_ARGUMENT, WENC_FINISHED, WENC_NO_HANDLE,
- * and WENC_TOO_LARGE for a component that was read. */
+ * the types, core types and instances of a type. Of a component that was read, each type of a
+ * recursion group is one; otherwise see wenc_core_type_group. WENC_BAD_ARGUMENT, WENC_FINISHED,
+ * WENC_NO_HANDLE, and WENC_TOO_LARGE for a component that was read. */
 WENC_CHECKED enum wenc_status wenc_count(const wenc_handle *handle, enum wenc_space space,
                                          uint32_t *count);
 
@@ -926,7 +934,9 @@ WENC_CHECKED enum wenc_status wenc_core_type_subtype(wenc_handle *handle,
                                                      const wenc_text *debug_name,
                                                      const wenc_subtype *subtype, uint32_t *index);
 
-/* A recursion group, whose types may refer to each other. It counts as one core type. */
+/* A recursion group, whose types may refer to each other. It counts as one core type here and in
+ * debug names, as in wasm-encoder; by the standard each of its types has an index: after a group of
+ * n types add n - 1 to the indices of core types. */
 WENC_CHECKED enum wenc_status wenc_core_type_group(wenc_handle *handle, const wenc_text *debug_name,
                                                    const wenc_subtype *subtypes,
                                                    size_t subtypes_len, uint32_t *index);
@@ -1022,12 +1032,13 @@ WENC_CHECKED enum wenc_status wenc_walk_name(wenc_names_walk *names, wenc_debug_
 
 /* ---- reading components at once
  *
- * wenc_section_at and wenc_item_at return WENC_BAD_ARGUMENT, WENC_FINISHED, WENC_NO_HANDLE. */
+ * wenc_section_at and wenc_item_at return WENC_BAD_ARGUMENT, WENC_FINISHED, WENC_NO_HANDLE. The
+ * number that is wrong is the argument of wenc_last_error. */
 
 /* Reads a component, and keeps a copy of its bytes. WENC_NOT_A_COMPONENT, WENC_BAD_SECTION,
  * WENC_BAD_ITEM and WENC_TOO_DEEP say why it can't be read, and `*unread` which part. Also
- * WENC_NO_MEMORY, WENC_BAD_ARGUMENT, WENC_NO_HANDLE. `*unread` is always written: all 0 for the
- * latter and for WENC_DONE.
+ * WENC_NO_MEMORY, WENC_BAD_ARGUMENT for `bytes` or a handle that owns something, WENC_NO_HANDLE.
+ * `*unread` is always written: all 0 for the latter and for WENC_DONE.
  *
  * wenc_len counts its sections, wenc_count its items. Modules and nested components aren't read. */
 WENC_CHECKED enum wenc_status wenc_list(wenc_handle *listing, const uint8_t *bytes, size_t len,

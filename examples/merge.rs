@@ -9,9 +9,7 @@
 //! second uses the import of the first: whether their types agree is left to a validator. They
 //! export different names. Debug names are kept, except that of the second component itself.
 
-use wenc::tree::{
-    Command, CoreTypeTree, GroupTree, IndexUse, ItemTree, NameTree, Scope, Space, build,
-};
+use wenc::tree::{Command, IndexUse, ItemTree, NameTree, Scope, Space, build};
 use wenc::{ComponentExportKind as Kind, ComponentNameSection, DebugNames, Sections};
 
 /// The maximum nesting depth of components.
@@ -50,17 +48,6 @@ impl Moved {
             *used.index = self.index(used.space, *used.index);
         }
     }
-}
-
-/// Returns the space in which an item defines indices, and their number. Each type of a recursion
-/// group has an index of its own.
-fn defined(item: &ItemTree) -> Option<(Space, u32)> {
-    if let ItemTree::CoreType(ty) = item {
-        if let CoreTypeTree::Group(GroupTree::Rec(types)) = &**ty {
-            return Some((Space::CoreTypes, types.len().try_into().ok()?));
-        }
-    }
-    item.indices()
 }
 
 /// The items merged so far.
@@ -114,7 +101,7 @@ impl Merged {
             ItemTree::Export { name, .. } => self.exports.push(name.clone()),
             _ => {}
         }
-        if let Some((space, count)) = defined(&item) {
+        if let Some((space, count)) = item.defined_indices() {
             let next = &mut self.counts[space.number()];
             moved.define(space, count, *next)?;
             *next = next.checked_add(count).ok_or("too many indices")?;

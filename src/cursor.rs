@@ -166,13 +166,17 @@ impl<'a> Sections<'a> {
     }
 
     /// Returns the number of indices that the items define in a space, as
-    /// [`Listing::count`](crate::Listing::count) does. All items are read.
+    /// [`ItemView::defined_indices`] returns them. All items are read.
+    ///
+    /// A recursion group of core types defines an index for each of its types; for
+    /// [`Listing::count`](crate::Listing::count), which counts as upstream's builder does, it is
+    /// one.
     ///
     /// # Errors
     ///
     /// The first fault of a section or of an item.
     pub fn index_count(self, space: Space) -> Result<u128, ListFault> {
-        self.items().try_fold(0, |count, item| match item?.1.indices() {
+        self.items().try_fold(0, |count, item| match item?.1.defined_indices() {
             Some((of, more)) if of == space => Ok(count + u128::from(more)),
             _ => Ok(count),
         })

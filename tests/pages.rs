@@ -6,6 +6,10 @@
 //! `{a,b}` stands for each, `*` for any letters, and a word in capitals for any name. The package
 //! has fewer files: there the links alone are checked.
 
+#[cfg(in_repository)]
+#[path = "pages/names.rs"]
+mod names;
+
 use std::collections::BTreeSet;
 use std::{fs, path::Path};
 

@@ -1,9 +1,9 @@
 //! Splits a file of Rattle into tokens.
 //!
-//! A clause or a ghost item is one token: its content is antt, the language of proofs, whose blocks
-//! are in braces and whose comments begin with `--`.
+//! A clause or a ghost item is one token.
 
 use super::Refused;
+use super::antt::{block_len, use_len};
 
 /// The kind of a token.
 #[derive(Clone, Copy, Debug, PartialEq, Eq)]
@@ -56,7 +56,7 @@ fn first_token(rest: &str) -> Result<(Kind, usize), &'static str> {
     let first = rest.chars().next().unwrap_or(' ');
     let run = |is: fn(char) -> bool| rest.find(|c| !is(c)).unwrap_or(rest.len());
     match first {
-        _ if first.is_whitespace() => Ok((Kind::Space, run(char::is_whitespace))),
+        _ if is_blank(first) => Ok((Kind::Space, run(is_blank))),
         _ if rest.starts_with("//") => Ok((Kind::Comment, rest.find('\n').unwrap_or(rest.len()))),
         _ if rest.starts_with("/*") => Err("a block comment"),
         _ if rest.starts_with("r\"") || rest.starts_with("r#") => Err("a raw text or name"),
@@ -66,7 +66,8 @@ fn first_token(rest: &str) -> Result<(Kind, usize), &'static str> {
         'b' if rest.starts_with("b'") => character_len(rest, 2),
         '0'..='9' => Ok((Kind::Literal, run(is_word))),
         _ if first == '_' || first.is_ascii_alphabetic() => word(rest, run(is_word)),
-        _ if first.is_ascii() => Ok((Kind::Mark, 1)),
+        _ if first.is_ascii_graphic() => Ok((Kind::Mark, 1)),
+        _ if first.is_whitespace() || first.is_control() => Err("a blank that is not known"),
         _ => Err("a letter or a sign that is not ASCII"),
     }
 }
@@ -78,6 +79,11 @@ fn word(rest: &str, len: usize) -> Result<(Kind, usize), &'static str> {
         "requires" | "ensures" => Ok((Kind::Ghost, clause_len(rest, len)?)),
         _ => Ok((Kind::Word, len)),
     }
+}
+
+/// Returns whether this is a blank for the prover and for Rust.
+fn is_blank(c: char) -> bool {
+    c == ' ' || c == '\n'
 }
 
 fn is_word(c: char) -> bool {
@@ -99,7 +105,7 @@ fn character_len(rest: &str, lead: usize) -> Result<(Kind, usize), &'static str>
 }
 
 /// Returns the number of bytes of a string or a character after its first quote.
-fn quoted_len(quoted: &str, quote: char) -> Option<usize> {
+pub fn quoted_len(quoted: &str, quote: char) -> Option<usize> {
     let mut is_escaped = false;
     for (at, c) in quoted.char_indices() {
         match c {
@@ -132,8 +138,7 @@ fn ghost_len(rest: &str) -> Result<usize, &'static str> {
         return Err("a ghost item without a name");
     }
     if &rest[at..at + name] == "use" {
-        let end = rest[at..].find(';').ok_or("a ghost item without an end")?;
-        return Ok(at + end + 1);
+        return Ok(at + use_len(&rest[at..])?);
     }
     at += name;
     let mut parts = 0;
@@ -152,28 +157,5 @@ fn ghost_len(rest: &str) -> Result<usize, &'static str> {
 }
 
 fn blank_len(rest: &str) -> usize {
-    rest.find(|c: char| !c.is_whitespace()).unwrap_or(rest.len())
-}
-
-/// Returns the number of bytes of the block in braces that begins here.
-fn block_len(rest: &str) -> Result<usize, &'static str> {
-    if !rest.starts_with('{') {
-        return Err("a clause or a ghost item without a block");
-    }
-    let (mut depth, mut at) = (0, 0);
-    while let Some(found) = rest[at..].find(['{', '}', '"', '\'', '-']).map(|found| at + found) {
-        at = found + 1;
-        match rest.as_bytes()[found] {
-            b'{' => depth += 1,
-            b'}' if depth == 1 => return Ok(at),
-            b'}' => depth -= 1,
-            b'"' => at += quoted_len(&rest[at..], '"').ok_or("a text without an end")?,
-            b'-' if rest[at..].starts_with('-') => return Err("a comment in a clause"),
-            b'\'' if rest[at..].starts_with(['{', '}', '"', '\\']) => {
-                return Err("a character in a clause");
-            }
-            _ => {}
-        }
-    }
-    Err("a block without an end")
+    rest.find(|c| !is_blank(c)).unwrap_or(rest.len())
 }

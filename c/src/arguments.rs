@@ -109,16 +109,33 @@ pub struct IndexName {
 pub(crate) unsafe fn list<'a, T>(at: *const T, len: usize) -> Result<&'a [T]> {
     if len == 0 {
         Ok(&[])
-    } else if at.is_null() || len > isize::MAX as usize / size_of::<T>() {
-        Err(Status::BadArgument.into())
-    } else {
+    } else if is_possible(at, len) {
         Ok(unsafe { slice::from_raw_parts(at, len) })
+    } else {
+        Err(Status::BadArgument.into())
     }
+}
+
+fn is_possible<T>(at: *const T, len: usize) -> bool {
+    !at.is_null() && len <= isize::MAX as usize / size_of::<T>()
+}
+
+/// Returns an array as [`list`] does, whose length is encoded as a number of 32 bits.
+///
+/// # Errors
+///
+/// Fails also with `TooLarge` for more bytes than such a number counts, `TooMany` for more values.
+pub(crate) unsafe fn counted<'a, T>(at: *const T, len: usize) -> Result<&'a [T]> {
+    if u32::try_from(len).is_err() && is_possible(at, len) {
+        let is_bytes = size_of::<T>() == 1;
+        return Err(if is_bytes { Status::TooLarge } else { Status::TooMany }.into());
+    }
+    unsafe { list(at, len) }
 }
 
 /// Returns a UTF-8 string. Most are ASCII, which is faster to check.
 pub(crate) unsafe fn text<'a>(at: *const u8, len: usize) -> Result<&'a str> {
-    let bytes = unsafe { list(at, len) }?;
+    let bytes = unsafe { counted(at, len) }?;
     if bytes.is_ascii() {
         return Ok(unsafe { str::from_utf8_unchecked(bytes) });
     }

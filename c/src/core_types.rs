@@ -1,6 +1,6 @@
 //! The calls that add core types, and that declare the imports and exports of core modules.
 
-use crate::arguments::{Entity, Pair, Subtype, known, list, unnamed};
+use crate::arguments::{Entity, Pair, Subtype, counted, known, unnamed};
 use crate::session::Session;
 use crate::{Refused, Result, Status, calls, numbers};
 use alloc::vec::Vec;
@@ -78,10 +78,10 @@ impl Subtype {
     }
 
     unsafe fn composite(&self) -> Result<CoreCompositeType> {
-        let fields = unsafe { list(self.fields, self.fields_len) }?;
+        let fields = unsafe { counted(self.fields, self.fields_len) }?;
         Ok(match self.kind {
             1 => {
-                let results = unsafe { list(self.results, self.results_len) }?;
+                let results = unsafe { counted(self.results, self.results_len) }?;
                 CoreCompositeType::Func(CoreFuncType::from_lists(
                     collected(unnamed(c"fields", fields, numbers::core_value)?)?,
                     collected(unnamed(c"results", results, numbers::core_value)?)?,

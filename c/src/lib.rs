@@ -12,6 +12,7 @@ extern crate alloc;
 pub mod arguments;
 pub mod core_types;
 pub mod items;
+pub mod last_error;
 pub mod life;
 pub mod listing;
 mod numbers;
@@ -26,6 +27,7 @@ use alloc::collections::TryReserveError;
 use alloc::vec::Vec;
 use core::ffi::CStr;
 use core::ptr;
+use last_error::LastError;
 use session::Session;
 use wenc::{Error, ListFault, NamesFault};
 
@@ -137,17 +139,18 @@ pub struct Handle {
 /// What a handle owns.
 pub struct Owned {
     session: Session,
-    /// Why the last call failed that did, of those that change the session.
-    refused: Option<Refused>,
+    last_error: LastError,
 }
 
-/// Begins what a handle owns, which owns nothing yet.
+/// Begins what a handle owns, which owns nothing yet. If it does, that is recorded.
 unsafe fn begin(handle: *mut Handle, make: impl FnOnce() -> Result<Session>) -> Result<()> {
     let handle = unsafe { handle.as_mut() }.ok_or(Status::NoHandle)?;
-    if !handle.at.is_null() {
-        return Err(Status::BadArgument.into());
+    if let Some(owned) = unsafe { handle.at.as_mut() } {
+        let refused = Refused::bad(c"handle");
+        owned.last_error.set(refused);
+        return Err(refused);
     }
-    let owned = Owned { session: make()?, refused: None };
+    let owned = Owned { session: make()?, last_error: LastError::default() };
     // `Box::new` aborts where the allocation fails.
     let mut made = Vec::new();
     made.try_reserve_exact(1)?;
@@ -160,11 +163,6 @@ unsafe fn begin(handle: *mut Handle, make: impl FnOnce() -> Result<Session>) -> 
 unsafe fn owned<'a>(handle: *const Handle) -> Result<&'a Owned, Status> {
     let handle = unsafe { handle.as_ref() }.ok_or(Status::NoHandle)?;
     unsafe { handle.at.as_ref() }.ok_or(Status::NoHandle)
-}
-
-/// Returns the session of a handle, to read it.
-unsafe fn session<'a>(handle: *const Handle) -> Result<&'a Session> {
-    Ok(&unsafe { owned(handle) }?.session)
 }
 
 /// Returns the session of a second handle, to read it. It must differ from the first.
@@ -185,9 +183,24 @@ unsafe fn change<T>(
     let handle = unsafe { handle.as_ref() }.ok_or(Status::NoHandle)?;
     let owned = unsafe { handle.at.as_mut() }.ok_or(Status::NoHandle)?;
     call(&mut owned.session).map_err(|refused| {
-        owned.refused = Some(refused);
+        owned.last_error.set(refused);
         refused.status
     })
+}
+
+/// Makes a call that only reads the session of a handle, and writes its result through a pointer
+/// from C. If it fails, that is recorded.
+unsafe fn read<'a, T>(
+    handle: *const Handle,
+    to: *mut T,
+    call: impl FnOnce(&'a Session) -> Result<T>,
+) -> Status {
+    let owned = match unsafe { owned(handle) } {
+        Ok(owned) => owned,
+        Err(status) => return status,
+    };
+    let result = call(&owned.session).inspect_err(|refused| owned.last_error.note(*refused));
+    result.map(|value| unsafe { put(to, value) }).into()
 }
 
 /// Writes a value through a pointer from C, unless that is NULL.
@@ -195,11 +208,6 @@ unsafe fn put<T>(at: *mut T, value: T) {
     if !at.is_null() {
         unsafe { at.write(value) };
     }
-}
-
-/// Writes the result of a call that only reads through a pointer from C.
-unsafe fn written<T>(at: *mut T, result: Result<T>) -> Status {
-    result.map(|value| unsafe { put(at, value) }).into()
 }
 
 /// Makes a call that adds an item, and writes the item's index through a pointer from C.
@@ -290,7 +298,7 @@ macro_rules! call {
         $crate::call! {
             $f $i $s $b, [$($c)* $a: *const $t, $l: usize,]
             [$($r)*
-                let $a = $crate::arguments::list($a, $l)
+                let $a = $crate::arguments::counted($a, $l)
                     .map_err(|refused| refused.of($crate::name_of!($a)))?;
             ] $($rest)*
         }

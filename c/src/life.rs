@@ -2,9 +2,7 @@
 
 use crate::arguments::known;
 use crate::session::Session;
-use crate::{
-    Handle, Refused, Result, Status, begin, change, numbers, owned, put, session, written,
-};
+use crate::{Handle, Refused, Result, Status, begin, change, numbers, put, read};
 use alloc::boxed::Box;
 use alloc::vec::Vec;
 use core::ffi::{CStr, c_char};
@@ -150,42 +148,28 @@ pub unsafe extern "C" fn wenc_finish(
 
 #[unsafe(no_mangle)]
 pub unsafe extern "C" fn wenc_bytes(handle: *const Handle, bytes: *mut u8, len: usize) -> Status {
-    match unsafe { session(handle) } {
-        Ok(Session::Building(_) | Session::ByHand(_)) => Status::Unfinished,
-        Ok(Session::Finished(whole)) if whole.len() == len && !bytes.is_null() => {
-            unsafe { ptr::copy_nonoverlapping(whole.as_ptr(), bytes, len) };
-            Status::Done
+    let copy = |session: &Session| match session {
+        Session::Building(_) | Session::ByHand(_) => {
+            Err(Refused::from(Status::Unfinished).of(c"handle"))
         }
-        Ok(_) => Status::BadArgument,
-        Err(refused) => refused.status,
-    }
-}
-
-/// `wenc_error`: why a call failed.
-#[repr(C)]
-pub struct ErrorRow {
-    pub argument: *const c_char,
-    pub member: usize,
-    pub status: u32,
-}
-
-#[unsafe(no_mangle)]
-pub unsafe extern "C" fn wenc_last_error(handle: *const Handle, error: *mut ErrorRow) -> Status {
-    let last = unsafe { owned(handle) }.map(|owned| {
-        let refused = owned.refused.unwrap_or(Status::Done.into());
-        let argument = refused.argument.map_or(ptr::null(), CStr::as_ptr);
-        ErrorRow { argument, member: refused.member, status: refused.status as u32 }
-    });
-    unsafe { written(error, last.map_err(Into::into)) }
+        Session::Finished(whole) if whole.len() != len => Err(Refused::bad(c"len")),
+        Session::Finished(_) if bytes.is_null() => Err(Refused::bad(c"bytes")),
+        Session::Finished(whole) => {
+            unsafe { ptr::copy_nonoverlapping(whole.as_ptr(), bytes, len) };
+            Ok(())
+        }
+        _ => Err(session.refusal()),
+    };
+    unsafe { read(handle, ptr::null_mut(), copy) }
 }
 
 #[unsafe(no_mangle)]
 pub unsafe extern "C" fn wenc_count(handle: *const Handle, space: u32, count: *mut u32) -> Status {
     let counts = |session: &Session| session.count(known(c"space", numbers::space(space))?);
-    unsafe { written(count, session(handle).and_then(counts)) }
+    unsafe { read(handle, count, counts) }
 }
 
 #[unsafe(no_mangle)]
 pub unsafe extern "C" fn wenc_len(handle: *const Handle, len: *mut usize) -> Status {
-    unsafe { written(len, session(handle).and_then(Session::len)) }
+    unsafe { read(handle, len, Session::len) }
 }

@@ -3,7 +3,7 @@
 use crate::arguments::{copied, known, list};
 use crate::rows::{ItemRow, SectionRow};
 use crate::session::Session;
-use crate::{Handle, Refused, Result, Status, begin, calls, numbers, other, put, session, written};
+use crate::{Handle, Refused, Result, Status, begin, calls, numbers, other, put, read};
 use alloc::vec::Vec;
 use core::ops::Range;
 use wenc::tree::Space;
@@ -52,7 +52,7 @@ impl Listed {
         for item in section.items() {
             let (range, item) = item?;
             let mut index = 0;
-            if let Some((space, taken)) = item.indices() {
+            if let Some((space, taken)) = item.defined_indices() {
                 let count = &mut self.counts[space.number()];
                 index = *count;
                 // A component of 2^32 such items would have more bytes than there are.
@@ -70,7 +70,8 @@ impl Listed {
 
     /// Returns the number of items in an index space.
     pub(crate) fn count(&self, space: Space) -> Result<u32> {
-        Ok(u32::try_from(self.counts[space.number()]).map_err(|_| Status::TooLarge)?)
+        let count = u32::try_from(self.counts[space.number()]);
+        count.map_err(|_| Refused::from(Status::TooLarge).of(c"space"))
     }
 
     fn section(&self, number: usize) -> Result<&Section> {
@@ -164,8 +165,11 @@ pub unsafe extern "C" fn wenc_section_at(
     number: usize,
     section: *mut SectionRow,
 ) -> Status {
-    let read = |session| listed(session)?.section(number).map(|section| section.row);
-    unsafe { written(section, session(handle).and_then(read)) }
+    let row = |session| {
+        let found = listed(session)?.section(number);
+        found.map(|section| section.row).map_err(|refused| refused.of(c"number"))
+    };
+    unsafe { read(handle, section, row) }
 }
 
 #[unsafe(no_mangle)]
@@ -175,8 +179,7 @@ pub unsafe extern "C" fn wenc_item_at(
     number: usize,
     item: *mut ItemRow,
 ) -> Status {
-    let read = |session| listed(session)?.row(section, number);
-    unsafe { written(item, session(handle).and_then(read)) }
+    unsafe { read(handle, item, |session| listed(session)?.row(section, number)) }
 }
 
 calls! {
@@ -189,7 +192,7 @@ calls! {
     };
     wenc_item(section: u32, debug_name: name, bytes[len]: u8) -> index = |session| {
         let section = known(c"section", numbers::section(section))?;
-        let item = read(section, bytes).map_err(|status| Refused::from(status).of(c"bytes"))?;
+        let item = read_item(section, bytes).map_err(|status| Refused::from(status).of(c"bytes"))?;
         add(session, debug_name, &item)
     };
 }
@@ -200,7 +203,7 @@ fn add(session: &mut Session, debug_name: Option<&str>, item: &ItemView<'_>) -> 
 }
 
 /// Reads an item of a section, which must take all bytes.
-fn read(section: ComponentSectionId, bytes: &[u8]) -> Result<ItemView<'_>, Status> {
+fn read_item(section: ComponentSectionId, bytes: &[u8]) -> Result<ItemView<'_>, Status> {
     let mut items = Items::at(bytes, section, 0..bytes.len(), 1).ok_or(Status::Malformed)?;
     match (items.next(), items.next()) {
         (Some(Ok((_, item))), None) => Ok(item),

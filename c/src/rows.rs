@@ -57,7 +57,7 @@ impl ItemRow {
     /// Describes an item of a section with this id, at these byte offsets in the component.
     pub(crate) fn new(section: u32, range: Range<usize>, item: ItemView<'_>) -> Self {
         let mut row = Self::of_section(section, range);
-        if let Some((space, indices)) = item.indices() {
+        if let Some((space, indices)) = item.defined_indices() {
             (row.space, row.indices) = (numbers::of_space(space), indices);
         }
         match item {

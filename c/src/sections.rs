@@ -1,6 +1,6 @@
 //! The calls that append sections, and the section of debug names.
 
-use crate::arguments::{IndexName, Producer, known, text};
+use crate::arguments::{IndexName, Producer, known, list, text};
 use crate::session::Session;
 use crate::{Handle, Refused, Result, calls, numbers, other};
 use wenc::{
@@ -12,9 +12,13 @@ calls! {
     wenc_custom_section(name[name_len]: text, data[data_len]: u8) = |session| {
         add_custom(session, &CustomSection { name: name.into(), data: data.into() })
     };
-    wenc_raw_custom_section(bytes[len]: u8) = |session| match session {
-        Session::Building(builder) => Ok(builder.try_raw_custom_section(bytes)?),
-        _ => session.append(&RawCustomSection(bytes)).map(drop),
+    wenc_raw_custom_section(bytes: *const u8, len: usize) = |session| {
+        // They have their size in front, and may be more than that counts.
+        let bytes = list(bytes, len).map_err(|refused| refused.of(c"bytes"))?;
+        match session {
+            Session::Building(builder) => Ok(builder.try_raw_custom_section(bytes)?),
+            _ => session.append(&RawCustomSection(bytes)).map(drop),
+        }
     };
     wenc_raw_section(id: u8, bytes[len]: u8) = |session| {
         session.append(&RawSection { id, data: bytes }).map(drop)

@@ -1,5 +1,6 @@
 //! What a handle owns, and the calls that apply to several kinds of it.
 
+use crate::arguments::known;
 use crate::listing::Listed;
 use crate::{Refused, Result, Status};
 use alloc::vec::Vec;
@@ -231,13 +232,13 @@ impl Session {
     pub(crate) fn count(&self, space: Space) -> Result<u32> {
         let count = match (self, space) {
             (Self::Building(builder), _) => Some(builder.count(space)),
-            (Self::ModuleType(ty), Space::CoreTypes) => Some(ty.type_count()),
+            (Self::ModuleType(ty), _) => (space == Space::CoreTypes).then(|| ty.type_count()),
             (Self::ComponentType(ty), _) => ty.count(space),
             (Self::InstanceType(ty), _) => ty.count(space),
             (Self::Listed(listed), _) => return listed.count(space),
             _ => return Err(self.refusal()),
         };
-        Ok(count.ok_or(Status::BadArgument)?)
+        known(c"space", count)
     }
 
     /// Returns the number of members of a section or a type, or of sections of a component that was

@@ -40,6 +40,9 @@ macro_rules! declaring {
             $crate::twins::twins! {
                 /// Begins the declaration of a core type and returns its encoder.
                 ///
+                /// As in upstream, a recursion group counts as one core type here; by the standard
+                /// it has an index for each of its types: after a group of n types add n - 1.
+                ///
                 /// If the encoder is dropped before it has ended that type, this one is unfinished:
                 /// it rejects further additions and can't be encoded until
                 /// [`discard_unfinished`](Self::discard_unfinished).
@@ -162,7 +165,8 @@ macro_rules! declaring {
                 self.0.is_empty()
             }
 
-            /// Returns the number of core types: declared ones, including an unfinished one, and
+            /// Returns the number of core types: declared ones, of which a
+            /// [recursion group](Self::core_type) is one, including an unfinished one, and
             /// outer aliases.
             pub fn core_type_count(&self) -> u32 {
                 self.0.core_type_count()

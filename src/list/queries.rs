@@ -33,16 +33,19 @@ impl Listing {
         })
     }
 
-    /// Returns the number of indices that the items define in a space.
+    /// Returns the number of indices that the items define in a space, as upstream's builder counts
+    /// them: a recursion group of core types has one. By the standard it has one for each of its
+    /// types: after a group of n types add n - 1.
+    /// [`Sections::index_count`](crate::Sections::index_count) counts so.
     pub fn count(&self, space: Space) -> u128 {
         self.counts[space.number()]
     }
 
     /// Returns the item that defines an index; `None` if the space has no such index.
     ///
-    /// Indices are counted as [`ItemTree::indices`] does: a recursion group of core types has one.
-    /// Takes time linear in the number of items; for many lookups,
-    /// [`definitions`](Self::definitions) takes that time once.
+    /// Indices are those of the standard, as [`ItemTree::defined_indices`] returns them: a recursion
+    /// group of core types has one for each of its types. Takes time linear in the number of items;
+    /// for many lookups, [`definitions`](Self::definitions) takes that time once.
     ///
     /// ```
     /// use wenc::tree::{ItemTree, Space};
@@ -57,7 +60,7 @@ impl Listing {
     /// ```
     pub fn definition(&self, space: Space, index: u32) -> Option<&ItemTree> {
         let mut left = u64::from(index);
-        self.items().find(|item| match item.indices() {
+        self.items().find(|item| match item.defined_indices() {
             Some((of, count)) if of == space => {
                 let is_here = left < count.into();
                 left = left.saturating_sub(count.into());
@@ -67,7 +70,8 @@ impl Listing {
         })
     }
 
-    /// Returns a map from indices to the items that define them.
+    /// Returns a map from indices to the items that define them, as
+    /// [`definition`](Self::definition) counts.
     ///
     /// # Errors
     ///
@@ -90,7 +94,7 @@ impl Listing {
         let mut items: [Vec<_>; 13] = Default::default();
         let mut counts = [0_u64; 13];
         for item in self.items() {
-            let Some((space, count @ 1..)) = item.indices() else { continue };
+            let Some((space, count @ 1..)) = item.defined_indices() else { continue };
             let (items, first) = (&mut items[space.number()], &mut counts[space.number()]);
             items.try_reserve(1).map_err(|_| Error::NoMemory)?;
             items.push((*first, item));

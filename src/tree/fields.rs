@@ -19,7 +19,7 @@ mod random;
 mod values;
 
 use super::indices::Visitor;
-use super::node::{Child, Fields, List, Node};
+use super::node::{Child, Fields, List, Named, Node, named};
 use super::{
     AliasTree, CanonTree, CaseTree, ComponentDecl, CoreAbstractHeapType, CoreArrayType,
     CoreCompositeType, CoreEntityType, CoreFieldType, CoreFuncType, CoreGlobalType, CoreHeapType,
@@ -49,9 +49,19 @@ pub(super) trait Tree {
     /// Returns the value at this place as a node.
     fn node<'n>(&'n self, place: Place<'n>) -> Node<'n>;
 
+    /// Returns the fields of the value at this place, if it has some.
+    fn fields<'n>(&'n self, _: Place<'n>) -> Named<'n> {
+        [None; 4]
+    }
+
     /// Returns the node of a part that only the owned type has as a value by itself.
     fn part<'n>(&'n self, place: Place<'n>) -> Node<'n> {
         self.node(place)
+    }
+
+    /// Returns the fields of that part, if it has some.
+    fn part_fields<'n>(&'n self, _: Place<'n>) -> Named<'n> {
+        [None; 4]
     }
 
     /// Returns whether the list has no elements.
@@ -120,21 +130,26 @@ macro_rules! visit {
     (last $($other:tt)*) => {};
 }
 
-/// Makes the node of a variant, or of a struct.
+/// Makes the node of a variant.
 macro_rules! node {
-    ($place:ident $name:ident) => {
+    ($of:ident $place:ident $name:ident) => {
         Node::Word(stringify!($name))
     };
-    ($place:ident $name:ident($field:ident $(: $role:tt)?)) => {
+    ($of:ident $place:ident $name:ident($field:ident $(: $role:tt)?)) => {
         Node::Variant(stringify!($name), Child::new($field, place!($place $field $($role)?)))
     };
-    ($place:ident $name:ident { $($field:ident $(: $role:tt)?),+ }) => {
-        node!($place Struct $name { $($field $(: $role)?),+ })
+    ($of:ident $place:ident $name:ident { $($fields:tt)+ }) => {
+        Node::Struct(stringify!($name), Fields::new($of, $place))
     };
-    ($place:ident $kind:ident $name:ident { $($field:ident $(: $role:tt)?),+ }) => {
-        Node::$kind(stringify!($name), Fields::new([
-            $((stringify!($field), Child::new($field, place!($place $field $($role)?)))),+
-        ]))
+}
+
+/// Makes the fields of a variant, or of a struct.
+macro_rules! fields {
+    ($place:ident { $($field:ident $(: $role:tt)?),+ }) => {
+        named([$((stringify!($field), Child::new($field, place!($place $field $($role)?)))),+])
+    };
+    ($place:ident $($other:tt)?) => {
+        [None; 4]
     };
 }
 
@@ -159,7 +174,15 @@ macro_rules! node_of_enum {
             fn node<'n>(&'n self, place: Place<'n>) -> Node<'n> {
                 match self {$(
                     Self::$name $(($one))? $({ $($field),+ })? => node!(
-                        place $name $(($one $(: $of)?))? $({ $($field $(: $role)?),+ })?
+                        self place $name $(($one $(: $of)?))? $({ $($field $(: $role)?),+ })?
+                    ),
+                )+}
+            }
+
+            fn fields<'n>(&'n self, place: Place<'n>) -> Named<'n> {
+                match self {$(
+                    Self::$name $(($one))? $({ $($field),+ })? => fields!(
+                        place $(($one))? $({ $($field $(: $role)?),+ })?
                     ),
                 )+}
             }
@@ -215,8 +238,12 @@ macro_rules! node_of_struct {
     ($name:ident, $ty:ty, { $($field:ident $(: $role:tt)?),+ }) => {
         impl Tree for $ty {
             fn node<'n>(&'n self, place: Place<'n>) -> Node<'n> {
+                Node::Record(stringify!($name), Fields::new(self, place))
+            }
+
+            fn fields<'n>(&'n self, place: Place<'n>) -> Named<'n> {
                 let Self { $($field),+ } = self;
-                node!(place Record $name { $($field $(: $role)?),+ })
+                fields!(place { $($field $(: $role)?),+ })
             }
         }
     };

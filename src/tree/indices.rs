@@ -4,10 +4,11 @@ mod nested;
 
 pub use nested::OuterFault;
 
-use super::fields::{Place, TreeMut};
+use super::fields::{Place, Tree, TreeMut};
 use super::{ItemTree, Space};
 use crate::Error;
 use crate::error::or_panic;
+use crate::view::ItemView;
 
 /// An index that an item contains, as [`ItemTree::indices_mut`] visits it.
 #[derive(Debug)]
@@ -32,13 +33,47 @@ pub enum Scope {
     Type(u32),
 }
 
+/// Defines the call of an owned and of a borrowed item.
+macro_rules! defined_indices {
+    ($($item:ty)+) => {$(
+        impl $item {
+            /// Returns the index space in which the item defines indices, and their number
+            /// (component model, explainer, "Index Spaces"); `None` for a custom section.
+            ///
+            /// A recursion group defines an index for each of its types. [`indices`](Self::indices)
+            /// counts one for the group, as upstream's builder does.
+            ///
+            /// ```
+            /// use wenc::tree::Space;
+            /// use wenc::{ListFault, list};
+            ///
+            /// // a recursion group of two core types
+            /// let component = b"\0asm\x0d\0\x01\0\x03\x08\x01\x4e\x02\x60\0\0\x5f\0";
+            /// let listing = list(component)?;
+            /// let group = listing.items().next().expect("an item");
+            /// assert_eq!(group.defined_indices(), Some((Space::CoreTypes, 2)));
+            /// assert_eq!(group.indices(), Some((Space::CoreTypes, 1)));
+            /// # Ok::<(), ListFault>(())
+            /// ```
+            pub fn defined_indices(&self) -> Option<(Space, u32)> {
+                match self {
+                    Self::CoreType(ty) => ty.defined(),
+                    _ => self.indices(),
+                }
+            }
+        }
+    )+};
+}
+
+defined_indices! { ItemTree ItemView<'_> }
+
 impl ItemTree {
     /// Visits each index that the item contains, in the order in which they are encoded. `visit`
     /// may change it.
     ///
     /// The indices that the item defines aren't visited, since they follow from the items before
-    /// it: [`indices`](Self::indices) returns their number. A visited index may be one of them:
-    /// core types of a recursion group refer to each other.
+    /// it: [`defined_indices`](Self::defined_indices) returns their number. A visited index may be
+    /// one of them: core types of a recursion group refer to each other.
     ///
     /// Indices within bytes aren't visited: outer aliases in a nested component, which
     /// [`outer_indices_mut`](Self::outer_indices_mut) visits, and debug names in a custom section,

@@ -1,6 +1,6 @@
 //! Items as nodes with named fields.
 
-use super::fields::{IndexCounts, Place, Scopes, Tree};
+use super::fields::{IndexCounts, Place, Scopes, Tree, Visit};
 use super::{ItemTree, Scope, Space, ValType};
 use crate::CoreItem;
 use crate::view::{
@@ -8,7 +8,6 @@ use crate::view::{
     CoreTypeView, DefinedView, GroupView, InstanceDeclView, InstanceView, ItemView, ModuleDeclView,
     NameView, TypeView,
 };
-use core::convert::Infallible;
 use core::fmt;
 use core::ops::ControlFlow;
 
@@ -127,9 +126,9 @@ impl Node<'_> {
     /// # Ok::<(), wenc::ListFault>(())
     /// ```
     pub fn each_index(self, mut visit: impl FnMut(UsedIndex)) {
-        let Ok(()) = self.try_each_index(|used| {
+        let _ = self.each_use(&mut |used| {
             visit(used);
-            Ok::<(), Infallible>(())
+            ControlFlow::Continue(())
         });
     }
 
@@ -142,32 +141,43 @@ impl Node<'_> {
         self,
         mut visit: impl FnMut(UsedIndex) -> Result<(), E>,
     ) -> Result<(), E> {
-        self.each_use(&mut visit)
+        let mut result = Ok(());
+        let _ = self.each_use(&mut |used| up_to_error(&mut result, visit(used)));
+        result
     }
 
-    fn each_use<E>(self, visit: &mut dyn FnMut(UsedIndex) -> Result<(), E>) -> Result<(), E> {
-        match self {
-            Self::Index { space, scope, index } => {
+    fn each_use(self, visit: &mut dyn FnMut(UsedIndex) -> ControlFlow<()>) -> ControlFlow<()> {
+        match self.innermost() {
+            Node::Index { space, scope, index } => {
                 visit(UsedIndex { space, scope, index, count: None })
             }
-            Self::OutOfRange { space, scope, index, count } => {
+            Node::OutOfRange { space, scope, index, count } => {
                 visit(UsedIndex { space, scope, index, count: Some(count) })
             }
-            Self::Present(child) | Self::Variant(_, child) => child.node().each_use(visit),
-            Self::List(list) => list.try_for_each(|child| child.node().each_use(visit)),
-            Self::Tuple(fields) | Self::Record(_, fields) | Self::Struct(_, fields) => {
-                let [first, last] = [false, true].map(|is_last| {
-                    fields
-                        .0
-                        .into_iter()
-                        .flatten()
-                        .filter(move |field| field.1.place.is_last == is_last)
-                });
-                first.chain(last).try_for_each(|(_, child)| child.node().each_use(visit))
+            Node::List(list) => list.each_child(&mut |child| child.node().each_use(visit)),
+            Node::Tuple(fields) | Node::Record(_, fields) | Node::Struct(_, fields) => {
+                fields.each_use(visit)
             }
-            _ => Ok(()),
+            _ => ControlFlow::Continue(()),
         }
     }
+
+    /// Returns the first value within variants and options that is none. So the stack that types in
+    /// types take is that of their lists.
+    #[inline(never)]
+    fn innermost(self) -> Self {
+        let mut node = self;
+        while let Node::Present(child) | Node::Variant(_, child) = node {
+            node = child.node();
+        }
+        node
+    }
+}
+
+/// Keeps a result, and returns whether to go on.
+fn up_to_error<E>(result: &mut Result<(), E>, next: Result<(), E>) -> ControlFlow<()> {
+    *result = next;
+    if result.is_ok() { ControlFlow::Continue(()) } else { ControlFlow::Break(()) }
 }
 
 /// A value within a [`Node`].
@@ -253,9 +263,9 @@ impl<'a> List<'a> {
     /// Calls a function with each element, in order. Those of a borrowed item are read one by one,
     /// and each is there during the call.
     pub fn for_each(self, mut visit: impl FnMut(Child<'_>)) {
-        let Ok(()) = self.try_for_each(|child| {
+        let _ = self.each_child(&mut |child| {
             visit(child);
-            Ok::<(), Infallible>(())
+            ControlFlow::Continue(())
         });
     }
 
@@ -268,26 +278,46 @@ impl<'a> List<'a> {
         self,
         mut visit: impl FnMut(Child<'_>) -> Result<(), E>,
     ) -> Result<(), E> {
-        let Self(Child { source, place, .. }) = self;
-        let (place, around) = place.elements();
-        let mut declared = IndexCounts::default();
         let mut result = Ok(());
-        let mut each = |element: &dyn Tree, encoded_len| {
-            let inner = around.map(|around| around.inner(declared));
-            let place = place.in_scopes(inner.as_ref());
-            result = visit(Child { source: Source::Tree(element), place, encoded_len });
-            if around.is_some() {
-                declared.define(element.defined());
-            }
-            if result.is_ok() { ControlFlow::Continue(()) } else { ControlFlow::Break(()) }
-        };
-        let _ = match source {
-            Source::Types(types) => types.iter().try_for_each(|ty| each(ty, None)),
-            Source::Tree(list) | Source::Part(list) | Source::Present(list) => {
-                list.each_element(&mut each)
-            }
-        };
+        let _ = self.each_child(&mut |child| up_to_error(&mut result, visit(child)));
         result
+    }
+
+    fn each_child(self, visit: &mut dyn FnMut(Child<'_>) -> ControlFlow<()>) -> ControlFlow<()> {
+        let (place, around) = self.0.place.elements();
+        if let Some(around) = around {
+            return self.each_declaration(around, place, visit);
+        }
+        self.each_element(&mut |element, encoded_len| {
+            visit(Child { source: Source::Tree(element), place, encoded_len })
+        })
+    }
+
+    /// Calls a function with each declaration of a type in these scopes.
+    #[inline(never)]
+    fn each_declaration(
+        self,
+        around: &Scopes<'_>,
+        place: Place<'_>,
+        visit: &mut dyn FnMut(Child<'_>) -> ControlFlow<()>,
+    ) -> ControlFlow<()> {
+        let mut declared = IndexCounts::default();
+        self.each_element(&mut |element, encoded_len| {
+            let inner = around.inner(declared);
+            let place = place.in_scopes(&inner);
+            visit(Child { source: Source::Tree(element), place, encoded_len })?;
+            declared.define(element.defined());
+            ControlFlow::Continue(())
+        })
+    }
+
+    fn each_element(self, visit: &mut Visit<'_>) -> ControlFlow<()> {
+        match self.0.source {
+            Source::Types(types) => types.iter().try_for_each(|ty| visit(ty, None)),
+            Source::Tree(list) | Source::Part(list) | Source::Present(list) => {
+                list.each_element(visit)
+            }
+        }
     }
 }
 
@@ -303,17 +333,53 @@ impl fmt::Debug for List<'_> {
 
 /// The fields of a value in a [`Node`].
 #[derive(Clone, Copy)]
-pub struct Fields<'a>([Option<(&'static str, Child<'a>)>; 4]);
+pub struct Fields<'a>(Child<'a>);
+
+/// The names and the values of some fields: nodes would be large with them.
+pub(super) type Named<'a> = [Option<(&'static str, Child<'a>)>; 4];
+
+/// Returns the names and the values of fields.
+pub(super) fn named<'a, const LEN: usize>(all: [(&'static str, Child<'a>); LEN]) -> Named<'a> {
+    const { assert!(LEN <= 4) };
+    core::array::from_fn(|at| all.get(at).copied())
+}
 
 impl<'a> Fields<'a> {
-    pub(super) fn new<const LEN: usize>(all: [(&'static str, Child<'a>); LEN]) -> Self {
-        const { assert!(LEN <= 4) };
-        Self(core::array::from_fn(|at| all.get(at).copied()))
+    pub(super) fn new(whole: &'a dyn Tree, place: Place<'a>) -> Self {
+        Self(Child::new(whole, place))
+    }
+
+    /// The fields of a part of a value.
+    pub(super) fn part(whole: &'a dyn Tree, place: Place<'a>) -> Self {
+        Self(Child::part(whole, place))
     }
 
     /// Returns the names and the values, in the order of the Rust type.
     pub fn iter(self) -> impl Iterator<Item = (&'static str, Child<'a>)> {
-        self.0.into_iter().flatten()
+        (0..).map_while(move |at| self.get(at))
+    }
+
+    /// Returns the field with this number. It isn't inlined, so that the stack of a caller that calls
+    /// itself stays small.
+    #[inline(never)]
+    fn get(self, at: usize) -> Option<(&'static str, Child<'a>)> {
+        let named = match self.0.source {
+            Source::Tree(tree) => tree.fields(self.0.place),
+            Source::Part(whole) | Source::Present(whole) => whole.part_fields(self.0.place),
+            Source::Types(_) => return None,
+        };
+        named.get(at).copied().flatten()
+    }
+
+    /// Visits each index in the values, in the order in which they are encoded.
+    #[inline(never)]
+    fn each_use(self, visit: &mut dyn FnMut(UsedIndex) -> ControlFlow<()>) -> ControlFlow<()> {
+        for is_last in [false, true] {
+            for (_, child) in self.iter().filter(|(_, child)| child.place.is_last == is_last) {
+                child.node().each_use(visit)?;
+            }
+        }
+        ControlFlow::Continue(())
     }
 }
 

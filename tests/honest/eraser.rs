@@ -1,10 +1,10 @@
 //! The eraser: each of its refusals with the line, what becomes of comments, and the layout of the
 //! package.
 
-#[path = "../../build/erase.rs"]
-mod erase;
 #[path = "../../build/tidy.rs"]
 mod tidy;
+
+use super::erase;
 
 const CRATES: [&str; 3] = ["wenc_base", "wenc_parts", "hex"];
 const PRELUDE: &str = "use crate::shim::prelude::*; ";
@@ -109,11 +109,76 @@ fn ghost_forms_that_are_not_known() {
     refuses("ghost a: b;\n", 1, "a clause or a ghost item without a block");
     refuses("ghost { a }\n", 1, "a ghost item without a name");
     refuses("ghost use a.b\n", 1, "a ghost item without an end");
+    refuses("ghost // a\n use b;\n", 1, "a ghost item without a name");
+    refuses("trait T {\n    ghost a: { b } by { c };\n}\n", 2, why);
     refuses("struct S {\n    pub ghost a: { b },\n}\n", 2, "a word in front of a ghost item");
     refuses("fn f()\n    requires a b { c }\n{}\n", 2, "a clause or a ghost item without a block");
     refuses("fn f()\n    ensures { a { b }\n", 2, "a block without an end");
-    refuses("fn f()\n    ensures { a -- b\n }\n{}\n", 2, "a comment in a clause");
-    refuses("fn f() ensures { '}' }\n{}\n", 1, "a character in a clause");
+    refuses(
+        "fn f()\n    ensures // a\n { b }\n{}\n",
+        2,
+        "a clause or a ghost item without a block",
+    );
+}
+
+/// Whatever might end a clause or a ghost item elsewhere for the prover than for the eraser, in each
+/// of them.
+#[test]
+fn signs_that_might_hide_a_brace() {
+    let ghosts = [
+        ("fn f()\n    ensures { a ", " }\n{}\n"),
+        ("fn f()\n    requires* b { { a ", " } }\n{}\n"),
+        ("trait T {\n    ghost a: { ", " } = { b };\n}\n"),
+        ("impl T for S {\n    ghost a = { b (", ") };\n}\n"),
+        ("struct S {\n    ghost a: { b ", " },\n}\n"),
+        ("struct S;\nghost use a.{b, ", " c};\n"),
+    ];
+    for (begin, end) in ghosts {
+        let refuses = |sign: &str, why| refuses(&format!("{begin}{sign}{end}"), 2, why);
+        refuses("{- } -}", "a block comment in a clause");
+        refuses("{- ; fn g() {} // -}", "a block comment in a clause");
+        refuses("{-{- -} } -}", "a block comment in a clause");
+        refuses("-}", "the end of a block comment in a clause");
+        refuses("-- }\n", "a comment in a clause");
+        refuses("a--}\n", "a comment in a clause");
+        refuses("// }\n", "a comment of Rust in a clause");
+        refuses("/* } */", "a comment of Rust in a clause");
+        refuses("'}'", "a character in a clause");
+        refuses("'\"'", "a character in a clause");
+        for blank in ["\t", "\r", "\u{b}", "\u{c}", "\u{85}", "\u{a0}", "\u{2028}", "\0"] {
+            refuses(blank, "a blank that is not known");
+        }
+        if begin.contains("ghost use") {
+            for sign in ["\";\"", "«;»", "⟦;⟧"] {
+                refuses(sign, "more than names in a `ghost use`");
+            }
+        } else {
+            refuses("\"}\n\"", "a text of several lines in a clause");
+            refuses("\"}", "a text without an end");
+            for sign in ["«}»", "«a", "⟦}⟧", "⟦\"}\"⟧", "⟦'}'⟧", "⟦// ⟧", "⟦/*}*/⟧", "⟦A"]
+            {
+                refuses(sign, "a sign in an escaped name or a type");
+            }
+            for sign in
+                ["\"{}-- // \\\"}\"", "⟦<Vec<T> as Ord>⟧.cmp", "«in»", "a'", "a-b", "{x = 1}"]
+            {
+                let source = format!("{begin}{sign}{end}");
+                assert!(erase::erase("wenc_parts", &CRATES, &source).is_ok(), "{source}");
+            }
+        }
+    }
+    for blank in ["\t", "\r", "\u{c}", "\u{85}", "\u{a0}", "\u{2028}", "\0", "\u{7f}"] {
+        refuses(&format!("fn f()\n{blank}{{}}\n"), 2, "a blank that is not known");
+    }
+}
+
+#[test]
+fn code_is_all_but_ghosts() {
+    let source =
+        "ghost use a.{\n    b,\n};\n/// F.\nfn f() -> u8\n    ensures { c\n }\n{\n    5\n}\n";
+    let code = "\n\n\n/// F.\nfn f() -> u8\n    \n\n{\n    5\n}\n";
+    assert_eq!(erase::without_ghosts(source), Ok(code.into()));
+    assert_eq!(erase::without_ghosts("ghost a;"), Err((1, "a ghost item that is not known")));
 }
 
 #[test]

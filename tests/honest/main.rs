@@ -1,8 +1,13 @@
 //! Whether the crate is made of the proved sources: `proof` compares their digests with PROOF,
-//! `eraser` has what the eraser refuses, and this reads each source beside the Rust that it became.
-//! Where they part, it has to be in one of the ways that `reader` lists; whatever else is left out,
+//! `eraser` has what the eraser refuses, and this compares each source with the Rust that it became.
+//! Where they differ, it has to be in one of the ways that `reader` lists; whatever else is left out,
 //! changed, added or moved to another line is found.
+//!
+//! A source is taken without its clauses and ghost items: `gate/erased` compares that with what the
+//! prover reads as code.
 
+#[path = "../../build/erase.rs"]
+mod erase;
 #[path = "../common/erased.rs"]
 mod erased;
 mod eraser;
@@ -21,7 +26,7 @@ use std::path::{Path, PathBuf};
 /// no line is left of contracts.
 const HAS_LINES: bool = cfg!(in_repository);
 
-/// The sources, each with what it was erased to: the crate, the path, the text and the Rust.
+/// The sources, each with what it was erased to: the crate, the path, the code and the Rust.
 fn sources() -> Vec<(String, PathBuf, String, String)> {
     let erased = erased::folder();
     let sources = Path::new(env!("CARGO_MANIFEST_DIR")).join("crates");
@@ -52,7 +57,8 @@ fn gather(name: &str, from: &Path, to: &Path, found: &mut Vec<(String, PathBuf, 
         if path.is_dir() {
             gather(name, &path, &rust, found);
         } else {
-            let old = fs::read_to_string(&path).expect("the source");
+            let source = fs::read_to_string(&path).expect("the source");
+            let old = erase::without_ghosts(&source).expect("the source can be erased");
             let new = fs::read_to_string(rust.with_extension("rs")).expect("the Rust");
             found.push((name.to_owned(), path, old, new));
         }

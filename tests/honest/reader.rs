@@ -1,16 +1,13 @@
-//! The closed list of ways in which a source and its Rust may part. What stands in the source says
-//! which of them it is, and what has to stand in the Rust then.
+//! The closed list of ways in which a source, without clauses and ghost items, and its Rust may
+//! differ. The tokens of the source say which way it is, and what the Rust has instead.
 
 use super::lexer::{Token, lex};
 use std::collections::BTreeMap;
 
 /// The ways, each of which some source takes.
-pub const WAYS: [&str; 26] = [
+pub const WAYS: [&str; 23] = [
     "kept",
     "prelude",
-    "ghost use left out",
-    "ghost member or field left out",
-    "clause left out",
     "attribute of the prover left out",
     "derive of Drop left out",
     "derive of a tree",
@@ -266,23 +263,6 @@ impl<'a> Source<'a> {
         unreachable!("it ends")
     }
 
-    /// How many tokens a block of antt has, in which only braces are brackets.
-    fn antt(&self, ahead: usize) -> usize {
-        let mut depth = 0;
-        for len in 1.. {
-            match self.text(ahead + len - 1) {
-                "{" => depth += 1,
-                "}" => depth -= 1,
-                "" => return len,
-                _ => {}
-            }
-            if depth == 0 {
-                return len;
-            }
-        }
-        unreachable!("it ends")
-    }
-
     /// Why what stands here would mean something else in Rust, if it would, whatever became of it.
     fn unknown(&self) -> Option<&'static str> {
         let (last, word, next) = (self.before(1), self.text(0), self.text(1));
@@ -310,31 +290,8 @@ impl<'a> Source<'a> {
         if let Some((_, text)) = self.error.take_if(|(at, _)| *at == self.at) {
             return step("Display and Error of an error", 1, text);
         }
-        let found = self.proof().or_else(|| self.attribute()).or_else(|| self.name());
+        let found = self.attribute().or_else(|| self.name());
         found.unwrap_or_else(|| step("kept", 1, self.text(0)))
-    }
-
-    /// What is for the prover alone.
-    fn proof(&self) -> Option<Step> {
-        match self.text(0) {
-            "ghost" if self.text(1) == "use" => {
-                let len = (0..).find(|ahead| [";", ""].contains(&self.text(*ahead)))? + 1;
-                Some(step("ghost use left out", len, ""))
-            }
-            "ghost" => {
-                let mut len = 2;
-                while [":", "="].contains(&self.text(len)) && self.text(len + 1) == "{" {
-                    len += 1 + self.antt(len + 1);
-                }
-                let ends = [";", ","].contains(&self.text(len)) && len > 2;
-                ends.then(|| step("ghost member or field left out", len + 1, ""))
-            }
-            "requires" | "ensures" => {
-                let open = (1..4).find(|ahead| self.text(*ahead) == "{")?;
-                Some(step("clause left out", open + self.antt(open), ""))
-            }
-            _ => None,
-        }
     }
 
     fn attribute(&mut self) -> Option<Step> {

@@ -1,19 +1,10 @@
-//! What is large or deep is read in a time that grows as it does: by the square none of these would
-//! end in minutes.
+//! What is large or deep is read in steps that grow as it does. The bytes that are requested are
+//! counted, and by the square no test would end within the time that the gate gives to all.
 
+use crate::refuse::requested;
 use std::collections::BTreeMap;
-use std::time::Instant;
 use wenc::tree::{ItemTree, OuterFault, Scope, Space, String};
 use wenc::{Component, DebugNames, ListFault, NestedComponentSection, RawSection, Sections, list};
-
-/// Does the work, which takes far less than this minute.
-#[track_caller]
-fn soon<T>(work: impl FnOnce() -> T) -> T {
-    let begun = Instant::now();
-    let done = work();
-    assert!(begun.elapsed().as_secs() < 60, "{:?}", begun.elapsed());
-    done
-}
 
 /// A number of at most 28 bits, padded to four bytes.
 fn number(number: usize) -> [u8; 4] {
@@ -24,14 +15,13 @@ fn number(number: usize) -> [u8; 4] {
 
 /// So many components in one another, the innermost with these sections.
 fn deep(depth: usize, sections: &[u8]) -> Vec<u8> {
-    let (mut fronts, mut size) = (Vec::new(), Component::HEADER.len() + sections.len());
-    for _ in 0..depth {
-        let front = [&Component::HEADER[..], &[0x04], &number(size)].concat();
-        size += front.len();
-        fronts.push(front);
-    }
-    fronts.reverse();
-    [&fronts.concat()[..], &Component::HEADER, sections].concat()
+    let inner = Component::HEADER.len() + sections.len();
+    let front = |out| {
+        let size = number(inner + out * (Component::HEADER.len() + 5));
+        Component::HEADER.into_iter().chain([0x04]).chain(size)
+    };
+    let fronts = (0..depth).rev().flat_map(front);
+    fronts.chain(Component::HEADER).chain(sections.iter().copied()).collect()
 }
 
 /// An outer alias of a type, so many components out.
@@ -40,14 +30,16 @@ fn alias(out: u8, index: u8) -> [u8; 7] {
 }
 
 #[test]
-fn thousands_of_components_in_one_another_are_walked() {
-    let component = deep(40_000, &alias(1, 0));
+fn millions_of_components_in_one_another_are_walked() {
+    let component = deep(2_000_000, &alias(1, 0));
     let sections = Sections::new(&component).expect("it is a component");
-    let last = soon(|| sections.nested(usize::MAX).last()).expect("a section");
-    let (depth, section) = last.expect("it is read");
-    assert_eq!((depth, section.range()), (40_000, component.len() - 7..component.len()));
-    assert_eq!(soon(|| sections.nested(usize::MAX).count()), 40_001);
-    let fault = soon(|| sections.nested(39_999).last()).expect("a section").err();
+    let (last, requested) = requested(|| sections.nested(usize::MAX).last());
+    let (depth, section) = last.expect("a section").expect("it is read");
+    assert_eq!((depth, section.range()), (2_000_000, component.len() - 7..component.len()));
+    // one number for each depth, in a list that doubles
+    assert!(requested <= 8_000_000 * size_of::<usize>(), "{requested}");
+    assert_eq!(sections.nested(usize::MAX).count(), 2_000_001);
+    let fault = sections.nested(1_999_999).last().expect("a section").err();
     let place = component.len() - 7 - 8 - 5;
     assert_eq!(fault, Some(ListFault::TooDeep { place, unread: None }));
 }
@@ -57,13 +49,15 @@ fn outer_indices_are_visited_up_to_a_hundred_deep() {
     let visit = |depth, out, limit| {
         let (component, mut seen) = (deep(depth, &alias(out, 5)), 0);
         let mut item = ItemTree::Component(component.clone().into());
-        let visited = soon(|| {
+        let (visited, requested) = requested(|| {
             item.outer_indices_mut(limit, |used| {
                 assert_eq!((used.space, used.scope), (Space::Types, Scope::Component(0)));
                 seen += 1;
                 *used.index = 6;
             })
         });
+        // each of at most a hundred components is copied, whatever is nested in them
+        assert!(requested <= 300_000, "{depth}: {requested}");
         assert!(visited.is_ok() || item == ItemTree::Component(component.into()));
         (visited, seen, item)
     };
@@ -99,12 +93,15 @@ fn imports(count: usize) -> Vec<u8> {
 fn each_of_many_indices_has_its_definition() {
     let listing = list(&imports(500_000)).expect("it is listed");
     let definitions = listing.definitions().expect("there is memory");
-    soon(|| {
-        for (index, item) in (0..).zip(listing.items()) {
-            let found = definitions.get(Space::Funcs, index).expect("it is there");
-            assert!(std::ptr::eq(found, item), "{index}");
+    let ((), requested) = requested(|| {
+        for _ in 0..50 {
+            for (index, item) in (0..).zip(listing.items()) {
+                let found = definitions.get(Space::Funcs, index).expect("it is there");
+                assert!(std::ptr::eq(found, item), "{index}");
+            }
         }
     });
+    assert_eq!(requested, 0);
     assert_eq!(definitions.get(Space::Funcs, 500_000), None);
     assert_eq!(definitions.get(Space::Types, 0), None);
 }
@@ -132,7 +129,9 @@ fn are_read(indices: impl Iterator<Item = u32>) {
     for data in [subsection(&names), each] {
         let name = String::from(DebugNames::SECTION);
         let (mut read, item) = (DebugNames::new(), ItemTree::Custom { name, data: data.into() });
-        assert_eq!(soon(|| read.read(&item)), Ok(()));
+        let (result, requested) = requested(|| read.read(&item));
+        assert_eq!(result, Ok(()));
+        assert!(requested <= 100 * names.len() + 300, "{requested}");
         let found = read.iter().map(|(space, index, name)| {
             assert_eq!((space, read.get(space, index)), (Space::Funcs, Some(name)));
             (index, name)
@@ -158,6 +157,6 @@ fn names_in_any_order_are_read() {
         // each twice, some between two pages
         are_read((0..count).chain((0..count).rev()).map(|at| at / 2 * 3));
     }
-    are_read((0..200_000).rev());
+    are_read((0..1_000_000).rev());
     are_read((0..50_000).map(|at| at * 1_999 % 50_021));
 }

@@ -1,5 +1,6 @@
 //! What is found in a component and in a core module, and written again.
 #![cfg(feature = "reader")]
+#![allow(unsafe_code, reason = "a global allocator is unsafe")]
 
 mod commands;
 mod core_sections;
@@ -7,7 +8,10 @@ mod core_sections;
 #[path = "../real/corpus.rs"]
 mod corpus;
 mod cursor;
+#[cfg(not(target_family = "wasm"))]
+mod deep;
 mod faults;
+mod groups;
 mod indices;
 mod large;
 mod listing;
@@ -19,6 +23,9 @@ mod outer;
 mod places;
 mod producers;
 mod real;
+#[allow(dead_code, reason = "some are for others")]
+#[path = "../common/refuse.rs"]
+mod refuse;
 mod rewrite;
 mod scopes;
 #[allow(dead_code, reason = "some are for others")]

@@ -37,30 +37,34 @@ fn long_texts_and_many_tools_are_read() {
     }
 }
 
-/// The tools up to an error, and its byte offset.
+/// The tools before an error, by their names and versions, in their order, and its byte offset.
 #[test]
 fn what_is_not_read_is_a_fault() {
-    let first = tool("sdk", "A", "1");
+    let (first, second) = (tool("sdk", "A", "1"), tool("sdk", "B", "2"));
+    let late = tool("a", "C", "");
     let data = b"\x02\x03sdk\x02\x01A\x011\x01B\x012\x01e\0";
-    assert_eq!(tools(data), [Ok(first), Ok(tool("sdk", "B", "2"))]);
-    let faults: [(&[u8], usize, usize); 8] = [
-        (b"", 0, 0),
-        (b"\x80", 0, 0),
+    assert_eq!(tools(data), [Ok(first), Ok(second)]);
+    let faults: [(&[u8], &[Producer<'_>], usize); 11] = [
+        (b"", &[], 0),
+        (b"\x80", &[], 0),
         // a field that is cut, in its name and before the number of its tools
-        (&data[..3], 0, 1),
-        (&data[..5], 0, 1),
+        (&data[..3], &[], 1),
+        (&data[..5], &[], 1),
         // a tool that is cut
-        (&data[..9], 0, 6),
-        (&data[..10], 1, 10),
-        (b"\x01\x03sdk\x01\x01\xff\x011", 0, 6),
+        (&data[..9], &[], 6),
+        (&data[..10], &[first], 10),
+        (b"\x01\x03sdk\x01\x01\xff\x011", &[], 6),
+        // a later field that is cut, or that isn't there
+        (&data[..14], &[first, second], 14),
+        (&data[..16], &[first, second], 14),
+        (b"\x02\x01b\x01\x01B\x012\x01a\x02\x01C\0\x01D", &[tool("b", "B", "2"), late], 14),
         // bytes after the last tool
-        (b"\x01\x03sdk\x01\x01A\x011\0", 1, 10),
+        (b"\x01\x03sdk\x01\x01A\x011\0", &[first], 10),
     ];
-    for (data, read, place) in faults {
-        let found = tools(data);
-        let whole = found.iter().filter(|tool| tool.is_ok()).count();
-        assert_eq!(found.last(), Some(&Err(ProducersFault { place })), "{data:02x?}");
-        assert_eq!((whole, found.len()), (read, read + 1), "{data:02x?}");
+    for (data, before, place) in faults {
+        let mut wanted: Vec<_> = before.iter().copied().map(Ok).collect();
+        wanted.push(Err(ProducersFault { place }));
+        assert_eq!(tools(data), wanted, "{data:02x?}");
     }
     let fault = ProducersFault { place: 10 };
     assert_eq!(fault.to_string(), "bad producers at 0xa");

@@ -5,7 +5,8 @@ use crate::component;
 use std::collections::HashSet;
 use std::fmt::Debug;
 use wenc::view::{
-    CoreTypeView, DefinedView, GroupView, InstanceDeclView, ItemView, NameView, TypeView,
+    ComponentDeclView, CoreTypeView, DefinedView, GroupView, InstanceDeclView, ItemView, NameView,
+    TypeView,
 };
 use wenc::*;
 
@@ -128,6 +129,12 @@ fn lists_are_as_long_as_they_say() {
             let ty = ComponentTypeRef::Func(0);
             are(decls, vec![InstanceDeclView::Export { name: plain("f"), ty }; len]);
         });
+        with(7, &[b"\x01\x41", &members(b"\x03\0\x01f\x01\0")[..]].concat(), |item| {
+            let ItemView::Type(TypeView::Component(decls)) = item else { panic!("{item:?}") };
+            assert_eq!((decls.len() as usize, decls.is_empty()), (len, len == 0));
+            let ty = ComponentTypeRef::Func(0);
+            are(decls, vec![ComponentDeclView::Import { name: plain("f"), ty }; len]);
+        });
     }
 }
 
@@ -142,6 +149,40 @@ fn lists_are_read_on() {
         assert_eq!((args.next(), args.next(), args.next()), (Some(2), None, None));
         assert!(args.is_empty());
         are(all, [1, 2]);
+    });
+}
+
+/// A list has one member fewer after each, and none comes after the last, as often as it is asked.
+macro_rules! ends {
+    ($list:expr, $len:literal) => {{
+        let mut list = $list;
+        for left in (0..$len).rev() {
+            assert!(list.next().is_some());
+            assert_eq!((list.len(), list.is_empty()), (left, left == 0));
+        }
+        for _ in 0..3 {
+            assert!(list.next().is_none());
+            assert_eq!((list.len(), list.is_empty(), list.count()), (0, true, 0));
+        }
+    }};
+}
+
+/// A component type, and in it an instance type and a function type. What follows their lists could
+/// be a member, too.
+#[test]
+fn lists_end() {
+    let nested = b"\x01\x42\x02\x04\0\x01f\x01\0\x04\0\x01g\x01\0\x01\x40\x02\x01ay\x01by\x01\0";
+    with(7, &[b"\x01\x41\x03", &nested[..], b"\x04\0\x01h\x01\0"].concat(), |item| {
+        let ItemView::Type(TypeView::Component(decls)) = item else { panic!("{item:?}") };
+        ends!(decls, 3);
+        for decl in decls {
+            let ComponentDeclView::Decl(decl) = decl else { panic!("{decl:?}") };
+            match decl {
+                InstanceDeclView::Type(TypeView::Instance(decls)) => ends!(decls, 2),
+                InstanceDeclView::Type(TypeView::Func { params, .. }) => ends!(params, 2),
+                decl => assert!(matches!(decl, InstanceDeclView::Export { .. }), "{decl:?}"),
+            }
+        }
     });
 }
 

@@ -9,6 +9,7 @@ mod called;
 mod counts;
 mod declared;
 mod edges;
+mod errors;
 #[path = "../../../tests/calls/format.rs"]
 mod format;
 mod numbers;

@@ -204,7 +204,9 @@ fn each_is_read_and_added_again() {
         let bytes = model.finish();
         let mut listing = listed(&bytes, &row);
         let in_rust = wenc::list(&bytes).expect("it is listed");
-        assert_eq!(counted(&mut listing).map(u128::from), in_rust.counts, "{}", row.name);
+        let (mut counts, defined) = ([0; 13], row.defines(&size));
+        row.space.into_iter().for_each(|space| counts[space.number()] = defined);
+        assert_eq!(counted(&mut listing), counts, "{}", row.name);
         let (mut again, mut indices, text) = (Held::builder(), [UNTOUCHED; 2], named(&name));
         let mut item: ItemRow = unsafe { mem::zeroed() };
         let [one, two] = &mut indices;
@@ -218,7 +220,7 @@ fn each_is_read_and_added_again() {
         }
         let space = row.space.map_or(13, |space| space.number() as u32);
         let places = (item.index, item.section, item.space, item.indices);
-        assert_eq!(places, (0, row.id.into(), space, row.takes), "{}", row.name);
+        assert_eq!(places, (0, row.id.into(), space, defined), "{}", row.name);
         is_told(&item, &(row.command)(Some(name.as_str().into()), &size));
         let (mut b, read) = (ComponentBuilder::default(), in_rust.items().next().expect("an item"));
         let wanted = [(); 2].map(|()| b.item(Some(&name), read).unwrap_or(0));

@@ -2,6 +2,7 @@
 
 use super::edges::Held;
 use super::numbers;
+use super::refuse::requested;
 use std::collections::BTreeMap;
 use std::ops::Range;
 use std::{mem, ptr, slice, str};
@@ -358,20 +359,26 @@ fn a_listing_has_the_rows_of_the_walk() {
     }
 }
 
-/// Items are walked over in less than the time that a walk from the start to each takes.
+/// A walk from the start to each of so many items wouldn't end within the time that the gate gives
+/// to all.
 #[test]
 fn a_walk_is_linear() {
-    let items_len = 200_000;
-    let head = b"\0asm\x0d\0\x01\0\x08\xc3\x9a\x0c\xc0\x9a\x0c";
+    let items_len = 2_000_000;
+    let head = b"\0asm\x0d\0\x01\0\x08\x83\x89\x7a\x80\x89\x7a";
     let bytes = [&head[..], &b"\x05".repeat(items_len)].concat();
-    let begun_at = std::time::Instant::now();
-    let (items, status) = items(&bytes);
-    assert_eq!((items.len(), status), (items_len, Status::End));
-    assert_eq!(items[items_len - 1].place, bytes.len() - 1);
-    assert!(begun_at.elapsed().as_secs() < 60, "{:?}", begun_at.elapsed());
+    let ((), requested) = requested(|| {
+        let mut walk = begun(&bytes);
+        next_section(&mut walk).expect("a section");
+        for place in head.len()..bytes.len() {
+            assert_eq!(next_item(&mut walk).map(|item| item.place), Ok(place));
+        }
+        assert_eq!(next_item(&mut walk).map(drop), Err(Status::End));
+    });
+    assert_eq!(requested, 0);
 }
 
 /// Calls that only read are made by several threads at a time.
+#[cfg_attr(target_family = "wasm", ignore = "it has no threads")]
 #[test]
 fn readers_at_a_time() {
     struct Shared(*const Handle, *const Handle, *const Handle);
@@ -447,7 +454,7 @@ fn is_section(row: SectionRow, read: &SectionReader<'_>) {
 }
 
 fn is_item(row: &ItemRow, range: Range<usize>, view: ItemView<'_>) {
-    let indices = view.indices().map_or((13, 0), |(of, n)| (of.number() as u32, n));
+    let indices = view.defined_indices().map_or((13, 0), |(of, n)| (of.number() as u32, n));
     assert_eq!((row.place..row.place + row.len, row.index), (range, 0));
     assert_eq!((row.space, row.indices), indices);
     is_told(row, &view.to_tree().into());
@@ -492,6 +499,34 @@ fn is_read_as_in_rust(bytes: &[u8], sections: Sections<'_>) -> (usize, usize) {
         assert_eq!(copied(bytes, &items), relisted(bytes));
     }
     (items.len(), names.len())
+}
+
+/// Each type of a recursion group has an index, in a walk and in what is read at once. The group is
+/// one core type of the component that it is added to.
+#[test]
+fn recursion_groups_define_an_index_for_each_type() {
+    // a function, a structure and an array; then a function
+    let bytes = b"\0asm\x0d\0\x01\0\x03\x0f\x02\x4e\x03\x60\0\0\x5f\0\x5e\x7f\0\x60\x01\x7f\0";
+    let (rows, status) = items(bytes);
+    let defined = |rows: &[ItemRow]| rows.iter().map(|row| (row.space, row.indices)).collect();
+    assert_eq!((defined(&rows), status), (vec![(2, 3), (2, 1)], Status::End));
+    let (mut listing, mut builder) = (Held::nothing(), Held::builder());
+    let (from, to) = (listing.at(), builder.at());
+    let (mut count, mut rows) = (7, Vec::new());
+    unsafe {
+        assert_eq!(wenc_list(from, bytes.as_ptr(), bytes.len(), ptr::null_mut()), Status::Done);
+        assert_eq!((wenc_count(from, 2, &mut count), count), (Status::Done, 4));
+        for number in [0, 1] {
+            let (mut row, mut index): (ItemRow, _) = (mem::zeroed(), 7);
+            assert_eq!(wenc_item_at(from, 0, number, &mut row), Status::Done);
+            rows.push(row);
+            let status = wenc_copy(to, ptr::null(), from, 0, number, &mut index);
+            assert_eq!((status, index), (Status::Done, number as u32));
+        }
+        assert_eq!((wenc_count(to, 2, &mut count), count), (Status::Done, 2));
+    }
+    assert_eq!(rows.iter().map(|row| row.index).collect::<Vec<_>>(), [0, 3]);
+    assert_eq!(defined(&rows), [(2, 3), (2, 1)]);
 }
 
 #[test]

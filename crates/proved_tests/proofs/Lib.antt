@@ -4,6 +4,7 @@ pub mod IndexedRuns
 pub mod Kept
 pub mod PassedOn
 mod Anew
+mod InARow
 mod Left
 pub mod ReadSo
 pub mod DefinedEqualities

@@ -8,6 +8,7 @@ pub mod by_hand;
 pub mod callers;
 pub mod concrete;
 pub mod cut;
+pub mod declared;
 pub mod encoders;
 pub mod examples;
 pub mod finished;

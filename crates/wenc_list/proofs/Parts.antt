@@ -1,16 +1,20 @@
 -- A part of producers, and those after it.
 use Rattle.std.proofs.Common.{◌≡◌, ℕ, zero, suc, ◌-◌, ◌<◌, List, [], ◌∷◌, ◌++◌, Result, Ok, Err, map, refl, sym, ap, ◌∙◌, arith}
 use native.Mathlib.Numerals.{unary_clauses}
-use Rattle.wenc_base.specs.Piece.{Wide}
-use Rattle.wenc_base.specs.Producers.{Producer, Producers}
+use Rattle.wenc_base.specs.Piece.{Wide, ◌⨾◌}
+use Rattle.wenc_base.specs.Producers.{Producer, producer, Producers}
 use Rattle.wenc_base.specs.Readers.{Flaw, Bad, Reader, go_on, ◌>>=◌, give, times, done, all_read}
-use Rattle.wenc_base.specs.laws.Forms.{name_lawful}
-use Rattle.wenc_base.specs.laws.Numbers.{u32_lawful}
+use Rattle.wenc_base.specs.Forms.{name}
+use Rattle.wenc_base.specs.Number.{u32}
+use Rattle.wenc_base.specs.laws.Forms.{name_lawful, name_sound}
+use Rattle.wenc_base.specs.laws.Numbers.{u32_lawful, u32_sound}
 use Rattle.wenc_base.specs.laws.Sections.{read_producer, read_producers_field, producer_lawful}
 use Rattle.wenc_base.specs.reading.Forms.{read_name, read_list}
 use Rattle.wenc_base.specs.reading.Numbers.{read_u32}
 use Rattle.wenc_list.specs.Producers.{Part, Field, Tool, producers_parts, read_parts, with_part}
-use Rattle.wenc_list.specs.Producers.{IsNoTool, IsNoField}
+use Rattle.wenc_list.specs.Producers.{IsNoNumber, IsNoTool, IsNoField}
+use Rattle.wenc_list.specs.laws.Producers.{producer_sound}
+use Rattle.wenc_read.specs.laws.Exact.{exact_by}
 
 abbrev Found : Type 0 → Type 0
 Found A = Result (A × List ℕ) Flaw
@@ -63,7 +67,26 @@ field_taken f m zero (suc k) bytes middle rest t l e c =
 field_taken f m zero zero bytes middle rest t l e c = absurd (omega arith)
 field_taken f m (suc n) fields bytes middle rest t l e c = absurd cc
 
+-- ---- what was read
+
+pub number_read : (n : ℕ) (bytes rest : List ℕ) → read_u32 bytes ≡ Ok (n, rest) → (u32 n).Reads Wide bytes rest
+number_read n bytes rest e = (exact_by u32_sound u32_lawful bytes).given_is_read n rest e
+
+pub tool_read : (t : Producer) (bytes rest : List ℕ) → read_producer bytes ≡ Ok (t, rest) → (producer t).Reads Wide bytes rest
+tool_read t bytes rest e = (exact_by producer_sound producer_lawful bytes).given_is_read t rest e
+
+pub field_read : (f : List ℕ) (m : ℕ) (bytes middle rest : List ℕ) → read_name bytes ≡ Ok (f, middle) → read_u32 middle ≡ Ok (m, rest)
+    → (name f ⨾ u32 m).Reads Wide bytes rest
+field_read f m bytes middle rest e c =
+    (middle, (exact_by name_sound name_lawful bytes).given_is_read f middle e, number_read m middle rest c)
+
 -- ---- no part
+
+pub no_number : (bytes : List ℕ) → read_u32 bytes ≡ Err Bad → IsNoNumber bytes
+no_number bytes e n rest r =
+    let l = u32_lawful n in
+    let found : read_u32 bytes ≡ Ok (n, rest) = l.finds l.depth (omega arith) Wide bytes rest r in
+    absurd cc
 
 pub no_tool : (bytes : List ℕ) → read_producer bytes ≡ Err Bad → IsNoTool bytes
 no_tool bytes e t rest r =

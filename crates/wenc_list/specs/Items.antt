@@ -12,12 +12,13 @@ use Rattle.wenc_parts.specs.Imports.{name_tree_view}
 use Rattle.wenc_sections.specs.InstanceTrees.{core_instance_tree_view, instance_tree_view}
 use Rattle.wenc_types.specs.CoreTypeTrees.{core_type_view}
 use Rattle.wenc_types.specs.TypeTrees.{type_view}
-use Rattle.wenc_view.specs.Canonicals.{canon_seen}
-use Rattle.wenc_view.specs.CoreTypes.{core_type_seen}
+use Rattle.wenc_view.specs.Canonicals.{canon_seen, IsCountedCanon}
+use Rattle.wenc_view.specs.CoreTypes.{core_type_seen, IsCountedCoreType}
 use Rattle.wenc_view.specs.Instances.{core_instance_seen, instance_seen}
-use Rattle.wenc_view.specs.Members.{list_view}
+use Rattle.wenc_view.specs.Instances.{IsCountedCoreInstance, IsCountedInstance}
+use Rattle.wenc_view.specs.Members.{list_view, IsCounted}
 use Rattle.wenc_view.specs.Names.{name_seen}
-use Rattle.wenc_view.specs.Types.{type_seen}
+use Rattle.wenc_view.specs.Types.{type_seen, IsCountedType}
 use Rattle.wenc_list.specs.declared.item.ItemTree.{ItemTree}
 use Rattle.wenc_list.specs.declared.item.ItemTree.TheVariants as trees
 use Rattle.wenc_list.specs.declared.item_view.ItemView.{ItemView}
@@ -59,6 +60,16 @@ item_seen (views.Export name kind index ty) =
     ExportItem (record { name = name_seen name; kind = kind; index = index; ty = ty })
 item_seen (views.Custom name bytes) =
     CustomItem (record { label = name.now; bytes = bytes.now })
+
+-- each list of an item has as many members as it says
+abbrev pub IsCountedItem : ItemView → Type 0
+IsCountedItem (views.CoreInstance instance) = IsCountedCoreInstance instance
+IsCountedItem (views.CoreType ty) = IsCountedCoreType ty
+IsCountedItem (views.Instance instance) = IsCountedInstance instance
+IsCountedItem (views.«Type» ty) = IsCountedType ty
+IsCountedItem (views.Canon canon) = IsCountedCanon canon
+IsCountedItem (views.Start function args results) = IsCounted read_u32 args
+IsCountedItem other = Unit {0}
 
 -- an item that is a section of its own
 abbrev pub alone : ℕ → List Item → Section

@@ -17,7 +17,7 @@ use Rattle.wenc_sections.specs.declared.space.Space.TheVariants.{CoreMemories, C
 use Rattle.wenc_sections.specs.declared.space.Space.TheVariants.{CoreInstances, CoreTags}
 use Rattle.wenc_sections.specs.declared.space.Space.TheVariants.{CoreGlobals, Funcs, Instances}
 use Rattle.wenc_sections.specs.declared.space.Space.TheVariants.{Values, Components, Types}
-use Rattle.wenc_view.specs.Members.{list_view}
+use Rattle.wenc_view.specs.Members.{list_view, IsCounted}
 use Rattle.wenc_list.specs.declared.names.ItemName.{ItemName}
 use Rattle.wenc_list.specs.declared.names.Names.{Names}
 use Rattle.wenc_list.specs.declared.names.Names.TheVariants as names
@@ -58,6 +58,11 @@ abbrev pub names_view : Names → Subsection
 names_view (names.Component name) = ComponentName name.now
 names_view (names.Items space names) = ItemNames space (list_view read_item_name names)
 names_view (names.Raw id bytes) = RawNames id bytes.now
+
+-- the names of items are as many as their list says
+abbrev pub IsCountedNames : Names → Type 0
+IsCountedNames (names.Items space names) = IsCounted read_item_name names
+IsCountedNames other = Unit {0}
 
 abbrev pub read_core_sort : Reader Space
 read_core_sort = choose ((0x00, give CoreFuncs) ∷ (0x01, give CoreTables) ∷

@@ -1,14 +1,15 @@
 -- The names that clauses cite, re-exported from the files that define them.
 pub use Rattle.wenc_list.specs.Cursor.{HasTaken, IsFaultIn, IsSpent, Opens}
 pub use Rattle.wenc_list.specs.Items.{item_section, item_view, section_view}
-pub use Rattle.wenc_list.specs.Items.{item_seen}
+pub use Rattle.wenc_list.specs.Items.{IsCountedItem, item_seen}
 pub use Rattle.wenc_list.specs.Listing.{AreFrom, ArePlaced, AreWithin, HasNoHeader, IsFaultBehind}
 pub use Rattle.wenc_list.specs.Listing.{IsFaultHere, IsFaultOf, IsMemoryOrTooDeep}
 pub use Rattle.wenc_list.specs.Listing.{count_of_sections}
 pub use Rattle.wenc_list.specs.Names.{item_name_view, names_view, part, read_core_sort}
 pub use Rattle.wenc_list.specs.Names.{read_item_name, read_item_names, read_names, read_names_in}
-pub use Rattle.wenc_list.specs.Names.{read_part, read_sort, subsection_by_id}
-pub use Rattle.wenc_list.specs.Producers.{IsMalformed, IsNoPart, Part, part_seen, parts_in}
+pub use Rattle.wenc_list.specs.Names.{IsCountedNames, read_part, read_sort, subsection_by_id}
+pub use Rattle.wenc_list.specs.Producers.{AreSpent, HasTakenPart, IsMalformed, IsNoNumber}
+pub use Rattle.wenc_list.specs.Producers.{IsNoPart, Part, part_seen, parts_in}
 pub use Rattle.wenc_list.specs.Producers.{parts_left, producers_parts, tool_seen, with_part}
 pub use Rattle.wenc_list.specs.Unread.{IsNamed, IsReadHere, IsUnread}
 pub use Rattle.wenc_list.specs.inside.Contents.{fault_of_content, read_alias_item}

@@ -1,5 +1,5 @@
 -- A producers section that is read part by part (tool conventions, "Producers Section").
-use Rattle.std.specs.Prelude.{◌≡◌, ◌⊎◌, ℕ, ◌<◌, List, [], ◌∷◌, ◌++◌, length, map, Result, Err}
+use Rattle.std.specs.Prelude.{◌≡◌, ◌⊎◌, ℕ, ◌+◌, ◌<◌, List, [], ◌∷◌, ◌++◌, length, map, Result, Err}
 use Rattle.std.specs.Borrow.{Bor}
 use Rattle.wenc_base.specs.Forms.{name}
 use Rattle.wenc_base.specs.Number.{u32}
@@ -49,7 +49,25 @@ with_part p = made (λ ps. p ∷ ps)
 abbrev pub IsMalformed : Result (List Part) Flaw → Type 0
 IsMalformed found = found ≡ Err Bad
 
+-- A part was read, and this is left: after a field its tools and one field fewer, after a tool one
+-- tool fewer.
+abbrev pub HasTakenPart : ProducersParts → Part → ProducersParts → Type 0
+HasTakenPart first (Field field) left =
+    (first.tools ≡ 0) × (first.fields ≡ left.fields + 1)
+    × (name field ⨾ u32 left.tools).Reads Wide first.rest.now left.rest.now
+HasTakenPart first (Tool t) left =
+    (first.tools ≡ left.tools + 1) × (left.fields ≡ first.fields)
+    × (producer t).Reads Wide first.rest.now left.rest.now
+
+-- Nothing is left.
+abbrev pub AreSpent : ProducersParts → Type 0
+AreSpent p = (p.tools ≡ 0) × (p.fields ≡ 0) × (p.rest.now ≡ [])
+
 -- ---- why the next part isn't read
+
+-- no number begins here
+abbrev pub IsNoNumber : List ℕ → Type 0
+IsNoNumber bytes = (n : ℕ) (rest : List ℕ) → (u32 n).Reads Wide bytes rest → ⊥
 
 -- no tool begins here
 abbrev pub IsNoTool : List ℕ → Type 0

@@ -1,10 +1,10 @@
 //! Readers of a component section by section, and of a section item by item.
 ghost use Rattle.std.specs.Prelude.{◌≡◌, ◌≢◌, ◌-◌, ◌<◌, ◌≤◌, [], ◌∷◌, length, IfOk, IfErr};
-ghost use Rattle.std.specs.Prelude.{MatchOption};
+ghost use Rattle.std.specs.Prelude.{IfSome, MatchOption};
 ghost use Rattle.wenc_base.specs.Prelude.{Wide};
 ghost use Rattle.wenc_builder.specs.Prelude.{preamble};
 ghost use Rattle.wenc_list.specs.Prelude.{Opens, HasTaken, IsSpent, IsFaultIn, item_view};
-ghost use Rattle.wenc_list.specs.Prelude.{item_seen};
+ghost use Rattle.wenc_list.specs.Prelude.{item_seen, IsCountedItem};
 ghost use Rattle.wenc_list.specs.Prelude.{IsFaultHere, HasNoHeader, fault_of_content, read_count};
 ghost use Rattle.wenc_list.specs.declared.fault.ListFault.TheVariants.{Memory, NotAComponent};
 ghost use Rattle.wenc_read.specs.Prelude.{GivesAlways};
@@ -178,6 +178,8 @@ impl<'a> SectionItems<'a> {
         // remain.
         ensures taken { IfOk result (λ o. MatchOption o (IsSpent self.old)
             (λ x. HasTaken self.old (item_seen x ∷ []) self.new)) }
+        // Each list in it has as many members as it says.
+        ensures counted { IfOk result (λ o. IfSome o IsCountedItem) }
         // Otherwise nothing changes.
         ensures unchanged { IfOk result (λ o. MatchOption o (self.new ≡ self.old)
             (λ _. Unit {0})) }

@@ -1,10 +1,10 @@
 //! Reads an item of a section.
-ghost use Rattle.std.specs.Prelude.{◌≡◌, ◌⊎◌, Ok};
+ghost use Rattle.std.specs.Prelude.{◌≡◌, ◌⊎◌, Ok, IfOk};
 ghost use Rattle.wenc_base.specs.Prelude.{read_raw};
 ghost use Rattle.wenc_list.specs.Prelude.{read_core_instance_item, read_core_type_item};
 ghost use Rattle.wenc_list.specs.Prelude.{read_instance_item, read_alias_item, read_type_item};
 ghost use Rattle.wenc_list.specs.Prelude.{read_canonical_item, read_import_item, read_export_item};
-ghost use Rattle.wenc_list.specs.Prelude.{read_item_in, item_seen};
+ghost use Rattle.wenc_list.specs.Prelude.{read_item_in, item_seen, IsCountedItem};
 ghost use Rattle.wenc_read.specs.Prelude.{GivesAlways};
 ghost use Rattle.wenc_view.specs.Prelude.{GivesNestedAlways};
 
@@ -23,8 +23,9 @@ const DEPTH: u32 = 100;
 /// Reads a core instance.
 #[inline(always)]
 fn core_instance(bytes: &[u8]) -> Result<(ItemView<'_>, &[u8]), Refusal>
-    ensures { GivesAlways (λ x. (item_seen x.0, x.1.now)) result
+    ensures found { GivesAlways (λ x. (item_seen x.0, x.1.now)) result
         (read_core_instance_item bytes.now) }
+    ensures counted { IfOk result (λ x. IsCountedItem x.0) }
 {
     let (instance, rest) = CoreInstanceView::view_of(bytes)?;
     Ok((ItemView::CoreInstance(instance), rest))
@@ -33,7 +34,9 @@ fn core_instance(bytes: &[u8]) -> Result<(ItemView<'_>, &[u8]), Refusal>
 /// Reads a core type.
 #[inline(always)]
 fn core_type(bytes: &[u8]) -> Result<(ItemView<'_>, &[u8]), Refusal>
-    ensures { GivesAlways (λ x. (item_seen x.0, x.1.now)) result (read_core_type_item bytes.now) }
+    ensures found { GivesAlways (λ x. (item_seen x.0, x.1.now)) result
+        (read_core_type_item bytes.now) }
+    ensures counted { IfOk result (λ x. IsCountedItem x.0) }
 {
     let (ty, rest) = CoreTypeView::view_of(bytes)?;
     Ok((ItemView::CoreType(ty), rest))
@@ -42,7 +45,9 @@ fn core_type(bytes: &[u8]) -> Result<(ItemView<'_>, &[u8]), Refusal>
 /// Reads an instance.
 #[inline(always)]
 fn instance(bytes: &[u8]) -> Result<(ItemView<'_>, &[u8]), Refusal>
-    ensures { GivesAlways (λ x. (item_seen x.0, x.1.now)) result (read_instance_item bytes.now) }
+    ensures found { GivesAlways (λ x. (item_seen x.0, x.1.now)) result
+        (read_instance_item bytes.now) }
+    ensures counted { IfOk result (λ x. IsCountedItem x.0) }
 {
     let (instance, rest) = InstanceView::view_of(bytes)?;
     Ok((ItemView::Instance(instance), rest))
@@ -51,7 +56,8 @@ fn instance(bytes: &[u8]) -> Result<(ItemView<'_>, &[u8]), Refusal>
 /// Reads an alias.
 #[inline(always)]
 fn alias(bytes: &[u8]) -> Result<(ItemView<'_>, &[u8]), Refusal>
-    ensures { GivesAlways (λ x. (item_seen x.0, x.1.now)) result (read_alias_item bytes.now) }
+    ensures found { GivesAlways (λ x. (item_seen x.0, x.1.now)) result (read_alias_item bytes.now) }
+    ensures counted { IfOk result (λ x. IsCountedItem x.0) }
 {
     let (alias, rest) = Alias::view_of(bytes)?;
     Ok((ItemView::Alias(alias), rest))
@@ -60,8 +66,9 @@ fn alias(bytes: &[u8]) -> Result<(ItemView<'_>, &[u8]), Refusal>
 /// Reads a type.
 #[inline(always)]
 fn ty(bytes: &[u8]) -> Result<(ItemView<'_>, &[u8]), NestedRefusal>
-    ensures { GivesNestedAlways (λ x. (item_seen x.0, x.1.now)) result
+    ensures found { GivesNestedAlways (λ x. (item_seen x.0, x.1.now)) result
         (read_type_item 100 bytes.now) }
+    ensures counted { IfOk result (λ x. IsCountedItem x.0) }
 {
     let (ty, rest) = type_at(DEPTH, bytes)?;
     Ok((ItemView::Type(ty), rest))
@@ -70,7 +77,9 @@ fn ty(bytes: &[u8]) -> Result<(ItemView<'_>, &[u8]), NestedRefusal>
 /// Reads a canonical function.
 #[inline(always)]
 fn canon(bytes: &[u8]) -> Result<(ItemView<'_>, &[u8]), Refusal>
-    ensures { GivesAlways (λ x. (item_seen x.0, x.1.now)) result (read_canonical_item bytes.now) }
+    ensures found { GivesAlways (λ x. (item_seen x.0, x.1.now)) result
+        (read_canonical_item bytes.now) }
+    ensures counted { IfOk result (λ x. IsCountedItem x.0) }
 {
     let (canon, rest) = CanonView::view_of(bytes)?;
     Ok((ItemView::Canon(canon), rest))
@@ -79,7 +88,9 @@ fn canon(bytes: &[u8]) -> Result<(ItemView<'_>, &[u8]), Refusal>
 /// Reads an import.
 #[inline(always)]
 fn import(bytes: &[u8]) -> Result<(ItemView<'_>, &[u8]), Refusal>
-    ensures { GivesAlways (λ x. (item_seen x.0, x.1.now)) result (read_import_item bytes.now) }
+    ensures found { GivesAlways (λ x. (item_seen x.0, x.1.now)) result
+        (read_import_item bytes.now) }
+    ensures counted { IfOk result (λ x. IsCountedItem x.0) }
 {
     let (name, rest) = NameView::view_of(bytes)?;
     let (ty, rest) = ComponentTypeRef::view_of(rest)?;
@@ -89,7 +100,9 @@ fn import(bytes: &[u8]) -> Result<(ItemView<'_>, &[u8]), Refusal>
 /// Reads an export.
 #[inline(always)]
 fn export(bytes: &[u8]) -> Result<(ItemView<'_>, &[u8]), Refusal>
-    ensures { GivesAlways (λ x. (item_seen x.0, x.1.now)) result (read_export_item bytes.now) }
+    ensures found { GivesAlways (λ x. (item_seen x.0, x.1.now)) result
+        (read_export_item bytes.now) }
+    ensures counted { IfOk result (λ x. IsCountedItem x.0) }
 {
     let (name, rest) = NameView::view_of(bytes)?;
     let (kind, rest) = ComponentExportKind::view_of(rest)?;
@@ -114,7 +127,9 @@ fn raw(bytes: &[u8]) -> &[u8]
 
 /// Reads a custom section, which takes all bytes.
 fn custom(content: &[u8]) -> Result<(ItemView<'_>, &[u8]), Refusal>
-    ensures { GivesAlways (λ x. (item_seen x.0, x.1.now)) result (read_item_in 100 0 content.now) }
+    ensures found { GivesAlways (λ x. (item_seen x.0, x.1.now)) result
+        (read_item_in 100 0 content.now) }
+    ensures counted { IfOk result (λ x. IsCountedItem x.0) }
 {
     let (name, rest) = text_of(content)?;
     let data = raw(rest);
@@ -123,21 +138,27 @@ fn custom(content: &[u8]) -> Result<(ItemView<'_>, &[u8]), Refusal>
 
 /// Reads a core module, which takes all bytes.
 fn module(content: &[u8]) -> Result<(ItemView<'_>, &[u8]), Refusal>
-    ensures { GivesAlways (λ x. (item_seen x.0, x.1.now)) result (read_item_in 100 1 content.now) }
+    ensures found { GivesAlways (λ x. (item_seen x.0, x.1.now)) result
+        (read_item_in 100 1 content.now) }
+    ensures counted { IfOk result (λ x. IsCountedItem x.0) }
 {
     Ok((ItemView::Module(raw(content)), &[]))
 }
 
 /// Reads a nested component, which takes all bytes.
 fn component(content: &[u8]) -> Result<(ItemView<'_>, &[u8]), Refusal>
-    ensures { GivesAlways (λ x. (item_seen x.0, x.1.now)) result (read_item_in 100 4 content.now) }
+    ensures found { GivesAlways (λ x. (item_seen x.0, x.1.now)) result
+        (read_item_in 100 4 content.now) }
+    ensures counted { IfOk result (λ x. IsCountedItem x.0) }
 {
     Ok((ItemView::Component(raw(content)), &[]))
 }
 
 /// Reads a start function.
 fn start(bytes: &[u8]) -> Result<(ItemView<'_>, &[u8]), Refusal>
-    ensures { GivesAlways (λ x. (item_seen x.0, x.1.now)) result (read_item_in 100 9 bytes.now) }
+    ensures found { GivesAlways (λ x. (item_seen x.0, x.1.now)) result
+        (read_item_in 100 9 bytes.now) }
+    ensures counted { IfOk result (λ x. IsCountedItem x.0) }
 {
     let (function, rest) = u32_of(bytes)?;
     let (args, rest) = ListOf::view_of(rest)?;
@@ -155,8 +176,9 @@ fn start(bytes: &[u8]) -> Result<(ItemView<'_>, &[u8]), Refusal>
 #[inline(never)]
 fn alone(id: u8, content: &[u8]) -> Result<(ItemView<'_>, &[u8]), Refusal>
     requires { (id ≡ 0) ⊎ ((id ≡ 1) ⊎ ((id ≡ 4) ⊎ (id ≡ 9))) }
-    ensures { GivesAlways (λ x. (item_seen x.0, x.1.now)) result
+    ensures found { GivesAlways (λ x. (item_seen x.0, x.1.now)) result
         (read_item_in 100 id content.now) }
+    ensures counted { IfOk result (λ x. IsCountedItem x.0) }
 {
     match id {
         0 => custom(content),
@@ -170,8 +192,9 @@ fn alone(id: u8, content: &[u8]) -> Result<(ItemView<'_>, &[u8]), Refusal>
 /// bytes after it.
 #[inline(always)]
 pub(crate) fn item_in(id: u8, bytes: &[u8]) -> Result<(ItemView<'_>, &[u8]), NestedRefusal>
-    ensures { GivesNestedAlways (λ x. (item_seen x.0, x.1.now)) result
+    ensures found { GivesNestedAlways (λ x. (item_seen x.0, x.1.now)) result
         (read_item_in 100 id bytes.now) }
+    ensures counted { IfOk result (λ x. IsCountedItem x.0) }
 {
     match id {
         0 | 1 | 4 | 9 => Ok(alone(id, bytes)?),

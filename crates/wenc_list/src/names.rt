@@ -1,10 +1,11 @@
 //! The subsections of a name section, and the sections of a core module.
-ghost use Rattle.std.specs.Prelude.{ℕ, List, MatchOption};
+ghost use Rattle.std.specs.Prelude.{ℕ, List, IfOk, MatchOption};
 ghost use Rattle.wenc_base.specs.Prelude.{module_preamble, Wide, done, read_name, NameAssociation};
 ghost use Rattle.wenc_base.specs.Prelude.{name_association, name_association_lawful};
 ghost use Rattle.wenc_list.specs.Prelude.{names_view, read_part, read_core_sort, read_sort};
 ghost use Rattle.wenc_list.specs.Prelude.{read_item_names, read_names_in, read_names};
 ghost use Rattle.wenc_list.specs.Prelude.{item_name_view, read_item_name, item_name_sound};
+ghost use Rattle.wenc_list.specs.Prelude.{IsCountedNames};
 ghost use Rattle.wenc_read.specs.Prelude.{GivesAlways, exact_by};
 
 use wenc_read::{Refusal, byte, u32_of};
@@ -134,7 +135,8 @@ fn component_name(content: &[u8]) -> Result<&str, Refusal>
 
 /// Reads names of items in one index space, which take all of the content.
 fn item_names(content: &[u8]) -> Result<Names<'_>, Refusal>
-    ensures { GivesAlways names_view result (done read_item_names content.now) }
+    ensures found { GivesAlways names_view result (done read_item_names content.now) }
+    ensures counted { IfOk result IsCountedNames }
 {
     let (space, rest) = space_of(content)?;
     let (names, rest) = ListOf::view_of(rest)?;
@@ -147,7 +149,8 @@ fn item_names(content: &[u8]) -> Result<Names<'_>, Refusal>
 
 /// Reads the content of a subsection with this id.
 fn names_in(id: u8, content: &[u8]) -> Result<Names<'_>, Refusal>
-    ensures { GivesAlways names_view result (read_names_in id content.now) }
+    ensures found { GivesAlways names_view result (read_names_in id content.now) }
+    ensures counted { IfOk result IsCountedNames }
 {
     match id {
         0 => Ok(Names::Component(component_name(content)?)),
@@ -168,7 +171,8 @@ fn names_in(id: u8, content: &[u8]) -> Result<Names<'_>, Refusal>
 /// let (names, rest) = names_of(data)?;
 /// ```
 pub fn names_of(bytes: &[u8]) -> Result<(Names<'_>, &[u8]), Refusal>
-    ensures { GivesAlways (λ x. (names_view x.0, x.1.now)) result (read_names bytes.now) }
+    ensures found { GivesAlways (λ x. (names_view x.0, x.1.now)) result (read_names bytes.now) }
+    ensures counted { IfOk result (λ x. IsCountedNames x.0) }
 {
     let ((id, content), rest) = part_of(bytes)?;
     let names = names_in(id, content)?;

@@ -1,7 +1,8 @@
 //! A producers section, part by part.
 ghost use Rattle.std.specs.Prelude.{◌≡◌, IfOk, IfErr, MatchOption, Ok, []};
 ghost use Rattle.wenc_list.specs.Prelude.{IsMalformed, IsNoPart, part_seen, parts_in, parts_left};
-ghost use Rattle.wenc_list.specs.Prelude.{tool_seen, with_part};
+ghost use Rattle.wenc_list.specs.Prelude.{tool_seen, with_part, AreSpent, HasTakenPart, IsNoNumber};
+ghost use Rattle.wenc_base.specs.Prelude.{Wide, u32 as number};
 ghost use Rattle.wenc_base.specs.laws.Sections.{read_producer};
 ghost use Rattle.wenc_read.specs.Prelude.{GivesAlways};
 ghost use Rattle.wenc_read.specs.declared.refusal.Refusal.TheVariants.{Malformed};
@@ -46,8 +47,12 @@ impl<'a> ProducersParts<'a> {
     ///
     /// Fails with `Malformed` if no number of fields begins the bytes.
     pub fn new(bytes: &'a [u8]) -> Result<ProducersParts<'a>, Refusal>
+        // The number of fields begins the bytes, and all bytes after it remain.
+        ensures read { IfOk result (λ p. (p.tools ≡ 0)
+            × (number p.fields).Reads Wide bytes.now p.rest.now) }
         ensures begins { IfOk result (λ p. parts_left p ≡ parts_in bytes.now) }
-        ensures fault { IfErr result (λ e. (e ≡ Malformed) × IsMalformed (parts_in bytes.now)) }
+        ensures fault { IfErr result (λ e. (e ≡ Malformed) × IsNoNumber bytes.now) }
+        ensures unread { IfErr result (λ _. IsMalformed (parts_in bytes.now)) }
     {
         let (fields, rest) = u32_of(bytes)?;
         Ok(ProducersParts {
@@ -64,7 +69,10 @@ impl<'a> ProducersParts<'a> {
     /// Fails with `Malformed` if no part begins the remaining bytes, or bytes follow the last one.
     /// Nothing is taken then.
     pub fn next(&mut self) -> Result<Option<ProducersPart<'a>>, Refusal>
-        // A returned part is the first one of those that were left.
+        // A returned part begins the remaining bytes, and all bytes after it remain.
+        ensures read { IfOk result (λ o. MatchOption o (AreSpent self.old)
+            (λ p. HasTakenPart self.old (part_seen p) self.new)) }
+        // It is the first one of those that were left.
         ensures taken { IfOk result (λ o. MatchOption o (parts_left self.old ≡ Ok [])
             (λ p. parts_left self.old ≡ with_part (part_seen p) (parts_left self.new))) }
         // Otherwise nothing changes.

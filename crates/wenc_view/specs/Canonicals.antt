@@ -2,7 +2,7 @@
 use Rattle.wenc_canon.specs.Canonicals as canon
 use Rattle.wenc_canon.specs.Canonicals.{Canonical, Lift, Lower, OfBuiltin}
 use Rattle.wenc_canon.specs.reading.Canonicals.{read_canonical_option}
-use Rattle.wenc_view.specs.Members.{list_view}
+use Rattle.wenc_view.specs.Members.{list_view, IsCounted}
 use Rattle.wenc_view.specs.declared.canonicals.CanonView.{CanonView}
 use Rattle.wenc_view.specs.declared.canonicals.CanonView.TheVariants as views
 
@@ -64,3 +64,16 @@ canon_seen (views.FutureForward ty) = OfBuiltin canon.FutureForward ty
 canon_seen (views.ThreadSpawnRef ty) = OfBuiltin canon.ThreadSpawnRef ty
 canon_seen (views.ThreadSpawnIndirect ty table) = OfBuiltin canon.ThreadSpawnIndirect (ty, table)
 canon_seen views.ThreadAvailableParallelism = OfBuiltin canon.ThreadAvailableParallelism tt
+
+-- its options are as many as their list says
+abbrev pub IsCountedCanon : CanonView → Type 0
+IsCountedCanon (views.Lift core_func ty options) = IsCounted read_canonical_option options
+IsCountedCanon (views.Lower func options) = IsCounted read_canonical_option options
+IsCountedCanon (views.TaskReturn ty options) = IsCounted read_canonical_option options
+IsCountedCanon (views.StreamRead ty options) = IsCounted read_canonical_option options
+IsCountedCanon (views.StreamWrite ty options) = IsCounted read_canonical_option options
+IsCountedCanon (views.FutureRead ty options) = IsCounted read_canonical_option options
+IsCountedCanon (views.FutureWrite ty options) = IsCounted read_canonical_option options
+IsCountedCanon (views.ErrorContextNew options) = IsCounted read_canonical_option options
+IsCountedCanon (views.ErrorContextDebugMessage options) = IsCounted read_canonical_option options
+IsCountedCanon other = Unit {0}

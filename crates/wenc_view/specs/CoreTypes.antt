@@ -5,7 +5,7 @@ use Rattle.wenc_base.specs.reading.Types.{read_val_type}
 use Rattle.wenc_types.specs.CoreTypes.{ModuleDeclaration, ModuleImport, ModuleRecType, ModuleOuter}
 use Rattle.wenc_types.specs.CoreTypes.{ModuleExport, CoreType, Grouped, Module}
 use Rattle.wenc_types.specs.reading.CoreTypes.{read_module_declaration}
-use Rattle.wenc_view.specs.Members.{list_view}
+use Rattle.wenc_view.specs.Members.{list_view, IsCounted}
 use Rattle.wenc_view.specs.declared.composites.CompositeView.{CompositeView}
 use Rattle.wenc_view.specs.declared.composites.CompositeView.TheVariants as composites
 use Rattle.wenc_view.specs.declared.composites.SubView.{SubView}
@@ -42,3 +42,22 @@ module_declaration_seen (decls.Export name ty) = ModuleExport name.now ty
 abbrev pub core_type_seen : CoreTypeView → CoreType
 core_type_seen (views.Group g) = Grouped (rec_type_seen g)
 core_type_seen (views.Module ds) = Module (list_view read_module_declaration ds)
+
+-- each list of a core type has as many members as it says
+abbrev pub IsCountedComposite : CompositeView → Type 0
+IsCountedComposite (composites.Func params results) =
+    IsCounted read_val_type params × IsCounted read_val_type results
+IsCountedComposite (composites.Array element) = Unit {0}
+IsCountedComposite (composites.Struct fields) = IsCounted read_field_type fields
+
+abbrev pub IsCountedGroup : GroupView → Type 0
+IsCountedGroup (groups.Sub s) = IsCountedComposite s.composite_type
+IsCountedGroup (groups.Rec types) = IsCounted read_sub_type types
+
+abbrev pub IsCountedModuleDecl : ModuleDeclView → Type 0
+IsCountedModuleDecl (decls.«Type» g) = IsCountedGroup g
+IsCountedModuleDecl other = Unit {0}
+
+abbrev pub IsCountedCoreType : CoreTypeView → Type 0
+IsCountedCoreType (views.Group g) = IsCountedGroup g
+IsCountedCoreType (views.Module ds) = IsCounted read_module_declaration ds

@@ -10,7 +10,7 @@ use Rattle.wenc_types.specs.reading.DefinedTypes.{read_labelled_type, read_case}
 use Rattle.wenc_view.specs.declared.defined_types.CaseView.{CaseView}
 use Rattle.wenc_view.specs.declared.defined_types.DefinedView.{DefinedView}
 use Rattle.wenc_view.specs.declared.defined_types.DefinedView.TheVariants as views
-use Rattle.wenc_view.specs.Members.{list_view}
+use Rattle.wenc_view.specs.Members.{list_view, IsCounted}
 
 abbrev pub labelled_seen : Bor (List ℕ) × ComponentValType → LabelledType
 labelled_seen f = record { name = f.0.now; ty = f.1 }
@@ -34,3 +34,12 @@ defined_seen (views.Own number) = pure.Own number
 defined_seen (views.Borrow number) = pure.Borrow number
 defined_seen (views.Future ty) = pure.Future ty
 defined_seen (views.Stream ty) = pure.Stream ty
+
+-- its list has as many members as it says
+abbrev pub IsCountedDefined : DefinedView → Type 0
+IsCountedDefined (views.Record fields) = IsCounted read_labelled_type fields
+IsCountedDefined (views.Variant cases) = IsCounted read_case cases
+IsCountedDefined (views.Tuple elements) = IsCounted read_value_type elements
+IsCountedDefined (views.Flags names) = IsCounted read_name names
+IsCountedDefined (views.Enum names) = IsCounted read_name names
+IsCountedDefined other = Unit {0}

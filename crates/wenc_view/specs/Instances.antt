@@ -8,7 +8,7 @@ use Rattle.wenc_parts.specs.reading.Instances.{read_module_argument}
 use Rattle.wenc_sections.specs.Instances.{CoreInstance, CoreInstantiate, CoreExports}
 use Rattle.wenc_sections.specs.Instances.{Instance, Instantiate, Exports}
 use Rattle.wenc_sections.specs.reading.Pairs.{read_pair, read_triple}
-use Rattle.wenc_view.specs.Members.{list_view}
+use Rattle.wenc_view.specs.Members.{list_view, IsCounted}
 use Rattle.wenc_view.specs.declared.instances.CoreInstanceView.{CoreInstanceView}
 use Rattle.wenc_view.specs.declared.instances.CoreInstanceView.TheVariants as core_views
 use Rattle.wenc_view.specs.declared.instances.InstanceView.{InstanceView}
@@ -25,3 +25,16 @@ instance_seen (views.Instantiate index args) =
     Instantiate index (list_view (read_triple read_name read_component_export_kind read_u32) args)
 instance_seen (views.Exports exports) =
     Exports (list_view (read_triple read_extern_name read_component_export_kind read_u32) exports)
+
+-- its arguments or its exports are as many as their list says
+abbrev pub IsCountedCoreInstance : CoreInstanceView → Type 0
+IsCountedCoreInstance (core_views.Instantiate index args) =
+    IsCounted (read_pair read_name read_module_argument) args
+IsCountedCoreInstance (core_views.Exports exports) =
+    IsCounted (read_triple read_name read_core_export_kind read_u32) exports
+
+abbrev pub IsCountedInstance : InstanceView → Type 0
+IsCountedInstance (views.Instantiate index args) =
+    IsCounted (read_triple read_name read_component_export_kind read_u32) args
+IsCountedInstance (views.Exports exports) =
+    IsCounted (read_triple read_extern_name read_component_export_kind read_u32) exports

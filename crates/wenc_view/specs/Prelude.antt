@@ -1,5 +1,5 @@
 -- The names that clauses cite, re-exported from the files that define them.
-pub use Rattle.wenc_view.specs.Members.{members_of, list_view, GivesFirst}
+pub use Rattle.wenc_view.specs.Members.{members_of, list_view, GivesFirst, IsCounted}
 pub use Rattle.wenc_view.specs.Names.{name_seen}
 pub use Rattle.wenc_view.specs.inside.Names.{option_seen, read_options}
 pub use Rattle.wenc_view.specs.Depth.{OpensTypes}
@@ -9,10 +9,13 @@ pub use Rattle.wenc_parts.specs.declared.imports.ComponentTypeRef.{ComponentType
 pub use Rattle.wenc_parts.specs.declared.imports.TypeBounds.{TypeBounds}
 pub use Rattle.wenc_parts.specs.declared.types.ComponentValType.{ComponentValType}
 pub use Rattle.wenc_view.specs.DefinedTypes.{labelled_seen, case_seen, defined_seen}
+pub use Rattle.wenc_view.specs.DefinedTypes.{IsCountedDefined}
 pub use Rattle.wenc_view.specs.inside.Types.{read_defined_row, handle_rows}
 pub use Rattle.wenc_view.specs.laws.TypeTrees.{defined_sound}
 pub use Rattle.wenc_view.specs.CoreTypes.{composite_seen, sub_seen, rec_type_seen}
 pub use Rattle.wenc_view.specs.CoreTypes.{module_declaration_seen, core_type_seen}
+pub use Rattle.wenc_view.specs.CoreTypes.{IsCountedComposite, IsCountedGroup}
+pub use Rattle.wenc_view.specs.CoreTypes.{IsCountedModuleDecl, IsCountedCoreType}
 pub use Rattle.wenc_view.specs.inside.CoreTypes.{read_guarded, read_referred}
 pub use Rattle.wenc_view.specs.inside.Entities.{memory_so, read_bounds, read_maximum, table_so}
 pub use Rattle.wenc_base.specs.declared.exports.ExportKind.{ExportKind}
@@ -30,11 +33,13 @@ pub use Rattle.wenc_parts.specs.declared.exports.ComponentExportKind.{ComponentE
 pub use Rattle.wenc_parts.specs.declared.instances.ModuleArg.{ModuleArg}
 pub use Rattle.wenc_view.specs.Gives.{GivesNestedAlways}
 pub use Rattle.wenc_view.specs.Types.{type_seen, instance_declaration_seen}
-pub use Rattle.wenc_view.specs.Types.{component_declaration_seen}
+pub use Rattle.wenc_view.specs.Types.{component_declaration_seen, IsCountedType}
+pub use Rattle.wenc_view.specs.Types.{IsCountedInstanceDecl, IsCountedComponentDecl}
 pub use Rattle.wenc_view.specs.Types.{component_members, instance_members, type_nests}
 pub use Rattle.wenc_view.specs.Types.{instance_declaration_nests, component_declaration_nests}
-pub use Rattle.wenc_view.specs.Canonicals.{canon_seen}
+pub use Rattle.wenc_view.specs.Canonicals.{canon_seen, IsCountedCanon}
 pub use Rattle.wenc_view.specs.Instances.{core_instance_seen, instance_seen}
+pub use Rattle.wenc_view.specs.Instances.{IsCountedCoreInstance, IsCountedInstance}
 pub use Rattle.wenc_view.specs.inside.Canonicals.{error_context_rows, forward_rows, future_rows}
 pub use Rattle.wenc_view.specs.inside.Canonicals.{read_ty_and_options, read_waited_memory}
 pub use Rattle.wenc_view.specs.inside.Canonicals.{read_zero, stream_rows, thread_rows}

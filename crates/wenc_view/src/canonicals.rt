@@ -1,4 +1,5 @@
 //! Canonical functions, each by its opcode.
+ghost use Rattle.std.specs.Prelude.{IfOk};
 ghost use Rattle.wenc_base.specs.Prelude.{pick, nowhere};
 ghost use Rattle.wenc_canon.specs.Prelude.{read_lifted, read_lowered, rows, read_canonical_option};
 ghost use Rattle.wenc_canon.specs.Prelude.{canonical_option, canonical_option_sound};
@@ -8,7 +9,7 @@ ghost use Rattle.wenc_view.specs.Prelude.{read_zero, stream_rows, future_rows, e
 ghost use Rattle.wenc_view.specs.Prelude.{thread_rows, forward_rows, read_ty_and_options};
 ghost use Rattle.wenc_view.specs.Prelude.{read_waited_memory, CanonicalOption as Value'};
 ghost use Rattle.wenc_read.specs.Prelude.{GivesAlways, exact_by};
-ghost use Rattle.wenc_view.specs.Prelude.{canon_seen, list_view};
+ghost use Rattle.wenc_view.specs.Prelude.{canon_seen, list_view, IsCounted, IsCountedCanon};
 
 use crate::lists::ListOf;
 use crate::pairs::both;
@@ -263,7 +264,8 @@ fn zero(bytes: &[u8]) -> Result<((), &[u8]), Refusal>
 /// Reads a lifted core function, after its opcode.
 #[tactic(auto, unfolding(wenc_base::specs::Readers::choose))]
 fn lifted(bytes: &[u8]) -> Result<(CanonView<'_>, &[u8]), Refusal>
-    ensures { GivesAlways (λ x. (canon_seen x.0, x.1.now)) result (read_lifted bytes.now) }
+    ensures found { GivesAlways (λ x. (canon_seen x.0, x.1.now)) result (read_lifted bytes.now) }
+    ensures counted { IfOk result (λ x. IsCountedCanon x.0) }
 {
     match byte(bytes)? {
         (0x00, rest) => {
@@ -284,7 +286,8 @@ fn lifted(bytes: &[u8]) -> Result<(CanonView<'_>, &[u8]), Refusal>
 /// Reads a lowered component function, after its opcode.
 #[tactic(auto, unfolding(wenc_base::specs::Readers::choose))]
 fn lowered(bytes: &[u8]) -> Result<(CanonView<'_>, &[u8]), Refusal>
-    ensures { GivesAlways (λ x. (canon_seen x.0, x.1.now)) result (read_lowered bytes.now) }
+    ensures found { GivesAlways (λ x. (canon_seen x.0, x.1.now)) result (read_lowered bytes.now) }
+    ensures counted { IfOk result (λ x. IsCountedCanon x.0) }
 {
     match byte(bytes)? {
         (0x00, rest) => {
@@ -299,8 +302,9 @@ fn lowered(bytes: &[u8]) -> Result<(CanonView<'_>, &[u8]), Refusal>
 /// Reads the index of a type, and options.
 #[inline(always)]
 fn ty_and_options(bytes: &[u8]) -> Result<(u32, ListOf<'_, CanonicalOption>, &[u8]), Refusal>
-    ensures { GivesAlways (λ x. ((x.0, list_view read_canonical_option x.1), x.2.now)) result
+    ensures found { GivesAlways (λ x. ((x.0, list_view read_canonical_option x.1), x.2.now)) result
         (read_ty_and_options bytes.now) }
+    ensures counted { IfOk result (λ x. IsCounted read_canonical_option x.1) }
 {
     let (ty, rest) = u32::view_of(bytes)?;
     let (options, rest) = ListOf::view_of(rest)?;
@@ -398,8 +402,9 @@ macro_rules! returning {
 /// Reads a canonical function, after its opcode: the fields of its row. The rows before those of
 /// streams are here.
 fn function(opcode: u8, bytes: &[u8]) -> Result<(CanonView<'_>, &[u8]), Refusal>
-    ensures { GivesAlways (λ x. (canon_seen x.0, x.1.now)) result
+    ensures found { GivesAlways (λ x. (canon_seen x.0, x.1.now)) result
         (pick rows nowhere opcode bytes.now) }
+    ensures counted { IfOk result (λ x. IsCountedCanon x.0) }
 {
     match opcode {
         0x00 => lifted(bytes),
@@ -420,8 +425,9 @@ fn function(opcode: u8, bytes: &[u8]) -> Result<(CanonView<'_>, &[u8]), Refusal>
 
 /// Reads the fields of a row, from those of streams on.
 fn of_stream(opcode: u8, bytes: &[u8]) -> Result<(CanonView<'_>, &[u8]), Refusal>
-    ensures { GivesAlways (λ x. (canon_seen x.0, x.1.now)) result
+    ensures found { GivesAlways (λ x. (canon_seen x.0, x.1.now)) result
         (pick stream_rows nowhere opcode bytes.now) }
+    ensures counted { IfOk result (λ x. IsCountedCanon x.0) }
 {
     match opcode {
         0x0e => indexed!(bytes, StreamNew),
@@ -437,8 +443,9 @@ fn of_stream(opcode: u8, bytes: &[u8]) -> Result<(CanonView<'_>, &[u8]), Refusal
 
 /// Reads the fields of a row, from those of futures on.
 fn of_future(opcode: u8, bytes: &[u8]) -> Result<(CanonView<'_>, &[u8]), Refusal>
-    ensures { GivesAlways (λ x. (canon_seen x.0, x.1.now)) result
+    ensures found { GivesAlways (λ x. (canon_seen x.0, x.1.now)) result
         (pick future_rows nowhere opcode bytes.now) }
+    ensures counted { IfOk result (λ x. IsCountedCanon x.0) }
 {
     match opcode {
         0x15 => indexed!(bytes, FutureNew),
@@ -455,8 +462,9 @@ fn of_future(opcode: u8, bytes: &[u8]) -> Result<(CanonView<'_>, &[u8]), Refusal
 /// Reads the fields of a row, from those of error contexts on: of these, waitable sets and
 /// backpressure.
 fn of_error_context(opcode: u8, bytes: &[u8]) -> Result<(CanonView<'_>, &[u8]), Refusal>
-    ensures { GivesAlways (λ x. (canon_seen x.0, x.1.now)) result
+    ensures found { GivesAlways (λ x. (canon_seen x.0, x.1.now)) result
         (pick error_context_rows nowhere opcode bytes.now) }
+    ensures counted { IfOk result (λ x. IsCountedCanon x.0) }
 {
     match opcode {
         0x1c => of_options!(bytes, ErrorContextNew),
@@ -475,8 +483,9 @@ fn of_error_context(opcode: u8, bytes: &[u8]) -> Result<(CanonView<'_>, &[u8]), 
 
 /// Reads the fields of a row, from those of threads on.
 fn of_thread(opcode: u8, bytes: &[u8]) -> Result<(CanonView<'_>, &[u8]), Refusal>
-    ensures { GivesAlways (λ x. (canon_seen x.0, x.1.now)) result
+    ensures found { GivesAlways (λ x. (canon_seen x.0, x.1.now)) result
         (pick thread_rows nowhere opcode bytes.now) }
+    ensures counted { IfOk result (λ x. IsCountedCanon x.0) }
 {
     match opcode {
         0x26 => plain!(bytes, ThreadIndex),
@@ -493,8 +502,9 @@ fn of_thread(opcode: u8, bytes: &[u8]) -> Result<(CanonView<'_>, &[u8]), Refusal
 
 /// Reads the fields of one of the last rows: forwarding, and spawned threads.
 fn of_forward(opcode: u8, bytes: &[u8]) -> Result<(CanonView<'_>, &[u8]), Refusal>
-    ensures { GivesAlways (λ x. (canon_seen x.0, x.1.now)) result
+    ensures found { GivesAlways (λ x. (canon_seen x.0, x.1.now)) result
         (pick forward_rows nowhere opcode bytes.now) }
+    ensures counted { IfOk result (λ x. IsCountedCanon x.0) }
 {
     match opcode {
         0x2e => indexed!(bytes, StreamForward),
@@ -516,6 +526,8 @@ impl<'a> View<'a> for CanonView<'a> {
     ghost form = { canonical };
 
     ghost exact = { exact_by canonical_sound canonical_lawful };
+
+    ghost is_counted = { IsCountedCanon };
 
     #[tactic(auto, unfolding(wenc_base::specs::Readers::choose))]
     fn view_of(bytes: &'a [u8]) -> Result<(CanonView<'a>, &'a [u8]), Refusal> {

@@ -1,6 +1,7 @@
 //! The types that core modules define, alone and in recursion groups.
-ghost use Rattle.std.specs.Prelude.{Some, false, true};
+ghost use Rattle.std.specs.Prelude.{Some, false, true, IfOk};
 ghost use Rattle.wenc_view.specs.Prelude.{composite_seen, sub_seen, rec_type_seen};
+ghost use Rattle.wenc_view.specs.Prelude.{IsCountedComposite, IsCountedGroup};
 ghost use Rattle.wenc_base.specs.Prelude.{read_composite, read_sub_type, read_group, read_closed};
 ghost use Rattle.wenc_base.specs.Prelude.{read_extension, sub_of, read_storage_type, storage_type};
 ghost use Rattle.wenc_base.specs.Prelude.{storage_type_sound, storage_type_lawful, read_field_type};
@@ -114,6 +115,8 @@ impl<'a> View<'a> for CompositeView<'a> {
 
     ghost exact = { exact_by composite_type_sound composite_type_lawful };
 
+    ghost is_counted = { IsCountedComposite };
+
     #[tactic(auto, unfolding(wenc_base::specs::Readers::choose))]
     fn view_of(bytes: &'a [u8]) -> Result<(CompositeView<'a>, &'a [u8]), Refusal> {
         match byte(bytes)? {
@@ -148,6 +151,8 @@ impl<'a> View<'a> for SubView<'a> {
 
     ghost exact = { exact_by sub_type_sound sub_type_lawful };
 
+    ghost is_counted = { λ s. IsCountedComposite s.composite_type };
+
     #[tactic(auto, unfolding(wenc_base::specs::Readers::choose))]
     fn view_of(bytes: &'a [u8]) -> Result<(SubView<'a>, &'a [u8]), Refusal> {
         match byte(bytes)? {
@@ -168,8 +173,9 @@ impl<'a> View<'a> for SubView<'a> {
 
 /// Reads a type that isn't final, after its first byte.
 pub(crate) fn open(bytes: &[u8]) -> Result<(SubView<'_>, &[u8]), Refusal>
-    ensures { GivesAlways (λ x. (sub_seen x.0, x.1.now)) result
+    ensures found { GivesAlways (λ x. (sub_seen x.0, x.1.now)) result
         (read_extension (λ n c. sub_of false n c) bytes.now) }
+    ensures counted { IfOk result (λ x. IsCountedComposite x.0.composite_type) }
 {
     let (supertype_idx, rest) = Option::view_of(bytes)?;
     let (composite_type, rest) = CompositeView::view_of(rest)?;
@@ -184,8 +190,9 @@ pub(crate) fn open(bytes: &[u8]) -> Result<(SubView<'_>, &[u8]), Refusal>
 /// Reads a final type with a supertype, after its first byte.
 #[tactic(auto, unfolding(wenc_base::specs::Readers::choose))]
 fn closed(bytes: &[u8]) -> Result<(SubView<'_>, &[u8]), Refusal>
-    ensures { GivesAlways (λ x. (sub_seen x.0, x.1.now)) result
+    ensures found { GivesAlways (λ x. (sub_seen x.0, x.1.now)) result
         (read_closed (λ n c. sub_of true (Some n) c) bytes.now) }
+    ensures counted { IfOk result (λ x. IsCountedComposite x.0.composite_type) }
 {
     match byte(bytes)? {
         (0x01, rest) => {
@@ -212,6 +219,8 @@ impl<'a> View<'a> for GroupView<'a> {
     ghost form = { rec_type };
 
     ghost exact = { exact_by group_sound group_lawful };
+
+    ghost is_counted = { IsCountedGroup };
 
     #[tactic(auto, unfolding(wenc_base::specs::Readers::choose))]
     fn view_of(bytes: &'a [u8]) -> Result<(GroupView<'a>, &'a [u8]), Refusal> {

@@ -1,5 +1,6 @@
 //! Core types in a component: recursion groups with guards, and module types.
-ghost use Rattle.wenc_view.specs.Prelude.{read_guarded};
+ghost use Rattle.std.specs.Prelude.{IfOk};
+ghost use Rattle.wenc_view.specs.Prelude.{read_guarded, IsCountedModuleDecl, IsCountedCoreType};
 ghost use Rattle.wenc_read.specs.Prelude.{GivesAlways, exact_by};
 ghost use Rattle.wenc_view.specs.Prelude.{module_declaration_seen, core_type_seen};
 ghost use Rattle.wenc_types.specs.Prelude.{read_outer_type, ModuleDeclaration, module_declaration};
@@ -55,8 +56,9 @@ pub enum CoreTypeView<'a> {
 /// Reads an alias of an enclosing component's type, after its first byte.
 #[tactic(auto, unfolding(wenc_base::specs::Readers::choose))]
 fn outer_type(bytes: &[u8]) -> Result<(ModuleDeclView<'_>, &[u8]), Refusal>
-    ensures { GivesAlways (λ x. (module_declaration_seen x.0, x.1.now)) result
+    ensures found { GivesAlways (λ x. (module_declaration_seen x.0, x.1.now)) result
         (read_outer_type (λ d. d) bytes.now) }
+    ensures counted { IfOk result (λ x. IsCountedModuleDecl x.0) }
 {
     match byte(bytes)? {
         (0x10, rest) => match byte(rest)? {
@@ -81,6 +83,8 @@ impl<'a> View<'a> for ModuleDeclView<'a> {
     ghost form = { module_declaration };
 
     ghost exact = { exact_by module_declaration_sound module_declaration_lawful };
+
+    ghost is_counted = { IsCountedModuleDecl };
 
     #[tactic(auto, unfolding(wenc_base::specs::Readers::choose))]
     fn view_of(bytes: &'a [u8]) -> Result<(ModuleDeclView<'a>, &'a [u8]), Refusal> {
@@ -109,7 +113,9 @@ impl<'a> View<'a> for ModuleDeclView<'a> {
 /// Reads a type that isn't final, after its guard.
 #[tactic(auto, unfolding(wenc_base::specs::Readers::choose))]
 fn guarded(bytes: &[u8]) -> Result<(CoreTypeView<'_>, &[u8]), Refusal>
-    ensures { GivesAlways (λ x. (core_type_seen x.0, x.1.now)) result (read_guarded bytes.now) }
+    ensures found { GivesAlways (λ x. (core_type_seen x.0, x.1.now)) result
+        (read_guarded bytes.now) }
+    ensures counted { IfOk result (λ x. IsCountedCoreType x.0) }
 {
     match byte(bytes)? {
         (0x50, rest) => {
@@ -130,6 +136,8 @@ impl<'a> View<'a> for CoreTypeView<'a> {
     ghost form = { core_type };
 
     ghost exact = { exact_by core_type_sound core_type_lawful };
+
+    ghost is_counted = { IsCountedCoreType };
 
     #[tactic(auto, unfolding(wenc_base::specs::Readers::choose))]
     fn view_of(bytes: &'a [u8]) -> Result<(CoreTypeView<'a>, &'a [u8]), Refusal> {

@@ -1,4 +1,5 @@
 //! Defined value types, in place.
+ghost use Rattle.std.specs.Prelude.{IfOk};
 ghost use Rattle.wenc_base.specs.Prelude.{pick, nowhere};
 ghost use Rattle.wenc_read.specs.Prelude.{GivesAlways, exact_by};
 ghost use Rattle.wenc_types.specs.Prelude.{LabelledType, labelled_type, read_labelled_type};
@@ -6,7 +7,7 @@ ghost use Rattle.wenc_types.specs.Prelude.{named_sound, labelled_type_lawful, Ca
 ghost use Rattle.wenc_types.specs.Prelude.{read_case, case_sound, case_lawful, DefValType};
 ghost use Rattle.wenc_types.specs.Prelude.{def_val_type, read_defined, defined_type_lawful};
 ghost use Rattle.wenc_view.specs.Prelude.{labelled_seen, case_seen, defined_seen, read_defined_row};
-ghost use Rattle.wenc_view.specs.Prelude.{handle_rows, defined_sound};
+ghost use Rattle.wenc_view.specs.Prelude.{handle_rows, defined_sound, IsCountedDefined};
 
 use crate::lists::ListOf;
 use crate::types::primitive_of;
@@ -117,8 +118,9 @@ impl<'a> View<'a> for CaseView<'a> {
 
 /// Reads a defined value type that isn't primitive, after its first byte.
 fn defined(first: u8, bytes: &[u8]) -> Result<(DefinedView<'_>, &[u8]), Refusal>
-    ensures { GivesAlways (λ x. (defined_seen x.0, x.1.now)) result
+    ensures found { GivesAlways (λ x. (defined_seen x.0, x.1.now)) result
         (read_defined_row first bytes.now) }
+    ensures counted { IfOk result (λ x. IsCountedDefined x.0) }
 {
     match first {
         0x72 => {
@@ -160,8 +162,9 @@ fn defined(first: u8, bytes: &[u8]) -> Result<(DefinedView<'_>, &[u8]), Refusal>
 
 /// Reads a handle, fixed-length list, stream, future or map type, after its first byte.
 fn other_defined(first: u8, bytes: &[u8]) -> Result<(DefinedView<'_>, &[u8]), Refusal>
-    ensures { GivesAlways (λ x. (defined_seen x.0, x.1.now)) result
+    ensures found { GivesAlways (λ x. (defined_seen x.0, x.1.now)) result
         (pick handle_rows nowhere first bytes.now) }
+    ensures counted { IfOk result (λ x. IsCountedDefined x.0) }
 {
     match first {
         0x69 => {
@@ -204,6 +207,8 @@ impl<'a> View<'a> for DefinedView<'a> {
     ghost form = { def_val_type };
 
     ghost exact = { exact_by defined_sound defined_type_lawful };
+
+    ghost is_counted = { IsCountedDefined };
 
     fn view_of(bytes: &'a [u8]) -> Result<(DefinedView<'a>, &'a [u8]), Refusal> {
         let (first, rest) = byte(bytes)?;

@@ -6,7 +6,7 @@ ghost use Rattle.wenc_base.specs.Prelude.{core_export_kind, core_export_kind_sou
 ghost use Rattle.wenc_base.specs.Prelude.{core_export_kind_lawful, u32 as number, u32_sound};
 ghost use Rattle.wenc_base.specs.Prelude.{u32_lawful};
 ghost use Rattle.wenc_view.specs.Prelude.{ModuleArg as Value', core_instance_seen, instance_seen};
-ghost use Rattle.wenc_view.specs.Prelude.{name_seen};
+ghost use Rattle.wenc_view.specs.Prelude.{name_seen, IsCountedCoreInstance, IsCountedInstance};
 ghost use Rattle.wenc_parts.specs.Prelude.{read_module_argument, module_argument};
 ghost use Rattle.wenc_parts.specs.Prelude.{module_argument_sound, module_argument_lawful};
 ghost use Rattle.wenc_parts.specs.Prelude.{read_component_export_kind, component_export_kind};
@@ -137,6 +137,8 @@ impl<'a> View<'a> for CoreInstanceView<'a> {
 
     ghost exact = { exact_by core_instance_sound core_instance_lawful };
 
+    ghost is_counted = { IsCountedCoreInstance };
+
     #[tactic(auto, unfolding(wenc_base::specs::Readers::choose))]
     #[inline(always)]
     fn view_of(bytes: &'a [u8]) -> Result<(CoreInstanceView<'a>, &'a [u8]), Refusal> {
@@ -219,6 +221,8 @@ impl<'a> View<'a> for InstanceView<'a> {
     ghost form = { instance };
 
     ghost exact = { exact_by instance_sound instance_lawful };
+
+    ghost is_counted = { IsCountedInstance };
 
     #[tactic(auto, unfolding(wenc_base::specs::Readers::choose))]
     #[inline(always)]

@@ -1,9 +1,9 @@
 //! Lists that are read on demand.
-ghost use Rattle.std.specs.Prelude.{List};
+ghost use Rattle.std.specs.Prelude.{◌≡◌, ◌+◌, List, IfSome, MatchOption};
 ghost use Rattle.std.specs.Iterator.{at_most};
 ghost use Rattle.wenc_base.specs.Prelude.{times, read_list, list};
 ghost use Rattle.wenc_read.specs.Prelude.{GivesAlways, list_exact};
-ghost use Rattle.wenc_view.specs.Prelude.{members_of, list_view, GivesFirst};
+ghost use Rattle.wenc_view.specs.Prelude.{members_of, list_view, GivesFirst, IsCounted};
 
 use crate::view::View;
 use std::marker::PhantomData;
@@ -45,6 +45,8 @@ impl<'a, T: View<'a>> View<'a> for ListOf<'a, T> {
 
     ghost exact = { list_exact T.exact };
 
+    ghost is_counted = { λ l. IsCounted T.read l };
+
     fn view_of(bytes: &'a [u8]) -> Result<(ListOf<'a, T>, &'a [u8]), Refusal> {
         let (left, start) = u32_of(bytes)?;
         let rest = passed::<T>(left, start)?;
@@ -62,7 +64,8 @@ impl<'a, T: View<'a>> Iterator for ListOf<'a, T> {
 
     ghost remaining = { λ l. at_most l.left };
 
-    ghost next_gives = { λ a r b. GivesFirst T.view (list_view T.read a) r (list_view T.read b) };
+    ghost next_gives = { λ a r b. GivesFirst T.view (list_view T.read a) r (list_view T.read b)
+        × IfSome r T.is_counted × MatchOption r (b ≡ a) (λ _. a.left ≡ b.left + 1) };
 
     fn next(&mut self) -> Option<T> {
         if self.left == 0 {

@@ -1,6 +1,6 @@
 //! Types that components define, in place. Component types and instance types nest, down to a
 //! depth.
-ghost use Rattle.std.specs.Prelude.{◌≡◌, ◌≤◌, IfOk, IfSome};
+ghost use Rattle.std.specs.Prelude.{◌≡◌, ◌+◌, ◌≤◌, IfOk, IfSome, MatchOption};
 ghost use Rattle.wenc_base.specs.Prelude.{times};
 ghost use Rattle.wenc_read.specs.Prelude.{GivesAlways};
 ghost use Rattle.wenc_types.specs.Prelude.{read_imported, read_exported};
@@ -11,6 +11,8 @@ ghost use Rattle.wenc_view.specs.Prelude.{GivesNestedAlways, GivesFirst, members
 ghost use Rattle.wenc_view.specs.Prelude.{instance_declaration_seen, component_declaration_seen};
 ghost use Rattle.wenc_view.specs.Prelude.{component_members, instance_members, type_nests};
 ghost use Rattle.wenc_view.specs.Prelude.{instance_declaration_nests, component_declaration_nests};
+ghost use Rattle.wenc_view.specs.Prelude.{IsCountedType, IsCountedInstanceDecl};
+ghost use Rattle.wenc_view.specs.Prelude.{IsCountedComponentDecl};
 
 use crate::core_type_views::CoreTypeView;
 use crate::defined_types::DefinedView;
@@ -108,6 +110,7 @@ fn function_type(is_async: bool, bytes: &[u8]) -> Result<(TypeView<'_>, &[u8]), 
     ensures found { GivesAlways (λ x. (type_seen x.0, x.1.now)) result
         (read_signature is_async FunctionType bytes.now) }
     ensures flat { IfOk result (λ x. type_nests x.0 ≡ 0) }
+    ensures counted { IfOk result (λ x. IsCountedType x.0) }
 {
     let (params, rest) = ListOf::view_of(bytes)?;
     let (answer, rest) = ResultList::view_of(rest)?;
@@ -124,6 +127,7 @@ fn resource_type(bytes: &[u8]) -> Result<(TypeView<'_>, &[u8]), Refusal>
     ensures found { GivesAlways (λ x. (type_seen x.0, x.1.now)) result
         (read_resource_type bytes.now) }
     ensures flat { IfOk result (λ x. type_nests x.0 ≡ 0) }
+    ensures counted { IfOk result (λ x. IsCountedType x.0) }
 {
     let (rep, rest) = ValType::view_of(bytes)?;
     let (dtor, rest) = Option::view_of(rest)?;
@@ -146,6 +150,7 @@ pub fn type_at<'a>(
     ensures found { GivesNestedAlways (λ x. (type_seen x.0, x.1.now)) result
         (read_type depth_left bytes.now) }
     ensures within { IfOk result (λ x. type_nests x.0 ≤ depth_left) }
+    ensures counted { IfOk result (λ x. IsCountedType x.0) }
 {
     match byte(bytes)? {
         (0x41, rest) => component_type(depth_left, rest),
@@ -169,6 +174,7 @@ fn component_type<'a>(
     ensures found { GivesNestedAlways (λ x. (type_seen x.0, x.1.now)) result
         (read_component_type depth_left bytes.now) }
     ensures within { IfOk result (λ x. type_nests x.0 ≤ depth_left) }
+    ensures counted { IfOk result (λ x. IsCountedType x.0) }
 {
     if depth_left == 0 {
         return Err(NestedRefusal::TooDeep);
@@ -193,6 +199,7 @@ fn instance_type<'a>(
     ensures found { GivesNestedAlways (λ x. (type_seen x.0, x.1.now)) result
         (read_instance_type depth_left bytes.now) }
     ensures within { IfOk result (λ x. type_nests x.0 ≤ depth_left) }
+    ensures counted { IfOk result (λ x. IsCountedType x.0) }
 {
     if depth_left == 0 {
         return Err(NestedRefusal::TooDeep);
@@ -262,6 +269,7 @@ fn component_decl<'a>(
     ensures found { GivesNestedAlways (λ x. (component_declaration_seen x.0, x.1.now)) result
         (read_component_declaration (read_type depth_left) bytes.now) }
     ensures within { IfOk result (λ x. component_declaration_nests x.0 ≤ depth_left) }
+    ensures counted { IfOk result (λ x. IsCountedComponentDecl x.0) }
 {
     match byte(bytes)? {
         (0x03, rest) => Ok(imported(rest)?),
@@ -282,6 +290,7 @@ fn instance_decl<'a>(
     ensures found { GivesNestedAlways (λ x. (instance_declaration_seen x.0, x.1.now)) result
         (read_instance_declaration (read_type depth_left) bytes.now) }
     ensures within { IfOk result (λ x. instance_declaration_nests x.0 ≤ depth_left) }
+    ensures counted { IfOk result (λ x. IsCountedInstanceDecl x.0) }
 {
     match byte(bytes)? {
         (0x00, rest) => {
@@ -306,6 +315,7 @@ fn imported(bytes: &[u8]) -> Result<(ComponentDeclView<'_>, &[u8]), Refusal>
     ensures found { GivesAlways (λ x. (component_declaration_seen x.0, x.1.now)) result
         (read_imported bytes.now) }
     ensures flat { IfOk result (λ x. component_declaration_nests x.0 ≡ 0) }
+    ensures counted { IfOk result (λ x. IsCountedComponentDecl x.0) }
 {
     let (name, rest) = NameView::view_of(bytes)?;
     let (ty, rest) = ComponentTypeRef::view_of(rest)?;
@@ -317,6 +327,7 @@ fn exported(bytes: &[u8]) -> Result<(InstanceDeclView<'_>, &[u8]), Refusal>
     ensures found { GivesAlways (λ x. (instance_declaration_seen x.0, x.1.now)) result
         (read_exported bytes.now) }
     ensures flat { IfOk result (λ x. instance_declaration_nests x.0 ≡ 0) }
+    ensures counted { IfOk result (λ x. IsCountedInstanceDecl x.0) }
 {
     let (name, rest) = NameView::view_of(bytes)?;
     let (ty, rest) = ComponentTypeRef::view_of(rest)?;
@@ -332,7 +343,8 @@ impl<'a> Iterator for ComponentDecls<'a> {
 
     ghost next_gives = { λ a r b. GivesFirst component_declaration_seen (component_members a) r
         (component_members b) × IfSome r (λ d. component_declaration_nests d ≤ a.depth_left)
-        × (b.depth_left ≡ a.depth_left) };
+        × (b.depth_left ≡ a.depth_left) × IfSome r IsCountedComponentDecl
+        × MatchOption r (b ≡ a) (λ _. a.left ≡ b.left + 1) };
 
     fn next(&mut self) -> Option<ComponentDeclView<'a>> {
         if self.left == 0 {
@@ -358,7 +370,8 @@ impl<'a> Iterator for InstanceDecls<'a> {
 
     ghost next_gives = { λ a r b. GivesFirst instance_declaration_seen (instance_members a) r
         (instance_members b) × IfSome r (λ d. instance_declaration_nests d ≤ a.depth_left)
-        × (b.depth_left ≡ a.depth_left) };
+        × (b.depth_left ≡ a.depth_left) × IfSome r IsCountedInstanceDecl
+        × MatchOption r (b ≡ a) (λ _. a.left ≡ b.left + 1) };
 
     fn next(&mut self) -> Option<InstanceDeclView<'a>> {
         if self.left == 0 {

@@ -1,4 +1,5 @@
 //! The trait `View`, and the parts of every form.
+ghost use Rattle.std.specs.Prelude.{⊤, IfOk};
 ghost use Rattle.wenc_base.specs.Prelude.{Form, Reader, read_u32, u32 as number, u32_sound};
 ghost use Rattle.wenc_base.specs.Prelude.{u32_lawful, read_name, name as name_form, name_sound};
 ghost use Rattle.wenc_base.specs.Prelude.{name_lawful};
@@ -32,6 +33,9 @@ pub trait View<'a>: Sized + Copy {
     /// The reader finds what is read widely, and nothing else.
     ghost exact: { IsExact form read };
 
+    /// Each list in it has as many members as it says.
+    ghost is_counted: { Self → Type 0 } = { λ _. ⊤ };
+
     /// Reads the value that begins the bytes, in any of its spellings. Returns it and the bytes
     /// after it.
     ///
@@ -39,7 +43,8 @@ pub trait View<'a>: Sized + Copy {
     ///
     /// Fails with `Malformed` if no value begins the bytes.
     fn view_of(bytes: &'a [u8]) -> Result<(Self, &'a [u8]), Refusal>
-        ensures { GivesAlways (λ x. (view x.0, x.1.now)) result (read bytes.now) };
+        ensures found { GivesAlways (λ x. (view x.0, x.1.now)) result (read bytes.now) }
+        ensures counted { IfOk result (λ x. is_counted x.0) };
 }
 
 impl<'a> View<'a> for u32 {
@@ -105,7 +110,7 @@ impl<'a> View<'a> for &'a str {
 
 /// An option: a byte `00`, or a byte `01` and a value.
 impl<'a, T: View<'a>> View<'a> for Option<T> {
-    ghost use Rattle.std.specs.Prelude.{Option as OptionOf, option_map};
+    ghost use Rattle.std.specs.Prelude.{IfSome, Option as OptionOf, option_map};
     ghost use Rattle.wenc_base.specs.Prelude.{read_option, option};
     ghost use Rattle.wenc_read.specs.Prelude.{option_exact};
 
@@ -118,6 +123,8 @@ impl<'a, T: View<'a>> View<'a> for Option<T> {
     ghost form = { option T.form };
 
     ghost exact = { option_exact T.exact };
+
+    ghost is_counted = { λ o. IfSome o T.is_counted };
 
     #[tactic(auto, unfolding(wenc_base::specs::Readers::choose))]
     fn view_of(bytes: &'a [u8]) -> Result<(Option<T>, &'a [u8]), Refusal> {

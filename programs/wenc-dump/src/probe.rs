@@ -436,14 +436,14 @@ impl<'a> Probe<'a> {
     fn needed(&mut self, zeros: usize, end: &[u8]) -> Option<usize> {
         let len = self.item.len();
         self.load(len);
-        self.bytes[self.start + len + zeros..][..end.len()].copy_from_slice(end);
+        self.bytes[self.start + len + zeros..].get_mut(..end.len())?.copy_from_slice(end);
         if self.outcome(len) != Outcome::Read {
             return None;
         }
         let mut needed = zeros + ENDS;
         self.bytes[self.start + len + needed..].fill(NEVER);
         while self.outcome(len) == Outcome::Read {
-            needed -= 1;
+            needed = needed.checked_sub(1)?;
             self.bytes[self.start + len + needed] = NEVER;
         }
         Some(needed + 1).filter(|needed| *needed < zeros + ENDS)

@@ -339,7 +339,7 @@ impl<'f, R: Report> Walk<'f, '_, R> {
         next: &mut Indices,
     ) -> Result<(), Failure> {
         let names = self.names.last();
-        let label = item.indices().map(|(space, count)| next.take(space, count, names));
+        let label = item.defined_indices().map(|(space, count)| next.take(space, count, names));
         let bytes = &self.bytes[range.clone()];
         let scopes = self.check.scopes();
         let node = phrase::of_item(node_in(item, scopes.as_ref()));

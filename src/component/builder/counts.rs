@@ -9,7 +9,8 @@ use core::fmt;
 macro_rules! counts {
     ($($name:ident $space:ident $what:literal;)*) => {
         /// Item counts. An unfinished type is counted; each count is the index of the next item of
-        /// its kind ([explainer, "Index Spaces"][spaces]).
+        /// its kind ([explainer, "Index Spaces"][spaces]), except that a recursion group counts as
+        /// one core type ([`core_type`](Self::core_type)).
         ///
         /// [spaces]: https://github.com/WebAssembly/component-model/blob/main/design/mvp/Explainer.md#index-spaces
         impl ComponentBuilder {

@@ -20,6 +20,10 @@ use crate::twins::twins;
 impl ComponentBuilder {
     twins! {
         /// Begins a core type. Returns its index and its encoder.
+        ///
+        /// As in upstream, a recursion group counts as one core type here, in
+        /// [`core_type_count`](Self::core_type_count) and in debug names. By the standard each of
+        /// its types has an index: after a group of n types add n - 1 to the indices of core types.
         fn core_type | try_core_type(
             &mut self,
             debug_name: Option<&str>,

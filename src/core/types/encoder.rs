@@ -118,7 +118,8 @@ impl CoreTypeEncoder<'_> {
         }
 
         /// Encodes a recursion group, whose types may refer to each other. It counts as one core
-        /// type of its parent.
+        /// type of its parent, as in upstream; by the standard it has an index for each of its
+        /// types: after a group of n types add n - 1 to the indices of core types.
         fn rec | try_rec<T>(self, types: T) -> ()
         where {
             T: IntoIterator<Item = SubType>,

@@ -28,14 +28,9 @@ impl IndexCounts {
         self.0[space.number()]
     }
 
-    /// Adds the indices that an item defines. A recursion group defines an index for each of its
-    /// types, as in a core module; [`ItemView::indices`] has one for the group, as upstream's
-    /// builder counts.
+    /// Adds the [indices that an item defines](ItemView::defined_indices).
     pub fn add(&mut self, item: &ItemView<'_>) {
-        self.define(match item {
-            ItemView::CoreType(ty) => ty.defined(),
-            _ => item.indices(),
-        });
+        self.define(item.defined_indices());
     }
 
     /// Adds an item that can't be read: then no index is out of range.
@@ -132,12 +127,12 @@ impl<'s> Place<'s> {
         (Self { is_scope: false, ..self }, self.scopes.filter(|_| self.is_scope))
     }
 
-    /// Returns the place in these scopes, if there are any, else in the same.
-    pub fn in_scopes<'n>(self, scopes: Option<&'n Scopes<'n>>) -> Place<'n>
+    /// Returns the place in these scopes.
+    pub fn in_scopes<'n>(self, scopes: &'n Scopes<'n>) -> Place<'n>
     where
         's: 'n,
     {
-        Place { scopes: scopes.or(self.scopes), ..self }
+        Place { scopes: Some(scopes), ..self }
     }
 
     /// Returns the place of this group of core types.

@@ -1,7 +1,7 @@
 //! The fields of containers, and of types whose fields can't be reached.
 
-use super::{Child, CoreArrayType, CoreFuncType, CoreValType, Fields, List, Node};
-use super::{Place, Tree, TreeMut, Visit};
+use super::{Child, CoreArrayType, CoreFuncType, CoreValType, Fields, List, Named, Node};
+use super::{Place, Tree, TreeMut, Visit, named};
 use crate::proved::wenc_view::View;
 use crate::tree::indices::{IndexUse, Visitor};
 use crate::tree::{AllocError, Box, CoreHeapType, CoreRefType, Space, String, Vec};
@@ -128,8 +128,12 @@ impl<T: TreeMut> TreeMut for Box<T> {
 /// A name and the named value.
 impl<N: Tree, T: Tree> Tree for (N, T) {
     fn node<'n>(&'n self, place: Place<'n>) -> Node<'n> {
+        Node::Tuple(Fields::new(self, place))
+    }
+
+    fn fields<'n>(&'n self, place: Place<'n>) -> Named<'n> {
         let (name, value) = self;
-        Node::Tuple(Fields::new([("0", Child::new(name, place)), ("1", Child::new(value, place))]))
+        named([("0", Child::new(name, place)), ("1", Child::new(value, place))])
     }
 }
 
@@ -142,10 +146,14 @@ impl<N: Tree, T: TreeMut> TreeMut for (N, T) {
 /// A name, and the kind and the index of the named item.
 impl<N: Tree, K: Tree + Copy + Into<Space>> Tree for (N, K, u32) {
     fn node<'n>(&'n self, place: Place<'n>) -> Node<'n> {
+        Node::Tuple(Fields::new(self, place))
+    }
+
+    fn fields<'n>(&'n self, place: Place<'n>) -> Named<'n> {
         let (name, kind, index) = self;
         let index = Child::new(index, place.outer(0, (*kind).into()));
         let [name, kind] = [Child::new(name, place), Child::new(kind, place)];
-        Node::Tuple(Fields::new([("0", name), ("1", kind), ("2", index)]))
+        named([("0", name), ("1", kind), ("2", index)])
     }
 }
 
@@ -159,23 +167,29 @@ impl<N: Tree, K: Tree + Copy + Into<Space>> TreeMut for (N, K, u32) {
 /// Its node is that of the owned name, whose options are a struct.
 impl Tree for NameView<'_> {
     fn node<'n>(&'n self, place: Place<'n>) -> Node<'n> {
+        Node::Record("NameTree", Fields::new(self, place))
+    }
+
+    fn fields<'n>(&'n self, place: Place<'n>) -> Named<'n> {
         let Self { name, implements, version_suffix, external_id } = self;
         let options = match (implements, version_suffix, external_id) {
             (None, None, None) => Child::new(&None::<&str>, place),
             _ => Child::present(self, place),
         };
-        let fields = [("name", Child::new(name, place)), ("options", options)];
-        Node::Record("NameTree", Fields::new(fields))
+        named([("name", Child::new(name, place)), ("options", options)])
     }
 
     fn part<'n>(&'n self, place: Place<'n>) -> Node<'n> {
+        Node::Record("NameOptions", Fields::part(self, place))
+    }
+
+    fn part_fields<'n>(&'n self, place: Place<'n>) -> Named<'n> {
         let Self { name: _, implements, version_suffix, external_id } = self;
-        let fields = [
+        named([
             ("implements", Child::new(implements, place)),
             ("version_suffix", Child::new(version_suffix, place)),
             ("external_id", Child::new(external_id, place)),
-        ];
-        Node::Record("NameOptions", Fields::new(fields))
+        ])
     }
 }
 
@@ -192,21 +206,22 @@ impl Tree for CoreCompositeView<'_> {
 
     fn part<'n>(&'n self, place: Place<'n>) -> Node<'n> {
         match self {
-            Self::Func { params, results } => {
-                function(Child::new(params, place), Child::new(results, place))
-            }
+            Self::Func { .. } => Node::Record("CoreFuncType", Fields::part(self, place)),
             Self::Array(ty) => ty.node(place),
-            Self::Struct(fields) => {
-                let fields = [("fields", Child::new(fields, place))];
-                Node::Record("CoreStructType", Fields::new(fields))
-            }
+            Self::Struct(_) => Node::Record("CoreStructType", Fields::part(self, place)),
         }
     }
-}
 
-/// Returns the node of a core function type.
-fn function<'n>(params: Child<'n>, results: Child<'n>) -> Node<'n> {
-    Node::Record("CoreFuncType", Fields::new([("params", params), ("results", results)]))
+    fn part_fields<'n>(&'n self, place: Place<'n>) -> Named<'n> {
+        match self {
+            Self::Func { params, results } => named([
+                ("params", Child::new(params, place)),
+                ("results", Child::new(results, place)),
+            ]),
+            Self::Array(_) => [None; 4],
+            Self::Struct(fields) => named([("fields", Child::new(fields, place))]),
+        }
+    }
 }
 
 impl Tree for CoreArrayType {
@@ -223,7 +238,12 @@ impl TreeMut for CoreArrayType {
 
 impl Tree for CoreFuncType {
     fn node<'n>(&'n self, place: Place<'n>) -> Node<'n> {
-        function(Child::types(self.params(), place), Child::types(self.results(), place))
+        Node::Record("CoreFuncType", Fields::new(self, place))
+    }
+
+    fn fields<'n>(&'n self, place: Place<'n>) -> Named<'n> {
+        let [params, results] = [self.params(), self.results()].map(|of| Child::types(of, place));
+        named([("params", params), ("results", results)])
     }
 }
 

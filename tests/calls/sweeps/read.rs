@@ -70,6 +70,8 @@ fn is_read(call: &Call, size: &Size) {
     call.space.into_iter().for_each(|space| counts[space.number()] = u128::from(call.takes));
     assert_eq!(listing.counts, counts, "{}", call.name);
     assert_eq!(tree.indices(), call.space.map(|space| (space, call.takes)), "{}", call.name);
+    let defined = call.space.map(|space| (space, call.defines(size)));
+    assert_eq!(tree.defined_indices(), defined, "{}", call.name);
     if let ItemTree::Canon(canon) = tree {
         assert_eq!(canon.name(), call.name);
     }
@@ -80,6 +82,7 @@ fn is_read(call: &Call, size: &Size) {
     let (place, view) = reader.items().next().expect("an item").expect("it is read");
     let (_, read) = reader.trees().next().expect("an item").expect("it is read");
     assert!(is_same(view, tree) && view.to_tree() == *tree && read == *tree, "{}", call.name);
+    assert_eq!(view.defined_indices(), defined, "{}", call.name);
     assert!(visited(view.node()) == (call.indices)(size), "{}: in place", call.name);
     assert!(format!("{:?}", view.node()) == format!("{:?}", tree.node()), "{}", call.name);
     assert!(bytes[place] == item, "{}", call.name);

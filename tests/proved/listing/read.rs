@@ -3,7 +3,7 @@
 use super::component;
 use crate::proved::tests::hex::bytes;
 use crate::proved::wenc_decode::room_for;
-use crate::proved::wenc_list::first_unread;
+use crate::proved::wenc_list::{ProducersPart, ProducersParts, first_unread};
 use crate::proved::wenc_parts::{ComponentValType, ResultList};
 use crate::proved::wenc_read::{NestedRefusal, Refusal, flag_of, u64_of};
 use crate::proved::wenc_view::{TypeView, View, type_at};
@@ -55,6 +55,44 @@ fn values() {
     are(&FLAGS, flag_of);
     are(&LONG, u64_of);
     are(&RESULTS, ResultList::view_of);
+}
+
+/// The name in a part, and the version of a tool.
+fn texts(part: ProducersPart<'static>) -> (&'static str, Option<&'static str>) {
+    match part {
+        ProducersPart::Field(name) => (name, None),
+        ProducersPart::Tool(name, version) => (name, Some(version)),
+    }
+}
+
+/// Cut anywhere, producers have the whole parts before that. Then nothing changes any more.
+#[test]
+fn producers() {
+    const DATA: &[u8] = b"\x02\x03sdk\x02\x01A\x011\x01B\x012\x01e\0";
+    // each part with its end, the tools that are left of the field, and the fields
+    let all = [
+        (("sdk", None), 6, 2, 1),
+        (("A", Some("1")), 10, 1, 1),
+        (("B", Some("2")), 14, 0, 1),
+        (("e", None), 17, 0, 0),
+    ];
+    for len in 1..=DATA.len() {
+        let mut parts = ProducersParts::new(&DATA[..len]).expect("a number");
+        assert_eq!((parts.tools, parts.fields, parts.rest), (0, 2, &DATA[1..len]));
+        for (part, end, tools, fields) in all.into_iter().filter(|part| part.1 <= len) {
+            let next = parts.next().map(|part| part.map(texts));
+            assert_eq!(next, Ok(Some(part)), "{len}");
+            assert_eq!((parts.tools, parts.fields, parts.rest), (tools, fields, &DATA[end..len]));
+        }
+        let left = (parts.tools, parts.fields, parts.rest);
+        for _ in 0..2 {
+            let end = parts.next().map(|part| part.map(texts));
+            assert_eq!(end, if len == 17 { Ok(None) } else { Err(Refusal::Malformed) }, "{len}");
+            assert_eq!((parts.tools, parts.fields, parts.rest), left);
+        }
+    }
+    assert_eq!(ProducersParts::new(b"").err(), Some(Refusal::Malformed));
+    assert_eq!(ProducersParts::new(b"\x80").err(), Some(Refusal::Malformed));
 }
 
 /// Values that have no room are counted as none.

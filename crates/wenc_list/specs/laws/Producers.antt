@@ -13,7 +13,7 @@ use Rattle.wenc_read.specs.Exact.{IsExact}
 use Rattle.wenc_read.specs.laws.Exact.{exact_by}
 use Rattle.wenc_list.specs.Producers.{Part, producers_parts, parts_in}
 
-producer_sound : Sound producer read_producer
+pub producer_sound : Sound producer read_producer
 producer_sound = then_tells _ name_sound (λ tool. last_tells
     (λ version. record { tool = tool; version = version }) name_sound
     (λ version middle rest r bytes p. (middle, p, r)))

@@ -1,6 +1,6 @@
 -- What the members of a list are.
 use Rattle.std.proofs.Common.{◌≡◌, ◌≢◌, ℕ, zero, suc, ◌-◌, List, [], ◌∷◌, Result, Ok, Err, refl}
-use Rattle.std.proofs.Common.{arith}
+use Rattle.std.proofs.Common.{length, ap, arith}
 use Rattle.wenc_base.specs.Readers.{Flaw, Bad, Reader, ◌>>=◌, go_on, give, times}
 use Rattle.wenc_base.specs.laws.Lawful.{same_Ok_pair}
 use Rattle.wenc_view.specs.Members.{members_of, and_more}
@@ -22,6 +22,27 @@ members_are {A} read (suc n) bytes vs rest e = first (read bytes) e (λ x. membe
         → go_on found (λ v. times read n >>= λ ws. give (v ∷ ws)) ≡ Ok (vs, rest)
         → ((middle : List ℕ) (ws : List A) (left : List ℕ) → times read n middle ≡ Ok (ws, left)
         → members_of read n middle ≡ ws) → and_more (members_of read n) found ≡ vs
+    first (Err flaw) h are = absurd cc
+    first (Ok x) h are = behind x.0 x.1 (times read n x.1) refl h (are x.1)
+
+-- as many are read as are to be
+pub are_counted : {A : Type 0} (read : Reader A) (n : ℕ) (bytes : List ℕ) (vs : List A)
+    (rest : List ℕ) → times read n bytes ≡ Ok (vs, rest) → n ≡ length vs
+are_counted read zero bytes vs rest e = rw (← (same_Ok_pair [] vs bytes rest e).0) refl
+are_counted {A} read (suc n) bytes vs rest e = first (read bytes) e (λ x. are_counted read n x)
+  where
+    behind : (v : A) (middle : List ℕ) (found : Result (List A × List ℕ) Flaw)
+        → times read n middle ≡ found → go_on found (λ ws. give (v ∷ ws)) ≡ Ok (vs, rest)
+        → ((ws : List A) (left : List ℕ) → times read n middle ≡ Ok (ws, left) → n ≡ length ws)
+        → suc n ≡ length vs
+    behind v middle (Err flaw) e h are = absurd cc
+    behind v middle (Ok x) e h are =
+        rw (← (same_Ok_pair (v ∷ x.0) vs x.1 rest h).0) (ap suc (are x.0 x.1 e))
+
+    first : (found : Result (A × List ℕ) Flaw)
+        → go_on found (λ v. times read n >>= λ ws. give (v ∷ ws)) ≡ Ok (vs, rest)
+        → ((middle : List ℕ) (ws : List A) (left : List ℕ) → times read n middle ≡ Ok (ws, left)
+        → n ≡ length ws) → suc n ≡ length vs
     first (Err flaw) h are = absurd cc
     first (Ok x) h are = behind x.0 x.1 (times read n x.1) refl h (are x.1)
 

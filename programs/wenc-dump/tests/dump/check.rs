@@ -116,3 +116,67 @@ fn real_components_have_none() {
     }
     assert_eq!(whole, 40);
 }
+
+/// Each type of a recursion group has an index, in a component, in one that is nested in it, and for
+/// debug names.
+#[test]
+fn types_of_recursion_groups() {
+    // a group of three types and a type; functions of core types 3 and 4
+    let types = b"\x03\x0f\x02\x4e\x03\x60\0\0\x5f\0\x5e\x7f\0\x60\x01\x7f\0";
+    let functions = b"\x08\x05\x02\x40\x03\x40\x04";
+    // the same types, and aliases of core types 3 and 4 around them
+    let inner =
+        component(&[&types[..], b"\x06\x0b\x02\0\x10\x02\x01\x03\0\x10\x02\x01\x04"].concat());
+    let nested = [&[4, 38][..], &inner].concat();
+    let names = b"\0\x1a\x0ecomponent-name\x01\x09\0\x10\x02\0\x01a\x03\x01b";
+    let sections = [&types[..], functions, &nested, names].concat();
+    expect_of(&["--check"], &file("groups", &sections), GROUPS, Some("2 indices are out of range"));
+}
+
+const GROUPS: &str = "\
+0x0..0x64 component, 100 bytes
+  0x8..0x19 core type section, 17 bytes, 2 items
+    0xb core type 0 to 2 \"a\": Group(Rec([
+      { is_final: true, supertype_idx: None, composite_type: Func { params: [], results: [] } },
+      { is_final: true, supertype_idx: None, composite_type: Struct { fields: [] } },
+      {
+        is_final: true,
+        supertype_idx: None,
+        composite_type: Array { element_type: Val(I32), mutable: false },
+      },
+    ]))
+    0x15 core type 3 \"b\": Group(Sub {
+      is_final: true,
+      supertype_idx: None,
+      composite_type: Func { params: [I32], results: [] },
+    })
+  0x19..0x20 canonical function section, 7 bytes, 2 items
+    0x1c core func 0: ThreadSpawnRef(3) \"b\"
+    0x1e core func 1: ThreadSpawnRef(4)!
+      0x1e no core type 4: core type space has 4
+  0x20..0x48 component section, 40 bytes, 1 item
+    0x22..0x48 component 0, 38 bytes
+      0x2a..0x3b core type section, 17 bytes, 2 items
+        0x2d core type 0 to 2: Group(Rec([
+          { is_final: true, supertype_idx: None, composite_type: Func { params: [], results: [] } },
+          { is_final: true, supertype_idx: None, composite_type: Struct { fields: [] } },
+          {
+            is_final: true,
+            supertype_idx: None,
+            composite_type: Array { element_type: Val(I32), mutable: false },
+          },
+        ]))
+        0x37 core type 3: Group(Sub {
+          is_final: true,
+          supertype_idx: None,
+          composite_type: Func { params: [I32], results: [] },
+        })
+      0x3b..0x48 alias section, 13 bytes, 2 items
+        0x3e core type 4: Outer { kind: CoreType, count: 1, index: 3 \"b\" }
+        0x43 core type 5: Outer { kind: CoreType, count: 1, index: 4! }
+          0x43 no core type 4: core type space of the component around has 4
+  0x48..0x64 custom section, 28 bytes, 1 item
+    0x4a custom \"component-name\", 11 bytes
+      core type 0 \"a\"
+      core type 3 \"b\"
+";

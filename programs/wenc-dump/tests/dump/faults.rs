@@ -186,3 +186,46 @@ fn indices_behind_bytes_behind_items_are_known() {
     let bad = "bytes behind the last item at 0xb in the section at 0x8";
     expect("known", b"\x06\x02\0\0\x07\x03\x01\x69\0", out, Some(bad));
 }
+
+/// Of the examples of instances some are longer than the room behind these items.
+#[test]
+fn instance_sections_may_end_early() {
+    let out = "\
+0x0..0xb component, 11 bytes
+  0x8..0xb instance section, 3 bytes, 1 item
+    0xb items that aren't read
+";
+    let bad = "bad item 0 at 0xb in the section at 0x8: \
+        the section ends where an instance is expected";
+    expect("instance_cut", b"\x05\x01\x01", out, Some(bad));
+    let out = "\
+0x0..0xd component, 13 bytes
+  0x8..0xd instance section, 5 bytes, 1 item
+    0xb items that aren't read
+      0xb: 00 00
+";
+    let bad = "bad item 0 at 0xb in the section at 0x8: \
+        needs 3 bytes or more from 0xb on, where 2 are left";
+    expect("instance_cut_item", b"\x05\x03\x01\0\0", out, Some(bad));
+    let out = "\
+0x0..0xf component, 15 bytes
+  0x8..0xf instance section, 7 bytes, 2 items
+    0xc instance 0: Instantiate { component: 7, args: [] }
+    0xf items that aren't read
+";
+    let bad = "bad item 1 at 0xf in the section at 0x8: \
+        the section ends where an instance is expected";
+    expect("instance_long_size", b"\x05\x84\0\x02\0\x07\0", out, Some(bad));
+}
+
+/// A list of 64 GiB, and what is none of its bytes: nothing has to follow them.
+#[test]
+fn an_item_may_need_no_bytes_behind_it() {
+    let section = b"\x07\x42\x03\x67\x7e\xff\xff\xff\xff\x1f\x42\0\x15wasi:io/streams@0.2.0\
+        \x01\x04name\x03\x01\0C\x03\x01a\x87\xa2\xd9\0\x03\xed\xa0\x80\x80\x40\
+        \x04name\x06\0dg\x80\x40";
+    let output = dump(&[], &file_of("needs_none", &[b"\0asm\x0d\0\x01\0", &section[..]].concat()));
+    let err = String::from_utf8_lossy(&output.stderr);
+    assert!(err.contains(": bad item 0 at 0xb in the section at 0x8: "), "{err}");
+    assert_eq!((output.status.code(), err.lines().count()), (Some(1), 1), "{err}");
+}

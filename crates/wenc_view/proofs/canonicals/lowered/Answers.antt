@@ -7,8 +7,8 @@ use Rattle.wenc_read.specs.laws.Tables.{at_first}
 use Rattle.wenc_view.proofs.Tables.{made_of_both}
 use Rattle.wenc_view.proofs.canonicals.lowered.Goals as goal
 
-pub returns-in_ok-options-in-0-default : goal.returns-in_ok-options-in-0-default
-returns-in_ok-options-in-0-default c =
+pub returns-in_ok-options-in-0-default-clause-found : goal.returns-in_ok-options-in-0-default-clause-found
+returns-in_ok-options-in-0-default-clause-found c =
     at_first _ _ 0x00 _ _ _ c.in_ok-rest.ensures (search rules)
-    ∙ made_of_both (λ f os. Lower f os) read_u32 (read_list read_canonical_option) _ _ _ _ _ c.in_ok-func-in-0-default.ensures
-    (c.in_ok-options-in-0-default.ensures)
+    ∙ made_of_both (λ f os. Lower f os) read_u32 (read_list read_canonical_option) _ _ _ _ _ c.in_ok-func-in-0-default.ensures.found
+    (c.in_ok-options-in-0-default.ensures.found)

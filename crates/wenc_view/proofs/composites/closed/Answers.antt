@@ -5,8 +5,8 @@ use Rattle.wenc_read.specs.laws.Tables.{at_first}
 use Rattle.wenc_view.proofs.Tables.{made_of_both}
 use Rattle.wenc_view.proofs.composites.closed.Goals as goal
 
-pub returns-in_ok-composite_type-in-1-default : goal.returns-in_ok-composite_type-in-1-default
-returns-in_ok-composite_type-in-1-default c =
+pub returns-in_ok-composite_type-in-1-default-clause-found : goal.returns-in_ok-composite_type-in-1-default-clause-found
+returns-in_ok-composite_type-in-1-default-clause-found c =
     at_first _ _ 0x01 _ _ _ c.in_ok-rest.ensures (search rules)
-    ∙ made_of_both (λ n d. sub_of true (Some n) d) read_u32 read_composite _ _ _ _ _ c.in_ok-supertype-in-1-default.ensures
-    c.in_ok-composite_type-in-1-default.ensures
+    ∙ made_of_both (λ n d. sub_of true (Some n) d) read_u32 read_composite _ _ _ _ _ c.in_ok-supertype-in-1-default.ensures.found
+    c.in_ok-composite_type-in-1-default.ensures.found

@@ -6,7 +6,7 @@ use Rattle.wenc_base.specs.reading.Numbers.{read_u32}
 use Rattle.wenc_view.proofs.Tables.{made_of_both}
 use Rattle.wenc_view.proofs.composites.open.Goals as goal
 
-pub returns : goal.returns
-returns c =
+pub returns-clause-found : goal.returns-clause-found
+returns-clause-found c =
     made_of_both (λ n d. sub_of false n d) (read_option read_u32) read_composite _ _ _ _ _ (rw (option_map_id c.in_ok-supertype_idx.supertype_idx)
-    at c.in_ok-supertype_idx.ensures) c.in_ok-composite_type.ensures
+    at c.in_ok-supertype_idx.ensures.found) c.in_ok-composite_type.ensures.found

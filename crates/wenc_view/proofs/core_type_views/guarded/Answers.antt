@@ -9,8 +9,8 @@ use Rattle.wenc_view.proofs.SubTypes.{extension_follows}
 use Rattle.wenc_view.proofs.Always.{fails_always_on}
 use Rattle.wenc_view.proofs.core_type_views.guarded.Goals as goal
 
-pub returns-in_err-ty-in-80-default : goal.returns-in_err-ty-in-80-default
-returns-in_err-ty-in-80-default c =
+pub returns-in_err-ty-in-80-default-clause-found : goal.returns-in_err-ty-in-80-default-clause-found
+returns-in_err-ty-in-80-default-clause-found c =
     let p = err_from_is_err_and c.from_residual-in_err-ty-in-80-default.result c.from_residual-in_err-ty-in-80-default.ensures.1 in
     rw (
       p.1,
@@ -20,10 +20,10 @@ returns-in_err-ty-in-80-default c =
       extension_follows (λ s. Grouped (Single s)) (λ n d. sub_of false n d) c.in_ok-rest.field-0.1.now,
     )
     (fails_always_on c.in_err-ty-in-80-default.field-0.0 (read_extension (λ n d. sub_of false n d) c.in_ok-rest.field-0.1.now)
-    (λ s. give (Grouped (Single s))) c.in_err-ty-in-80-default.ensures)
+    (λ s. give (Grouped (Single s))) c.in_err-ty-in-80-default.ensures.found)
 
-pub returns-in_ok-ty-in-80-default : goal.returns-in_ok-ty-in-80-default
-returns-in_ok-ty-in-80-default c =
+pub returns-in_ok-ty-in-80-default-clause-found : goal.returns-in_ok-ty-in-80-default-clause-found
+returns-in_ok-ty-in-80-default-clause-found c =
     at_first ((0x50, read_extension (λ n d. Grouped (Single (sub_of false n d)))) ∷ []) nowhere 0x50 _ _ _ c.in_ok-rest.ensures (search rules)
     ∙ extension_follows (λ s. Grouped (Single s)) (λ n d. sub_of false n d) c.in_ok-rest.field-0.1.now
-    ∙ rw c.in_ok-ty-in-80-default.ensures refl
+    ∙ rw c.in_ok-ty-in-80-default.ensures.found refl

@@ -15,9 +15,9 @@ returns-in_err-after g c =
     let p = err_from_is_err_and c.from_residual.result c.from_residual.ensures.1 in
     let read = g.T.View.read in
     rw (p.1, p.2) (
-      c.in_err-after.ensures.0,
+      c.in_err-after.ensures.found.0,
       stops (Flat Malformed) read c.loop.invariant.0 c.args.count c.loop.counter c.loop.rest.now
-          (times read c.args.count c.args.bytes.now) c.loop-test.true c.in_err-after.ensures.1 c.loop.invariant.1,
+          (times read c.args.count c.args.bytes.now) c.loop-test.true c.in_err-after.ensures.found.1 c.loop.invariant.1,
     )
 
 pub loop-preserved : goal.loop-preserved
@@ -26,7 +26,7 @@ loop-preserved g c =
     let v = g.T.View.view c.in_ok-after.field-0-0 in (
       c.loop.invariant.0 ++ v ∷ [],
       times_go_on read c.loop.invariant.0 c.args.count c.loop.counter c.loop.rest.now v c.in_ok-after.after.now
-          (times read c.args.count c.args.bytes.now) c.loop-test.true c.in_ok-after.ensures c.loop.invariant.1,
+          (times read c.args.count c.args.bytes.now) c.loop-test.true c.in_ok-after.ensures.found c.loop.invariant.1,
     )
 
 pub returns : goal.returns

@@ -1,4 +1,4 @@
-use Rattle.std.proofs.Common.{◌≡◌, ◌++◌, ◌∷◌, [], Ok, arith, rules}
+use Rattle.std.proofs.Common.{◌≡◌, ◌-◌, ◌++◌, ◌∷◌, [], Ok, arith, rules}
 use Rattle.std.proofs.lemmas.Result.{err_from_is_err_and}
 use Rattle.wenc_base.specs.Readers.{give, times}
 use Rattle.wenc_read.specs.laws.Tables.{past_rows}
@@ -10,7 +10,7 @@ use Rattle.wenc_types.specs.reading.ComponentTypes.{read_component_type, read_in
 use Rattle.wenc_types.specs.reading.ComponentTypes.{read_shallow}
 use Rattle.wenc_types.specs.laws.ComponentTypes.{one_level}
 use Rattle.wenc_view.specs.Types.{component_declaration_seen, instance_declaration_seen}
-use Rattle.wenc_view.specs.laws.Members.{members_are}
+use Rattle.wenc_view.specs.laws.Members.{members_are, are_counted}
 use Rattle.wenc_view.specs.laws.Repeats.{at_start, times_go_on, is_done}
 use Rattle.wenc_view.proofs.Always.{fails_always_on}
 use Rattle.wenc_view.proofs.Nested.{stops_always, component_found, component_fails, instance_found}
@@ -49,6 +49,10 @@ instance_type-returns-in_err-rest-clause-found t c =
     rw (p.1, p.2) (instance_fails c.args.depth_left c.in_ok-left.left c.args.bytes.now c.in_ok-left.start.now c.in_err-rest.field-0.0
     (omega arith) c.in_ok-left.ensures c.in_err-rest.ensures)
 
+pub instance_type-returns-clause-counted : goal.instance_type-returns-clause-counted
+instance_type-returns-clause-counted t c =
+    are_counted (read_instance_declaration (read_type (c.args.depth_left - 1))) c.in_ok-left.left c.in_ok-left.start.now _ c.in_ok-rest.rest.now c.in_ok-rest.ensures
+
 pub instance_type-returns-clause-found : goal.instance_type-returns-clause-found
 instance_type-returns-clause-found t c = instance_found c.args.depth_left c.in_ok-left.left c.args.bytes.now c.in_ok-left.start.now c.in_ok-rest.rest.now _
     (omega arith) c.in_ok-left.ensures c.in_ok-rest.ensures
@@ -85,6 +89,10 @@ component_type-returns-in_err-rest-clause-found t c =
     rw (p.1, p.2) (component_fails c.args.depth_left c.in_ok-left.left c.args.bytes.now c.in_ok-left.start.now c.in_err-rest.field-0.0
     (omega arith) c.in_ok-left.ensures c.in_err-rest.ensures)
 
+pub component_type-returns-clause-counted : goal.component_type-returns-clause-counted
+component_type-returns-clause-counted t c =
+    are_counted (read_component_declaration (read_type (c.args.depth_left - 1))) c.in_ok-left.left c.in_ok-left.start.now _ c.in_ok-rest.rest.now c.in_ok-rest.ensures
+
 pub component_type-returns-clause-found : goal.component_type-returns-clause-found
 component_type-returns-clause-found t c = component_found c.args.depth_left c.in_ok-left.left c.args.bytes.now c.in_ok-left.start.now c.in_ok-rest.rest.now _
     (omega arith) c.in_ok-left.ensures c.in_ok-rest.ensures
@@ -96,7 +104,7 @@ type_at-returns-in_ok-ty-in_default-clause-found t c =
       past_rows (type_rows (read_component_type c.args.depth_left) (read_instance_type c.args.depth_left)) read_shallow _ _ _
           c.in_ok-rest.ensures (search rules, (search rules, (search rules, (search rules, (search rules, tt))))),
     )
-    (shallow_ok _ c.args.bytes.now c.in_ok-ty-in_default.rest.now c.in_ok-ty-in_default.ensures)
+    (shallow_ok _ c.args.bytes.now c.in_ok-ty-in_default.rest.now c.in_ok-ty-in_default.ensures.found)
 
 pub type_at-returns-in_err-ty-in_default-clause-found : goal.type_at-returns-in_err-ty-in_default-clause-found
 type_at-returns-in_err-ty-in_default-clause-found t c =
@@ -108,4 +116,4 @@ type_at-returns-in_err-ty-in_default-clause-found t c =
       past_rows (type_rows (read_component_type c.args.depth_left) (read_instance_type c.args.depth_left)) read_shallow
           _ _ _ c.in_ok-rest.ensures (search rules, (search rules, (search rules, (search rules, (search rules, tt))))),
     )
-    (fails_always_on c.in_err-ty-in_default.field-0.0 (read_defined c.args.bytes.now) (λ ty. give (DefinedType ty)) c.in_err-ty-in_default.ensures)
+    (fails_always_on c.in_err-ty-in_default.field-0.0 (read_defined c.args.bytes.now) (λ ty. give (DefinedType ty)) c.in_err-ty-in_default.ensures.found)

@@ -7,7 +7,7 @@ use Rattle.wenc_list.proofs.cursor.SectionItems.next.Goals as goal
 
 pub returns-in-Ok-clause-taken : goal.returns-in-Ok-clause-taken
 returns-in-Ok-clause-taken c =
-    let f = item_found c.args.self.now.id c.args.self.now.rest.now (item_seen c.in-Ok.item) c.in-Ok.rest.now c.in-Ok.ensures in
+    let f = item_found c.args.self.now.id c.args.self.now.rest.now (item_seen c.in-Ok.item) c.in-Ok.rest.now c.in-Ok.ensures.found in
     record {
       read = (c.in-Ok.rest.now, f.1, refl);
       leaves = item_leaves c.args.self.now.id (item_seen c.in-Ok.item) c.args.self.now.rest.now c.in-Ok.rest.now f.1;
@@ -20,8 +20,8 @@ returns-in-Ok-clause-taken c =
 
 pub returns-in-Err-clause-fault : goal.returns-in-Err-clause-fault
 returns-in-Err-clause-fault c = rw c.content_fault.ensures (item_fault c.args.self.now c.in-Err.refusal (omega arith) c.are_bytes.ensures
-    (fails_nested c.in-Err.refusal _ c.in-Err.ensures))
+    (fails_nested c.in-Err.refusal _ c.in-Err.ensures.found))
 
 pub returns-in-Err-clause-asks_nothing : goal.returns-in-Err-clause-asks_nothing
 returns-in-Err-clause-asks_nothing c = rw c.content_fault.ensures (no_memory c.in-Err.refusal c.args.self.now.id c.args.self.now.place
-    (asks_nothing c.in-Err.refusal _ c.in-Err.ensures))
+    (asks_nothing c.in-Err.refusal _ c.in-Err.ensures.found))

@@ -1,5 +1,5 @@
-use Rattle.std.proofs.Common.{rules, arith}
-use Rattle.wenc_list.proofs.Parts.{field_taken, no_tool, no_name, no_count, unread_name, unread_count}
+use Rattle.std.proofs.Common.{rules, arith, refl}
+use Rattle.wenc_list.proofs.Parts.{field_taken, field_read, tool_read, no_tool, no_name, no_count, unread_name, unread_count}
 use Rattle.wenc_list.specs.Producers.{IsNoTool, IsNoField}
 use Rattle.wenc_list.proofs.producers.ProducersParts.next.Goals as goal
 
@@ -32,3 +32,14 @@ pub returns-then-self-gt0-2-clause-taken : goal.returns-then-self-gt0-2-clause-t
 returns-then-self-gt0-2-clause-taken c =
     field_taken c.in_ok-field.field.now c.in_ok-tools.tools c.args.self.now.tools c.args.self.now.fields c.args.self.now.rest.now c.in_ok-field.rest.now
     c.in_ok-tools.rest.now (omega arith) (omega arith) c.in_ok-field.ensures c.in_ok-tools.ensures
+
+pub returns-then-self-gt0-2-clause-read : goal.returns-then-self-gt0-2-clause-read
+returns-then-self-gt0-2-clause-read c = (
+  omega arith,
+  omega arith,
+  field_read c.in_ok-field.field.now c.in_ok-tools.tools c.args.self.now.rest.now c.in_ok-field.rest.now c.in_ok-tools.rest.now c.in_ok-field.ensures
+      c.in_ok-tools.ensures,
+)
+
+pub returns-then-self-gt0-clause-read : goal.returns-then-self-gt0-clause-read
+returns-then-self-gt0-clause-read c = (omega arith, refl, tool_read _ c.args.self.now.rest.now c.in_ok-name.rest.now c.in_ok-name.ensures)

@@ -16,12 +16,12 @@ use Rattle.wenc_view.proofs.Tables.{made_of}
 use Rattle.wenc_view.proofs.Always.{fails_always_on}
 use Rattle.wenc_view.proofs.core_type_views.CoreTypeViewView.view_of.Goals as goal
 
-pub returns-in_ok-decls-in-80-default : goal.returns-in_ok-decls-in-80-default
-returns-in_ok-decls-in-80-default c = at_first _ _ 0x50 _ _ _ c.in_ok-rest.ensures (search rules)
-    ∙ made_of Module (read_list read_module_declaration) _ _ _ c.in_ok-decls-in-80-default.ensures
+pub returns-in_ok-decls-in-80-default-clause-found : goal.returns-in_ok-decls-in-80-default-clause-found
+returns-in_ok-decls-in-80-default-clause-found c = at_first _ _ 0x50 _ _ _ c.in_ok-rest.ensures (search rules)
+    ∙ made_of Module (read_list read_module_declaration) _ _ _ c.in_ok-decls-in-80-default.ensures.found
 
-pub returns-in_ok-ty-in_default : goal.returns-in_ok-ty-in_default
-returns-in_ok-ty-in_default c =
+pub returns-in_ok-ty-in_default-clause-found : goal.returns-in_ok-ty-in_default-clause-found
+returns-in_ok-ty-in_default-clause-found c =
     let alone = wraps (λ s. s) (final_rows (λ s. s)) (final_rows (λ s. s)) ((0x50, read_extension (λ n d. sub_of false n d)) ∷ []) (finals_follow (λ s. s)
     (λ s. s)) _ _ _ c.in_ok-rest.ensures (search rules) in
     wraps (λ s. Grouped (Single s)) (final_rows (λ s. s)) (final_rows (λ s. Grouped (Single s))) ((0x4e, read_types Grouped) ∷ (
@@ -30,10 +30,10 @@ returns-in_ok-ty-in_default c =
           (λ s. Grouped (Single s)),
     ) ∷ (0x50, read_declarations Module) ∷ []) (finals_follow (λ s. Grouped (Single s)) (λ s. s)) _ _ _ c.in_ok-rest.ensures
     (search rules)
-    ∙ rw (sym (found_alone (choose (final_rows (λ s. s)) nowhere c.args.bytes.now)) ∙ sym alone ∙ c.in_ok-ty-in_default.ensures) refl
+    ∙ rw (sym (found_alone (choose (final_rows (λ s. s)) nowhere c.args.bytes.now)) ∙ sym alone ∙ c.in_ok-ty-in_default.ensures.found) refl
 
-pub returns-in_err-ty-in_default : goal.returns-in_err-ty-in_default
-returns-in_err-ty-in_default c =
+pub returns-in_err-ty-in_default-clause-found : goal.returns-in_err-ty-in_default-clause-found
+returns-in_err-ty-in_default-clause-found c =
     let p = err_from_is_err_and c.from_residual-in_err-ty-in_default.result c.from_residual-in_err-ty-in_default.ensures.1 in
     let alone = wraps (λ s. s) (final_rows (λ s. s)) (final_rows (λ s. s)) ((0x50, read_extension (λ n d. sub_of false n d)) ∷ []) (finals_follow (λ s. s)
     (λ s. s)) _ _ _ c.in_ok-rest.ensures (search rules) in
@@ -49,4 +49,4 @@ returns-in_err-ty-in_default c =
     )
     (fails_always_on c.in_err-ty-in_default.field-0.0 (choose (final_rows (λ s. s)) nowhere c.args.bytes.now) (λ s. give (Grouped (Single s)))
     (subst (λ (found : Result (Sub × List ℕ) Flaw). (c.in_err-ty-in_default.field-0.0 ≡ Malformed) × (found ≡ Err Bad)) (alone
-    ∙ found_alone (choose (final_rows (λ s. s)) nowhere c.args.bytes.now)) c.in_err-ty-in_default.ensures))
+    ∙ found_alone (choose (final_rows (λ s. s)) nowhere c.args.bytes.now)) c.in_err-ty-in_default.ensures.found))

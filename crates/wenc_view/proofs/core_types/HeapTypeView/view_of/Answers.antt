@@ -10,18 +10,18 @@ use Rattle.wenc_view.proofs.Tables.{begins, falls_through}
 use Rattle.wenc_view.proofs.Always.{fails_always_on, always_first}
 use Rattle.wenc_view.proofs.core_types.HeapTypeView.view_of.Goals as goal
 
-pub returns-in_err-first : goal.returns-in_err-first
-returns-in_err-first c =
+pub returns-in_err-first-clause-found : goal.returns-in_err-first-clause-found
+returns-in_err-first-clause-found c =
     let p = err_from_is_err_and c.from_residual.result c.from_residual.ensures.1 in
     rw (p.1, p.2) (always_first c.in_err-first.field-0.0 (abstract_rows Abstract) (read_index >>= λ n. give (Concrete n)) c.args.bytes.now
     c.in_err-first.ensures)
 
-pub returns-in-Some : goal.returns-in-Some
-returns-in-Some c = begins abstract_byte Abstract abstract_types [] (read_index >>= λ n. give (Concrete n)) _ _ _ _ c.in_ok-first.ensures
+pub returns-in-Some-clause-found : goal.returns-in-Some-clause-found
+returns-in-Some-clause-found c = begins abstract_byte Abstract abstract_types [] (read_index >>= λ n. give (Concrete n)) _ _ _ _ c.in_ok-first.ensures
     (sym c.abstract_of.ensures ∙ c.in-Some.is)
 
-pub returns-in_err-index-in-None : goal.returns-in_err-index-in-None
-returns-in_err-index-in-None c =
+pub returns-in_err-index-in-None-clause-found : goal.returns-in_err-index-in-None-clause-found
+returns-in_err-index-in-None-clause-found c =
     let p = err_from_is_err_and c.from_residual-in_err-index-in-None.result c.from_residual-in_err-index-in-None.ensures.1 in
     rw (
       p.1,
@@ -31,8 +31,8 @@ returns-in_err-index-in-None c =
     ) (fails_always_on c.in_err-index-in-None.field-0.0 (read_index c.args.bytes.now)
     (λ n. give (Concrete n)) c.in_err-index-in-None.ensures)
 
-pub returns-in_ok-index-in-None : goal.returns-in_ok-index-in-None
-returns-in_ok-index-in-None c = rw (
+pub returns-in_ok-index-in-None-clause-found : goal.returns-in_ok-index-in-None-clause-found
+returns-in_ok-index-in-None-clause-found c = rw (
   falls_through abstract_byte Abstract abstract_types (read_index >>= λ n. give (Concrete n)) _ _ _ c.in_ok-first.ensures
       (sym c.abstract_of.ensures ∙ c.in-None.is),
   c.in_ok-index-in-None.ensures,

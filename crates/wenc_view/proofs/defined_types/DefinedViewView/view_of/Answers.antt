@@ -9,15 +9,15 @@ use Rattle.wenc_view.specs.inside.Types.{primitive_types}
 use Rattle.wenc_view.proofs.Tables.{begins, goes_past, bad_first}
 use Rattle.wenc_view.proofs.defined_types.DefinedViewView.view_of.Goals as goal
 
-pub returns-in_err-first : goal.returns-in_err-first
-returns-in_err-first c =
+pub returns-in_err-first-clause-found : goal.returns-in_err-first-clause-found
+returns-in_err-first-clause-found c =
     let p = err_from_is_err_and c.from_residual.result c.from_residual.ensures.1 in
     rw (p.1, p.2) (c.in_err-first.ensures.0, bad_first (primitive_rows Primitive ++ defined_rows (λ t. t)) nowhere c.args.bytes.now c.in_err-first.ensures.1)
 
-pub returns-in-Some : goal.returns-in-Some
-returns-in-Some c = begins primitive_byte Primitive primitive_types (defined_rows (λ t. t)) nowhere _ _ _ _ c.in_ok-first.ensures (sym c.primitive_of.ensures
+pub returns-in-Some-clause-found : goal.returns-in-Some-clause-found
+returns-in-Some-clause-found c = begins primitive_byte Primitive primitive_types (defined_rows (λ t. t)) nowhere _ _ _ _ c.in_ok-first.ensures (sym c.primitive_of.ensures
     ∙ c.in-Some.is)
 
-pub returns-in-None : goal.returns-in-None
-returns-in-None c = rw (goes_past primitive_byte Primitive primitive_types (defined_rows (λ t. t)) nowhere _ _ _ c.in_ok-first.ensures
-    (sym c.primitive_of.ensures ∙ c.in-None.is)) c.defined.ensures
+pub returns-in-None-clause-found : goal.returns-in-None-clause-found
+returns-in-None-clause-found c = rw (goes_past primitive_byte Primitive primitive_types (defined_rows (λ t. t)) nowhere _ _ _ c.in_ok-first.ensures
+    (sym c.primitive_of.ensures ∙ c.in-None.is)) c.defined.ensures.found

@@ -1,0 +1,103 @@
+//! Recursion groups of core types: whatever reads counts each of their types, as the standard does.
+//! The listing's counts are upstream's, for which a group is one type.
+
+use crate::{component, nested, section};
+use wenc::tree::{IndexCounts, ItemTree, Scope, Space};
+use wenc::{ListFault, Sections, list};
+
+/// A group of a function, a structure and an array, and a function with a parameter.
+const GROUP: &[u8] = b"\x4e\x03\x60\0\0\x5f\0\x5e\x7f\0";
+const FUNCTION: &[u8] = b"\x60\x01\x7f\0";
+
+const TYPES: Space = Space::CoreTypes;
+
+/// The section of both, of 17 bytes.
+fn types() -> Vec<u8> {
+    section(3, &[&[2], GROUP, FUNCTION].concat())
+}
+
+#[test]
+fn each_type_has_its_definition() {
+    let bytes = component(&types());
+    let listing = list(&bytes).expect("it is listed");
+    let items: Vec<_> = listing.items().collect();
+    let definitions = listing.definitions().expect("there is memory");
+    let at =
+        |found: Option<&ItemTree>| found.map(|found| usize::from(!std::ptr::eq(found, items[0])));
+    let wanted = [Some(0), Some(0), Some(0), Some(1), None];
+    assert_eq!([0, 1, 2, 3, 4].map(|index| at(listing.definition(TYPES, index))), wanted);
+    assert_eq!([0, 1, 2, 3, 4].map(|index| at(definitions.get(TYPES, index))), wanted);
+    assert_eq!((items.len(), listing.count(TYPES)), (2, 2));
+}
+
+#[test]
+fn each_type_is_counted() {
+    let bytes = component(&types());
+    let sections = Sections::new(&bytes).expect("a component");
+    assert_eq!(sections.index_count(TYPES), Ok(4));
+    assert_eq!(sections.index_count(Space::Types), Ok(0));
+    let (mut counts, mut found) = (IndexCounts::default(), Vec::new());
+    for item in sections.items() {
+        let (_, item) = item.expect("it is read");
+        assert_eq!(item.defined_indices(), item.to_tree().defined_indices());
+        assert_eq!(item.indices(), Some((TYPES, 1)));
+        found.push(item.defined_indices());
+        counts.add(&item);
+    }
+    assert_eq!(found, [Some((TYPES, 3)), Some((TYPES, 1))]);
+    assert_eq!(counts.of(TYPES), 4);
+}
+
+/// A group without types defines nothing.
+#[test]
+fn an_empty_group() {
+    let listing = list(&component(&section(3, b"\x02\x4e\0\x5f\0"))).expect("it is listed");
+    let definitions = listing.definitions().expect("there is memory");
+    let last = listing.items().last();
+    assert_eq!((listing.definition(TYPES, 0), definitions.get(TYPES, 0)), (last, last));
+    assert_eq!((listing.definition(TYPES, 1), definitions.get(TYPES, 1)), (None, None));
+}
+
+/// Which indices of core types are out of range, with their places, and how many there are.
+fn out_of_range(sections: &[u8]) -> Vec<(usize, Scope, u32, u64)> {
+    let bytes = component(sections);
+    let all = Sections::new(&bytes).expect("a component").out_of_range(100);
+    let all: Result<Vec<_>, ListFault> = all.collect();
+    let all = all.expect("it is read").into_iter();
+    all.filter(|of| of.space == TYPES).map(|of| (of.place, of.scope, of.index, of.count)).collect()
+}
+
+/// Threads are spawned by references to the functions of core types 3 and 4.
+const SPAWNED: &[u8] = b"\x08\x05\x02\x40\x03\x40\x04";
+
+#[test]
+fn indices_of_a_component() {
+    let here = Scope::Component(0);
+    assert_eq!(out_of_range(&[&types(), SPAWNED].concat()), [(30, here, 4, 4)]);
+}
+
+/// A nested component with such types, and aliases of core types 3 and 4 around it. Behind it, the
+/// types are still those of the one around it.
+#[test]
+fn indices_of_nested_components() {
+    let aliases = section(6, b"\x02\0\x10\x02\x01\x03\0\x10\x02\x01\x04");
+    let inner = nested(&[&types(), SPAWNED, &aliases].concat());
+    let found = out_of_range(&[&types(), &inner[..], SPAWNED].concat());
+    let [here, around] = [0, 1].map(Scope::Component);
+    assert_eq!(found, [(57, here, 4, 4), (67, around, 4, 4), (77, here, 4, 4)]);
+}
+
+/// The types of components, instances and modules have core types of their own.
+#[test]
+fn indices_of_declared_types() {
+    let own = Scope::Type(1);
+    for kind in [0x41, 0x42] {
+        // aliases of core types 3, which is then the fifth, and 5 of the type itself
+        let aliases = b"\x02\0\x10\x02\0\x03\x02\0\x10\x02\0\x05";
+        let ty = [&[1, kind, 4, 0], GROUP, b"\0", FUNCTION, aliases].concat();
+        assert_eq!(out_of_range(&section(7, &ty)), [(11, own, 5, 5)], "{kind:#x}");
+    }
+    let imports = b"\0\x01a\x01b\0\x03\0\x01a\x01b\0\x04";
+    let ty = [b"\x01\x50\x04\x01", GROUP, b"\x01", FUNCTION, imports].concat();
+    assert_eq!(out_of_range(&section(3, &ty)), [(11, own, 4, 4)]);
+}
