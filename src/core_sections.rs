@@ -1,6 +1,6 @@
 //! A core module section by section.
 
-use crate::list::{Found, Unread, write_part};
+use crate::list::{Cause, Found, Unread, write_cause, write_part};
 use crate::proved::wenc_list::{behind_module_header, part_of};
 use crate::proved::wenc_read::Refusal;
 use crate::proved::wenc_view::text_of;
@@ -38,7 +38,7 @@ impl CoreSection<'_> {
 /// The iterator ends after an error.
 ///
 /// ```
-/// use wenc::{CoreSections, ModuleFault, SectionId};
+/// use wenc::{Cause, CoreSections, ModuleFault, SectionId};
 ///
 /// let module = b"\0asm\x01\0\0\0\x01\x04\x01\x60\0\0\0\x03\x01x\x07\x0a";
 /// let mut sections = CoreSections::new(module)?;
@@ -48,7 +48,8 @@ impl CoreSection<'_> {
 /// let custom = sections.next().unwrap()?;
 /// assert_eq!((custom.name, custom.data), (Some("x"), &[7][..]));
 ///
-/// assert_eq!(sections.next(), Some(Err(ModuleFault::BadSection { place: 19 })));
+/// let cause = Some(Cause::Few { place: 20, needed: 1, len: 0 });
+/// assert_eq!(sections.next(), Some(Err(ModuleFault::BadSection { place: 19, cause })));
 /// assert_eq!(sections.next(), None);
 /// # Ok::<(), ModuleFault>(())
 /// ```
@@ -82,7 +83,8 @@ impl<'a> CoreSections<'a> {
     /// // a custom section without a name
     /// let mut sections = CoreSections::new(b"\0asm\x01\0\0\0\0\x01\x07")?;
     /// let mut clone = sections.clone();
-    /// assert_eq!(sections.next(), Some(Err(ModuleFault::BadSection { place: 8 })));
+    /// let fault = sections.next().unwrap().unwrap_err();
+    /// assert!(matches!(fault, ModuleFault::BadSection { place: 8, .. }));
     /// assert_eq!(sections.next_raw(), None);
     ///
     /// assert_eq!(clone.next_raw(), Some((8..11, RawSection { id: 0, data: &[7] })));
@@ -118,9 +120,11 @@ impl<'a> Iterator for CoreSections<'a> {
             return None;
         }
         let place = self.len - self.rest.len();
-        let first = self.first();
+        let (before, first) = (self.rest, self.first());
         self.rest = first.as_ref().map_or(&[], |(_, rest)| rest);
-        Some(first.map(|(section, _)| section).map_err(|_| ModuleFault::BadSection { place }))
+        let cause = || Cause::of_core_section(before, 0..before.len()).map(|c| c.moved(place));
+        let fault = |_| ModuleFault::BadSection { place, cause: cause() };
+        Some(first.map(|(section, _)| section).map_err(fault))
     }
 }
 
@@ -139,11 +143,15 @@ pub enum ModuleFault {
     BadSection {
         /// The byte offset of its id in the module.
         place: usize,
+        /// Why.
+        cause: Option<Cause>,
     },
     /// The content of a section isn't a count and that many items, or isn't exactly one start.
     BadItem {
         /// The first part of it that can't be read, by its byte offset in the module.
         unread: Unread,
+        /// Why it can't be read; `None` for bytes behind the last item.
+        cause: Option<Cause>,
     },
 }
 
@@ -151,8 +159,14 @@ impl fmt::Display for ModuleFault {
     fn fmt(&self, f: &mut fmt::Formatter<'_>) -> fmt::Result {
         match self {
             Self::NotAModule { found } => write!(f, "no core module's header: found {found}"),
-            Self::BadSection { place } => write!(f, "bad core section at {place:#x}"),
-            Self::BadItem { unread } => write_part(f, "bad item", *unread),
+            Self::BadSection { place, cause } => {
+                write!(f, "bad core section at {place:#x}")?;
+                write_cause(f, *cause)
+            }
+            Self::BadItem { unread, cause } => {
+                write_part(f, "bad item", *unread)?;
+                write_cause(f, *cause)
+            }
         }
     }
 }

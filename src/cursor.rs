@@ -9,7 +9,7 @@ use crate::tree::{ItemTree, Space};
 use crate::twins::twins;
 use crate::view::{ItemView, NameView};
 use crate::{
-    ComponentExportKind, ComponentSectionId, ComponentTypeRef, DebugNames, Found, ListFault,
+    Cause, ComponentExportKind, ComponentSectionId, ComponentTypeRef, DebugNames, Found, ListFault,
     RawSection,
 };
 use core::fmt;
@@ -237,8 +237,14 @@ impl<'a> Sections<'a> {
     #[cold]
     #[inline(never)]
     fn refused(&mut self, fault: proved::ListFault) -> ListFault {
-        self.left = None;
-        ListFault::new(self.bytes, fault)
+        let left = self.left.take();
+        match (fault, left) {
+            (proved::ListFault::BadSection { place }, Some(left)) => {
+                let cause = Cause::of_section(self.bytes, place..left.ends);
+                ListFault::BadSection { place, cause }
+            }
+            (fault, _) => ListFault::new(self.bytes, fault),
+        }
     }
 
     /// Returns what is in the sections whose ids are kept, up to the first fault.

@@ -4,7 +4,7 @@ use crate::proved::wenc_list as proved;
 use crate::shim::alloc::Global;
 use crate::tree::ItemTree;
 use crate::view::ItemView;
-use crate::{ComponentSectionId, ListFault, Unread};
+use crate::{Cause, ComponentSectionId, ListFault, Unread};
 use core::fmt;
 use core::ops::Range;
 
@@ -80,15 +80,21 @@ impl<'a> Items<'a> {
             (0, place) => Unread::Behind { place },
             (more, place) => Unread::Item { number: self.count - more, place },
         };
+        let cause = match unread {
+            Unread::Behind { .. } => None,
+            _ => Cause::of_item(self.bytes, left.id, left.reached()..left.ends),
+        };
         match (fault, ComponentSectionId::try_from(left.id)) {
             (proved::ListFault::BadItem { place }, Ok(section)) => {
-                let byte = left.rest.first().copied();
-                ListFault::BadItem { place, section, unread: Some(unread), byte }
+                ListFault::BadItem { place, section, unread: Some(unread), cause }
             }
             (proved::ListFault::TooDeep { place }, _) => {
-                ListFault::TooDeep { place, unread: Some(unread) }
+                ListFault::TooDeep { place, unread: Some(unread), cause }
             }
-            (proved::ListFault::BadItem { place }, Err(_)) => ListFault::BadSection { place },
+            (
+                proved::ListFault::BadItem { place } | proved::ListFault::BadSection { place },
+                _,
+            ) => ListFault::BadSection { place, cause },
             (fault, _) => ListFault::new(self.bytes, fault),
         }
     }

@@ -59,10 +59,9 @@ fn content_fault(refusal: NestedRefusal, id: u8, place: usize) -> ListFault
     ensures { result ≡ fault_of_content refusal id place }
 {
     match refusal {
-        NestedRefusal::Flat(Refusal::Memory) => ListFault::Memory,
-        NestedRefusal::Flat(Refusal::Malformed) if id == 0 => ListFault::BadSection { place },
-        NestedRefusal::Flat(Refusal::Malformed) => ListFault::BadItem { place },
-        NestedRefusal::TooDeep => ListFault::TooDeep { place },
+        NestedRefusal::Flat(_) if id == 0 => ListFault::BadSection { place },
+        NestedRefusal::Flat(_) => ListFault::BadItem { place },
+        NestedRefusal::TooDeep(_) => ListFault::TooDeep { place },
     }
 }
 

@@ -12,10 +12,10 @@ mod item;
 mod item_view;
 pub mod laws;
 mod listing;
-mod members;
+pub mod members;
 mod names;
 mod producers;
-mod sections;
+pub mod sections;
 mod unread;
 
 pub use cursor::{SectionItems, Sections};

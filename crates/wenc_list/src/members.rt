@@ -11,7 +11,7 @@ ghost use Rattle.wenc_view.specs.Prelude.{GivesNestedAlways};
 use crate::item_view::ItemView;
 use crate::sections::are_bytes;
 use wenc_parts::{Alias, ComponentExportKind, ComponentTypeRef};
-use wenc_read::{NestedRefusal, Refusal, u32_of};
+use wenc_read::{Expected, NestedRefusal, Refusal, u32_of};
 use wenc_view::{
     CanonView, CoreInstanceView, CoreTypeView, InstanceView, ListOf, NameView, View, text_of,
     type_at,
@@ -191,7 +191,7 @@ fn alone(id: u8, content: &[u8]) -> Result<(ItemView<'_>, &[u8]), Refusal>
 /// Reads the item that begins the remaining bytes of a section with this id. Returns it and the
 /// bytes after it.
 #[inline(always)]
-pub(crate) fn item_in(id: u8, bytes: &[u8]) -> Result<(ItemView<'_>, &[u8]), NestedRefusal>
+pub fn item_in(id: u8, bytes: &[u8]) -> Result<(ItemView<'_>, &[u8]), NestedRefusal>
     ensures found { GivesNestedAlways (λ x. (item_seen x.0, x.1.now)) result
         (read_item_in 100 id bytes.now) }
     ensures counted { IfOk result (λ x. IsCountedItem x.0) }
@@ -206,6 +206,6 @@ pub(crate) fn item_in(id: u8, bytes: &[u8]) -> Result<(ItemView<'_>, &[u8]), Nes
         8 => Ok(canon(bytes)?),
         10 => Ok(import(bytes)?),
         11 => Ok(export(bytes)?),
-        _ => Err(NestedRefusal::Flat(Refusal::Malformed)),
+        _ => Err(NestedRefusal::Flat(Refusal::at(bytes, Expected::End))),
     }
 }

@@ -7,7 +7,7 @@ ghost use Rattle.wenc_read.specs.Prelude.{GivesAlways, exact_by};
 ghost use Rattle.wenc_view.specs.Prelude.{name_seen, option_seen, read_options};
 
 use crate::view::{View, text_of};
-use wenc_read::{Refusal, byte, u32_of};
+use wenc_read::{Expected, Refusal, byte, u32_of};
 
 /// The name of an import or export, with its options, in place.
 #[derive(Clone, Copy)]
@@ -79,7 +79,7 @@ fn option_of(bytes: &[u8]) -> Result<(NameOptionView<'_>, &[u8]), Refusal>
             let (text, rest) = text_of(rest)?;
             Ok((NameOptionView::ExternalId(text), rest))
         }
-        _ => Err(Refusal::Malformed),
+        _ => Err(Refusal::at(bytes, Expected::From(0, 2))),
     }
 }
 
@@ -107,7 +107,7 @@ fn options_from<'a>(
     let (option, rest) = option_of(bytes)?;
     let number = number_of(&option);
     if number < least {
-        return Err(Refusal::Malformed);
+        return Err(Refusal::at(bytes, Expected::From(least, 2)));
     }
     let (named, rest) = options_from(name, number + 1, count - 1, rest)?;
     Ok((with(option, named), rest))
@@ -141,11 +141,11 @@ impl<'a> View<'a> for NameView<'a> {
             (0x02, rest) => {
                 let (name, rest) = text_of(rest)?;
                 match u32_of(rest)? {
-                    (0, _) => Err(Refusal::Malformed),
+                    (0, _) => Err(Refusal::at(rest, Expected::From(1, 0xff))),
                     (count, rest) => options_from(name, 0, count, rest),
                 }
             }
-            _ => Err(Refusal::Malformed),
+            _ => Err(Refusal::at(bytes, Expected::From(0, 2))),
         }
     }
 }

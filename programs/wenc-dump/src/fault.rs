@@ -50,14 +50,14 @@ impl Fault {
             ) => Some(place_of(unread)),
             Self::List(
                 ListFault::NotAComponent { place, .. }
-                | ListFault::BadSection { place }
+                | ListFault::BadSection { place, .. }
                 | ListFault::BadItem { place, .. }
                 | ListFault::TooDeep { place, .. },
                 _,
             ) => Some(place),
             Self::Module(at, ModuleFault::NotAModule { .. }, _) => Some(at),
-            Self::Module(at, ModuleFault::BadSection { place }, _) => Some(at + place),
-            Self::Module(at, ModuleFault::BadItem { unread }, _) => Some(at + place_of(unread)),
+            Self::Module(at, ModuleFault::BadSection { place, .. }, _) => Some(at + place),
+            Self::Module(at, ModuleFault::BadItem { unread, .. }, _) => Some(at + place_of(unread)),
             Self::UnknownSection(place, _)
             | Self::NoName(place, _)
             | Self::TooDeep(place, _)
@@ -71,7 +71,7 @@ impl Fault {
     pub fn words(&self) -> &'static str {
         match self {
             Self::List(ListFault::BadItem { unread: Some(unread), .. }, _)
-            | Self::Module(_, ModuleFault::BadItem { unread }, _) => match unread {
+            | Self::Module(_, ModuleFault::BadItem { unread, .. }, _) => match unread {
                 Unread::Count { .. } => "no count",
                 Unread::Item { .. } => "items that aren't read",
                 Unread::Behind { .. } => "bytes behind the last item",
@@ -94,17 +94,26 @@ impl Fault {
         let behind = |unread| matches!(unread, Unread::Behind { .. });
         match *self {
             Self::List(ListFault::BadItem { unread, .. }, _) => unread.is_some_and(behind),
-            Self::Module(_, ModuleFault::BadItem { unread }, _) => behind(unread),
+            Self::Module(_, ModuleFault::BadItem { unread, .. }, _) => behind(unread),
             _ => false,
         }
     }
 
     /// Returns why the part can't be read, and from which byte on.
-    pub fn cause(&self) -> Option<&Cause> {
-        match self {
-            Self::List(_, cause) | Self::Module(_, _, cause) | Self::NoName(_, cause) => {
-                cause.as_ref()
-            }
+    pub fn cause(&self) -> Option<Cause> {
+        match *self {
+            Self::List(
+                ListFault::BadSection { cause, .. }
+                | ListFault::BadItem { cause, .. }
+                | ListFault::TooDeep { cause, .. },
+                _,
+            ) => cause.map(Cause::Read),
+            Self::Module(
+                at,
+                ModuleFault::BadSection { cause, .. } | ModuleFault::BadItem { cause, .. },
+                _,
+            ) => cause.map(|cause| Cause::Read(cause.moved(at))),
+            Self::List(_, cause) | Self::Module(_, _, cause) | Self::NoName(_, cause) => cause,
             _ => None,
         }
     }
@@ -131,29 +140,19 @@ fn moved(unread: Unread, by: usize) -> Unread {
     }
 }
 
-/// Writes the cause in a list of items, unless the fault's own words say it: what is in place of
-/// the first byte.
-fn write_list(f: &mut fmt::Formatter<'_>, fault: ListFault, cause: Cause) -> fmt::Result {
-    match fault {
-        ListFault::BadItem {
-            place, unread: Some(Unread::Item { number, place: item }), ..
-        } if !cause.is_at_first(item) => {
-            write!(f, "bad item {number} at {item:#x} in the section at {place:#x}: {cause}")
-        }
-        ListFault::BadItem { unread: Some(Unread::Item { .. }), .. } => fault.fmt(f),
-        _ => write!(f, "{fault}: {cause}"),
-    }
-}
-
 /// Writes a fault of the core module at this byte offset.
 fn write_module(f: &mut fmt::Formatter<'_>, at: usize, fault: ModuleFault) -> fmt::Result {
     match fault {
         ModuleFault::NotAModule { found } => {
             write!(f, "no core module's header at {at:#x}: found {found}")
         }
-        ModuleFault::BadSection { place } => ModuleFault::BadSection { place: at + place }.fmt(f),
-        ModuleFault::BadItem { unread } => {
-            ModuleFault::BadItem { unread: moved(unread, at) }.fmt(f)
+        ModuleFault::BadSection { place, cause } => {
+            let cause = cause.map(|cause| cause.moved(at));
+            ModuleFault::BadSection { place: at + place, cause }.fmt(f)
+        }
+        ModuleFault::BadItem { unread, cause } => {
+            let cause = cause.map(|cause| cause.moved(at));
+            ModuleFault::BadItem { unread: moved(unread, at), cause }.fmt(f)
         }
         fault => fault.fmt(f),
     }
@@ -172,8 +171,10 @@ impl Display for Fault {
             Self::List(ListFault::NotAComponent { place: 0, found: Found::Nothing }, _) => {
                 f.write_str("no component's header at 0x0: found an empty file")
             }
-            Self::List(fault, None) => fault.fmt(f),
-            Self::List(fault, Some(cause)) => write_list(f, fault, cause),
+            Self::List(fault, cause) => {
+                fault.fmt(f)?;
+                write_cause(f, cause)
+            }
             Self::Module(at, fault, cause) => {
                 write_module(f, at, fault)?;
                 write_cause(f, cause)

@@ -142,7 +142,7 @@ impl<'o, W: Write> Json<'o, W> {
     }
 
     /// Writes the cause of a fault, if it is known.
-    fn cause(&mut self, cause: Option<&Cause>) -> io::Result<()> {
+    fn cause(&mut self, cause: Option<Cause>) -> io::Result<()> {
         let Some(cause) = cause else { return Ok(()) };
         self.put(",\"cause\":")?;
         self.number_at("{", "place", Some(cause.place()))?;

@@ -51,7 +51,7 @@ pub fn first_tree<A: Allocator + Copy>(
 pub fn first_section(module: &[u8]) -> Result<((u8, &[u8]), &[u8]), Refusal> {
     match behind_module_header(module) {
         Some(sections) => part_of(sections),
-        None => Err(Refusal::Malformed),
+        None => Err(Refusal::at(bytes)),
     }
 }
 

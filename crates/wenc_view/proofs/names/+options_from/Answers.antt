@@ -1,4 +1,4 @@
-use Rattle.std.proofs.Common.{rules, refl}
+use Rattle.std.proofs.Common.{rules}
 use Rattle.wenc_view.specs.Names.{name_seen}
 use Rattle.wenc_view.specs.inside.Names.{option_seen}
 use Rattle.wenc_view.proofs.Options.{one_more, late}
@@ -11,8 +11,6 @@ returns n c =
     (search rules) c.in_ok-option.ensures c.number_of-number.ensures (search rules) c.in_ok-named.ensures c.with.ensures
 
 pub returns-then-number-least : goal.returns-then-number-least
-returns-then-number-least t c = (
-  refl,
-  late c.args.name.now c.args.least c.args.count c.number_of-number.result (option_seen c.in_ok-option.option) c.args.bytes.now c.in_ok-option.rest.now
-      (search rules) c.in_ok-option.ensures c.number_of-number.ensures (search rules),
-)
+returns-then-number-least t c =
+    late c.args.name.now c.args.least c.args.count c.number_of-number.result (option_seen c.in_ok-option.option) c.args.bytes.now c.in_ok-option.rest.now
+        (search rules) c.in_ok-option.ensures c.number_of-number.ensures (search rules)

@@ -1,7 +1,7 @@
 use Rattle.std.proofs.Common.{refl, arith}
 use Rattle.wenc_list.specs.Items.{item_seen}
 use Rattle.wenc_list.proofs.Taken.{item_found, item_leaves, item_fault}
-use Rattle.wenc_view.proofs.Nested.{fails_nested, asks_nothing}
+use Rattle.wenc_view.proofs.Nested.{fails_nested}
 use Rattle.wenc_list.proofs.Asked.{no_memory}
 use Rattle.wenc_list.proofs.cursor.SectionItems.next.Goals as goal
 
@@ -23,5 +23,4 @@ returns-in-Err-clause-fault c = rw c.content_fault.ensures (item_fault c.args.se
     (fails_nested c.in-Err.refusal _ c.in-Err.ensures.found))
 
 pub returns-in-Err-clause-asks_nothing : goal.returns-in-Err-clause-asks_nothing
-returns-in-Err-clause-asks_nothing c = rw c.content_fault.ensures (no_memory c.in-Err.refusal c.args.self.now.id c.args.self.now.place
-    (asks_nothing c.in-Err.refusal _ c.in-Err.ensures.found))
+returns-in-Err-clause-asks_nothing c = rw c.content_fault.ensures (no_memory c.in-Err.refusal c.args.self.now.id c.args.self.now.place)

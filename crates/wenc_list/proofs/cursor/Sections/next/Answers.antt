@@ -22,12 +22,12 @@ pub returns-in-Err-counted-clause-fault : goal.returns-in-Err-counted-clause-fau
 returns-in-Err-counted-clause-fault c =
     let id = c.in-Ok.id in
     let content = c.in-Ok.content.now in
-    let bad = c.in-Err-counted.ensures.1 in
+    let bad = c.in-Err-counted.ensures in
     let framed = is_framed c.args.self.now.rest.now id content c.in-Ok.rest.now c.in-Ok.ensures in
     let f = uncounted_fault 0 c.args.self.now.rest.now id content c.in-Ok.rest.now framed (collects_other id (no_count id content bad)) bad in
     (c.place-place.ensures, f.1, f.2)
 
 pub returns-in-Err-clause-fault : goal.returns-in-Err-clause-fault
 returns-in-Err-clause-fault c =
-    let f = no_frame 0 c.args.self.now.rest.now c.in-Err.ensures.1 in
+    let f = no_frame 0 c.args.self.now.rest.now c.in-Err.ensures in
     (c.place-place.ensures, f.1, f.2)
