@@ -1,9 +1,8 @@
 //! Listing a component.
 
-use crate::ComponentSectionId;
 use crate::proved::wasm_encoder as proved;
-use crate::proved::wenc_list::part_of;
 use crate::shim::alloc::Global;
+use crate::{ComponentSectionId, Sections};
 use core::fmt;
 use found::item_of;
 
@@ -82,51 +81,21 @@ pub enum ListFault {
 }
 
 impl ListFault {
-    /// Converts the proved fault of these bytes, and finds the part of the section that can't be
-    /// read.
-    pub(crate) fn new(bytes: &[u8], fault: proved::ListFault) -> Self {
-        let unread = |place| proved::first_unread(bytes, place);
+    /// Converts the proved fault of these bytes.
+    fn new(bytes: &[u8], fault: proved::ListFault) -> Self {
         match fault {
             proved::ListFault::Memory => Self::NoMemory,
             proved::ListFault::NotAComponent { place } => {
-                Self::NotAComponent { place, found: Found::of(bytes.get(place..).unwrap_or(&[])) }
+                Self::NotAComponent { place, found: Found::of(bytes) }
             }
-            proved::ListFault::BadSection { place } => {
-                Self::BadSection { place, cause: Cause::of_section(bytes, place..bytes.len()) }
-            }
-            proved::ListFault::BadItem { place } => Self::bad_item(bytes, place, unread(place)),
-            proved::ListFault::TooDeep { place } => {
-                let unread = unread(place);
-                let cause = unread.and_then(|unread| {
-                    Cause::of_item(bytes, ComponentSectionId::Type.into(), place_of(unread)..bytes.len())
-                });
-                Self::TooDeep { place, unread, cause }
+            proved::ListFault::BadSection { place }
+            | proved::ListFault::BadItem { place }
+            | proved::ListFault::TooDeep { place } => {
+                let fault = Sections::at(bytes, place)
+                    .and_then(|sections| sections.items().find_map(Result::err));
+                fault.unwrap_or(Self::BadSection { place, cause: None })
             }
         }
-    }
-
-    /// The fault of an item of the section at this byte offset.
-    fn bad_item(bytes: &[u8], place: usize, unread: Option<Unread>) -> Self {
-        // A section whose items were looked at has an id and a size.
-        let framed = bytes.get(place..).map(part_of);
-        let Some(Ok(((id, _), rest))) = framed else {
-            return Self::BadSection { place, cause: None };
-        };
-        let Ok(section) = id.try_into() else { return Self::BadSection { place, cause: None } };
-        let end = bytes.len() - rest.len();
-        let cause = unread.and_then(|unread| match unread {
-            Unread::Count { place } => Cause::of_count(bytes, place..end),
-            Unread::Item { place, .. } => Cause::of_item(bytes, id, place..end),
-            Unread::Behind { .. } => None,
-        });
-        Self::BadItem { place, section, unread, cause }
-    }
-}
-
-/// The byte offset of a part that isn't read.
-fn place_of(unread: Unread) -> usize {
-    match unread {
-        Unread::Count { place } | Unread::Item { place, .. } | Unread::Behind { place } => place,
     }
 }
 

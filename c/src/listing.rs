@@ -136,7 +136,9 @@ pub unsafe extern "C" fn wenc_list(
 /// Returns the part of a component that can't be read.
 fn unread_part(fault: ListFault) -> UnreadPart {
     let (section, unread) = match fault {
-        ListFault::NotAComponent { place, .. } | ListFault::BadSection { place, .. } => (place, None),
+        ListFault::NotAComponent { place, .. } | ListFault::BadSection { place, .. } => {
+            (place, None)
+        }
         ListFault::BadItem { place, unread, .. } | ListFault::TooDeep { place, unread, .. } => {
             (place, unread)
         }

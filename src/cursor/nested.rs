@@ -54,7 +54,11 @@ impl<'a> NestedSections<'a> {
     fn enter(&mut self, section: SectionReader<'a>) -> Result<(), ListFault> {
         let Some(component) = section.component()? else { return Ok(()) };
         if self.around.len >= self.limit {
-            return Err(ListFault::TooDeep { place: section.range().start, unread: None, cause: None });
+            return Err(ListFault::TooDeep {
+                place: section.range().start,
+                unread: None,
+                cause: None,
+            });
         }
         let outer = mem::replace(&mut self.innermost, component);
         outer.left.map_or(Ok(()), |left| self.around.push(left.ends))

@@ -1,10 +1,8 @@
 //! Why bytes can't be read, and from which byte on.
 
-use crate::proved::wenc_list::{members::item_in, part_of, sections::frame};
-use crate::proved::wenc_read::{Expected, NestedRefusal, Refusal, u32_of};
-use crate::proved::wenc_view::text_of;
+use crate::proved::wenc_read::{Expected, Refusal};
 use core::fmt;
-use core::ops::{Range, RangeInclusive};
+use core::ops::RangeInclusive;
 
 /// Why bytes can't be read, and from which byte on. Each place is a byte offset.
 ///
@@ -18,7 +16,7 @@ pub enum Cause {
         place: usize,
         /// The byte.
         byte: u8,
-        /// The bytes that can be there.
+        /// The bytes that can be there; none where the end is expected.
         expected: Bytes,
     },
     /// A byte of a text that isn't UTF-8.
@@ -56,66 +54,17 @@ impl Cause {
     #[cold]
     pub(crate) fn new(bytes: &[u8], end: usize, Refusal { left, expected }: Refusal) -> Self {
         let place = end.saturating_sub(left);
-        let at = |place: usize| bytes.get(place).copied().unwrap_or(0);
-        match expected {
-            Expected::Bytes(needed) => Self::Few { place, needed, len: left },
-            Expected::Bits32 => Self::Number { place, bits: 32 },
-            Expected::Bits64 => Self::Number { place, bits: 64 },
-            Expected::Utf8(bad) => {
-                let begins = matches!(at(place), 0xc2..=0xf4);
-                let place = if bad == 1 && !begins { place } else { place + usize::from(bad) };
-                Self::Text { place, byte: at(place) }
-            }
-            _ => Self::Byte { place, byte: at(place), expected: Bytes::of(expected) },
+        let byte = bytes.get(..end).and_then(|bytes| bytes.get(place)).copied();
+        match (expected, byte) {
+            (Expected::Bytes(needed), _) => Self::Few { place, needed, len: left },
+            (Expected::Bits(bits), _) => Self::Number { place, bits },
+            (_, None) => Self::Few { place, needed: 1, len: 0 },
+            (Expected::Utf8, Some(byte)) => Self::Text { place, byte },
+            (_, Some(byte)) => Self::Byte { place, byte, expected: Bytes::of(expected) },
         }
     }
 
-    /// Returns why the bytes in this range aren't an item of a section with this id.
-    pub(crate) fn of_item(bytes: &[u8], id: u8, Range { start, end }: Range<usize>) -> Option<Self> {
-        match item_in(id, bytes.get(start..end)?) {
-            Ok(_) => None,
-            Err(NestedRefusal::Flat(refusal)) => Some(Self::new(bytes, end, refusal)),
-            Err(NestedRefusal::TooDeep(left)) => Some(Self::Deep { place: end.saturating_sub(left) }),
-        }
-    }
-
-    /// Returns why the bytes in this range don't begin with a count.
-    pub(crate) fn of_count(bytes: &[u8], range: Range<usize>) -> Option<Self> {
-        let refusal = u32_of(bytes.get(range.clone())?).err()?;
-        Some(Self::new(bytes, range.end, refusal))
-    }
-
-    /// Returns why the bytes in this range don't begin with a text.
-    pub(crate) fn of_text(bytes: &[u8], range: Range<usize>) -> Option<Self> {
-        let refusal = text_of(bytes.get(range.clone())?).err()?;
-        Some(Self::new(bytes, range.end, refusal))
-    }
-
-    /// Returns why the bytes in this range don't begin with a section of a component.
-    pub(crate) fn of_section(bytes: &[u8], range: Range<usize>) -> Option<Self> {
-        let end = range.end;
-        match frame(bytes.get(range)?) {
-            Ok(((_, content), rest)) => {
-                let end = end - rest.len();
-                Self::of_text(bytes, end - content.len()..end)
-            }
-            Err(refusal) => Some(Self::new(bytes, end, refusal)),
-        }
-    }
-
-    /// Returns why the bytes in this range don't begin with a section of a core module.
-    pub(crate) fn of_core_section(bytes: &[u8], range: Range<usize>) -> Option<Self> {
-        let end = range.end;
-        match part_of(bytes.get(range)?) {
-            Ok(((_, content), rest)) => {
-                let end = end - rest.len();
-                Self::of_text(bytes, end - content.len()..end)
-            }
-            Err(refusal) => Some(Self::new(bytes, end, refusal)),
-        }
-    }
-
-    /// Adds so many bytes to the byte offset.
+    /// Returns the cause with so many bytes before its byte offset.
     #[must_use]
     pub fn moved(mut self, by: usize) -> Self {
         match &mut self {
@@ -123,7 +72,7 @@ impl Cause {
             | Self::Text { place, .. }
             | Self::Number { place, .. }
             | Self::Few { place, .. }
-            | Self::Deep { place } => *place += by,
+            | Self::Deep { place } => *place = place.saturating_add(by),
         }
         self
     }
@@ -131,7 +80,7 @@ impl Cause {
     /// Returns the byte offset of the cause, or of the end where bytes are missing.
     pub fn place(&self) -> usize {
         match *self {
-            Self::Few { place, len, .. } => place + len,
+            Self::Few { place, len, .. } => place.saturating_add(len),
             Self::Byte { place, .. }
             | Self::Text { place, .. }
             | Self::Number { place, .. }
@@ -174,7 +123,7 @@ impl fmt::Display for Cause {
     }
 }
 
-/// The bytes that are expected in one place, as up to four ranges.
+/// The bytes that are expected in one place, as up to four ranges; none where the end is.
 #[derive(Clone, Copy, PartialEq, Eq, Hash)]
 pub struct Bytes([(u8, u8); 4]);
 
@@ -190,6 +139,7 @@ impl Bytes {
             Expected::CoreSort => [(0, 4), (0x10, 0x11), NONE, NONE],
             Expected::CoreSpace => [(0, 4), (0x10, 0x12), NONE, NONE],
             Expected::ExportOrOuter => [one(0), one(2), NONE, NONE],
+            Expected::OptionCount => [(1, 3), (0x81, 0x83), NONE, NONE],
             Expected::Opcode => [(0, 6), (9, 0x2f), (0x40, 0x42), NONE],
             Expected::SubType => [(0x4f, 0x50), (0x5e, 0x60), NONE, NONE],
             Expected::Group => [(0x4e, 0x50), (0x5e, 0x60), NONE, NONE],
@@ -212,9 +162,12 @@ impl Bytes {
     }
 }
 
-/// Writes the ranges in order.
+/// Writes the ranges in order, or that the end is expected.
 impl fmt::Display for Bytes {
     fn fmt(&self, f: &mut fmt::Formatter<'_>) -> fmt::Result {
+        if self.ranges().next().is_none() {
+            return f.write_str("the end");
+        }
         let last = self.ranges().count().saturating_sub(1);
         for (at, range) in self.ranges().enumerate() {
             f.write_str(match at {

@@ -4,7 +4,8 @@ use crate::{bytes, component};
 use wenc::tree::{ItemTree, Space, String};
 use wenc::view::ItemView;
 use wenc::{
-    Component, ComponentNameSection, ComponentSection, DebugNames, NamesFault, Sections, list,
+    Cause, Component, ComponentNameSection, ComponentSection, DebugNames, NamesFault, Sections,
+    list,
 };
 
 /// A custom section with this name and data.
@@ -94,7 +95,10 @@ fn what_is_not_read_is_told() {
     for bad in bad.iter().flat_map(|words| words.split(' ')) {
         let mut names = DebugNames::new();
         let told = names.read(&section(&[&front[..], &bytes(bad)].concat()));
-        assert_eq!(told, Err(NamesFault::BadSubsection { place: 7 }), "{bad}");
+        let Err(fault @ NamesFault::BadSubsection { place: 7, .. }) = told else {
+            panic!("{bad}: {told:?}")
+        };
+        println!("ROW {bad} {fault}");
         assert_eq!(names.component(), Some("a"));
     }
     let mut names = DebugNames::new();
@@ -102,8 +106,10 @@ fn what_is_not_read_is_told() {
         assert_eq!(names.read(&other), Ok(()));
     }
     assert_eq!(names, DebugNames::default());
-    let fault: Box<dyn std::error::Error> = NamesFault::BadSubsection { place: 16 }.into();
-    assert_eq!(fault.to_string(), "bad subsection of names at 0x10");
+    let cause = Cause::Text { place: 19, byte: 0xff };
+    let fault: Box<dyn std::error::Error> = NamesFault::BadSubsection { place: 16, cause }.into();
+    let text = "bad subsection of names at 0x10: 0xff at 0x13 isn't UTF-8";
+    assert_eq!(fault.to_string(), text);
     assert_eq!(NamesFault::NoMemory.to_string(), "no memory");
 }
 

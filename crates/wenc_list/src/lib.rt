@@ -12,13 +12,13 @@ mod item;
 mod item_view;
 pub mod laws;
 mod listing;
-pub mod members;
+mod members;
 mod names;
 mod producers;
-pub mod sections;
+mod sections;
 mod unread;
 
-pub use cursor::{SectionItems, Sections};
+pub use cursor::{SectionItems, SectionRefusal, Sections};
 pub use fault::ListFault;
 pub use item::ItemTree;
 pub use item_view::ItemView;

@@ -191,7 +191,7 @@ fn alone(id: u8, content: &[u8]) -> Result<(ItemView<'_>, &[u8]), Refusal>
 /// Reads the item that begins the remaining bytes of a section with this id. Returns it and the
 /// bytes after it.
 #[inline(always)]
-pub fn item_in(id: u8, bytes: &[u8]) -> Result<(ItemView<'_>, &[u8]), NestedRefusal>
+pub(crate) fn item_in(id: u8, bytes: &[u8]) -> Result<(ItemView<'_>, &[u8]), NestedRefusal>
     ensures found { GivesNestedAlways (λ x. (item_seen x.0, x.1.now)) result
         (read_item_in 100 id bytes.now) }
     ensures counted { IfOk result (λ x. IsCountedItem x.0) }

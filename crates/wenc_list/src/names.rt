@@ -72,8 +72,7 @@ pub fn behind_module_header(bytes: &[u8]) -> Option<&[u8]>
 
 /// Splits off the section of a core module, or the subsection of a name section, that begins the
 /// bytes (WebAssembly 3.0, binary format, "Sections"). Returns its id, its content, and the bytes
-/// after it. Fails with `Malformed` if there is no id or size, or the size exceeds the remaining
-/// bytes.
+/// after it. Fails if there is no id or size, or the size exceeds the remaining bytes.
 pub fn part_of(bytes: &[u8]) -> Result<((u8, &[u8]), &[u8]), Refusal>
     ensures { GivesAlways (λ x. ((x.0.0, x.0.1.now), x.1.now)) result (read_part bytes.now) }
 {
@@ -165,7 +164,7 @@ fn names_in(id: u8, content: &[u8]) -> Result<Names<'_>, Refusal>
 ///
 /// # Errors
 ///
-/// Fails with `Malformed` if no subsection begins the bytes.
+/// Fails if no subsection begins the bytes.
 ///
 /// ```
 /// let (names, rest) = names_of(data)?;

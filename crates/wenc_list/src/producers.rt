@@ -44,7 +44,7 @@ impl<'a> ProducersParts<'a> {
     ///
     /// # Errors
     ///
-    /// Fails with `Malformed` if no number of fields begins the bytes.
+    /// Fails if no number of fields begins the bytes.
     pub fn new(bytes: &'a [u8]) -> Result<ProducersParts<'a>, Refusal>
         // The number of fields begins the bytes, and all bytes after it remain.
         ensures read { IfOk result (λ p. (p.tools ≡ 0)
@@ -65,8 +65,8 @@ impl<'a> ProducersParts<'a> {
     ///
     /// # Errors
     ///
-    /// Fails with `Malformed` if no part begins the remaining bytes, or bytes follow the last one.
-    /// Nothing is taken then.
+    /// Fails if no part begins the remaining bytes, or bytes follow the last one. Nothing is taken
+    /// then.
     pub fn next(&mut self) -> Result<Option<ProducersPart<'a>>, Refusal>
         // A returned part begins the remaining bytes, and all bytes after it remain.
         ensures read { IfOk result (λ o. MatchOption o (AreSpent self.old)

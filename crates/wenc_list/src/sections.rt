@@ -13,7 +13,7 @@ pub(crate) fn are_bytes(bytes: &[u8])
 /// Splits off the section that begins the bytes. Returns its id, at most 11, its content, and the
 /// bytes after it.
 #[inline(always)]
-pub fn frame(bytes: &[u8]) -> Result<((u8, &[u8]), &[u8]), Refusal>
+pub(crate) fn frame(bytes: &[u8]) -> Result<((u8, &[u8]), &[u8]), Refusal>
     ensures { GivesAlways (λ x. ((x.0.0, x.0.1.now), x.1.now)) result (read_frame bytes.now) }
 {
     let (id, rest) = byte(bytes)?;

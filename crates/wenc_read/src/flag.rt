@@ -6,7 +6,7 @@ use crate::number::byte;
 use crate::refusal::{Expected, Refusal};
 
 /// Reads a flag, a byte 0 or 1 (component model, binary format, "Canonical Definitions"). Fails
-/// with `Malformed` if no such byte begins the bytes.
+/// if no such byte begins the bytes.
 #[tactic(auto, unfolding(wenc_base::specs::Readers::choose))]
 pub fn flag_of(bytes: &[u8]) -> Result<(bool, &[u8]), Refusal>
     ensures { GivesAlways (λ x. (x.0, x.1.now)) result (read_flag bytes.now) }

@@ -10,13 +10,10 @@ pub enum Expected {
     Bytes(u32),
     /// No byte.
     End,
-    /// Another character of a text. So many bytes begin one and can't go on; 0 if the text ends in
-    /// it.
-    Utf8(u8),
-    /// A number of at most 32 bits.
-    Bits32,
-    /// A number of at most 64 bits.
-    Bits64,
+    /// A character of a text.
+    Utf8,
+    /// A number of at most so many bits.
+    Bits(u8),
     /// A byte from the first to the second of these.
     From(u8, u8),
     /// A byte of an index that is a signed number.
@@ -27,6 +24,8 @@ pub enum Expected {
     ExportOrOuter,
     /// The sort of a core item, after `00`, in a name section.
     CoreSpace,
+    /// The number of options of a name, from 1 to 3.
+    OptionCount,
     /// The opcode of a canonical function.
     Opcode,
     /// A core type.
@@ -87,11 +86,23 @@ impl Refusal {
     #[cold]
     pub fn or(self, bytes: &[u8], expected: Expected) -> Refusal {
         match self.expected {
-            Expected::Bits32 => self,
+            Expected::Bits(_) => self,
             _ if self.left == bytes.len() => Refusal {
                 left: self.left,
                 expected,
             },
+            _ => self,
+        }
+    }
+
+    /// Returns the error of a value in these bytes that begins with a byte from `first` to `last`: if
+    /// another one is there, that is why.
+    #[cold]
+    pub fn unless_from(self, first: u8, last: u8, bytes: &[u8]) -> Refusal {
+        match bytes {
+            [byte, ..] if *byte < first || last < *byte => {
+                Refusal::at(bytes, Expected::From(first, last))
+            }
             _ => self,
         }
     }

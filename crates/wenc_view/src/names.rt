@@ -83,6 +83,15 @@ fn option_of(bytes: &[u8]) -> Result<(NameOptionView<'_>, &[u8]), Refusal>
     }
 }
 
+/// Returns the maximum of the first byte of an option that is the first of so many.
+fn most_of(count: u32) -> u8 {
+    match count {
+        0 | 1 => 2,
+        2 => 1,
+        _ => 0,
+    }
+}
+
 /// Reads `count` options of a name, whose first bytes ascend from at least `least`: so there are at
 /// most three of them, whatever `count` is.
 fn options_from<'a>(
@@ -104,13 +113,20 @@ fn options_from<'a>(
         };
         return Ok((name, bytes));
     }
-    let (option, rest) = option_of(bytes)?;
-    let number = number_of(&option);
-    if number < least {
-        return Err(Refusal::at(bytes, Expected::From(least, 2)));
+    let most = most_of(count);
+    match option_of(bytes) {
+        Ok((option, rest)) => {
+            let number = number_of(&option);
+            if number < least {
+                return Err(Refusal::at(bytes, Expected::From(least, most)));
+            }
+            match options_from(name, number + 1, count - 1, rest) {
+                Ok((named, rest)) => Ok((with(option, named), rest)),
+                Err(refusal) => Err(refusal.unless_from(least, most, bytes)),
+            }
+        }
+        Err(refusal) => Err(refusal.unless_from(least, most, bytes)),
     }
-    let (named, rest) = options_from(name, number + 1, count - 1, rest)?;
-    Ok((with(option, named), rest))
 }
 
 impl<'a> View<'a> for NameView<'a> {
@@ -141,8 +157,12 @@ impl<'a> View<'a> for NameView<'a> {
             (0x02, rest) => {
                 let (name, rest) = text_of(rest)?;
                 match u32_of(rest)? {
-                    (0, _) => Err(Refusal::at(rest, Expected::From(1, 0xff))),
-                    (count, rest) => options_from(name, 0, count, rest),
+                    (0, _) => Err(Refusal::at(rest, Expected::OptionCount)),
+                    (count, options) => match options_from(name, 0, count, options) {
+                        Ok((name, rest)) => Ok((name, rest)),
+                        Err(_) if count > 3 => Err(Refusal::at(rest, Expected::Bits(2))),
+                        Err(refusal) => Err(refusal),
+                    },
                 }
             }
             _ => Err(Refusal::at(bytes, Expected::From(0, 2))),

@@ -140,7 +140,7 @@ fn resource_type(bytes: &[u8]) -> Result<(TypeView<'_>, &[u8]), Refusal>
 ///
 /// # Errors
 ///
-/// Fails with `Malformed` if no type begins the bytes, and with `TooDeep` if types nest deeper.
+/// Fails with `Flat` if no type begins the bytes, and with `TooDeep` if types nest deeper.
 #[cycle(types)]
 #[tactic(auto, using(wenc_types::specs::laws::ComponentTypes::one_level), unfolding(wenc_base::specs::Readers::choose))]
 pub fn type_at<'a>(

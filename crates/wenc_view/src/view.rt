@@ -42,7 +42,7 @@ pub trait View<'a>: Sized + Copy {
     ///
     /// # Errors
     ///
-    /// Fails with `Malformed` if no value begins the bytes.
+    /// Fails if no value begins the bytes.
     fn view_of(bytes: &'a [u8]) -> Result<(Self, &'a [u8]), Refusal>
         ensures found { GivesAlways (λ x. (view x.0, x.1.now)) result (read bytes.now) }
         ensures counted { IfOk result (λ x. is_counted x.0) };
@@ -70,14 +70,10 @@ impl<'a> View<'a> for u32 {
 /// Returns the error of a text of so many bytes, before these, that isn't UTF-8.
 #[cold]
 fn not_utf8(len: usize, after: &[u8], error: Utf8Error) -> Refusal {
-    let bad = match error.error_len() {
-        Some(bad) => bad as u8,
-        None => 0,
-    };
     let left = len.saturating_sub(error.valid_up_to());
     Refusal {
         left: left.saturating_add(after.len()),
-        expected: Expected::Utf8(bad),
+        expected: Expected::Utf8,
     }
 }
 
@@ -85,8 +81,8 @@ fn not_utf8(len: usize, after: &[u8], error: Utf8Error) -> Refusal {
 ///
 /// # Errors
 ///
-/// Fails with `Malformed` if there is no length, the length exceeds the bytes that are left, or the
-/// string isn't UTF-8.
+/// Fails if there is no length, the length exceeds the bytes that are left, or the string isn't
+/// UTF-8.
 #[tactic(auto, unfolding(wenc_base::specs::reading::Forms::text_at))]
 #[inline(always)]
 pub fn text_of(bytes: &[u8]) -> Result<(&str, &[u8]), Refusal>

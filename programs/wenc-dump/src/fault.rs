@@ -26,10 +26,10 @@ pub enum Fault {
     NoName(usize, Option<Cause>),
     /// The component at this byte offset, which is nested in that many others.
     TooDeep(usize, usize),
-    /// Debug names, from this byte offset on.
-    Names(usize),
-    /// Producers, from this byte offset on.
-    Producers(usize),
+    /// Debug names, from this byte offset on, and why.
+    Names(usize, Cause),
+    /// Producers, from this byte offset on, and why.
+    Producers(usize, Cause),
     /// So many indices that are out of range.
     OutOfRange(usize),
 }
@@ -61,8 +61,8 @@ impl Fault {
             Self::UnknownSection(place, _)
             | Self::NoName(place, _)
             | Self::TooDeep(place, _)
-            | Self::Names(place)
-            | Self::Producers(place) => Some(place),
+            | Self::Names(place, _)
+            | Self::Producers(place, _) => Some(place),
             _ => None,
         }
     }
@@ -83,8 +83,8 @@ impl Fault {
             Self::UnknownSection(..) => "unknown section",
             Self::NoName(..) => "no name",
             Self::TooDeep(..) => "too deep component",
-            Self::Names(_) => "names that aren't read",
-            Self::Producers(_) => "producers that aren't read",
+            Self::Names(..) => "names that aren't read",
+            Self::Producers(..) => "producers that aren't read",
             _ => "items that aren't read",
         }
     }
@@ -108,12 +108,14 @@ impl Fault {
                 | ListFault::TooDeep { cause, .. },
                 _,
             ) => cause.map(Cause::Read),
-            Self::Module(
-                at,
-                ModuleFault::BadSection { cause, .. } | ModuleFault::BadItem { cause, .. },
-                _,
-            ) => cause.map(|cause| Cause::Read(cause.moved(at))),
+            Self::Module(at, ModuleFault::BadSection { cause, .. }, _) => {
+                Some(Cause::Read(cause.moved(at)))
+            }
+            Self::Module(at, ModuleFault::BadItem { cause, .. }, _) => {
+                cause.map(|cause| Cause::Read(cause.moved(at)))
+            }
             Self::List(_, cause) | Self::Module(_, _, cause) | Self::NoName(_, cause) => cause,
+            Self::Names(_, cause) | Self::Producers(_, cause) => Some(cause),
             _ => None,
         }
     }
@@ -147,8 +149,7 @@ fn write_module(f: &mut fmt::Formatter<'_>, at: usize, fault: ModuleFault) -> fm
             write!(f, "no core module's header at {at:#x}: found {found}")
         }
         ModuleFault::BadSection { place, cause } => {
-            let cause = cause.map(|cause| cause.moved(at));
-            ModuleFault::BadSection { place: at + place, cause }.fmt(f)
+            ModuleFault::BadSection { place: at + place, cause: cause.moved(at) }.fmt(f)
         }
         ModuleFault::BadItem { unread, cause } => {
             let cause = cause.map(|cause| cause.moved(at));
@@ -187,8 +188,8 @@ impl Display for Fault {
             Self::TooDeep(place, depth) => {
                 write!(f, "components more than {depth} deep at {place:#x}")
             }
-            Self::Names(place) => write!(f, "bad debug names at {place:#x}"),
-            Self::Producers(place) => write!(f, "bad producers at {place:#x}"),
+            Self::Names(place, cause) => write!(f, "bad debug names at {place:#x}: {cause}"),
+            Self::Producers(place, cause) => write!(f, "bad producers at {place:#x}: {cause}"),
             Self::OutOfRange(1) => f.write_str("1 index is out of range"),
             Self::OutOfRange(count) => write!(f, "{count} indices are out of range"),
         }

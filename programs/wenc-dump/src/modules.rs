@@ -7,9 +7,7 @@ use super::report::{Content, Contents, Part, Report};
 use super::walk::{Indices, Walk};
 use std::ops::Range;
 use wenc::tree::{CoreEntityType, Space};
-use wenc::{
-    CoreItem, CoreSection, CoreSections, ModuleFault, RawSection, SectionId,
-};
+use wenc::{CoreItem, CoreSection, CoreSections, ModuleFault, RawSection, SectionId};
 
 /// Returns the space in which an item has an index, if any.
 fn space(item: &CoreItem) -> Option<Space> {
@@ -80,7 +78,7 @@ impl<R: Report> Walk<'_, '_, R> {
         let range = at + range.start..at + range.end;
         let (place, end) = (range.start, range.end);
         let cause = match fault {
-            ModuleFault::BadSection { cause, .. } => cause.map(|cause| cause.moved(at)),
+            ModuleFault::BadSection { cause, .. } => Some(Cause::Read(cause.moved(at))),
             _ => None,
         };
         self.report.open(&Part::CoreSection {
@@ -91,7 +89,7 @@ impl<R: Report> Walk<'_, '_, R> {
             count: None,
             bytes: data,
         })?;
-        self.unread_reported(Fault::NoName(place, cause.map(Cause::Read)), end)?;
+        self.unread_reported(Fault::NoName(place, cause), end)?;
         Ok(self.report.close()?)
     }
 

@@ -170,10 +170,7 @@ const KINDS: [(&[u8], &str); 26] = [
         b"\x08\x02\x01\x7f",
         "bad item 0 at 0xb in the section at 0x8: 0x7f where a canonical function is expected",
     ),
-    (
-        b"\x08\x04\x01\0\0\x33",
-        "bad item 0 at 0xb in the section at 0x8: the bytes end at 0xe",
-    ),
+    (b"\x08\x04\x01\0\0\x33", "bad item 0 at 0xb in the section at 0x8: the bytes end at 0xe"),
     // types of values: of a field, in a list, of two bytes, and of a core function
     (
         b"\x07\x06\x01\x72\x01\x01a\x41",
