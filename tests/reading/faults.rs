@@ -105,5 +105,7 @@ fn faults_say_what_is_expected() {
     }
     let fault = list(&component(&[9, 1, 0xff])).unwrap_err().to_string();
     let place = "bad item 0 at 0xa in the section at 0x8";
-    assert_eq!(fault, format!("{place}: 0xff where a start function is expected"));
+    assert_eq!(fault, format!("{place}: the bytes end at 0xb"));
+    let fault = list(&component(&[9, 0])).unwrap_err().to_string();
+    assert_eq!(fault, format!("{place}: the section ends where a start function is expected"));
 }

@@ -111,7 +111,7 @@ fn faults_are_told() {
     assert_eq!(told(b"", 1), Err(nothing.into()));
     let bad = component(&[&ty(2, 3), &nested(&[b"\x06"])]);
     let fault = told(&bad, 1).expect_err("it can't be read").to_string();
-    assert_eq!(fault, "bad section at 0x8: the bytes end at 0x9");
+    assert_eq!(fault, "a nested component isn't read: bad section at 0x8: the bytes end at 0x9");
     // more values than there are indices
     let start = b"\x09\x07\x00\x00\xff\xff\xff\xff\x0f";
     assert_eq!(told(&component(&[&ty(2, 3), start, start]), 1), Err(Error::TooMany.into()));

@@ -52,7 +52,7 @@ fn what_is_not_read_is_a_fault() {
         (&data[..3], &[], 1, "needs 3 bytes or more from 0x2 on, where 1 is left"),
         (&data[..5], &[], 1, "the bytes end at 0x5"),
         // a tool that is cut
-        (&data[..9], &[], 6, "needs 1 byte or more from 0x9 on, where 0 are left"),
+        (&data[..9], &[], 6, "the bytes end at 0x9"),
         (&data[..10], &[first], 10, "the bytes end at 0xa"),
         (b"\x01\x03sdk\x01\x01\xff\x011", &[], 6, "0xff at 0x7 isn't UTF-8"),
         // a later field that is cut, or that isn't there

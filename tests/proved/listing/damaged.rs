@@ -303,7 +303,9 @@ fn deep_types() {
             let mut bytes = component(&[0x07]);
             data.as_slice().encode(&mut bytes);
             let unread = item(number, bytes.len() - data.len() + before.len());
-            let cause = Some(Cause::Deep { place: bytes.len() - inner.len() });
+            // three bytes of each type around it
+            let place = bytes.len() - data.len() + before.len() + 300;
+            let cause = Some(Cause::Deep { place });
             let fault = ListFault::TooDeep { place: 8, unread, cause };
             assert_eq!(read(&bytes).err(), (!is_read).then_some(fault));
         }

@@ -154,7 +154,7 @@ const KINDS: [(&[u8], &str); 26] = [
     ),
     (
         b"\x07\x0c\x01\x42\x01\x04\0\x04a\xc3\x28c\x01\0",
-        "bad item 0 at 0xb in the section at 0x8: 0x28 at 0x12 isn't UTF-8",
+        "bad item 0 at 0xb in the section at 0x8: 0xc3 at 0x11 isn't UTF-8",
     ),
     (b"\0\x03\x02a\x80", "custom section without a name at 0x8: 0x80 at 0xc isn't UTF-8"),
     // unknown kinds and opcodes

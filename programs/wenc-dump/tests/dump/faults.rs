@@ -48,7 +48,7 @@ fn core_modules_are_printed_as_far_as_they_are_read() {
   0xc no core section
     0xc: 01 01
 ";
-    let bad = "bad core section at 0xc: needs 1 byte or more from 0xe on, where 0 are left";
+    let bad = "bad core section at 0xc: the bytes end at 0xe";
     expect_of(&[], &file, out, Some(bad));
     // the second import has no kind; there is one export less than bytes; no start
     let module = b"\0asm\x01\0\0\0\
@@ -71,7 +71,7 @@ fn core_modules_are_printed_as_far_as_they_are_read() {
     let bad = "\
 bad item 1 at 0x11: 0x05 at 0x15, where 0x00 to 0x04 is expected
 bytes behind the last item at 0x1d
-bad item 0 at 0x20: needs 1 byte or more from 0x20 on, where 0 are left";
+bad item 0 at 0x20: the bytes end at 0x20";
     expect_of(&[], &file_of("bad_entries", module), out, Some(bad));
 }
 
@@ -103,9 +103,9 @@ fn sections_of_core_modules_in_components_are_faults() {
   0x22..0x25 alias section, 3 bytes, 0 items
 ";
     let bad = "\
-bad count at 0x14: needs 1 byte or more from 0x14 on, where 0 are left
+bad count at 0x14: the bytes end at 0x14
 unknown section 65 at 0x14
-custom section without a name at 0x16: needs 8 bytes or more from 0x18 on, where 1 is left
+custom section without a name at 0x16: needs 7 bytes or more from 0x19 on, where 0 are left
 bytes behind the last item at 0x1c
 bad core section at 0x20: needs 127 bytes or more from 0x22 on, where 0 are left";
     let sections = [b"\x01\x18", BAD_SECTIONS, b"\x06\x01\0"].concat();
@@ -164,8 +164,8 @@ fn what_follows_a_fault_is_printed() {
     let bad = "\
 bad item 1 at 0x10 in the section at 0x8: the section ends where an import is expected
 unknown section 12 at 0x10
-bad count at 0x15 in the section at 0x13: needs 2 bytes or more from 0x15 on, where 1 is left
-custom section without a name at 0x16: needs 8 bytes or more from 0x18 on, where 1 is left
+bad count at 0x15 in the section at 0x13: the bytes end at 0x16
+custom section without a name at 0x16: needs 7 bytes or more from 0x19 on, where 0 are left
 bad item 0 at 0x2b in the section at 0x28: 0x09 where an alias is expected
 no component's header at 0x2e: found other bytes: 00 61 73
 bad section at 0x4d: needs 5 bytes or more from 0x4f on, where 1 is left";
@@ -187,7 +187,6 @@ fn indices_behind_bytes_behind_items_are_known() {
     expect("known", b"\x06\x02\0\0\x07\x03\x01\x69\0", out, Some(bad));
 }
 
-/// Of the examples of instances some are longer than the room behind these items.
 #[test]
 fn instance_sections_may_end_early() {
     let out = "\
@@ -205,7 +204,7 @@ fn instance_sections_may_end_early() {
       0xb: 00 00
 ";
     let bad = "bad item 0 at 0xb in the section at 0x8: \
-        needs 3 bytes or more from 0xb on, where 2 are left";
+        the bytes end at 0xd";
     expect("instance_cut_item", b"\x05\x03\x01\0\0", out, Some(bad));
     let out = "\
 0x0..0xf component, 15 bytes

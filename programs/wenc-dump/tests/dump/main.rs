@@ -5,7 +5,6 @@ mod causes;
 mod check;
 mod corpus;
 mod custom;
-mod examples;
 mod faults;
 mod json;
 #[cfg(target_os = "linux")]
