@@ -77,7 +77,7 @@ fn content_fault(refusal: NestedRefusal, id: u8, place: usize) -> ListFault
 
 /// Maps the error of reading the section at this byte offset.
 fn section_fault(refusal: SectionRefusal<'_>, place: usize) -> ListFault
-    ensures { result ≡ fault_of_section refusal place }
+    ensures { result ≡ fault_of_section refusal.entry place }
 {
     match refusal {
         SectionRefusal::Frame(_) => ListFault::BadSection { place },
@@ -153,31 +153,28 @@ impl<'a> Sections<'a> {
         }
         let place = self.place();
         match frame(self.rest) {
-            Ok(((id, content), rest)) => {
-                let ends = self.ends.saturating_sub(rest.len());
-                match counted(id, content) {
-                    Ok((left, items)) => {
-                        self.rest = rest;
-                        Ok(Some(SectionItems {
-                            id,
-                            place,
-                            ends,
-                            left,
-                            rest: items,
-                        }))
-                    }
-                    Err(refusal) => {
-                        let section = SectionItems {
-                            id,
-                            place,
-                            ends,
-                            left: 0,
-                            rest: content,
-                        };
-                        Err(SectionRefusal::Count(section, refusal))
-                    }
+            Ok(((id, content), rest)) => match counted(id, content) {
+                Ok((left, items)) => {
+                    self.rest = rest;
+                    Ok(Some(SectionItems {
+                        id,
+                        place,
+                        ends: self.place(),
+                        left,
+                        rest: items,
+                    }))
                 }
-            }
+                Err(refusal) => {
+                    let section = SectionItems {
+                        id,
+                        place,
+                        ends: self.ends.saturating_sub(rest.len()),
+                        left: 0,
+                        rest: content,
+                    };
+                    Err(SectionRefusal::Count(section, refusal))
+                }
+            },
             Err(refusal) => Err(SectionRefusal::Frame(refusal)),
         }
     }
