@@ -1,7 +1,8 @@
 //! Values read from the beginning of bytes.
 ghost use Rattle.std.specs.Prelude.{◌≡◌, ◌≤◌, ◌<◌, [], ◌∷◌, ℕ, List, IfOk, IfErr, Ok};
 ghost use Rattle.wenc_base.specs.Prelude.{u32 as number, Wide, times, read_u32};
-ghost use Rattle.wenc_base.specs.Prelude.{Bad, Deep, Producers, list, producers_field};
+ghost use Rattle.wenc_base.specs.Prelude.{Producers, list, producers_field};
+ghost use Rattle.wenc_base.specs.Readers.{Bad, Deep};
 ghost use Rattle.wenc_list.specs.Prelude.{names_view, parts_left, producers_parts};
 ghost use Rattle.wenc_list.specs.Prelude.{subsection_by_id};
 ghost use Rattle.wenc_parts.specs.Prelude.{AliasOf, alias, alias_view};

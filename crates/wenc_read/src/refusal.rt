@@ -95,8 +95,8 @@ impl Refusal {
         }
     }
 
-    /// Returns the error of a value in these bytes that begins with a byte from `first` to `last`: if
-    /// another one is there, that is why.
+    /// Returns the error of a value in these bytes that begins with a byte from `first` to `last`:
+    /// if another one is there, that is why.
     #[cold]
     pub fn unless_from(self, first: u8, last: u8, bytes: &[u8]) -> Refusal {
         match bytes {
