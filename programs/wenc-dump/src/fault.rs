@@ -1,6 +1,7 @@
 //! Parts of a file that can't be read.
 
 use super::cause::Cause;
+use super::chain::Misfit;
 use std::collections::TryReserveError;
 use std::fmt::{self, Display};
 use std::io;
@@ -24,6 +25,8 @@ pub enum Fault {
     UnknownSection(usize, u8),
     /// A custom section without a name, at this byte offset, and why.
     NoName(usize, Option<Cause>),
+    /// A section with a wrong size.
+    Size(Misfit),
     /// The component at this byte offset, which is nested in that many others.
     TooDeep(usize, usize),
     /// Debug names, from this byte offset on, and why.
@@ -60,6 +63,7 @@ impl Fault {
             Self::Module(at, ModuleFault::BadItem { unread, .. }, _) => Some(at + place_of(unread)),
             Self::UnknownSection(place, _)
             | Self::NoName(place, _)
+            | Self::Size(Misfit { place, .. })
             | Self::TooDeep(place, _)
             | Self::Names(place, _)
             | Self::Producers(place, _) => Some(place),
@@ -82,6 +86,7 @@ impl Fault {
             Self::Module(_, ModuleFault::BadSection { .. }, _) => "no core section",
             Self::UnknownSection(..) => "unknown section",
             Self::NoName(..) => "no name",
+            Self::Size(_) => "section of another size",
             Self::TooDeep(..) => "too deep component",
             Self::Names(..) => "names that aren't read",
             Self::Producers(..) => "producers that aren't read",
@@ -184,6 +189,12 @@ impl Display for Fault {
             Self::NoName(place, cause) => {
                 write!(f, "custom section without a name at {place:#x}")?;
                 write_cause(f, cause)
+            }
+            Self::Size(Misfit { place, stated, end }) => {
+                let (by, longer) =
+                    (stated.abs_diff(end), if end > stated { "longer" } else { "shorter" });
+                let bytes = if by == 1 { "byte" } else { "bytes" };
+                write!(f, "the section at {place:#x} may be {by} {bytes} {longer}")
             }
             Self::TooDeep(place, depth) => {
                 write!(f, "components more than {depth} deep at {place:#x}")

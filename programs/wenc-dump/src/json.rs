@@ -362,8 +362,9 @@ impl<W: Write> Report for Json<'_, W> {
         self.put("}")
     }
 
+    /// Writes whole lines alone.
     fn flush(&mut self) -> io::Result<()> {
-        self.out.flush()
+        if self.open.is_empty() { self.out.flush() } else { Ok(()) }
     }
 
     fn close(&mut self) -> io::Result<()> {

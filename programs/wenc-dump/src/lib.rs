@@ -4,6 +4,7 @@
 
 mod arguments;
 mod cause;
+mod chain;
 mod check;
 mod colours;
 mod custom;

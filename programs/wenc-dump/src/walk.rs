@@ -1,6 +1,7 @@
 //! Walks through a file, part by part.
 
 use super::cause::{self, Cause};
+use super::chain::{Misfit, misfit};
 use super::check::{Check, node_in};
 use super::fault::{Failure, Fault};
 use super::phrase;
@@ -23,6 +24,8 @@ pub struct Walk<'f, 'r, R> {
     tell: &'r mut dyn FnMut(Fault),
     /// The debug names of the components around the next part, the outermost first.
     names: Vec<DebugNames>,
+    /// Whether the next part is in a section with a wrong size, whose own fault is passed on.
+    is_in_misfit: bool,
     check: Check,
 }
 
@@ -69,7 +72,7 @@ pub fn walk(
     tell: &mut dyn FnMut(Fault),
 ) -> Result<(), Failure> {
     let check = Check::new(has_check);
-    let mut walk = Walk { bytes, report, tell, names: Vec::new(), check };
+    let mut walk = Walk { bytes, report, tell, names: Vec::new(), is_in_misfit: false, check };
     if let Ok(sections) = CoreSections::new(bytes) {
         walk.report.open(&Part::File(0..bytes.len(), Content::Module))?;
         walk.core_sections(0..bytes.len(), sections)?;
@@ -112,10 +115,13 @@ impl<'f, R: Report> Walk<'f, '_, R> {
         }
     }
 
-    /// Passes on a fault, after writing what comes before it.
+    /// Passes on a fault, after writing what comes before it, unless it is in a section with a wrong
+    /// size.
     fn fault(&mut self, fault: Fault) -> io::Result<()> {
-        self.report.flush()?;
-        (self.tell)(fault);
+        if !self.is_in_misfit {
+            self.report.flush()?;
+            (self.tell)(fault);
+        }
         Ok(())
     }
 
@@ -171,19 +177,44 @@ impl<'f, R: Report> Walk<'f, '_, R> {
         self.names.push(names);
         self.check.enter()?;
         let mut next = Indices::default();
-        for (frame, section) in framed(sections) {
-            match (section, frame) {
-                (Ok(section), _) => self.section(section, &mut next)?,
-                (Err(fault), None) => {
-                    self.unread(Fault::List(fault, None), end)?;
-                }
-                (Err(fault), Some((range, id))) => {
-                    self.unread_section(range, id, fault, &mut next)?;
-                }
-            }
+        let bytes = &self.bytes[..end];
+        let misfit = sections.offset().map_or(Ok(None), |from| misfit(bytes, from))?;
+        self.sections_to(sections, end, misfit, &mut next)?;
+        if let Some(behind) = misfit.and_then(|misfit| Sections::at(bytes, misfit.end)) {
+            self.sections_to(behind, end, None, &mut next)?;
         }
         self.check.leave();
         self.names.pop();
+        Ok(())
+    }
+
+    /// Reports sections of a component that ends at this byte offset, up to one with a wrong size
+    /// if there is one.
+    fn sections_to(
+        &mut self,
+        sections: Sections<'f>,
+        end: usize,
+        misfit: Option<Misfit>,
+        next: &mut Indices,
+    ) -> Result<(), Failure> {
+        for (frame, section) in framed(sections) {
+            let start = frame.as_ref().map(|(range, _)| range.start);
+            let is_in_misfit = self.is_in_misfit;
+            let misfit = misfit.filter(|misfit| start == Some(misfit.place));
+            if let Some(misfit) = misfit {
+                self.fault(Fault::Size(misfit))?;
+                self.is_in_misfit = true;
+            }
+            match (section, frame) {
+                (Ok(section), _) => self.section(section, next)?,
+                (Err(fault), None) => self.unread(Fault::List(fault, None), end)?,
+                (Err(fault), Some((range, id))) => self.unread_section(range, id, fault, next)?,
+            }
+            self.is_in_misfit = is_in_misfit;
+            if misfit.is_some() {
+                break;
+            }
+        }
         Ok(())
     }
 

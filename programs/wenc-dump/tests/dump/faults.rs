@@ -1,7 +1,10 @@
 //! What is printed in front of a fault, and what is said of it.
 
-use crate::{dump, expect, expect_of, file_of};
+use crate::corpus::corpus;
+use crate::{component, dump, expect, expect_of, file_of};
+use std::fs;
 use std::path::Path;
+use wenc_dump::Terminal;
 
 #[test]
 fn types_too_deep_are_a_fault() {
@@ -227,4 +230,65 @@ fn an_item_may_need_no_bytes_behind_it() {
     let err = String::from_utf8_lossy(&output.stderr);
     assert!(err.contains(": bad item 0 at 0xb in the section at 0x8: "), "{err}");
     assert_eq!((output.status.code(), err.lines().count()), (Some(1), 1), "{err}");
+}
+
+/// A byte more or less in a section, with which no section follows it: what follows is printed from
+/// where sections reach the end.
+#[test]
+fn sections_may_have_another_size() {
+    let import = b"\x0a\x06\x01\0\x01f\x01\0";
+    let said = |sections: &[u8]| {
+        let (status, out, err) = crate::run(&[], &component(sections), Terminal::default());
+        assert_eq!(status, 1);
+        (out.lines().filter(|line| line.contains(" import \"f\" Func(0)")).count(), err)
+    };
+    let type_section = *b"\x07\x05\x01\x40\0\x01\0";
+    for (at, by, words) in [(2, 1, "1 byte longer"), (6, 3, "3 bytes longer")] {
+        let mut bytes = type_section.to_vec();
+        (0..by).for_each(|_| bytes.insert(at, 0x55));
+        let found = said(&[&bytes[..], import].concat());
+        assert_eq!(found, (1, format!("-: the section at 0x8 may be {words}\n")));
+    }
+    // in a record with two fields
+    let record = *b"\x07\x09\x01\x72\x02\x01a\x7f\x01b\x7f";
+    for (at, by, words) in [(6, 1, "1 byte shorter"), (5, 2, "2 bytes shorter")] {
+        let mut bytes = record.to_vec();
+        bytes.drain(at..at + by);
+        let found = said(&[&bytes[..], import].concat());
+        assert_eq!(found, (1, format!("-: the section at 0x8 may be {words}\n")));
+    }
+}
+
+/// Of damages by a byte more or less most are told in one line.
+#[test]
+fn most_sizes_are_mended() {
+    let mut lines = Vec::new();
+    for file in fs::read_dir(corpus("wasm")).expect("the corpus is there") {
+        let bytes = fs::read(file.expect("it is there").path()).expect("it is there");
+        if bytes.len() > 1_500 || wenc::list(&bytes).is_err() {
+            continue;
+        }
+        for at in (8..bytes.len()).step_by(7) {
+            let (mut longer, mut shorter) = (bytes.clone(), bytes.clone());
+            longer.insert(at, 0x55);
+            shorter.remove(at);
+            for bytes in [longer, shorter] {
+                let (_, _, err) = crate::run(&[], &bytes, Terminal::default());
+                lines.push(err.lines().count());
+            }
+        }
+    }
+    lines.sort_unstable();
+    assert_eq!(lines[lines.len() / 2], 1, "{}", lines.len());
+    assert!(lines[lines.len() - 1] < 100, "{lines:?}");
+}
+
+/// A file of a megabyte in which nearly each section can't be read is printed in a second or so.
+#[test]
+fn many_faults_are_told_at_once() {
+    let bytes = component(&b"\x06\x02\x01\x09".repeat(1 << 18));
+    for options in [&[][..], &["--json"], &["--check"]] {
+        let (status, _, err) = crate::run(options, &bytes, Terminal::default());
+        assert_eq!((status, err.lines().count()), (1, 1 << 18));
+    }
 }

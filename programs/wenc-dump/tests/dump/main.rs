@@ -6,6 +6,7 @@ mod check;
 mod corpus;
 mod custom;
 mod faults;
+mod fuzz;
 mod json;
 #[cfg(target_os = "linux")]
 mod limits;
