@@ -35,7 +35,8 @@ use Rattle.wenc_list.specs.Listing.{HasDepth, AreWithin, IsFramed, IsLabelled, I
 use Rattle.wenc_list.specs.declared.cursor.SectionItems.{SectionItems}
 use Rattle.wenc_list.specs.declared.fault.ListFault.{ListFault}
 use Rattle.wenc_list.specs.declared.fault.ListFault.TheVariants as faults
-use Rattle.wenc_list.specs.inside.Contents.{read_content_item, whole_item, read_item_in, read_count, fault_of_content}
+use Rattle.wenc_list.specs.inside.Contents.{read_content_item, whole_item, read_item_in, read_count}
+use Rattle.wenc_list.specs.Cursor.{fault_of_content}
 use Rattle.wenc_list.proofs.SectionLaws.{ItemWithin, GoesIn, item_tells, item_finds, IsPast, AloneIn, Fills, section_reads, section_framed}
 use Rattle.wenc_list.proofs.SectionLaws.{members_of, told_ok, not_both, frame_finds, same_frame}
 

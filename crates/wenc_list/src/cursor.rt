@@ -6,9 +6,9 @@ ghost use Rattle.wenc_builder.specs.Prelude.{preamble};
 ghost use Rattle.wenc_list.specs.Prelude.{Opens, HasTaken, IsSpent, IsFaultIn, item_view};
 ghost use Rattle.wenc_list.specs.Prelude.{item_seen, IsCountedItem};
 ghost use Rattle.wenc_list.specs.Prelude.{IsFaultHere, HasNoHeader, fault_of_content, read_count};
-ghost use Rattle.wenc_list.specs.Prelude.{fault_of_section};
+ghost use Rattle.wenc_list.specs.Prelude.{fault_of_section, left_of, IsPlacedIn};
 ghost use Rattle.wenc_list.specs.declared.fault.ListFault.TheVariants.{Memory, NotAComponent};
-ghost use Rattle.wenc_read.specs.Prelude.{GivesAlways};
+ghost use Rattle.wenc_read.specs.Prelude.{GivesAlways, flaw_of};
 
 use crate::fault::ListFault;
 use crate::item::ItemTree;
@@ -61,6 +61,35 @@ pub enum SectionRefusal<'a> {
     Frame(Refusal),
     /// No count begins the content of the section, whose bytes these are.
     Count(SectionItems<'a>, Refusal),
+}
+
+/// Returns the error with its place in these bytes.
+#[cold]
+fn placed(refusal: Refusal, bytes: &[u8]) -> Refusal
+    ensures within { result.left ≤ length bytes.now }
+    ensures kept { refusal.left ≤ length bytes.now → result ≡ refusal }
+{
+    if refusal.left <= bytes.len() {
+        return refusal;
+    }
+    Refusal {
+        left: bytes.len(),
+        expected: refusal.expected,
+    }
+}
+
+/// Returns the error of bytes that may nest, as `placed` does.
+#[cold]
+fn placed_nested(refusal: NestedRefusal, bytes: &[u8]) -> NestedRefusal
+    ensures flaw { flaw_of result ≡ flaw_of refusal }
+    ensures within { left_of result ≤ length bytes.now }
+    ensures kept { left_of refusal ≤ length bytes.now → result ≡ refusal }
+{
+    match refusal {
+        NestedRefusal::Flat(flat) => NestedRefusal::Flat(placed(flat, bytes)),
+        NestedRefusal::TooDeep(left) if left <= bytes.len() => NestedRefusal::TooDeep(left),
+        NestedRefusal::TooDeep(_) => NestedRefusal::TooDeep(bytes.len()),
+    }
 }
 
 /// Maps an error in the content of a section with this id. In a custom section only the name can be
@@ -146,6 +175,8 @@ impl<'a> Sections<'a> {
         // An error has its cause in the section that begins the remaining bytes.
         ensures fault { let place = self.old.ends - length self.old.rest.now in
             IfErr result (λ e. IsFaultHere place self.old.rest.now (fault_of_section e place)) }
+        // Its place is in them.
+        ensures within { IfErr result (IsPlacedIn self.old.rest.now) }
         ensures some { IfErr result (λ _. 0 < length self.old.rest.now) }
     {
         if self.rest.is_empty() {
@@ -172,10 +203,10 @@ impl<'a> Sections<'a> {
                         left: 0,
                         rest: content,
                     };
-                    Err(SectionRefusal::Count(section, refusal))
+                    Err(SectionRefusal::Count(section, placed(refusal, content)))
                 }
             },
-            Err(refusal) => Err(SectionRefusal::Frame(refusal)),
+            Err(refusal) => Err(SectionRefusal::Frame(placed(refusal, self.rest))),
         }
     }
 
@@ -240,13 +271,18 @@ impl<'a> SectionItems<'a> {
             → IsFaultIn self.old (fault_of_content e self.old.id self.old.place)) }
         ensures behind { IfErr result (λ _. self.old.left ≡ 0
             → 0 < length self.old.rest.now) }
+        // Its place is in them.
+        ensures within { IfErr result (λ e. left_of e ≤ length self.old.rest.now) }
     {
         are_bytes(self.rest);
         if self.left == 0 {
             if self.rest.is_empty() {
                 return Ok(None);
             }
-            return Err(NestedRefusal::Flat(Refusal::at(self.rest, Expected::End)));
+            return Err(NestedRefusal::Flat(Refusal {
+                left: self.rest.len(),
+                expected: Expected::End,
+            }));
         }
         match item_in(self.id, self.rest) {
             Ok((item, rest)) => {
@@ -254,7 +290,7 @@ impl<'a> SectionItems<'a> {
                 self.rest = rest;
                 Ok(Some(item))
             }
-            Err(refusal) => Err(refusal),
+            Err(refusal) => Err(placed_nested(refusal, self.rest)),
         }
     }
 

@@ -4,7 +4,11 @@ use crate::component;
 use crate::corpus::corpus;
 use crate::values::Value;
 use std::fs;
-use wenc::{CoreSections, ListFault, Sections, Unread, list};
+use wenc::view::ItemView;
+use wenc::{
+    CoreSection, CoreSections, DebugNames, ListFault, ProducersReader, SectionReader, Sections,
+    Unread, list,
+};
 use wenc_dump::Terminal;
 
 /// How many components are damaged. Programs that aren't optimized are slow.
@@ -72,25 +76,40 @@ fn parts() -> (Vec<Vec<u8>>, Vec<Vec<u8>>) {
     (components, parts)
 }
 
-/// Whether all that `list` doesn't read is read, too: nested components and core modules.
-fn are_nested_read(bytes: &[u8]) -> bool {
-    let nested = Sections::new(bytes).expect("a component").nested(100);
-    nested.into_iter().all(|section| {
-        let Ok((_, section)) = section else { return false };
-        let has_items = section.items().all(|item| item.is_ok());
-        let is_module = section.id() == 1;
-        has_items && (!is_module || is_module_read(section.raw().data))
-    })
+/// Whether all of a custom section is read.
+fn is_custom_read(item: &ItemView) -> bool {
+    match item {
+        ItemView::Custom { name: DebugNames::SECTION, .. } => DebugNames::new().read(item).is_ok(),
+        ItemView::Custom { name: ProducersReader::SECTION, data } => {
+            ProducersReader::new(data).all(|tool| tool.is_ok())
+        }
+        _ => true,
+    }
 }
 
+/// Whether all of the core module with these bytes is read.
 fn is_module_read(bytes: &[u8]) -> bool {
-    CoreSections::new(bytes).is_ok_and(|mut sections| {
-        sections.all(|section| {
-            section.is_ok_and(|section| {
-                section.kind().is_some() && section.items().all(|item| item.is_ok())
-            })
+    let is_read = |section: CoreSection| {
+        let has_tools = section.name == Some(ProducersReader::SECTION);
+        section.kind().is_some()
+            && section.items().all(|item| item.is_ok())
+            && (!has_tools || ProducersReader::new(section.data).all(|tool| tool.is_ok()))
+    };
+    CoreSections::new(bytes).is_ok_and(|mut sections| sections.all(|it| it.is_ok_and(is_read)))
+}
+
+/// Whether all of the component with these bytes is read, which is this deep in others.
+fn is_component_read(bytes: &[u8], depth: usize) -> bool {
+    let is_read = |section: SectionReader| {
+        section.items().all(|item| match item {
+            Ok((_, ItemView::Component(bytes))) => is_component_read(bytes, depth + 1),
+            Ok((_, ItemView::Module(bytes))) => is_module_read(bytes),
+            Ok((_, item)) => is_custom_read(&item),
+            Err(_) => false,
         })
-    })
+    };
+    let sections = Sections::new(bytes);
+    depth < 100 && sections.is_ok_and(|mut sections| sections.all(|it| it.is_ok_and(is_read)))
 }
 
 /// The place of the part that `list` names, and where the section ends.
@@ -112,21 +131,17 @@ fn part_of(bytes: &[u8], fault: ListFault) -> (usize, usize) {
 /// What is said of the bytes is so, as far as `list` says it, too.
 fn is_so(bytes: &[u8]) -> u8 {
     let run = |options: &[&str]| crate::run(options, bytes, Terminal::default());
+    let is_read = is_component_read(bytes, 0);
     let (status, out, err) = run(&[]);
-    assert_eq!((status, err.is_empty()), (u8::from(!err.is_empty()), status == 0), "{bytes:02x?}");
+    assert_eq!((status, err.is_empty()), (u8::from(!is_read), is_read), "{err}{bytes:02x?}");
     let (with_check, checked, _) = run(&["--json", "--check"]);
     Value::read(&checked);
     let (json_status, json, messages) = run(&["--json"]);
     assert_eq!((json_status, &messages), (status, &err), "{bytes:02x?}");
     assert!(with_check >= status && !out.is_empty(), "{bytes:02x?}");
     let json = Value::read(&json);
-    let Err(fault) = list(bytes) else {
-        let has_names = ["bad debug names", "bad producers"].iter().any(|what| err.contains(what));
-        let is_read = are_nested_read(bytes);
-        assert!(if is_read { status == 0 || has_names } else { status == 1 }, "{err}{bytes:02x?}");
-        return status;
-    };
-    assert_eq!(status, 1, "{fault} {bytes:02x?}");
+    assert_eq!(json.at("fault") == &Value::Null, is_read, "{bytes:02x?}");
+    let Err(fault) = list(bytes) else { return status };
     let (part, end) = part_of(bytes, fault);
     let Value::Object(told) = json.at("fault") else { panic!("{fault}") };
     let is_same = told["place"] == Value::Number(part as u128);

@@ -18,5 +18,5 @@ returns-in-Ok-clause-taken c =
     }
 
 pub returns-in-Err-clause-fault : goal.returns-in-Err-clause-fault
-returns-in-Err-clause-fault c some = item_fault c.args.self.now c.in-Err.refusal some c.are_bytes.ensures
-    (fails_nested c.in-Err.refusal _ c.in-Err.ensures.found)
+returns-in-Err-clause-fault c some = item_fault c.args.self.now c.placed_nested.result some c.are_bytes.ensures
+    (rw c.placed_nested.ensures.flaw (fails_nested c.in-Err.refusal _ c.in-Err.ensures.found))
