@@ -4,13 +4,13 @@ mod items;
 mod nested;
 mod out_of_range;
 
-use crate::proved::wenc_list::{self as proved, SectionRefusal};
+use crate::proved::wenc_list as proved;
 use crate::tree::{ItemTree, Space};
 use crate::twins::twins;
 use crate::view::{ItemView, NameView};
 use crate::{
-    Cause, ComponentExportKind, ComponentSectionId, ComponentTypeRef, DebugNames, Found, ListFault,
-    RawSection, Unread,
+    ComponentExportKind, ComponentSectionId, ComponentTypeRef, DebugNames, Found, ListFault,
+    RawSection,
 };
 use core::fmt;
 use core::iter;
@@ -67,9 +67,7 @@ impl<'a> Sections<'a> {
     ///
     /// [`ListFault::NotAComponent`] if the bytes don't begin with a component's header.
     pub fn new(bytes: &'a [u8]) -> Result<Self, ListFault> {
-        let found = || Found::of(bytes);
-        let left = proved::Sections::new(bytes)
-            .map_err(|_| ListFault::NotAComponent { place: 0, found: found() })?;
+        let left = proved::Sections::new(bytes).map_err(|fault| ListFault::new(bytes, fault))?;
         Ok(Self { bytes, left: Some(left) })
     }
 
@@ -238,22 +236,9 @@ impl<'a> Sections<'a> {
     /// Returns the fault, after which there are no sections.
     #[cold]
     #[inline(never)]
-    fn refused(&mut self, left: proved::Sections<'a>, refusal: SectionRefusal<'a>) -> ListFault {
+    fn refused(&mut self, fault: proved::ListFault) -> ListFault {
         self.left = None;
-        match refusal {
-            SectionRefusal::Frame(refusal) => {
-                let cause = Some(Cause::new(self.bytes, left.ends, refusal));
-                ListFault::BadSection { place: left.place(), cause }
-            }
-            SectionRefusal::Count(of, refusal) => {
-                let unread = Some(Unread::Count { place: of.reached() });
-                let cause = Some(Cause::new(self.bytes, of.ends, refusal));
-                match of.id.try_into() {
-                    Ok(section) => ListFault::BadItem { place: of.place, section, unread, cause },
-                    Err(_) => ListFault::BadSection { place: of.place, cause },
-                }
-            }
-        }
+        ListFault::new(self.bytes, fault)
     }
 
     /// Returns what is in the sections whose ids are kept, up to the first fault.
@@ -301,14 +286,10 @@ impl<'a> Iterator for Sections<'a> {
 
     #[inline(always)]
     fn next(&mut self) -> Option<Self::Item> {
-        let left = self.left.as_mut()?;
-        match left.next_or_refusal() {
+        match self.left.as_mut()?.next() {
             Ok(Some(left)) => Some(Ok(SectionReader { bytes: self.bytes, left })),
             Ok(None) => None,
-            Err(refusal) => {
-                let left = *left;
-                Some(Err(self.refused(left, refusal)))
-            }
+            Err(fault) => Some(Err(self.refused(fault))),
         }
     }
 }

@@ -1,3 +1,4 @@
+pub mod Asked
 pub mod Listed
 pub mod Indices
 pub mod SectionLaws

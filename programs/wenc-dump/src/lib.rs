@@ -4,7 +4,6 @@
 
 mod arguments;
 mod cause;
-mod chain;
 mod check;
 mod colours;
 mod custom;
@@ -14,9 +13,11 @@ mod fold;
 mod json;
 mod modules;
 mod phrase;
+mod probe;
 mod report;
 mod run;
 mod select;
+mod shorter;
 mod text;
 mod walk;
 mod words;
