@@ -20,8 +20,9 @@
 //!   or a `clone` that the source defines itself. No crate is better than one that does something
 //!   else than was proved.
 //!
-//! `gate/erased` compares what is left without clauses and ghost items with what the prover reads as
-//! code. `tests/honest` compares that with the Rust, with a lexer of its own, and knows the same list.
+//! `gate/erased` compares what is left without clauses and ghost items with what the prover reads
+//! as code. `tests/honest` compares that with the Rust, with a lexer of its own, and knows the same
+//! list.
 
 #[path = "erase/antt.rs"]
 mod antt;
@@ -47,8 +48,8 @@ pub fn erase(name: &str, crates: &[&str], source: &str) -> Result<String, Refuse
     Ok(eraser.finish())
 }
 
-/// Leaves out the clauses and the ghost items of a file. Of these only the line ends remain, so that
-/// every other token keeps its line.
+/// Leaves out the clauses and the ghost items of a file. Of these only the line ends remain, so
+/// that every other token keeps its line.
 #[allow(dead_code, reason = "the build script erases more")]
 pub fn without_ghosts(source: &str) -> Result<String, Refused> {
     let mut whole = String::new();

@@ -3,7 +3,8 @@
 //!
 //! It is the build script of the library and of the program `wenc`. Run in the repository as
 //!
-//! - `erase FOLDER`, it writes the sources that the published package has instead of a build script;
+//! - `erase FOLDER`, it writes the sources that the published package has in place of a build
+//!   script;
 //! - `erase --code FOLDER`, it writes what it takes for code: the proved sources without their
 //!   clauses and ghost items, which `gate/erased` compares with what the prover takes for code.
 

@@ -1,7 +1,7 @@
 //! Finds where the prover's text ends in a clause or a ghost item.
 //!
-//! The text is antt, the language of definitions and proofs. Its braces are counted. What could hide
-//! one of them, or a semicolon, from the prover but not from this count is refused.
+//! The text is antt, the language of definitions and proofs. Its braces are counted. What could
+//! hide one of them, or a semicolon, from the prover but not from this count is refused.
 
 /// What the text of a clause or a ghost item must not have.
 const REFUSED: [(&str, &str); 5] = [

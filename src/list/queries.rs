@@ -43,9 +43,9 @@ impl Listing {
 
     /// Returns the item that defines an index; `None` if the space has no such index.
     ///
-    /// Indices are those of the standard, as [`ItemTree::defined_indices`] returns them: a recursion
-    /// group of core types has one for each of its types. Takes time linear in the number of items;
-    /// for many lookups, [`definitions`](Self::definitions) takes that time once.
+    /// Indices are those of the standard, as [`ItemTree::defined_indices`] returns them: a
+    /// recursion group of core types has one for each of its types. Takes time linear in the number
+    /// of items; for many lookups, [`definitions`](Self::definitions) takes that time once.
     ///
     /// ```
     /// use wenc::tree::{ItemTree, Space};

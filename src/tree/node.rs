@@ -359,8 +359,8 @@ impl<'a> Fields<'a> {
         (0..).map_while(move |at| self.get(at))
     }
 
-    /// Returns the field with this number. It isn't inlined, so that the stack of a caller that calls
-    /// itself stays small.
+    /// Returns the field with this number. It isn't inlined, so that the stack of a caller that
+    /// calls itself stays small.
     #[inline(never)]
     fn get(self, at: usize) -> Option<(&'static str, Child<'a>)> {
         let named = match self.0.source {

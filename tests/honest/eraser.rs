@@ -121,8 +121,8 @@ fn ghost_forms_that_are_not_known() {
     );
 }
 
-/// Whatever might end a clause or a ghost item elsewhere for the prover than for the eraser, in each
-/// of them.
+/// Whatever might end a clause or a ghost item elsewhere for the prover than for the eraser, in
+/// each of them.
 #[test]
 fn signs_that_might_hide_a_brace() {
     let ghosts = [

@@ -73,8 +73,8 @@ impl ModuleType {
     }
 
     /// Returns the number of core types: declared ones, of which a
-    /// [recursion group](crate::CoreTypeEncoder::rec) is one, including an unfinished one, and outer
-    /// aliases.
+    /// [recursion group](crate::CoreTypeEncoder::rec) is one, including an unfinished one, and
+    /// outer aliases.
     pub fn type_count(&self) -> u32 {
         self.0.type_count()
     }

@@ -117,8 +117,8 @@ fn real_components_have_none() {
     assert_eq!(whole, 40);
 }
 
-/// Each type of a recursion group has an index, in a component, in one that is nested in it, and for
-/// debug names.
+/// Each type of a recursion group has an index, in a component, in one that is nested in it, and
+/// for debug names.
 #[test]
 fn types_of_recursion_groups() {
     // a group of three types and a type; functions of core types 3 and 4
