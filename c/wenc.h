@@ -503,6 +503,11 @@ typedef struct {
   uint32_t part;
   /* For WENC_UNREAD_ITEM, the number of items before it in the section. */
   uint32_t item;
+  /* The byte offset of the first byte that can't be read, or of the end where bytes are missing. */
+  size_t cause;
+  /* The bytes that can be there: `byte` if the bit `byte % 8` of `expected[byte / 8]` is set. All 0
+   * if that doesn't depend on the byte alone, as in a text or where bytes are missing. */
+  uint8_t expected[32];
 } wenc_unread;
 
 /* A section that was read. Each `place` is a byte offset in the component. */
@@ -1043,6 +1048,12 @@ WENC_CHECKED enum wenc_status wenc_walk_name(wenc_names_walk *names, wenc_debug_
  * wenc_len counts its sections, wenc_count its items. Modules and nested components aren't read. */
 WENC_CHECKED enum wenc_status wenc_list(wenc_handle *listing, const uint8_t *bytes, size_t len,
                                         wenc_unread *unread);
+
+/* Writes why the section at this byte offset of a component can't be read, as an English sentence:
+ * `section` of wenc_unread, or `place` of a section that a walk returned. At most `size` bytes are
+ * written to `text`, the last of them a 0. Returns the length of all of the sentence, without a 0;
+ * 0 if the section can be read. */
+size_t wenc_fault_text(const uint8_t *bytes, size_t len, size_t section, char *text, size_t size);
 
 /* Writes the section with this number, counting from 0, to `*section`. WENC_BAD_ARGUMENT if there
  * is none. */

@@ -88,6 +88,6 @@ mod tests {
         let refused = rename(&component, "d", "file").unwrap_err();
         assert_eq!(refused.to_string(), "nothing is imported as d");
         let refused = rename(&component[..9], "a", "file").unwrap_err();
-        assert_eq!(refused.to_string(), "bad section at 0x8");
+        assert_eq!(refused.to_string(), "bad section at 0x8: the bytes end at 0x9");
     }
 }

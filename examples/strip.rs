@@ -39,6 +39,7 @@ fn main() -> Result<(), String> {
 #[cfg(test)]
 mod tests {
     use super::*;
+    use wenc::Cause;
 
     #[test]
     fn custom_sections_are_left_out() {
@@ -49,7 +50,8 @@ mod tests {
         let stripped = [b"\0asm\x0d\0\x01\0", &import[..], b"\x04\x08\0asm\x0d\0\x01\0"].concat();
         assert_eq!(strip(&bytes), Ok(stripped.clone()));
         assert_eq!(strip(&stripped), Ok(stripped));
-        assert_eq!(strip(&bytes[..9]), Err(ListFault::BadSection { place: 8 }));
+        let cause = Some(Cause::Few { place: 9, needed: 1, len: 0 });
+        assert_eq!(strip(&bytes[..9]), Err(ListFault::BadSection { place: 8, cause }));
     }
 
     #[test]

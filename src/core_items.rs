@@ -1,10 +1,10 @@
 //! The imports, the exports and the start of a core module.
 
 use crate::proved::wenc_list::Unread;
-use crate::proved::wenc_read::{Refusal, u32_of};
+use crate::proved::wenc_read::{Expected, Refusal, u32_of};
 use crate::proved::wenc_view::View;
 use crate::tree::CoreEntityType;
-use crate::{CoreSection, ExportKind, ModuleFault, SectionId};
+use crate::{Cause, CoreSection, ExportKind, ModuleFault, SectionId};
 use core::ops::Range;
 
 /// An item of a core module, which borrows from the module (WebAssembly 3.0, binary format, "Import
@@ -55,7 +55,7 @@ impl<'a> CoreItem<'a> {
                 let (function, rest) = u32_of(bytes)?;
                 (Self::Start { function }, rest)
             }
-            _ => return Err(Refusal::Malformed),
+            _ => return Err(Refusal::at(bytes, Expected::End)),
         })
     }
 }
@@ -76,7 +76,7 @@ impl<'a> CoreSection<'a> {
     ///
     /// ```
     /// use wenc::tree::CoreEntityType;
-    /// use wenc::{CoreItem, CoreSections, ModuleFault, Unread};
+    /// use wenc::{Cause, CoreItem, CoreSections, ModuleFault, Unread};
     ///
     /// // two imports, of which the second ends too early
     /// let module = b"\0asm\x01\0\0\0\x02\x0a\x02\x01m\x01f\0\x05\x01m\x01";
@@ -90,7 +90,8 @@ impl<'a> CoreSection<'a> {
     /// assert_eq!(item, CoreItem::Import { module: "m", name: "f", ty });
     ///
     /// let unread = Unread::Item { number: 1, place: 17 };
-    /// assert_eq!(items.next(), Some(Err(ModuleFault::BadItem { unread })));
+    /// let cause = Some(Cause::Few { place: 20, needed: 1, len: 0 });
+    /// assert_eq!(items.next(), Some(Err(ModuleFault::BadItem { unread, cause })));
     /// assert_eq!(items.next(), None);
     /// # Ok::<(), ModuleFault>(())
     /// ```
@@ -130,6 +131,13 @@ pub struct CoreItems<'a> {
 }
 
 impl<'a> CoreItems<'a> {
+    /// The fault of a part that is refused.
+    fn bad(&self, unread: Unread, refusal: Option<Refusal>) -> ModuleFault {
+        let start = self.end - self.rest.len();
+        let cause = |refusal| Cause::new(self.rest, self.rest.len(), refusal).moved(start);
+        ModuleFault::BadItem { unread, cause: refusal.map(cause) }
+    }
+
     /// Returns the next item, with its byte offsets.
     fn take(&mut self, kind: SectionId) -> Option<<Self as Iterator>::Item> {
         let place = self.end - self.rest.len();
@@ -142,10 +150,22 @@ impl<'a> CoreItems<'a> {
                     (self.left, self.number, self.rest) = (Some(left - 1), self.number + 1, rest);
                     return Some(Ok((place..self.end - rest.len(), item)));
                 }
-                Err(_) => Unread::Item { number: self.number, place },
+                Err(refusal) => {
+                    let unread = Unread::Item { number: self.number, place };
+                    // of a section of other items the count exceeds the bytes
+                    let refusal = match refusal.expected {
+                        Expected::End => Refusal::at(self.rest, Expected::Bytes(left)),
+                        _ => refusal,
+                    };
+                    return Some(Err(self.bad(unread, Some(refusal))));
+                }
             },
         };
-        Some(Err(ModuleFault::BadItem { unread }))
+        let refusal = match unread {
+            Unread::Count { .. } => u32_of(self.rest).err(),
+            _ => None,
+        };
+        Some(Err(self.bad(unread, refusal)))
     }
 }
 

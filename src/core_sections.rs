@@ -1,8 +1,7 @@
 //! A core module section by section.
 
-use crate::list::{Found, Unread, write_part};
+use crate::list::{Cause, Found, Unread, write_cause, write_part};
 use crate::proved::wenc_list::{behind_module_header, part_of};
-use crate::proved::wenc_read::Refusal;
 use crate::proved::wenc_view::text_of;
 use crate::{RawSection, SectionId};
 use core::fmt;
@@ -38,7 +37,7 @@ impl CoreSection<'_> {
 /// The iterator ends after an error.
 ///
 /// ```
-/// use wenc::{CoreSections, ModuleFault, SectionId};
+/// use wenc::{Cause, CoreSections, ModuleFault, SectionId};
 ///
 /// let module = b"\0asm\x01\0\0\0\x01\x04\x01\x60\0\0\0\x03\x01x\x07\x0a";
 /// let mut sections = CoreSections::new(module)?;
@@ -48,14 +47,14 @@ impl CoreSection<'_> {
 /// let custom = sections.next().unwrap()?;
 /// assert_eq!((custom.name, custom.data), (Some("x"), &[7][..]));
 ///
-/// assert_eq!(sections.next(), Some(Err(ModuleFault::BadSection { place: 19 })));
+/// let cause = Cause::Few { place: 20, needed: 1, len: 0 };
+/// assert_eq!(sections.next(), Some(Err(ModuleFault::BadSection { place: 19, cause })));
 /// assert_eq!(sections.next(), None);
 /// # Ok::<(), ModuleFault>(())
 /// ```
 #[derive(Clone, Debug)]
 pub struct CoreSections<'a> {
-    /// The size of the module.
-    len: usize,
+    module: &'a [u8],
     rest: &'a [u8],
 }
 
@@ -68,7 +67,7 @@ impl<'a> CoreSections<'a> {
     pub fn new(module: &'a [u8]) -> Result<Self, ModuleFault> {
         let rest = behind_module_header(module)
             .ok_or_else(|| ModuleFault::NotAModule { found: Found::of(module) })?;
-        Ok(Self { len: module.len(), rest })
+        Ok(Self { module, rest })
     }
 
     /// Returns the next section as its id and the bytes after its size, with its byte offsets,
@@ -82,7 +81,8 @@ impl<'a> CoreSections<'a> {
     /// // a custom section without a name
     /// let mut sections = CoreSections::new(b"\0asm\x01\0\0\0\0\x01\x07")?;
     /// let mut clone = sections.clone();
-    /// assert_eq!(sections.next(), Some(Err(ModuleFault::BadSection { place: 8 })));
+    /// let fault = sections.next().unwrap().unwrap_err();
+    /// assert!(matches!(fault, ModuleFault::BadSection { place: 8, .. }));
     /// assert_eq!(sections.next_raw(), None);
     ///
     /// assert_eq!(clone.next_raw(), Some((8..11, RawSection { id: 0, data: &[7] })));
@@ -90,23 +90,31 @@ impl<'a> CoreSections<'a> {
     /// # Ok::<(), ModuleFault>(())
     /// ```
     pub fn next_raw(&mut self) -> Option<(Range<usize>, RawSection<'a>)> {
-        let place = self.len - self.rest.len();
+        let place = self.offset();
         let ((id, data), rest) = part_of(self.rest).ok()?;
         self.rest = rest;
-        Some((place..self.len - rest.len(), RawSection { id, data }))
+        Some((place..self.offset(), RawSection { id, data }))
     }
 
     /// Reads the first section of what is left. Returns it and the bytes after it.
-    fn first(&self) -> Result<(CoreSection<'a>, &'a [u8]), Refusal> {
-        let ((id, content), rest) = part_of(self.rest)?;
+    fn first(&self) -> Result<(CoreSection<'a>, &'a [u8]), Cause> {
+        let cause = |end, refusal| Cause::new(self.module, end, refusal);
+        let part = part_of(self.rest).map_err(|refusal| cause(self.module.len(), refusal));
+        let ((id, content), rest) = part?;
+        let range = self.offset()..self.module.len() - rest.len();
         let (name, data) = if id == SectionId::Custom.into() {
-            let (name, data) = text_of(content)?;
+            let text = text_of(content).map_err(|refusal| cause(range.end, refusal));
+            let (name, data) = text?;
             (Some(name), data)
         } else {
             (None, content)
         };
-        let range = self.len - self.rest.len()..self.len - rest.len();
         Ok((CoreSection { id, name, data, range }, rest))
+    }
+
+    /// Returns the byte offset of what is left.
+    fn offset(&self) -> usize {
+        self.module.len() - self.rest.len()
     }
 }
 
@@ -117,10 +125,10 @@ impl<'a> Iterator for CoreSections<'a> {
         if self.rest.is_empty() {
             return None;
         }
-        let place = self.len - self.rest.len();
-        let first = self.first();
+        let (place, first) = (self.offset(), self.first());
         self.rest = first.as_ref().map_or(&[], |(_, rest)| rest);
-        Some(first.map(|(section, _)| section).map_err(|_| ModuleFault::BadSection { place }))
+        let fault = |cause| ModuleFault::BadSection { place, cause };
+        Some(first.map(|(section, _)| section).map_err(fault))
     }
 }
 
@@ -139,11 +147,15 @@ pub enum ModuleFault {
     BadSection {
         /// The byte offset of its id in the module.
         place: usize,
+        /// Why.
+        cause: Cause,
     },
     /// The content of a section isn't a count and that many items, or isn't exactly one start.
     BadItem {
         /// The first part of it that can't be read, by its byte offset in the module.
         unread: Unread,
+        /// Why it can't be read; `None` for bytes behind the last item.
+        cause: Option<Cause>,
     },
 }
 
@@ -151,8 +163,13 @@ impl fmt::Display for ModuleFault {
     fn fmt(&self, f: &mut fmt::Formatter<'_>) -> fmt::Result {
         match self {
             Self::NotAModule { found } => write!(f, "no core module's header: found {found}"),
-            Self::BadSection { place } => write!(f, "bad core section at {place:#x}"),
-            Self::BadItem { unread } => write_part(f, "bad item", *unread),
+            Self::BadSection { place, cause } => {
+                write!(f, "bad core section at {place:#x}: {cause}")
+            }
+            Self::BadItem { unread, cause } => {
+                write_part(f, "bad item", *unread)?;
+                write_cause(f, *cause)
+            }
         }
     }
 }

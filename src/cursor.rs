@@ -4,13 +4,13 @@ mod items;
 mod nested;
 mod out_of_range;
 
-use crate::proved::wenc_list as proved;
+use crate::proved::wenc_list::{self as proved, SectionRefusal};
 use crate::tree::{ItemTree, Space};
 use crate::twins::twins;
 use crate::view::{ItemView, NameView};
 use crate::{
-    ComponentExportKind, ComponentSectionId, ComponentTypeRef, DebugNames, Found, ListFault,
-    RawSection,
+    Cause, ComponentExportKind, ComponentSectionId, ComponentTypeRef, DebugNames, Found, ListFault,
+    RawSection, Unread,
 };
 use core::fmt;
 use core::iter;
@@ -67,7 +67,9 @@ impl<'a> Sections<'a> {
     ///
     /// [`ListFault::NotAComponent`] if the bytes don't begin with a component's header.
     pub fn new(bytes: &'a [u8]) -> Result<Self, ListFault> {
-        let left = proved::Sections::new(bytes).map_err(|fault| ListFault::new(bytes, fault))?;
+        let found = || Found::of(bytes);
+        let left = proved::Sections::new(bytes)
+            .map_err(|_| ListFault::NotAComponent { place: 0, found: found() })?;
         Ok(Self { bytes, left: Some(left) })
     }
 
@@ -236,9 +238,22 @@ impl<'a> Sections<'a> {
     /// Returns the fault, after which there are no sections.
     #[cold]
     #[inline(never)]
-    fn refused(&mut self, fault: proved::ListFault) -> ListFault {
+    fn refused(&mut self, left: proved::Sections<'a>, refusal: SectionRefusal<'a>) -> ListFault {
         self.left = None;
-        ListFault::new(self.bytes, fault)
+        match refusal {
+            SectionRefusal::Frame(refusal) => {
+                let cause = Some(Cause::new(self.bytes, left.ends, refusal));
+                ListFault::BadSection { place: left.place(), cause }
+            }
+            SectionRefusal::Count(of, refusal) => {
+                let unread = Some(Unread::Count { place: of.reached() });
+                let cause = Some(Cause::new(self.bytes, of.ends, refusal));
+                match of.id.try_into() {
+                    Ok(section) => ListFault::BadItem { place: of.place, section, unread, cause },
+                    Err(_) => ListFault::BadSection { place: of.place, cause },
+                }
+            }
+        }
     }
 
     /// Returns what is in the sections whose ids are kept, up to the first fault.
@@ -286,10 +301,14 @@ impl<'a> Iterator for Sections<'a> {
 
     #[inline(always)]
     fn next(&mut self) -> Option<Self::Item> {
-        match self.left.as_mut()?.next() {
+        let left = self.left.as_mut()?;
+        match left.next_or_refusal() {
             Ok(Some(left)) => Some(Ok(SectionReader { bytes: self.bytes, left })),
             Ok(None) => None,
-            Err(fault) => Some(Err(self.refused(fault))),
+            Err(refusal) => {
+                let left = *left;
+                Some(Err(self.refused(left, refusal)))
+            }
         }
     }
 }

@@ -148,7 +148,7 @@ pub use cursor::{Items, NestedSections, OutOfRange, SectionReader, Sections, Tre
 pub use encode::{Encode, encoding_size};
 pub use error::{Error, Unsupported};
 #[cfg(feature = "reader")]
-pub use list::{Definitions, Found, ListFault, ListedSection, Listing, Unread, list};
+pub use list::{Bytes, Cause, Definitions, Found, ListFault, ListedSection, Listing, Unread, list};
 #[cfg(feature = "reader")]
 pub use names::{DebugName, DebugNames, NamesFault, NamesReader};
 #[cfg(feature = "reader")]

@@ -1,16 +1,17 @@
 //! Listing a component.
 
-use crate::ComponentSectionId;
 use crate::proved::wasm_encoder as proved;
-use crate::proved::wenc_list::part_of;
 use crate::shim::alloc::Global;
+use crate::{ComponentSectionId, Sections};
 use core::fmt;
 use found::item_of;
 
+pub use cause::{Bytes, Cause};
 pub use found::Found;
 pub use proved::{ListedSection, Listing, Unread};
 pub use queries::Definitions;
 
+mod cause;
 mod found;
 mod queries;
 
@@ -20,7 +21,7 @@ mod queries;
 /// Needs the feature `reader`.
 ///
 /// ```
-/// use wenc::{ComponentSectionId, ListFault, Unread, list};
+/// use wenc::{Cause, ComponentSectionId, ListFault, Unread, list};
 ///
 /// let mut bytes = *b"\0asm\x0d\0\x01\0\x07\x05\x01\x40\0\x01\0\x0a\x06\x01\0\x01f\x01\0";
 /// // The count of imports becomes two.
@@ -28,7 +29,8 @@ mod queries;
 /// let fault = list(&bytes).unwrap_err();
 /// let section = ComponentSectionId::Import;
 /// let unread = Some(Unread::Item { number: 1, place: 23 });
-/// assert_eq!(fault, ListFault::BadItem { place: 15, section, unread, byte: None });
+/// let cause = Some(Cause::Few { place: 23, needed: 1, len: 0 });
+/// assert_eq!(fault, ListFault::BadItem { place: 15, section, unread, cause });
 /// assert_eq!(
 ///     fault.to_string(),
 ///     "bad item 1 at 0x17 in the section at 0xf: the section ends where an import is expected",
@@ -51,6 +53,8 @@ pub enum ListFault {
     BadSection {
         /// The byte offset of the first section that can't be read.
         place: usize,
+        /// Why.
+        cause: Option<Cause>,
     },
     /// The content of a section isn't a count and that many items, or isn't exactly one start.
     BadItem {
@@ -60,8 +64,8 @@ pub enum ListFault {
         section: ComponentSectionId,
         /// The first part of it that can't be read.
         unread: Option<Unread>,
-        /// The first byte of that part; `None` where the section ends.
-        byte: Option<u8>,
+        /// Why it can't be read; `None` for bytes behind the last item.
+        cause: Option<Cause>,
     },
     /// A section has types that are nested more than 100 deep, or is a component that is nested
     /// deeper than the limit of [`Sections::nested`](crate::Sections::nested) or of
@@ -71,41 +75,27 @@ pub enum ListFault {
         place: usize,
         /// The item with these types; `None` for a nested component.
         unread: Option<Unread>,
+        /// The type that is too deep.
+        cause: Option<Cause>,
     },
 }
 
 impl ListFault {
-    /// Converts the proved fault of these bytes, and finds the part of the section that can't be
-    /// read.
-    pub(crate) fn new(bytes: &[u8], fault: proved::ListFault) -> Self {
-        let unread = |place| proved::first_unread(bytes, place);
+    /// Converts the proved fault of these bytes.
+    fn new(bytes: &[u8], fault: proved::ListFault) -> Self {
         match fault {
             proved::ListFault::Memory => Self::NoMemory,
             proved::ListFault::NotAComponent { place } => {
-                Self::NotAComponent { place, found: Found::of(bytes.get(place..).unwrap_or(&[])) }
+                Self::NotAComponent { place, found: Found::of(bytes) }
             }
-            proved::ListFault::BadSection { place } => Self::BadSection { place },
-            proved::ListFault::BadItem { place } => Self::bad_item(bytes, place, unread(place)),
-            proved::ListFault::TooDeep { place } => Self::TooDeep { place, unread: unread(place) },
+            proved::ListFault::BadSection { place }
+            | proved::ListFault::BadItem { place }
+            | proved::ListFault::TooDeep { place } => {
+                let fault = Sections::at(bytes, place)
+                    .and_then(|sections| sections.items().find_map(Result::err));
+                fault.unwrap_or(Self::BadSection { place, cause: None })
+            }
         }
-    }
-
-    /// The fault of an item of the section at this byte offset.
-    fn bad_item(bytes: &[u8], place: usize, unread: Option<Unread>) -> Self {
-        // A section whose items were looked at has an id and a size.
-        let framed = bytes.get(place..).map(part_of);
-        let Some(Ok(((id, _), rest))) = framed else { return Self::BadSection { place } };
-        let Ok(section) = id.try_into() else { return Self::BadSection { place } };
-        let end = bytes.len() - rest.len();
-        let byte = unread.and_then(|unread| bytes[..end].get(place_of(unread))).copied();
-        Self::BadItem { place, section, unread, byte }
-    }
-}
-
-/// The byte offset of a part that isn't read.
-fn place_of(unread: Unread) -> usize {
-    match unread {
-        Unread::Count { place } | Unread::Item { place, .. } | Unread::Behind { place } => place,
     }
 }
 
@@ -128,14 +118,24 @@ fn write_expected(
     f: &mut fmt::Formatter<'_>,
     section: ComponentSectionId,
     unread: Option<Unread>,
-    byte: Option<u8>,
+    cause: Option<Cause>,
 ) -> fmt::Result {
-    let Some(Unread::Item { .. }) = unread else { return Ok(()) };
-    match byte {
-        Some(byte) => write!(f, ": {byte:#04x}")?,
-        None => f.write_str(": the section ends")?,
+    let Some(cause) = cause else { return Ok(()) };
+    let at_first = match unread {
+        Some(Unread::Item { place, .. }) => cause.at_first(place),
+        _ => None,
+    };
+    match at_first {
+        Some(Some(byte)) => write!(f, ": {byte:#04x}")?,
+        Some(None) => f.write_str(": the section ends")?,
+        None => return write!(f, ": {cause}"),
     }
     write!(f, " where {} is expected", item_of(section))
+}
+
+/// Writes why, behind what.
+pub(crate) fn write_cause(f: &mut fmt::Formatter<'_>, cause: Option<Cause>) -> fmt::Result {
+    cause.map_or(Ok(()), |cause| write!(f, ": {cause}"))
 }
 
 /// Writes the part of a section that can't be read.
@@ -154,12 +154,18 @@ impl fmt::Display for ListFault {
             Self::NotAComponent { place, found } => {
                 write!(f, "no component's header at {place:#x}: found {found}")
             }
-            Self::BadSection { place } => write!(f, "bad section at {place:#x}"),
-            Self::BadItem { place, section, unread, byte } => {
-                write_unread(f, "bad item", unread, place)?;
-                write_expected(f, section, unread, byte)
+            Self::BadSection { place, cause } => {
+                write!(f, "bad section at {place:#x}")?;
+                write_cause(f, cause)
             }
-            Self::TooDeep { place, unread } => write_unread(f, "too deep item", unread, place),
+            Self::BadItem { place, section, unread, cause } => {
+                write_unread(f, "bad item", unread, place)?;
+                write_expected(f, section, unread, cause)
+            }
+            Self::TooDeep { place, unread, cause } => {
+                write_unread(f, "too deep item", unread, place)?;
+                write_cause(f, cause)
+            }
         }
     }
 }
@@ -195,7 +201,7 @@ impl core::error::Error for ListFault {}
 ///
 /// ```
 /// use wenc::tree::ItemTree;
-/// use wenc::{ComponentTypeRef, ListFault, list};
+/// use wenc::{Cause, ComponentTypeRef, ListFault, list};
 ///
 /// let bytes = b"\0asm\x0d\0\x01\0\x07\x05\x01\x40\0\x01\0\x0a\x06\x01\0\x01f\x01\0";
 /// let listing = list(bytes)?;
@@ -206,7 +212,8 @@ impl core::error::Error for ListFault {}
 /// assert_eq!(section.items[0], ItemTree::Import { name, ty: ComponentTypeRef::Func(0) });
 /// assert_eq!(listing.counts, [0, 0, 0, 0, 0, 0, 0, 0, 1, 0, 0, 0, 1]);
 ///
-/// assert_eq!(list(&bytes[..13]), Err(ListFault::BadSection { place: 8 }));
+/// let cause = Some(Cause::Few { place: 10, needed: 5, len: 3 });
+/// assert_eq!(list(&bytes[..13]), Err(ListFault::BadSection { place: 8, cause }));
 /// # Ok::<(), ListFault>(())
 /// ```
 pub fn list(bytes: &[u8]) -> Result<Listing, ListFault> {

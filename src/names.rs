@@ -5,7 +5,7 @@ use crate::proved::wenc_sections::names::NAMES_LABEL;
 use crate::proved::wenc_view::text_of;
 use crate::tree::{ItemTree, Space};
 use crate::twins::twins;
-use crate::{ComponentNameSection, ComponentSectionId, Error, NameMap, SectionItem};
+use crate::{Cause, ComponentNameSection, ComponentSectionId, Error, NameMap, SectionItem};
 use alloc::collections::TryReserveError;
 use alloc::string::String;
 use by_index::ByIndex;
@@ -213,6 +213,8 @@ pub enum NamesFault {
         /// The byte offset of the first such subsection, counted from the end of the section's
         /// name.
         place: usize,
+        /// Why, by byte offsets that are counted so, too.
+        cause: Cause,
     },
 }
 
@@ -220,7 +222,9 @@ impl fmt::Display for NamesFault {
     fn fmt(&self, f: &mut fmt::Formatter<'_>) -> fmt::Result {
         match self {
             Self::NoMemory => f.write_str("no memory"),
-            Self::BadSubsection { place } => write!(f, "bad subsection of names at {place:#x}"),
+            Self::BadSubsection { place, cause } => {
+                write!(f, "bad subsection of names at {place:#x}: {cause}")
+            }
         }
     }
 }

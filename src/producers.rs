@@ -1,5 +1,6 @@
 //! Reading a producers section.
 
+use crate::Cause;
 use crate::proved::wenc_list::{ProducersPart, ProducersParts};
 use crate::proved::wenc_read::Refusal;
 use core::fmt;
@@ -42,8 +43,7 @@ pub struct Producer<'a> {
 /// ```
 #[derive(Clone)]
 pub struct ProducersReader<'a> {
-    /// The number of bytes of the data.
-    len: usize,
+    data: &'a [u8],
     /// The field of the next tool.
     field: &'a str,
     /// The parts that are left, or why there are none; `None` at the end and after an error.
@@ -56,7 +56,7 @@ impl<'a> ProducersReader<'a> {
 
     /// Returns the tools in the data of a section with this name.
     pub fn new(data: &'a [u8]) -> Self {
-        Self { len: data.len(), field: "", parts: Some(ProducersParts::new(data)) }
+        Self { data, field: "", parts: Some(ProducersParts::new(data)) }
     }
 }
 
@@ -67,8 +67,9 @@ impl<'a> Iterator for ProducersReader<'a> {
     type Item = Result<Producer<'a>, ProducersFault>;
 
     fn next(&mut self) -> Option<Self::Item> {
-        let Ok(mut parts) = self.parts.take()? else {
-            return Some(Err(ProducersFault { place: 0 }));
+        let mut parts = match self.parts.take()? {
+            Ok(parts) => parts,
+            Err(refusal) => return Some(Err(ProducersFault::new(self.data, 0, refusal))),
         };
         loop {
             match parts.next() {
@@ -78,8 +79,9 @@ impl<'a> Iterator for ProducersReader<'a> {
                     return Some(Ok(Producer { field: self.field, name, version }));
                 }
                 Ok(None) => return None,
-                Err(_) => {
-                    return Some(Err(ProducersFault { place: self.len - parts.rest.len() }));
+                Err(refusal) => {
+                    let place = self.data.len() - parts.rest.len();
+                    return Some(Err(ProducersFault::new(self.data, place, refusal)));
                 }
             }
         }
@@ -100,11 +102,19 @@ pub struct ProducersFault {
     /// The byte offset of the first field or tool that can't be read, or of the bytes after the
     /// last one, counted from the end of the section's name.
     pub place: usize,
+    /// Why, by byte offsets that are counted so, too.
+    pub cause: Cause,
+}
+
+impl ProducersFault {
+    fn new(data: &[u8], place: usize, refusal: Refusal) -> Self {
+        Self { place, cause: Cause::new(data, data.len(), refusal) }
+    }
 }
 
 impl fmt::Display for ProducersFault {
     fn fmt(&self, f: &mut fmt::Formatter<'_>) -> fmt::Result {
-        write!(f, "bad producers at {:#x}", self.place)
+        write!(f, "bad producers at {:#x}: {}", self.place, self.cause)
     }
 }
 

@@ -5,10 +5,12 @@ use crate::rows::{ItemRow, SectionRow};
 use crate::session::Session;
 use crate::{Handle, Refused, Result, Status, begin, calls, numbers, other, put, read};
 use alloc::vec::Vec;
+use core::ffi::c_char;
+use core::fmt::{self, Write};
 use core::ops::Range;
 use wenc::tree::Space;
 use wenc::view::ItemView;
-use wenc::{ComponentSectionId, Items, ListFault, SectionReader, Sections, Unread};
+use wenc::{Cause, ComponentSectionId, Items, ListFault, SectionReader, Sections, Unread};
 
 /// A component that was read.
 pub struct Listed {
@@ -107,12 +109,15 @@ fn push<T>(values: &mut Vec<T>, value: T) -> Result<(), ListFault> {
 }
 
 /// `wenc_unread`: the part of a component that can't be read.
+#[derive(Default)]
 #[repr(C)]
 pub struct UnreadPart {
     pub section: usize,
     pub place: usize,
     pub part: u32,
     pub item: u32,
+    pub cause: usize,
+    pub expected: [u8; 32],
 }
 
 #[unsafe(no_mangle)]
@@ -122,7 +127,7 @@ pub unsafe extern "C" fn wenc_list(
     len: usize,
     unread: *mut UnreadPart,
 ) -> Status {
-    unsafe { put(unread, UnreadPart { section: 0, place: 0, part: 0, item: 0 }) };
+    unsafe { put(unread, UnreadPart::default()) };
     let make = || {
         let bytes = unsafe { list(bytes, len) }?;
         Listed::read(bytes).map(Session::Listed).map_err(|fault| {
@@ -135,12 +140,12 @@ pub unsafe extern "C" fn wenc_list(
 
 /// Returns the part of a component that can't be read.
 fn unread_part(fault: ListFault) -> UnreadPart {
-    let (section, unread) = match fault {
-        ListFault::NotAComponent { place, .. } | ListFault::BadSection { place } => (place, None),
-        ListFault::BadItem { place, unread, .. } | ListFault::TooDeep { place, unread } => {
-            (place, unread)
-        }
-        _ => (0, None),
+    let (section, unread, cause) = match fault {
+        ListFault::NotAComponent { place, .. } => (place, None, None),
+        ListFault::BadSection { place, cause } => (place, None, cause),
+        ListFault::BadItem { place, unread, cause, .. }
+        | ListFault::TooDeep { place, unread, cause } => (place, unread, cause),
+        _ => (0, None, None),
     };
     let (part, item, place) = match unread {
         None => (0, 0, section),
@@ -148,7 +153,67 @@ fn unread_part(fault: ListFault) -> UnreadPart {
         Some(Unread::Item { number, place }) => (2, number, place),
         Some(Unread::Behind { place }) => (3, 0, place),
     };
-    UnreadPart { section, place, part, item }
+    let mut expected = [0; 32];
+    if let Some(Cause::Byte { expected: bytes, .. }) = cause {
+        bytes
+            .ranges()
+            .flatten()
+            .for_each(|byte| expected[usize::from(byte / 8)] |= 1 << (byte % 8));
+    }
+    let cause = cause.map_or(place, |cause| cause.place());
+    UnreadPart { section, place, part, item, cause, expected }
+}
+
+/// Returns why the section at this byte offset of a component can't be read.
+fn fault_at(bytes: &[u8], section: usize) -> Option<ListFault> {
+    if section == 0 {
+        return Sections::new(bytes).err();
+    }
+    match Sections::at(bytes, section)?.next()? {
+        Ok(section) => section.items().find_map(core::result::Result::err),
+        Err(fault) => Some(fault),
+    }
+}
+
+/// A text of C, of so many bytes with the 0 that ends it.
+struct Written {
+    text: *mut c_char,
+    size: usize,
+    /// The number of bytes that were to be written.
+    len: usize,
+}
+
+impl fmt::Write for Written {
+    fn write_str(&mut self, text: &str) -> fmt::Result {
+        for byte in text.bytes() {
+            if self.len + 1 < self.size {
+                unsafe { self.text.add(self.len).write(byte as c_char) };
+            }
+            self.len += 1;
+        }
+        Ok(())
+    }
+}
+
+#[unsafe(no_mangle)]
+pub unsafe extern "C" fn wenc_fault_text(
+    bytes: *const u8,
+    len: usize,
+    section: usize,
+    text: *mut c_char,
+    size: usize,
+) -> usize {
+    let size = if text.is_null() { 0 } else { size };
+    let mut written = Written { text, size, len: 0 };
+    let fault = unsafe { list(bytes, len) }.ok().and_then(|bytes| fault_at(bytes, section));
+    if let Some(fault) = fault {
+        // Nothing fails.
+        let _ = write!(written, "{fault}");
+    }
+    if let Some(last) = size.checked_sub(1) {
+        unsafe { text.add(written.len.min(last)).write(0) };
+    }
+    written.len
 }
 
 /// Returns the component that a handle has read.

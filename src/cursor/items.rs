@@ -1,10 +1,12 @@
 //! Reading a section item by item.
 
+use crate::proved::wenc_decode::TreeOf;
 use crate::proved::wenc_list as proved;
+use crate::proved::wenc_read::NestedRefusal;
 use crate::shim::alloc::Global;
 use crate::tree::ItemTree;
 use crate::view::ItemView;
-use crate::{ComponentSectionId, ListFault, Unread};
+use crate::{Cause, ComponentSectionId, ListFault, Unread};
 use core::fmt;
 use core::ops::Range;
 
@@ -74,22 +76,27 @@ impl<'a> Items<'a> {
     /// Returns the fault, after which there are no items.
     #[cold]
     #[inline(never)]
-    fn refused(&mut self, left: proved::SectionItems<'a>, fault: proved::ListFault) -> ListFault {
+    fn refused(&mut self, left: proved::SectionItems<'a>, refusal: NestedRefusal) -> ListFault {
         self.left = None;
-        let unread = match (left.left, left.reached()) {
+        let proved::SectionItems { id, place, ends, left: more, .. } = left;
+        let unread = match (more, left.reached()) {
             (0, place) => Unread::Behind { place },
-            (more, place) => Unread::Item { number: self.count - more, place },
+            (_, place) => Unread::Item { number: self.count - more, place },
         };
-        match (fault, ComponentSectionId::try_from(left.id)) {
-            (proved::ListFault::BadItem { place }, Ok(section)) => {
-                let byte = left.rest.first().copied();
-                ListFault::BadItem { place, section, unread: Some(unread), byte }
+        let refusal = match refusal {
+            NestedRefusal::Flat(refusal) => refusal,
+            NestedRefusal::TooDeep(left) => {
+                let cause = Some(Cause::Deep { place: ends.saturating_sub(left) });
+                return ListFault::TooDeep { place, unread: Some(unread), cause };
             }
-            (proved::ListFault::TooDeep { place }, _) => {
-                ListFault::TooDeep { place, unread: Some(unread) }
+        };
+        let cause = (more > 0).then(|| Cause::new(self.bytes, ends, refusal));
+        match ComponentSectionId::try_from(id) {
+            Ok(ComponentSectionId::CoreCustom) if more > 0 => {
+                ListFault::BadSection { place, cause }
             }
-            (proved::ListFault::BadItem { place }, Err(_)) => ListFault::BadSection { place },
-            (fault, _) => ListFault::new(self.bytes, fault),
+            Ok(section) => ListFault::BadItem { place, section, unread: Some(unread), cause },
+            Err(_) => ListFault::BadSection { place, cause: None },
         }
     }
 }
@@ -106,12 +113,12 @@ impl<'a> Iterator for Items<'a> {
     fn next(&mut self) -> Option<Self::Item> {
         let left = self.left.as_mut()?;
         let place = left.reached();
-        match left.next() {
+        match left.next_or_refusal() {
             Ok(Some(item)) => Some(Ok((place..left.reached(), item))),
             Ok(None) => None,
-            Err(fault) => {
+            Err(refusal) => {
                 let left = *left;
-                Some(Err(self.refused(left, fault)))
+                Some(Err(self.refused(left, refusal)))
             }
         }
     }
@@ -138,15 +145,14 @@ impl Iterator for Trees<'_> {
 
     #[inline(always)]
     fn next(&mut self) -> Option<Self::Item> {
-        let left = self.0.left.as_mut()?;
-        let place = left.reached();
-        match left.next_tree(Global) {
-            Ok(Some(item)) => Some(Ok((place..left.reached(), item))),
-            Ok(None) => None,
-            Err(fault) => {
-                let left = *left;
-                Some(Err(self.0.refused(left, fault)))
-            }
-        }
+        let (range, item) = match self.0.next()? {
+            Ok(item) => item,
+            Err(fault) => return Some(Err(fault)),
+        };
+        let tree = ItemTree::tree_of(Global, item).map(|tree| (range, tree));
+        Some(tree.map_err(|_| {
+            self.0.left = None;
+            ListFault::NoMemory
+        }))
     }
 }

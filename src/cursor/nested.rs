@@ -31,7 +31,7 @@ use core::mem;
 /// assert_eq!(places, [(0, 8..28), (1, 18..28)]);
 ///
 /// let fault = sections.nested(1).last().unwrap().err();
-/// assert_eq!(fault, Some(ListFault::TooDeep { place: 18, unread: None }));
+/// assert_eq!(fault, Some(ListFault::TooDeep { place: 18, unread: None, cause: None }));
 /// # Ok::<(), ListFault>(())
 /// ```
 #[derive(Clone, Debug)]
@@ -54,7 +54,11 @@ impl<'a> NestedSections<'a> {
     fn enter(&mut self, section: SectionReader<'a>) -> Result<(), ListFault> {
         let Some(component) = section.component()? else { return Ok(()) };
         if self.around.len >= self.limit {
-            return Err(ListFault::TooDeep { place: section.range().start, unread: None });
+            return Err(ListFault::TooDeep {
+                place: section.range().start,
+                unread: None,
+                cause: None,
+            });
         }
         let outer = mem::replace(&mut self.innermost, component);
         outer.left.map_or(Ok(()), |left| self.around.push(left.ends))

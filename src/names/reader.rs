@@ -1,7 +1,8 @@
 //! Reading debug names one by one.
 
 use super::NamesFault;
-use crate::proved::wenc_list::{ItemName, Names, names_of};
+use crate::Cause;
+use crate::proved::wenc_list::{ItemName, Names, names_of, part_of};
 use crate::proved::wenc_read::Refusal;
 use crate::proved::wenc_view::View;
 use crate::tree::Space;
@@ -28,13 +29,14 @@ pub struct DebugName<'a> {
 ///
 /// ```
 /// use wenc::tree::Space;
-/// use wenc::{DebugName, NamesFault, NamesReader};
+/// use wenc::{Cause, DebugName, NamesFault, NamesReader};
 ///
 /// // the names of the component and of a function, and a subsection without a size
 /// let mut names = NamesReader::new(b"\0\x02\x01c\x01\x05\x01\x01\0\x01g\x02");
 /// assert_eq!(names.next(), Some(Ok(DebugName { item: None, name: "c" })));
 /// assert_eq!(names.next(), Some(Ok(DebugName { item: Some((Space::Funcs, 0)), name: "g" })));
-/// assert_eq!(names.next(), Some(Err(NamesFault::BadSubsection { place: 11 })));
+/// let cause = Cause::Few { place: 12, needed: 1, len: 0 };
+/// assert_eq!(names.next(), Some(Err(NamesFault::BadSubsection { place: 11, cause })));
 /// assert_eq!(names.next(), None);
 /// ```
 #[derive(Clone, Copy, Debug)]
@@ -127,9 +129,14 @@ impl<'a> Iterator for NamesReader<'a> {
                 self.rest = Some(rest);
                 name.map(Ok)
             }
-            Err(_) => {
+            Err(refusal) => {
                 let place = self.data.len() - rest.len();
-                Some(Err(NamesFault::BadSubsection { place }))
+                let end = match part_of(rest) {
+                    Ok((_, behind)) if self.within.is_none() => self.data.len() - behind.len(),
+                    _ => self.data.len(),
+                };
+                let cause = Cause::new(self.data, end, refusal);
+                Some(Err(NamesFault::BadSubsection { place, cause }))
             }
         }
     }

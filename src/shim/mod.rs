@@ -39,7 +39,7 @@ pub mod marker {
 pub mod str {
     //! Borrowed strings.
 
-    pub use core::str::from_utf8;
+    pub use core::str::{Utf8Error, from_utf8};
 }
 
 #[cfg(any(script, test))]

@@ -12,6 +12,8 @@ use crate::proved::wasm_encoder::{
     Encode, Fault, PrimitiveValType, Unread,
 };
 use crate::proved::wenc_list::{ItemTree, ItemView, Names};
+use crate::proved::wenc_parts::Alias;
+use crate::proved::wenc_view::View;
 use crate::shim::alloc::Global;
 use crate::shim::vec::Vec;
 
@@ -191,7 +193,8 @@ fn runs() {
     let (names, rest) = list::first_names(b"\0\x02\x01c\x09").unwrap();
     assert!(matches!(names, Names::Component("c")) && rest == b"\x09");
     assert_eq!(list::sum_of(b"\x02\x80\x01\x07\x2a"), Ok((135, &b"\x2a"[..])));
-    let (tree, rest) = list::alias_tree(Global, b"\x03\x02\x01\x02\x2a").unwrap();
+    let (alias, rest) = Alias::view_of(b"\x03\x02\x01\x02\x2a").unwrap();
+    let tree = list::alias_tree(Global, alias).unwrap();
     assert!(tree.as_alias() == parts::alias() && rest == b"\x2a");
     write! {
         script() => b"0\n0061736d0d00010001080061736d01000000\n";

@@ -6,8 +6,11 @@ pub mod built;
 mod changed;
 #[cfg(feature = "reader")]
 mod damaged;
+#[cfg(feature = "reader")]
+mod expected;
 mod failed;
 mod read;
+mod refusals;
 #[cfg(feature = "reader")]
 #[path = "../common/sections.rs"]
 mod sections;

@@ -3,7 +3,7 @@
 use std::ops::Range;
 use wenc::tree::{CoreEntityType, CoreMemoryType};
 use wenc::{
-    CoreItem, CoreSection, CoreSections, ExportKind, Found, ModuleFault, SectionId, Unread,
+    Cause, CoreItem, CoreSection, CoreSections, ExportKind, Found, ModuleFault, SectionId, Unread,
 };
 
 fn all(module: &[u8]) -> Vec<Result<CoreSection<'_>, ModuleFault>> {
@@ -51,28 +51,33 @@ fn faults_have_their_places() {
         header[at] ^= 1;
         assert!(CoreSections::new(&header).is_err());
     }
-    let (empty, bad) = (b"\0asm\x01\0\0\0\x01\0", Err(ModuleFault::BadSection { place: 10 }));
+    let empty = b"\0asm\x01\0\0\0\x01\0";
     // sizes: none, one that doesn't end, one past the end; names: none, one past the end, no text
-    for bytes in [
-        &b"\x01"[..],
-        b"\x01\x80",
-        b"\x01\x01",
-        b"\x01\xff\xff\xff\xff\x0fa",
-        b"\0\0",
-        b"\0\x02\x02x",
-        b"\0\x02\x01\xff\x01\0",
+    let few = |place, needed, len| Cause::Few { place, needed, len };
+    for (bytes, cause) in [
+        (&b"\x01"[..], few(11, 1, 0)),
+        (b"\x01\x80", few(12, 1, 0)),
+        (b"\x01\x01", few(12, 1, 0)),
+        (b"\x01\xff\xff\xff\xff\x0fa", few(16, u32::MAX, 1)),
+        (b"\x01\x80\x80\x80\x80\x80", Cause::Number { place: 11, bits: 32 }),
+        (b"\0\0", few(12, 1, 0)),
+        (b"\0\x02\x02x\x01\0", few(13, 2, 1)),
+        (b"\0\x02\x01\xff\x01\0", Cause::Text { place: 13, byte: 0xff }),
     ] {
         let module = [&empty[..], bytes].concat();
         let told = all(&module);
         assert_eq!(told.len(), 2, "{bytes:x?}");
-        assert_eq!(told[1], bad, "{bytes:x?}");
+        assert_eq!(told[1], Err(ModuleFault::BadSection { place: 10, cause }), "{bytes:x?}");
     }
     let texts = [
         (
             ModuleFault::NotAModule { found: Found::Component },
             "no core module's header: found a component",
         ),
-        (ModuleFault::BadSection { place: 10 }, "bad core section at 0xa"),
+        (
+            ModuleFault::BadSection { place: 10, cause: few(12, 7, 2) },
+            "bad core section at 0xa: needs 7 bytes or more from 0xc on, where 2 are left",
+        ),
     ];
     for (fault, text) in texts {
         let fault: Box<dyn std::error::Error> = fault.into();
@@ -113,22 +118,26 @@ fn items_have_their_places() {
 
 #[test]
 fn items_that_are_not_read_have_their_places() {
-    let bad = |unread| vec![Err(ModuleFault::BadItem { unread })];
+    let bad = |unread, cause| vec![Err(ModuleFault::BadItem { unread, cause })];
+    let few = |place, needed, len| Some(Cause::Few { place, needed, len });
     // of a section whose items aren't read
     assert_eq!(items(b"\x01\x04\x01\x60\0\0"), (Some(1), vec![]));
-    assert_eq!(items(b"\x01\0"), (None, bad(Unread::Count { place: 10 })));
-    assert_eq!(items(b"\x07\x01\x80"), (None, bad(Unread::Count { place: 10 })));
+    let count = Unread::Count { place: 10 };
+    assert_eq!(items(b"\x01\0"), (None, bad(count, few(10, 1, 0))));
+    assert_eq!(items(b"\x07\x01\x80"), (None, bad(count, few(11, 1, 0))));
     assert_eq!(items(b"\0\x02\x01x"), (None, vec![]));
     assert_eq!(items(b"\x0e\x01\x01"), (None, vec![]));
-    let item = |number, place| bad(Unread::Item { number, place });
-    assert_eq!(items(b"\x08\0"), (Some(1), item(0, 10)));
-    assert_eq!(items(b"\x07\x05\x02\x01g\x05\0"), (Some(2), item(0, 11)));
-    let behind = bad(Unread::Behind { place: 11 });
+    let item = |number, place, cause| bad(Unread::Item { number, place }, cause);
+    assert_eq!(items(b"\x08\0"), (Some(1), item(0, 10, few(10, 1, 0))));
+    let (_, told) = items(b"\x07\x05\x02\x01g\x05\0");
+    let text = "bad item 0 at 0xb: 0x05 at 0xd, where 0x00 to 0x04 is expected";
+    assert_eq!(told[0].as_ref().map_err(ModuleFault::to_string), Err(text.into()));
+    let behind = bad(Unread::Behind { place: 11 }, None);
     assert_eq!(items(b"\x02\x02\0\0"), (Some(0), behind.clone()));
     assert_eq!(items(b"\x08\x02\x07\0").1[1..], behind);
     // of other items, without bytes for that many, or with bytes for none
-    assert_eq!(items(b"\x01\x01\x01"), (Some(1), item(0, 11)));
-    assert_eq!(items(b"\x03\x03\x03\0\0"), (Some(3), item(0, 11)));
+    assert_eq!(items(b"\x01\x01\x01"), (Some(1), item(0, 11, few(11, 1, 0))));
+    assert_eq!(items(b"\x03\x03\x03\0\0"), (Some(3), item(0, 11, few(11, 3, 2))));
     assert_eq!(items(b"\x03\x03\x02\0\0"), (Some(2), vec![]));
     assert_eq!(items(b"\x03\x02\0\0"), (Some(0), behind.clone()));
     assert_eq!(items(b"\x0c\x01\x02"), (Some(2), vec![]));
@@ -139,6 +148,6 @@ fn items_that_are_not_read_have_their_places() {
         (Unread::Behind { place: 16 }, "bytes behind the last item at 0x10"),
     ];
     for (unread, text) in texts {
-        assert_eq!(ModuleFault::BadItem { unread }.to_string(), text);
+        assert_eq!(ModuleFault::BadItem { unread, cause: None }.to_string(), text);
     }
 }

@@ -3,7 +3,7 @@
 use crate::component;
 use wenc::tree::Space;
 use wenc::view::ItemView;
-use wenc::{ComponentSectionId, ListFault, Sections, Unread};
+use wenc::{Cause, ComponentSectionId, ListFault, Sections, Unread, list};
 
 fn sections(bytes: &[u8]) -> Sections<'_> {
     Sections::new(bytes).expect("it is a component")
@@ -15,12 +15,20 @@ const BAD_IMPORT: &[u8] = b"\x07\x05\x01\x40\x00\x01\x00\
     \x0a\x07\x02\x00\x01f\x01\x00\xff\
     \x0b\x07\x01\x00\x01b\x01\x00\x00";
 
+/// The last section is cut.
+const CUT: ListFault =
+    ListFault::BadSection { place: 33, cause: Some(Cause::Few { place: 35, needed: 7, len: 6 }) };
+
 #[test]
 fn the_first_fault_ends_what_is_found() {
     let bytes = component(BAD_IMPORT);
     let unread = Some(Unread::Item { number: 1, place: 32 });
     let section = ComponentSectionId::Import;
-    let fault = ListFault::BadItem { place: 24, section, unread, byte: Some(0xff) };
+    let fault = list(&bytes).expect_err("it can't be read");
+    assert!(matches!(fault, ListFault::BadItem { place: 24, section: of, unread: at, .. }
+        if of == section && at == unread));
+    let text = "bad item 1 at 0x20 in the section at 0x18: 0xff where an import is expected";
+    assert_eq!(fault.to_string(), text);
 
     let items: Vec<_> = sections(&bytes).items().collect();
     assert_eq!(items.len(), 4);
@@ -40,7 +48,7 @@ fn the_first_fault_ends_what_is_found() {
     let exports = exports.expect("they are read");
     assert_eq!(exports.iter().map(|(name, ..)| name.name).collect::<Vec<_>>(), ["a", "b"]);
     let exports: Vec<_> = sections(&bytes[..bytes.len() - 1]).exports().collect();
-    assert_eq!((exports.len(), &exports[1]), (2, &Err(ListFault::BadSection { place: 33 })));
+    assert_eq!((exports.len(), &exports[1]), (2, &Err(CUT)));
 }
 
 /// A fault comes once, and then nothing, from the sections and from the items of one.
@@ -49,7 +57,7 @@ fn a_fault_comes_once() {
     let bytes = component(BAD_IMPORT);
     let mut rest = sections(&bytes[..bytes.len() - 1]);
     let imports = rest.nth(2).expect("a section").expect("it is framed");
-    assert_eq!(rest.next().expect("a fault").err(), Some(ListFault::BadSection { place: 33 }));
+    assert_eq!(rest.next().expect("a fault").err(), Some(CUT));
     assert_eq!(format!("{rest:?}"), "Sections { offset: None, .. }");
     assert!(rest.next().is_none() && rest.next().is_none());
     assert_eq!((rest.count(), rest.items().count()), (0, 0));

@@ -29,9 +29,13 @@ fn faults_say_what_they_are() {
     let (place, section) = (8, ComponentSectionId::CanonicalFunction);
     let unread = Some(Unread::Item { number: 3, place: 31 });
     let found = |found| ListFault::NotAComponent { place: 0, found };
-    let bad = |unread, byte| ListFault::BadItem { place, section, unread, byte };
+    let bad = |unread, cause| ListFault::BadItem { place, section, unread, cause };
+    let few = |place, needed, len| Some(Cause::Few { place, needed, len });
     let count = Some(Unread::Count { place: 10 });
     let behind = Some(Unread::Behind { place: 31 });
+    let text = Some(Cause::Text { place: 33, byte: 0xff });
+    let number = Some(Cause::Number { place: 10, bits: 32 });
+    let deep = Some(Cause::Deep { place: 231 });
     let faults = [
         (ListFault::NoMemory, "no memory"),
         (found(Found::Nothing), "no component's header at 0x0: found nothing"),
@@ -43,22 +47,37 @@ fn faults_say_what_they_are() {
         ),
         (found(Found::Text), "no component's header at 0x0: found WebAssembly text"),
         (found(Found::Other), "no component's header at 0x0: found other bytes"),
-        (ListFault::BadSection { place }, "bad section at 0x8"),
+        (ListFault::BadSection { place, cause: None }, "bad section at 0x8"),
         (
-            bad(unread, Some(0x07)),
-            "bad item 3 at 0x1f in the section at 0x8: 0x07 where a canonical function \
-             is expected",
+            ListFault::BadSection { place, cause: few(9, 1, 0) },
+            "bad section at 0x8: the bytes end at 0x9",
         ),
         (
-            bad(unread, None),
+            bad(unread, few(31, 1, 0)),
             "bad item 3 at 0x1f in the section at 0x8: the section ends where a canonical \
              function is expected",
         ),
-        (bad(count, Some(0x80)), "bad count at 0xa in the section at 0x8"),
-        (bad(behind, Some(0)), "bytes behind the last item at 0x1f in the section at 0x8"),
+        (
+            bad(unread, few(33, 2, 1)),
+            "bad item 3 at 0x1f in the section at 0x8: needs 2 bytes or more from 0x21 on, \
+             where 1 is left",
+        ),
+        (bad(unread, text), "bad item 3 at 0x1f in the section at 0x8: 0xff at 0x21 isn't UTF-8"),
+        (
+            bad(count, number),
+            "bad count at 0xa in the section at 0x8: the number at 0xa has more than 32 bits",
+        ),
+        (bad(behind, None), "bytes behind the last item at 0x1f in the section at 0x8"),
         (bad(None, None), "bad item in the section at 0x8"),
-        (ListFault::TooDeep { place, unread }, "too deep item 3 at 0x1f in the section at 0x8"),
-        (ListFault::TooDeep { place, unread: None }, "too deep item in the section at 0x8"),
+        (
+            ListFault::TooDeep { place, unread, cause: deep },
+            "too deep item 3 at 0x1f in the section at 0x8: the type at 0xe7 is in more than 100 \
+             others",
+        ),
+        (
+            ListFault::TooDeep { place, unread: None, cause: None },
+            "too deep item in the section at 0x8",
+        ),
     ];
     for (fault, text) in faults {
         let fault: Box<dyn std::error::Error> = fault.into();
@@ -86,5 +105,7 @@ fn faults_say_what_is_expected() {
     }
     let fault = list(&component(&[9, 1, 0xff])).unwrap_err().to_string();
     let place = "bad item 0 at 0xa in the section at 0x8";
-    assert_eq!(fault, format!("{place}: 0xff where a start function is expected"));
+    assert_eq!(fault, format!("{place}: the bytes end at 0xb"));
+    let fault = list(&component(&[9, 0])).unwrap_err().to_string();
+    assert_eq!(fault, format!("{place}: the section ends where a start function is expected"));
 }

@@ -41,7 +41,7 @@ fn millions_of_components_in_one_another_are_walked() {
     assert_eq!(sections.nested(usize::MAX).count(), 2_000_001);
     let fault = sections.nested(1_999_999).last().expect("a section").err();
     let place = component.len() - 7 - 8 - 5;
-    assert_eq!(fault, Some(ListFault::TooDeep { place, unread: None }));
+    assert_eq!(fault, Some(ListFault::TooDeep { place, unread: None, cause: None }));
 }
 
 #[test]
@@ -61,7 +61,8 @@ fn outer_indices_are_visited_up_to_a_hundred_deep() {
         assert!(visited.is_ok() || item == ItemTree::Component(component.into()));
         (visited, seen, item)
     };
-    let too_deep = Err(OuterFault::Read(ListFault::TooDeep { place: 8, unread: None }));
+    let too_deep =
+        Err(OuterFault::Read(ListFault::TooDeep { place: 8, unread: None, cause: None }));
     for limit in [100, usize::MAX] {
         let (visited, seen, item) = visit(100, 101, limit);
         assert_eq!((visited, seen), (Ok(()), 1));

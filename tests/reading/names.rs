@@ -4,7 +4,8 @@ use crate::{bytes, component};
 use wenc::tree::{ItemTree, Space, String};
 use wenc::view::ItemView;
 use wenc::{
-    Component, ComponentNameSection, ComponentSection, DebugNames, NamesFault, Sections, list,
+    Cause, Component, ComponentNameSection, ComponentSection, DebugNames, NamesFault, Sections,
+    list,
 };
 
 /// A custom section with this name and data.
@@ -83,18 +84,34 @@ fn what_is_not_read_is_told() {
     let front = b"\x00\x02\x01a\x09\x01\xff";
     let bad = [
         // a name that is longer than its subsection, shorter, or no text
-        "00 0001 000101 000201 00020261 0003016161 000201ff",
+        ("00", "the bytes end at 0x8"),
+        ("0001", "the bytes end at 0x9"),
+        ("000101", "the bytes end at 0xa"),
+        ("000201", "needs 2 bytes or more from 0x9 on, where 1 is left"),
+        ("00020261", "needs 2 bytes or more from 0xa on, where 1 is left"),
+        ("0003016161", "0x61 at 0xb, where the end is expected"),
+        ("000201ff", "0xff at 0xa isn't UTF-8"),
         // a kind that is none, or isn't there
-        "0100 01020600 010100 0103000500 0103001300",
+        ("0100", "the bytes end at 0x9"),
+        ("01020600", "0x06 at 0x9, where 0x00 to 0x05 is expected"),
+        ("010100", "the bytes end at 0xa"),
+        ("0103000500", "0x05 at 0xa, where 0x00 to 0x04 or 0x10 to 0x12 is expected"),
+        ("0103001300", "0x13 at 0xa, where 0x00 to 0x04 or 0x10 to 0x12 is expected"),
         // more or fewer names than are counted
-        "01020101 01050102000161 01030100ff 0109010100808080808000",
+        ("01020101", "the bytes end at 0xb"),
+        ("01050102000161", "the bytes end at 0xe"),
+        ("01030100ff", "0xff at 0xb, where the end is expected"),
+        ("0109010100808080808000", "the number at 0xc has more than 32 bits"),
         // a size that is none, or past the end
-        "0180 0902 0906ffffffff",
+        ("0180", "the bytes end at 0x9"),
+        ("0902", "needs 2 bytes or more from 0x9 on, where 0 are left"),
+        ("0906ffffffff", "needs 6 bytes or more from 0x9 on, where 4 are left"),
     ];
-    for bad in bad.iter().flat_map(|words| words.split(' ')) {
+    for (bad, cause) in bad {
         let mut names = DebugNames::new();
-        let told = names.read(&section(&[&front[..], &bytes(bad)].concat()));
-        assert_eq!(told, Err(NamesFault::BadSubsection { place: 7 }), "{bad}");
+        let told = names.read(&section(&[&front[..], &bytes(bad)].concat())).unwrap_err();
+        assert!(matches!(told, NamesFault::BadSubsection { place: 7, .. }), "{bad}");
+        assert_eq!(told.to_string(), format!("bad subsection of names at 0x7: {cause}"));
         assert_eq!(names.component(), Some("a"));
     }
     let mut names = DebugNames::new();
@@ -102,8 +119,10 @@ fn what_is_not_read_is_told() {
         assert_eq!(names.read(&other), Ok(()));
     }
     assert_eq!(names, DebugNames::default());
-    let fault: Box<dyn std::error::Error> = NamesFault::BadSubsection { place: 16 }.into();
-    assert_eq!(fault.to_string(), "bad subsection of names at 0x10");
+    let cause = Cause::Text { place: 19, byte: 0xff };
+    let fault: Box<dyn std::error::Error> = NamesFault::BadSubsection { place: 16, cause }.into();
+    let text = "bad subsection of names at 0x10: 0xff at 0x13 isn't UTF-8";
+    assert_eq!(fault.to_string(), text);
     assert_eq!(NamesFault::NoMemory.to_string(), "no memory");
 }
 

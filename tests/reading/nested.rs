@@ -1,7 +1,7 @@
 //! Nested components, section by section.
 
 use crate::{component, nested};
-use wenc::{Found, ListFault, SectionReader, Sections};
+use wenc::{Cause, Found, ListFault, SectionReader, Sections};
 
 type Next = Result<(usize, SectionReader<'static>), ListFault>;
 
@@ -36,7 +36,7 @@ fn sections_follow_the_one_that_they_are_in() {
     assert_eq!(found(&bytes, 2), expected.map(Ok));
     assert_eq!(found(&bytes, usize::MAX), expected.map(Ok));
 
-    let too_deep = |place| Err(ListFault::TooDeep { place, unread: None });
+    let too_deep = |place| Err(ListFault::TooDeep { place, unread: None, cause: None });
     assert_eq!(
         found(&bytes, 1),
         [&expected[..3].iter().map(|of| Ok(*of)).collect::<Vec<_>>()[..], &[too_deep(21)]].concat()
@@ -50,7 +50,9 @@ fn sections_follow_the_one_that_they_are_in() {
 fn faults_are_placed_in_the_outermost() {
     // a section of the nested component that ends after it, though not after the outermost
     let bytes = component(&[&nested(b"\x06\x02\x00")[..], ALIASES].concat());
-    assert_eq!(found(&bytes, 1), [Ok((0, 4, 8, 21)), Err(ListFault::BadSection { place: 18 })]);
+    let cause = Some(Cause::Few { place: 20, needed: 2, len: 1 });
+    let bad = Err(ListFault::BadSection { place: 18, cause });
+    assert_eq!(found(&bytes, 1), [Ok((0, 4, 8, 21)), bad]);
 
     let bytes = component(&[0x04, 0x03, 0, b'a', b's']);
     let other = ListFault::NotAComponent { place: 10, found: Found::Other };

@@ -177,7 +177,7 @@ fn faults_end_it() {
 
     let bytes = component(&nested(b""));
     let deep: Vec<_> = Sections::new(&bytes).expect("a component").out_of_range(0).collect();
-    assert_eq!(deep, [Err(ListFault::TooDeep { place: 8, unread: None })]);
+    assert_eq!(deep, [Err(ListFault::TooDeep { place: 8, unread: None, cause: None })]);
     assert_eq!(found(&bytes), Ok(vec![]));
 }
 

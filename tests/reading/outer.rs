@@ -103,13 +103,15 @@ fn faults_are_told() {
     assert_eq!([&one, &two, &three].map(|bytes| told(bytes, 2)), [Ok(()); 3]);
     assert_eq!([&one, &two].map(|bytes| told(bytes, 1)), [Ok(()); 2]);
     assert_eq!(told(&one, 0), Ok(()));
-    let too_deep = Err(OuterFault::Read(ListFault::TooDeep { place: 18, unread: None }));
+    let too_deep =
+        Err(OuterFault::Read(ListFault::TooDeep { place: 18, unread: None, cause: None }));
     assert_eq!([told(&two, 0), told(&three, 1), told(&three, 0)], [too_deep; 3]);
 
     let nothing = ListFault::NotAComponent { place: 0, found: Found::Nothing };
     assert_eq!(told(b"", 1), Err(nothing.into()));
     let bad = component(&[&ty(2, 3), &nested(&[b"\x06"])]);
-    assert_eq!(told(&bad, 1), Err(ListFault::BadSection { place: 8 }.into()));
+    let fault = told(&bad, 1).expect_err("it can't be read").to_string();
+    assert_eq!(fault, "a nested component isn't read: bad section at 0x8: the bytes end at 0x9");
     // more values than there are indices
     let start = b"\x09\x07\x00\x00\xff\xff\xff\xff\x0f";
     assert_eq!(told(&component(&[&ty(2, 3), start, start]), 1), Err(Error::TooMany.into()));

@@ -4,8 +4,8 @@ use crate::component;
 use wenc::tree::Space;
 use wenc::view::ItemView;
 use wenc::{
-    ComponentSectionId, DebugName, DebugNames, Items, ListFault, NamesFault, NamesReader, Sections,
-    Unread,
+    Cause, ComponentSectionId, DebugName, DebugNames, Items, ListFault, NamesFault, NamesReader,
+    Sections, Unread,
 };
 
 /// Whatever the numbers are, items within the bytes are read, or an error comes once, and the end
@@ -46,20 +46,21 @@ fn faults_of_a_part_of_a_section() {
     let mut items = Items::at(&bytes, id, 11..21, 3).expect("it is within");
     let (range, _) = items.next().expect("an item").expect("it is read");
     assert_eq!((range, items.left()), (11..16, Some((16..21, 2))));
-    let fault = |unread, byte| {
+    let few = |place| Some(Cause::Few { place, needed: 1, len: 0 });
+    let fault = |unread, cause| {
         let unread = Some(unread);
-        Some(Err(ListFault::BadItem { place: 11, section: id, unread, byte }))
+        Some(Err(ListFault::BadItem { place: 11, section: id, unread, cause }))
     };
-    let is_cut = fault(Unread::Item { number: 1, place: 16 }, Some(0));
+    let is_cut = fault(Unread::Item { number: 1, place: 16 }, few(21));
     assert_eq!((items.next(), items.left()), (is_cut, None));
     let mut none = Items::at(&bytes, id, 11..16, 0).expect("it is within");
-    assert_eq!(none.next(), fault(Unread::Behind { place: 11 }, Some(0)));
+    assert_eq!(none.next(), fault(Unread::Behind { place: 11 }, None));
     let mut ended = Items::at(&bytes, id, 16..16, 1).expect("it is within");
     let unread = Some(Unread::Item { number: 0, place: 16 });
-    let fault = ListFault::BadItem { place: 16, section: id, unread, byte: None };
+    let fault = ListFault::BadItem { place: 16, section: id, unread, cause: few(16) };
     assert_eq!(ended.next(), Some(Err(fault)));
     let mut unknown = Items::at(&bytes, 12, 11..16, 1).expect("it is within");
-    assert_eq!(unknown.next(), Some(Err(ListFault::BadSection { place: 11 })));
+    assert_eq!(unknown.next(), Some(Err(ListFault::BadSection { place: 11, cause: None })));
 }
 
 /// The names of the component and of three functions, of which one has two, a subsection of another
@@ -108,10 +109,11 @@ fn debug_names_from_any_place() {
             while let Some(name) = names.next() {
                 read += 1;
                 if let Err(fault) = name {
-                    let NamesFault::BadSubsection { place: at } = fault else {
+                    let NamesFault::BadSubsection { place: at, cause } = fault else {
                         panic!("nothing is allocated")
                     };
                     assert!(place <= at && at <= NAMES.len() && names.next().is_none());
+                    assert!(at <= cause.place() && cause.place() <= NAMES.len(), "{fault}");
                     assert_eq!(names.left(), None);
                     faults += 1;
                 }

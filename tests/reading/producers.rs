@@ -44,28 +44,35 @@ fn what_is_not_read_is_a_fault() {
     let late = tool("a", "C", "");
     let data = b"\x02\x03sdk\x02\x01A\x011\x01B\x012\x01e\0";
     assert_eq!(tools(data), [Ok(first), Ok(second)]);
-    let faults: [(&[u8], &[Producer<'_>], usize); 11] = [
-        (b"", &[], 0),
-        (b"\x80", &[], 0),
+    let faults: [(&[u8], &[Producer<'_>], usize, &str); 12] = [
+        (b"", &[], 0, "the bytes end at 0x0"),
+        (b"\x80", &[], 0, "the bytes end at 0x1"),
+        (b"\xff\xff\xff\xff\x10", &[], 0, "the number at 0x0 has more than 32 bits"),
         // a field that is cut, in its name and before the number of its tools
-        (&data[..3], &[], 1),
-        (&data[..5], &[], 1),
+        (&data[..3], &[], 1, "needs 3 bytes or more from 0x2 on, where 1 is left"),
+        (&data[..5], &[], 1, "the bytes end at 0x5"),
         // a tool that is cut
-        (&data[..9], &[], 6),
-        (&data[..10], &[first], 10),
-        (b"\x01\x03sdk\x01\x01\xff\x011", &[], 6),
+        (&data[..9], &[], 6, "the bytes end at 0x9"),
+        (&data[..10], &[first], 10, "the bytes end at 0xa"),
+        (b"\x01\x03sdk\x01\x01\xff\x011", &[], 6, "0xff at 0x7 isn't UTF-8"),
         // a later field that is cut, or that isn't there
-        (&data[..14], &[first, second], 14),
-        (&data[..16], &[first, second], 14),
-        (b"\x02\x01b\x01\x01B\x012\x01a\x02\x01C\0\x01D", &[tool("b", "B", "2"), late], 14),
+        (&data[..14], &[first, second], 14, "the bytes end at 0xe"),
+        (&data[..16], &[first, second], 14, "the bytes end at 0x10"),
+        (
+            b"\x02\x01b\x01\x01B\x012\x01a\x02\x01C\0\x01D",
+            &[tool("b", "B", "2"), late],
+            14,
+            "the bytes end at 0x10",
+        ),
         // bytes after the last tool
-        (b"\x01\x03sdk\x01\x01A\x011\0", &[first], 10),
+        (b"\x01\x03sdk\x01\x01A\x011\0", &[first], 10, "0x00 at 0xa, where the end is expected"),
     ];
-    for (data, before, place) in faults {
-        let mut wanted: Vec<_> = before.iter().copied().map(Ok).collect();
-        wanted.push(Err(ProducersFault { place }));
-        assert_eq!(tools(data), wanted, "{data:02x?}");
+    for (data, before, place, cause) in faults {
+        let told = tools(data);
+        let (fault, read) = told.split_last().expect("a fault");
+        assert!(read.iter().eq(&before.iter().copied().map(Ok).collect::<Vec<_>>()));
+        let fault = fault.expect_err("it can't be read");
+        assert_eq!(fault.place, place, "{data:02x?}");
+        assert_eq!(fault.to_string(), format!("bad producers at {place:#x}: {cause}"));
     }
-    let fault = ProducersFault { place: 10 };
-    assert_eq!(fault.to_string(), "bad producers at 0xa");
 }

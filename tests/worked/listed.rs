@@ -11,7 +11,7 @@ fn printed(bytes: &[u8]) -> String {
         Err(ListFault::NotAComponent { place, .. }) => {
             return format!("NotAComponent at {place}\n");
         }
-        Err(ListFault::BadSection { place }) => return format!("BadSection at {place}\n"),
+        Err(ListFault::BadSection { place, .. }) => return format!("BadSection at {place}\n"),
         Err(ListFault::BadItem { place, .. }) => return format!("BadItem at {place}\n"),
         Err(ListFault::TooDeep { place, .. }) => return format!("TooDeep at {place}\n"),
         Err(fault) => panic!("{fault:?}"),

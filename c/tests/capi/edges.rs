@@ -479,7 +479,8 @@ fn items_of_many_sections_are_found() {
 /// Reads bytes: the status, and what isn't read, as the section, its place, part and item, which
 /// are written whatever is wrong.
 fn listed(handle: *mut Handle, bytes: *const u8, len: usize) -> (Status, [usize; 4]) {
-    let mut unread = UnreadPart { section: 7, place: 7, part: 7, item: 7 };
+    let mut unread =
+        UnreadPart { section: 7, place: 7, part: 7, item: 7, cause: 7, expected: [7; 32] };
     let status = unsafe { wenc_list(handle, bytes, len, &mut unread) };
     (status, [unread.section, unread.place, unread.part as usize, unread.item as usize])
 }
@@ -510,4 +511,47 @@ fn what_is_not_read_is_put_out() {
     assert_eq!(listed(ptr::null_mut(), at, 8), (Status::NoHandle, [0; 4]));
     assert_eq!(listed(taken.at(), at, 8), (Status::BadArgument, [0; 4]));
     assert_eq!(listed(nothing.at(), EMPTY, 8), (Status::BadArgument, [0; 4]));
+}
+
+/// What is written of why the section at this place can't be read, into so many bytes.
+fn said(bytes: &[u8], section: usize, size: usize) -> (usize, Vec<u8>) {
+    let mut text = [1; 120];
+    let at = text.as_mut_ptr().cast();
+    let len = unsafe { wenc_fault_text(bytes.as_ptr(), bytes.len(), section, at, size) };
+    assert!(text[size..].iter().all(|letter| *letter == 1_u8));
+    (len, text[..size].to_vec())
+}
+
+#[test]
+fn faults_are_said() {
+    // an import of a kind that is none
+    let bytes = b"\0asm\x0d\0\x01\0\x06\x01\0\x0a\x06\x01\0\x01f\x09\x01";
+    let (mut unread, mut listing) = (UnreadPart::default(), Held::nothing());
+    let status = unsafe { wenc_list(listing.at(), bytes.as_ptr(), bytes.len(), &mut unread) };
+    assert_eq!((status, unread.section, unread.place), (Status::BadItem, 11, 14));
+    let mut expected = [0; 32];
+    expected[0] = 0x3f;
+    assert_eq!((unread.cause, unread.expected), (17, expected));
+    let wanted = b"bad item 0 at 0xe in the section at 0xb: 0x09 at 0x11, where 0x00 to 0x05 is \
+        expected";
+    for size in [0, 1, 2, wanted.len(), wanted.len() + 1, 120] {
+        let (len, text) = said(bytes, 11, size);
+        let front = wanted.len().min(size.saturating_sub(1));
+        assert_eq!(len, wanted.len());
+        assert_eq!(&text[..front], &wanted[..front]);
+        assert!(size == 0 || text[front] == 0);
+    }
+    let at = ptr::null_mut();
+    let len = unsafe { wenc_fault_text(bytes.as_ptr(), bytes.len(), 11, at, 9) };
+    assert_eq!(len, wanted.len());
+    // what is read, and no bytes
+    for (bytes, section) in [(&bytes[..], 0), (bytes, 8), (bytes, 19), (bytes, 99)] {
+        assert_eq!(said(bytes, section, 1), (0, vec![0]));
+    }
+    assert_eq!(unsafe { wenc_fault_text(EMPTY, 8, 0, at, 0) }, 0);
+    let header = b"no component's header at 0x0: found nothing";
+    assert_eq!(said(b"", 0, 44), (43, [&header[..], b"\0"].concat()));
+    let text = b"bad section at 0x8: needs 5 bytes or more from 0xa on, where 1 is left\0";
+    let (len, said) = said(b"\0asm\x0d\0\x01\0\x06\x05\x01", 8, text.len());
+    assert_eq!((len, &said[..]), (text.len() - 1, &text[..]));
 }

@@ -2,13 +2,12 @@
 use Rattle.std.proofs.Common.{◌≡◌, ℕ, ◌<◌, ◌≤◌, List, Result, Ok, Err, IfOk, IfErr, inl, inr}
 use Rattle.std.proofs.lemmas.Bool.{cases_lt}
 use Rattle.wenc_base.specs.Piece.{Form, Wide}
-use Rattle.wenc_base.specs.Readers.{Deep, Reader}
+use Rattle.wenc_base.specs.Readers.{Bad, Deep, Reader}
 use Rattle.wenc_read.specs.Exact.{IsExactAt}
-use Rattle.wenc_read.specs.Gives.{GivesAlways}
+use Rattle.wenc_read.specs.Gives.{GivesAlways, flaw_of}
 use Rattle.wenc_read.specs.declared.refusal.NestedRefusal.{NestedRefusal}
 use Rattle.wenc_read.specs.declared.refusal.NestedRefusal.TheVariants.{Flat, TooDeep}
 use Rattle.wenc_read.specs.declared.refusal.Refusal.{Refusal}
-use Rattle.wenc_read.specs.declared.refusal.Refusal.TheVariants.{Memory, Malformed}
 use Rattle.wenc_types.specs.ComponentTypes.{DefType, def_type, depth}
 use Rattle.wenc_types.specs.reading.ComponentTypes.{read_type}
 use Rattle.wenc_view.specs.Gives.{GivesNestedAlways}
@@ -22,7 +21,7 @@ module _ {X A : Type 0} {form : Form A} {read : Reader A} {bytes : List ℕ} (ex
 
   pub none_at_all : (r : Result X Refusal) → GivesAlways view r (read bytes) → IfErr r (λ e. (v : A) (rest : List ℕ) → (form v).Reads Wide bytes rest → ⊥)
   none_at_all (Ok x) g = tt
-  none_at_all (Err e) g = λ v rest r. (let found = exact.read_is_given v rest r in let none = g.1 in absurd cc)
+  none_at_all (Err e) g = λ v rest r. (let found = exact.read_is_given v rest r in absurd cc)
 
 -- ---- types
 
@@ -38,21 +37,20 @@ module _ {X : Type 0} (levels : ℕ) (bytes : List ℕ)
     (deeper : (t : DefType) (rest : List ℕ) → levels < depth t → (def_type t).Reads Wide bytes rest → read_type levels bytes ≡ Err Deep)
     (view : X → DefType × List ℕ) where
   pub no_type : (r : Result X NestedRefusal) → GivesNestedAlways view r (read_type levels bytes)
-      → IfErr r (λ e. e ≡ Flat Malformed → (t : DefType) (rest : List ℕ) → (def_type t).Reads Wide bytes rest → ⊥)
+      → IfErr r (λ e. flaw_of e ≡ Bad → (t : DefType) (rest : List ℕ) → (def_type t).Reads Wide bytes rest → ⊥)
   no_type (Ok x) g = tt
-  no_type (Err TooDeep) g = λ e. absurd cc
-  no_type (Err (Flat Memory)) g = λ e. absurd cc
-  no_type (Err (Flat Malformed)) g = λ e t rest r.
+  no_type (Err (TooDeep left)) g = λ e. absurd cc
+  no_type (Err (Flat refusal)) g = λ e t rest r.
       elim (cases_lt levels (depth t)) [
-        | inl lt ↦ (let is = deeper t rest lt r in let none = g.1 in absurd cc)
-        | inr le ↦ (let is = found t rest le r in let none = g.1 in absurd cc)
+        | inl lt ↦ (let is = deeper t rest lt r in absurd cc)
+        | inr le ↦ (let is = found t rest le r in absurd cc)
       ]
 
   pub too_deep : (r : Result X NestedRefusal) → GivesNestedAlways view r (read_type levels bytes)
-      → IfErr r (λ e. e ≡ TooDeep → (t : DefType) (rest : List ℕ) → (def_type t).Reads Wide bytes rest → levels < depth t)
+      → IfErr r (λ e. flaw_of e ≡ Deep → (t : DefType) (rest : List ℕ) → (def_type t).Reads Wide bytes rest → levels < depth t)
   too_deep (Ok x) g = tt
   too_deep (Err (Flat e)) g = λ e. absurd cc
-  too_deep (Err TooDeep) g = λ e t rest r.
+  too_deep (Err (TooDeep left)) g = λ e t rest r.
       elim (cases_lt levels (depth t)) [
         | inl lt ↦ lt
         | inr le ↦ (let is = found t rest le r in absurd cc)

@@ -2,12 +2,11 @@
 ghost use Rattle.std.specs.Prelude.{◌≡◌, ◌≤◌, ◌<◌, [], ◌∷◌, ℕ, List, IfOk, IfErr, Ok};
 ghost use Rattle.wenc_base.specs.Prelude.{u32 as number, Wide, times, read_u32};
 ghost use Rattle.wenc_base.specs.Prelude.{Producers, list, producers_field};
+ghost use Rattle.wenc_base.specs.Readers.{Bad, Deep};
 ghost use Rattle.wenc_list.specs.Prelude.{names_view, parts_left, producers_parts};
 ghost use Rattle.wenc_list.specs.Prelude.{subsection_by_id};
 ghost use Rattle.wenc_parts.specs.Prelude.{AliasOf, alias, alias_view};
-ghost use Rattle.wenc_read.specs.Prelude.{GivesAlways};
-ghost use Rattle.wenc_read.specs.declared.refusal.NestedRefusal.TheVariants.{Flat, TooDeep};
-ghost use Rattle.wenc_read.specs.declared.refusal.Refusal.TheVariants.{Malformed};
+ghost use Rattle.wenc_read.specs.Prelude.{GivesAlways, flaw_of};
 ghost use Rattle.wenc_sections.specs.Prelude.{Subsection};
 ghost use Rattle.wenc_types.specs.Prelude.{DefType, def_type, depth};
 ghost use Rattle.wenc_view.specs.Prelude.{type_seen};
@@ -52,13 +51,13 @@ pub fn alias_of(bytes: &[u8]) -> Result<(Alias<'_>, &[u8]), Refusal>
 }
 
 /// Reads a type, which the bytes spell, no deeper than that. Returns it and the bytes after it. If
-/// it fails with `Malformed` they spell none, and with `TooDeep` none but a deeper one.
+/// it fails with `Flat` they spell none, and with `TooDeep` none but a deeper one.
 pub fn type_within(depth_left: u32, bytes: &[u8]) -> Result<(TypeView<'_>, &[u8]), NestedRefusal>
     ensures read { IfOk result (λ x. (depth (type_seen x.0) ≤ depth_left)
         × (def_type (type_seen x.0)).Reads Wide bytes.now x.1.now) }
-    ensures none { IfErr result (λ e. e ≡ Flat Malformed → (t : DefType) (rest : List ℕ)
+    ensures none { IfErr result (λ e. flaw_of e ≡ Bad → (t : DefType) (rest : List ℕ)
         → (def_type t).Reads Wide bytes.now rest → ⊥) }
-    ensures deeper { IfErr result (λ e. e ≡ TooDeep → (t : DefType) (rest : List ℕ)
+    ensures deeper { IfErr result (λ e. flaw_of e ≡ Deep → (t : DefType) (rest : List ℕ)
         → (def_type t).Reads Wide bytes.now rest → depth_left < depth t) }
 {
     types_are_exact();

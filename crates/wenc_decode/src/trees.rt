@@ -20,8 +20,7 @@ use wenc_view::{CaseView, DefinedView, ListOf, NameView, View};
 /// An owned value that can be made of a borrowed one, `V`. It is allocated in `A`.
 ///
 /// ```
-/// let (alias, rest) = Alias::view_of(bytes)?;
-/// Ok((AliasTree::tree_of(alloc, alias)?, rest))
+/// let tree = AliasTree::tree_of(alloc, alias)?;
 /// ```
 pub trait TreeOf<V, A: Allocator + Copy>: Sized + Drop {
     /// Whether the value equals a borrowed one.

@@ -1,4 +1,3 @@
-pub mod Asked
 pub mod Listed
 pub mod Indices
 pub mod SectionLaws

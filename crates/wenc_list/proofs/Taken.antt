@@ -26,7 +26,6 @@ use Rattle.wenc_builder.specs.laws.Reading.{item_of_lawful}
 use Rattle.wenc_read.specs.inside.Fails.{FailsNested}
 use Rattle.wenc_read.specs.declared.refusal.NestedRefusal.{NestedRefusal}
 use Rattle.wenc_read.specs.declared.refusal.NestedRefusal.TheVariants.{Flat, TooDeep}
-use Rattle.wenc_read.specs.declared.refusal.Refusal.TheVariants as refusals
 use Rattle.wenc_sections.specs.Start.{start_content}
 use Rattle.wenc_sections.specs.laws.Items.{start_content_lawful, start_content_sound}
 use Rattle.wenc_sections.specs.reading.Items.{read_start_content}
@@ -36,7 +35,8 @@ use Rattle.wenc_list.specs.Listing.{HasDepth, AreWithin, IsFramed, IsLabelled, I
 use Rattle.wenc_list.specs.declared.cursor.SectionItems.{SectionItems}
 use Rattle.wenc_list.specs.declared.fault.ListFault.{ListFault}
 use Rattle.wenc_list.specs.declared.fault.ListFault.TheVariants as faults
-use Rattle.wenc_list.specs.inside.Contents.{read_content_item, whole_item, read_item_in, read_count, fault_of_content}
+use Rattle.wenc_list.specs.inside.Contents.{read_content_item, whole_item, read_item_in, read_count}
+use Rattle.wenc_list.specs.Cursor.{fault_of_content}
 use Rattle.wenc_list.proofs.SectionLaws.{ItemWithin, GoesIn, item_tells, item_finds, IsPast, AloneIn, Fills, section_reads, section_framed}
 use Rattle.wenc_list.proofs.SectionLaws.{members_of, told_ok, not_both, frame_finds, same_frame}
 
@@ -613,10 +613,9 @@ count_holds id content n items e = told_ok (λ x. Holds id content x.0 x.1) ⊥ 
 
 pub item_fault : (s : SectionItems) (refusal : NestedRefusal) → 0 < s.left → AreBytes s.rest.now
     → FailsNested refusal (read_item_in 100 s.id s.rest.now) → IsFaultIn s (fault_of_content refusal s.id s.place)
-item_fault s (Flat refusals.Memory) some are h = tt
-item_fault s (Flat refusals.Malformed) some are h =
+item_fault s (Flat refusal) some are h =
     elim (eqb_tells s.id 0) [
       | inl t ↦ rw (t.0, cond) (refl, some, t.1, no_label s.rest.now are (rw t.1 at h))
       | inr t ↦ rw (t.0, cond) (refl, inl (some, t.1, never_item s.id s.rest.now h))
     ]
-item_fault s TooDeep some are h = let g = goes_deep s.id s.rest.now h in (refl, some, g.0, g.1, no_item s.id s.rest.now h)
+item_fault s (TooDeep left) some are h = let g = goes_deep s.id s.rest.now h in (refl, some, g.0, g.1, no_item s.id s.rest.now h)

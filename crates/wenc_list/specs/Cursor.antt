@@ -1,16 +1,21 @@
 -- A component that is taken section by section, and a section item by item (component model, binary
 -- format, "Component Definitions").
 use Rattle.std.specs.List.{AllByRecursion}
-use Rattle.std.specs.Prelude.{◌≡◌, ◌⊎◌, ℕ, ◌+◌, ◌-◌, ◌<◌, List, [], ◌++◌, length, IsTrue, IsFalse}
+use Rattle.std.specs.Prelude.{◌≡◌, ◌⊎◌, ℕ, ◌+◌, ◌-◌, ◌<◌, ◌≤◌, List, [], ◌++◌, length}
+use Rattle.std.specs.Prelude.{IsTrue, IsFalse, nat_eq, if◌then◌else◌}
 use Rattle.wenc_base.specs.Forms.{name, AreBytes}
 use Rattle.wenc_base.specs.Number.{u32}
 use Rattle.wenc_base.specs.Piece.{Piece, Form, Wide, EndsWith, only_where, raw, ◌⨾◌, each}
 use Rattle.wenc_builder.specs.Item.{Item, ModuleItem, ComponentItem, StartItem, CustomItem}
 use Rattle.wenc_builder.specs.Sections.{collects, item_of}
+use Rattle.wenc_read.specs.declared.refusal.NestedRefusal.{NestedRefusal}
+use Rattle.wenc_read.specs.declared.refusal.NestedRefusal.TheVariants.{Flat, TooDeep}
 use Rattle.wenc_view.specs.Depth.{OpensTypes}
 use Rattle.wenc_sections.specs.Start.{start_content}
 use Rattle.wenc_list.specs.Listing.{HasDepth, IsFramed, IsLabelled}
 use Rattle.wenc_list.specs.declared.cursor.SectionItems.{SectionItems}
+use Rattle.wenc_list.specs.declared.cursor.SectionRefusal.{SectionRefusal}
+use Rattle.wenc_list.specs.declared.cursor.SectionRefusal.TheVariants.{Frame, Count}
 use Rattle.wenc_list.specs.declared.fault.ListFault.{ListFault}
 use Rattle.wenc_list.specs.declared.fault.ListFault.TheVariants as faults
 
@@ -88,3 +93,28 @@ IsFaultIn s (faults.BadItem place) =
 IsFaultIn s (faults.TooDeep place) =
     (place ≡ s.place) × (0 < s.left) × (s.id ≡ 7) × OpensTypes 100 s.rest.now ×
     IsNoItem s.id s.rest.now
+
+-- ---- what the faults are
+
+-- why the content of a section with this id isn't read
+abbrev pub fault_of_content : NestedRefusal → ℕ → ℕ → ListFault
+fault_of_content (Flat refusal) id place =
+    if nat_eq id 0 then faults.BadSection place else faults.BadItem place
+fault_of_content (TooDeep left) id place = faults.TooDeep place
+
+-- why no section is read at this place
+abbrev pub fault_of_section : SectionRefusal → ℕ → ListFault
+fault_of_section (Frame refusal) place = faults.BadSection place
+fault_of_section (Count section refusal) place = faults.BadItem place
+
+-- ---- where the bytes can't be read on
+
+-- how many bytes are left there
+abbrev pub left_of : NestedRefusal → ℕ
+left_of (Flat refusal) = refusal.left
+left_of (TooDeep left) = left
+
+-- The place is in these bytes, in which no section begins, or in the content that has no count.
+abbrev pub IsPlacedIn : List ℕ → SectionRefusal → Type 0
+IsPlacedIn bytes (Frame refusal) = refusal.left ≤ length bytes
+IsPlacedIn bytes (Count section refusal) = refusal.left ≤ length section.rest.now

@@ -6,8 +6,9 @@ ghost use Rattle.wenc_builder.specs.Prelude.{preamble};
 ghost use Rattle.wenc_list.specs.Prelude.{Opens, HasTaken, IsSpent, IsFaultIn, item_view};
 ghost use Rattle.wenc_list.specs.Prelude.{item_seen, IsCountedItem};
 ghost use Rattle.wenc_list.specs.Prelude.{IsFaultHere, HasNoHeader, fault_of_content, read_count};
+ghost use Rattle.wenc_list.specs.Prelude.{fault_of_section, left_of, IsPlacedIn};
 ghost use Rattle.wenc_list.specs.declared.fault.ListFault.TheVariants.{Memory, NotAComponent};
-ghost use Rattle.wenc_read.specs.Prelude.{GivesAlways};
+ghost use Rattle.wenc_read.specs.Prelude.{GivesAlways, flaw_of};
 
 use crate::fault::ListFault;
 use crate::item::ItemTree;
@@ -16,7 +17,7 @@ use crate::members::item_in;
 use crate::sections::{are_bytes, frame};
 use std::alloc::Allocator;
 use wenc_decode::TreeOf;
-use wenc_read::{NestedRefusal, Refusal, u32_of};
+use wenc_read::{Expected, NestedRefusal, Refusal, u32_of};
 
 /// The remaining sections of a component.
 ///
@@ -53,21 +54,68 @@ pub struct SectionItems<'a> {
     pub rest: &'a [u8],
 }
 
+/// Why no section is next.
+#[derive(Clone, Copy)]
+pub enum SectionRefusal<'a> {
+    /// No section begins the bytes.
+    Frame(Refusal),
+    /// No count begins the content of the section, whose bytes these are.
+    Count(SectionItems<'a>, Refusal),
+}
+
+/// Returns the error with its place in these bytes.
+#[cold]
+fn placed(refusal: Refusal, bytes: &[u8]) -> Refusal
+    ensures within { result.left ≤ length bytes.now }
+    ensures kept { refusal.left ≤ length bytes.now → result ≡ refusal }
+{
+    if refusal.left <= bytes.len() {
+        return refusal;
+    }
+    Refusal {
+        left: bytes.len(),
+        expected: refusal.expected,
+    }
+}
+
+/// Returns the error of bytes that may nest, as `placed` does.
+#[cold]
+fn placed_nested(refusal: NestedRefusal, bytes: &[u8]) -> NestedRefusal
+    ensures flaw { flaw_of result ≡ flaw_of refusal }
+    ensures within { left_of result ≤ length bytes.now }
+    ensures kept { left_of refusal ≤ length bytes.now → result ≡ refusal }
+{
+    match refusal {
+        NestedRefusal::Flat(flat) => NestedRefusal::Flat(placed(flat, bytes)),
+        NestedRefusal::TooDeep(left) if left <= bytes.len() => NestedRefusal::TooDeep(left),
+        NestedRefusal::TooDeep(_) => NestedRefusal::TooDeep(bytes.len()),
+    }
+}
+
 /// Maps an error in the content of a section with this id. In a custom section only the name can be
 /// malformed.
 fn content_fault(refusal: NestedRefusal, id: u8, place: usize) -> ListFault
     ensures { result ≡ fault_of_content refusal id place }
 {
     match refusal {
-        NestedRefusal::Flat(Refusal::Memory) => ListFault::Memory,
-        NestedRefusal::Flat(Refusal::Malformed) if id == 0 => ListFault::BadSection { place },
-        NestedRefusal::Flat(Refusal::Malformed) => ListFault::BadItem { place },
-        NestedRefusal::TooDeep => ListFault::TooDeep { place },
+        NestedRefusal::Flat(_) if id == 0 => ListFault::BadSection { place },
+        NestedRefusal::Flat(_) => ListFault::BadItem { place },
+        NestedRefusal::TooDeep(_) => ListFault::TooDeep { place },
+    }
+}
+
+/// Maps the error of reading the section at this byte offset.
+fn section_fault(refusal: SectionRefusal<'_>, place: usize) -> ListFault
+    ensures { result ≡ fault_of_section refusal.entry place }
+{
+    match refusal {
+        SectionRefusal::Frame(_) => ListFault::BadSection { place },
+        SectionRefusal::Count(..) => ListFault::BadItem { place },
     }
 }
 
 /// Returns the number of items in the content of a section with this id, and their bytes. Fails
-/// with `Malformed` if no number begins the content.
+/// if no number begins the content.
 #[inline(always)]
 pub(crate) fn counted(id: u8, content: &[u8]) -> Result<(u32, &[u8]), Refusal>
     requires { id ≤ 11 }
@@ -113,6 +161,59 @@ impl<'a> Sections<'a> {
     ///
     /// # Errors
     ///
+    /// Fails where `next` does, with the byte that can't be read. Nothing is taken then.
+    #[inline(always)]
+    pub fn next_or_refusal(&mut self) -> Result<Option<SectionItems<'a>>, SectionRefusal<'a>>
+        // A returned section begins the remaining bytes, and all bytes after it remain.
+        ensures taken { IfOk result (λ o. MatchOption o (self.old.rest.now ≡ [])
+            (λ s. Opens self.old.ends self.old.rest.now s self.new.rest.now)) }
+        ensures same_end { self.new.ends ≡ self.old.ends }
+        // Otherwise nothing changes.
+        ensures unchanged { IfOk result (λ o. MatchOption o (self.new ≡ self.old)
+            (λ _. Unit {0})) }
+        ensures refused { IfErr result (λ _. self.new ≡ self.old) }
+        // An error has its cause in the section that begins the remaining bytes.
+        ensures fault { let place = self.old.ends - length self.old.rest.now in
+            IfErr result (λ e. IsFaultHere place self.old.rest.now (fault_of_section e place)) }
+        // Its place is in them.
+        ensures within { IfErr result (IsPlacedIn self.old.rest.now) }
+        ensures some { IfErr result (λ _. 0 < length self.old.rest.now) }
+    {
+        if self.rest.is_empty() {
+            return Ok(None);
+        }
+        let place = self.place();
+        match frame(self.rest) {
+            Ok(((id, content), rest)) => match counted(id, content) {
+                Ok((left, items)) => {
+                    self.rest = rest;
+                    Ok(Some(SectionItems {
+                        id,
+                        place,
+                        ends: self.place(),
+                        left,
+                        rest: items,
+                    }))
+                }
+                Err(refusal) => {
+                    let section = SectionItems {
+                        id,
+                        place,
+                        ends: self.ends.saturating_sub(rest.len()),
+                        left: 0,
+                        rest: content,
+                    };
+                    Err(SectionRefusal::Count(section, placed(refusal, content)))
+                }
+            },
+            Err(refusal) => Err(SectionRefusal::Frame(placed(refusal, self.rest))),
+        }
+    }
+
+    /// Returns the next section with all of its items, or `None` at the end.
+    ///
+    /// # Errors
+    ///
     /// Fails with `BadSection` if no section begins the remaining bytes, and with `BadItem` if the
     /// section has no count of its items. Nothing is taken then, and the next call fails too.
     #[inline(always)]
@@ -132,25 +233,9 @@ impl<'a> Sections<'a> {
         // It is never `Memory`.
         ensures asks_nothing { IfErr result (λ e. e ≢ Memory) }
     {
-        if self.rest.is_empty() {
-            return Ok(None);
-        }
-        let place = self.place();
-        match frame(self.rest) {
-            Ok(((id, content), rest)) => match counted(id, content) {
-                Ok((left, items)) => {
-                    self.rest = rest;
-                    Ok(Some(SectionItems {
-                        id,
-                        place,
-                        ends: self.place(),
-                        left,
-                        rest: items,
-                    }))
-                }
-                Err(_) => Err(ListFault::BadItem { place }),
-            },
-            Err(_) => Err(ListFault::BadSection { place }),
+        match self.next_or_refusal() {
+            Ok(section) => Ok(section),
+            Err(refusal) => Err(section_fault(refusal, self.place())),
         }
     }
 }
@@ -161,6 +246,52 @@ impl<'a> SectionItems<'a> {
         ensures { result ≡ self.now.ends - length self.now.rest.now }
     {
         self.ends.saturating_sub(self.rest.len())
+    }
+
+    /// Returns the next item, or `None` at the end. It borrows from the component: nothing is
+    /// allocated.
+    ///
+    /// # Errors
+    ///
+    /// Fails where `next` does, with the byte that can't be read. Nothing is taken then.
+    #[inline(always)]
+    pub fn next_or_refusal(&mut self) -> Result<Option<ItemView<'a>>, NestedRefusal>
+        // A returned item begins the remaining bytes, within depth 100, and all bytes after it
+        // remain.
+        ensures taken { IfOk result (λ o. MatchOption o (IsSpent self.old)
+            (λ x. HasTaken self.old (item_seen x ∷ []) self.new)) }
+        // Each list in it has as many members as it says.
+        ensures counted { IfOk result (λ o. IfSome o IsCountedItem) }
+        // Otherwise nothing changes.
+        ensures unchanged { IfOk result (λ o. MatchOption o (self.new ≡ self.old)
+            (λ _. Unit {0})) }
+        ensures refused { IfErr result (λ _. self.new ≡ self.old) }
+        // An error has its cause in the remaining bytes.
+        ensures fault { IfErr result (λ e. 0 < self.old.left
+            → IsFaultIn self.old (fault_of_content e self.old.id self.old.place)) }
+        ensures behind { IfErr result (λ _. self.old.left ≡ 0
+            → 0 < length self.old.rest.now) }
+        // Its place is in them.
+        ensures within { IfErr result (λ e. left_of e ≤ length self.old.rest.now) }
+    {
+        are_bytes(self.rest);
+        if self.left == 0 {
+            if self.rest.is_empty() {
+                return Ok(None);
+            }
+            return Err(NestedRefusal::Flat(Refusal {
+                left: self.rest.len(),
+                expected: Expected::End,
+            }));
+        }
+        match item_in(self.id, self.rest) {
+            Ok((item, rest)) => {
+                self.left -= 1;
+                self.rest = rest;
+                Ok(Some(item))
+            }
+            Err(refusal) => Err(placed_nested(refusal, self.rest)),
+        }
     }
 
     /// Returns the next item, or `None` at the end. It borrows from the component: nothing is
@@ -189,19 +320,9 @@ impl<'a> SectionItems<'a> {
         // It is never `Memory`.
         ensures asks_nothing { IfErr result (λ e. e ≢ Memory) }
     {
-        are_bytes(self.rest);
-        if self.left == 0 {
-            if self.rest.is_empty() {
-                return Ok(None);
-            }
-            return Err(ListFault::BadItem { place: self.place });
-        }
-        match item_in(self.id, self.rest) {
-            Ok((item, rest)) => {
-                self.left -= 1;
-                self.rest = rest;
-                Ok(Some(item))
-            }
+        match self.next_or_refusal() {
+            Ok(item) => Ok(item),
+            Err(_) if self.left == 0 => Err(ListFault::BadItem { place: self.place }),
             Err(refusal) => Err(content_fault(refusal, self.id, self.place)),
         }
     }

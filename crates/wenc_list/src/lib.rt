@@ -18,7 +18,7 @@ mod producers;
 mod sections;
 mod unread;
 
-pub use cursor::{SectionItems, Sections};
+pub use cursor::{SectionItems, SectionRefusal, Sections};
 pub use fault::ListFault;
 pub use item::ItemTree;
 pub use item_view::ItemView;

@@ -11,7 +11,7 @@ ghost use Rattle.wenc_view.specs.Prelude.{GivesNestedAlways};
 use crate::item_view::ItemView;
 use crate::sections::are_bytes;
 use wenc_parts::{Alias, ComponentExportKind, ComponentTypeRef};
-use wenc_read::{NestedRefusal, Refusal, u32_of};
+use wenc_read::{Expected, NestedRefusal, Refusal, u32_of};
 use wenc_view::{
     CanonView, CoreInstanceView, CoreTypeView, InstanceView, ListOf, NameView, View, text_of,
     type_at,
@@ -206,6 +206,6 @@ pub(crate) fn item_in(id: u8, bytes: &[u8]) -> Result<(ItemView<'_>, &[u8]), Nes
         8 => Ok(canon(bytes)?),
         10 => Ok(import(bytes)?),
         11 => Ok(export(bytes)?),
-        _ => Err(NestedRefusal::Flat(Refusal::Malformed)),
+        _ => Err(NestedRefusal::Flat(Refusal::at(bytes, Expected::End))),
     }
 }

@@ -8,7 +8,7 @@ ghost use Rattle.wenc_list.specs.Prelude.{item_name_view, read_item_name, item_n
 ghost use Rattle.wenc_list.specs.Prelude.{IsCountedNames};
 ghost use Rattle.wenc_read.specs.Prelude.{GivesAlways, exact_by};
 
-use wenc_read::{Refusal, byte, u32_of};
+use wenc_read::{Expected, Refusal, byte, u32_of};
 use wenc_sections::Space;
 use wenc_view::{ListOf, View, text_of};
 
@@ -57,7 +57,7 @@ pub enum Names<'a> {
 /// ```
 /// match behind_module_header(module) {
 ///     Some(sections) => part_of(sections),
-///     None => Err(Refusal::Malformed),
+///     None => Err(Refusal::at(module, Expected::From(0, 0))),
 /// }
 /// ```
 pub fn behind_module_header(bytes: &[u8]) -> Option<&[u8]>
@@ -72,18 +72,17 @@ pub fn behind_module_header(bytes: &[u8]) -> Option<&[u8]>
 
 /// Splits off the section of a core module, or the subsection of a name section, that begins the
 /// bytes (WebAssembly 3.0, binary format, "Sections"). Returns its id, its content, and the bytes
-/// after it. Fails with `Malformed` if there is no id or size, or the size exceeds the remaining
-/// bytes.
+/// after it. Fails if there is no id or size, or the size exceeds the remaining bytes.
 pub fn part_of(bytes: &[u8]) -> Result<((u8, &[u8]), &[u8]), Refusal>
     ensures { GivesAlways (λ x. ((x.0.0, x.0.1.now), x.1.now)) result (read_part bytes.now) }
 {
     let (id, rest) = byte(bytes)?;
     let (size, rest) = u32_of(rest)?;
-    let size = size as usize;
-    if rest.len() < size {
-        return Err(Refusal::Malformed);
+    let len = size as usize;
+    if rest.len() < len {
+        return Err(Refusal::at(rest, Expected::Bytes(size)));
     }
-    let (content, rest) = rest.split_at(size);
+    let (content, rest) = rest.split_at(len);
     Ok(((id, content), rest))
 }
 
@@ -101,7 +100,7 @@ fn core_space_of(bytes: &[u8]) -> Result<(Space, &[u8]), Refusal>
         (0x10, rest) => Ok((Space::CoreTypes, rest)),
         (0x11, rest) => Ok((Space::CoreModules, rest)),
         (0x12, rest) => Ok((Space::CoreInstances, rest)),
-        _ => Err(Refusal::Malformed),
+        _ => Err(Refusal::at(bytes, Expected::CoreSpace)),
     }
 }
 
@@ -117,7 +116,7 @@ fn space_of(bytes: &[u8]) -> Result<(Space, &[u8]), Refusal>
         (0x03, rest) => Ok((Space::Types, rest)),
         (0x04, rest) => Ok((Space::Components, rest)),
         (0x05, rest) => Ok((Space::Instances, rest)),
-        _ => Err(Refusal::Malformed),
+        _ => Err(Refusal::at(bytes, Expected::From(0, 5))),
     }
 }
 
@@ -129,7 +128,7 @@ fn component_name(content: &[u8]) -> Result<&str, Refusal>
     if rest.is_empty() {
         Ok(name)
     } else {
-        Err(Refusal::Malformed)
+        Err(Refusal::at(rest, Expected::End))
     }
 }
 
@@ -143,7 +142,7 @@ fn item_names(content: &[u8]) -> Result<Names<'_>, Refusal>
     if rest.is_empty() {
         Ok(Names::Items(space, names))
     } else {
-        Err(Refusal::Malformed)
+        Err(Refusal::at(rest, Expected::End))
     }
 }
 
@@ -165,7 +164,7 @@ fn names_in(id: u8, content: &[u8]) -> Result<Names<'_>, Refusal>
 ///
 /// # Errors
 ///
-/// Fails with `Malformed` if no subsection begins the bytes.
+/// Fails if no subsection begins the bytes.
 ///
 /// ```
 /// let (names, rest) = names_of(data)?;

@@ -5,9 +5,8 @@ ghost use Rattle.wenc_list.specs.Prelude.{tool_seen, with_part, AreSpent, HasTak
 ghost use Rattle.wenc_base.specs.Prelude.{Wide, u32 as number};
 ghost use Rattle.wenc_base.specs.laws.Sections.{read_producer};
 ghost use Rattle.wenc_read.specs.Prelude.{GivesAlways};
-ghost use Rattle.wenc_read.specs.declared.refusal.Refusal.TheVariants.{Malformed};
 
-use wenc_read::{Refusal, u32_of};
+use wenc_read::{Expected, Refusal, u32_of};
 use wenc_view::text_of;
 
 /// A part of a producers section.
@@ -45,13 +44,13 @@ impl<'a> ProducersParts<'a> {
     ///
     /// # Errors
     ///
-    /// Fails with `Malformed` if no number of fields begins the bytes.
+    /// Fails if no number of fields begins the bytes.
     pub fn new(bytes: &'a [u8]) -> Result<ProducersParts<'a>, Refusal>
         // The number of fields begins the bytes, and all bytes after it remain.
         ensures read { IfOk result (λ p. (p.tools ≡ 0)
             × (number p.fields).Reads Wide bytes.now p.rest.now) }
         ensures begins { IfOk result (λ p. parts_left p ≡ parts_in bytes.now) }
-        ensures fault { IfErr result (λ e. (e ≡ Malformed) × IsNoNumber bytes.now) }
+        ensures fault { IfErr result (λ _. IsNoNumber bytes.now) }
         ensures unread { IfErr result (λ _. IsMalformed (parts_in bytes.now)) }
     {
         let (fields, rest) = u32_of(bytes)?;
@@ -66,8 +65,8 @@ impl<'a> ProducersParts<'a> {
     ///
     /// # Errors
     ///
-    /// Fails with `Malformed` if no part begins the remaining bytes, or bytes follow the last one.
-    /// Nothing is taken then.
+    /// Fails if no part begins the remaining bytes, or bytes follow the last one. Nothing is taken
+    /// then.
     pub fn next(&mut self) -> Result<Option<ProducersPart<'a>>, Refusal>
         // A returned part begins the remaining bytes, and all bytes after it remain.
         ensures read { IfOk result (λ o. MatchOption o (AreSpent self.old)
@@ -80,7 +79,7 @@ impl<'a> ProducersParts<'a> {
             (λ _. Unit {0})) }
         ensures refused { IfErr result (λ _. self.new ≡ self.old) }
         // An error has its cause in the remaining bytes.
-        ensures fault { IfErr result (λ e. (e ≡ Malformed) × IsNoPart self.old) }
+        ensures fault { IfErr result (λ _. IsNoPart self.old) }
         ensures unread { IfErr result (λ _. IsMalformed (parts_left self.old)) }
     {
         if self.tools > 0 {
@@ -102,7 +101,7 @@ impl<'a> ProducersParts<'a> {
         if self.rest.is_empty() {
             Ok(None)
         } else {
-            Err(Refusal::Malformed)
+            Err(Refusal::at(self.rest, Expected::End))
         }
     }
 }

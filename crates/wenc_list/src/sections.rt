@@ -3,7 +3,7 @@ ghost use Rattle.wenc_base.specs.Prelude.{AreBytes};
 ghost use Rattle.wenc_list.specs.Prelude.{read_frame};
 ghost use Rattle.wenc_read.specs.Prelude.{GivesAlways};
 
-use wenc_read::{Refusal, byte, u32_of};
+use wenc_read::{Expected, Refusal, byte, u32_of};
 
 /// Shows that a slice of bytes has only bytes. The call does nothing.
 pub(crate) fn are_bytes(bytes: &[u8])
@@ -18,13 +18,13 @@ pub(crate) fn frame(bytes: &[u8]) -> Result<((u8, &[u8]), &[u8]), Refusal>
 {
     let (id, rest) = byte(bytes)?;
     if id > 11 {
-        return Err(Refusal::Malformed);
+        return Err(Refusal::at(bytes, Expected::From(0, 11)));
     }
     let (size, rest) = u32_of(rest)?;
-    let size = size as usize;
-    if rest.len() < size {
-        return Err(Refusal::Malformed);
+    let len = size as usize;
+    if rest.len() < len {
+        return Err(Refusal::at(rest, Expected::Bytes(size)));
     }
-    let (content, rest) = rest.split_at(size);
+    let (content, rest) = rest.split_at(len);
     Ok(((id, content), rest))
 }

@@ -1,4 +1,4 @@
 -- The names that clauses cite, re-exported from the files that define them.
-pub use Rattle.wenc_read.specs.Gives.{GivesAlways}
+pub use Rattle.wenc_read.specs.Gives.{GivesAlways, flaw_of}
 pub use Rattle.wenc_read.specs.Exact.{IsExact, IsExactAt}
 pub use Rattle.wenc_read.specs.laws.Exact.{exact_by, list_exact, option_exact}

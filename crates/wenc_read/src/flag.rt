@@ -3,10 +3,10 @@ ghost use Rattle.wenc_base.specs.Prelude.{read_flag};
 ghost use Rattle.wenc_read.specs.Prelude.{GivesAlways};
 
 use crate::number::byte;
-use crate::refusal::Refusal;
+use crate::refusal::{Expected, Refusal};
 
 /// Reads a flag, a byte 0 or 1 (component model, binary format, "Canonical Definitions"). Fails
-/// with `Malformed` if no such byte begins the bytes.
+/// if no such byte begins the bytes.
 #[tactic(auto, unfolding(wenc_base::specs::Readers::choose))]
 pub fn flag_of(bytes: &[u8]) -> Result<(bool, &[u8]), Refusal>
     ensures { GivesAlways (λ x. (x.0, x.1.now)) result (read_flag bytes.now) }
@@ -14,6 +14,6 @@ pub fn flag_of(bytes: &[u8]) -> Result<(bool, &[u8]), Refusal>
     match byte(bytes)? {
         (0, rest) => Ok((false, rest)),
         (1, rest) => Ok((true, rest)),
-        _ => Err(Refusal::Malformed),
+        _ => Err(Refusal::at(bytes, Expected::From(0, 1))),
     }
 }

@@ -12,4 +12,4 @@ pub mod refusal;
 
 pub use flag::flag_of;
 pub use number::{byte, index_of, u32_of, u64_of};
-pub use refusal::{NestedRefusal, Refusal};
+pub use refusal::{Expected, NestedRefusal, Refusal};

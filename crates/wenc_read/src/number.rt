@@ -3,16 +3,24 @@ ghost use Rattle.std.specs.Prelude.{◌≡◌, ◌^◌, ◌≤◌, ◌<◌, ◌+
 ghost use Rattle.wenc_base.specs.Prelude.{read_groups, read_u32, read_u64, read_index, read_byte};
 ghost use Rattle.wenc_read.specs.Prelude.{GivesAlways};
 
-use crate::refusal::Refusal;
+use crate::refusal::{Expected, Refusal};
 
-/// Reads the first byte. Fails with `Malformed` if there is none.
+/// Reads the first byte. Fails if there is none.
 #[inline(always)]
 pub fn byte(bytes: &[u8]) -> Result<(u8, &[u8]), Refusal>
     ensures { GivesAlways (λ x. (x.0, x.1.now)) result (read_byte bytes.now) }
 {
     match bytes {
-        [] => Err(Refusal::Malformed),
+        [] => Err(Refusal::at(bytes, Expected::Bytes(1))),
         [first, rest @ ..] => Ok((*first, rest)),
+    }
+}
+
+/// Returns the error of a number that goes on in these bytes, after so many others.
+fn too_long(bytes: &[u8], before: usize, expected: Expected) -> Refusal {
+    Refusal {
+        left: bytes.len().saturating_add(before),
+        expected,
     }
 }
 
@@ -26,13 +34,16 @@ fn short_groups(top: u8, room: u8, bytes: &[u8]) -> Result<(u32, &[u8]), Refusal
     if first < top {
         return Ok((u32::from(first), rest));
     }
-    if room == 0 || first < 128 {
-        return Err(Refusal::Malformed);
+    if room == 0 {
+        return Err(too_long(bytes, 4, Expected::Bits(32)));
+    }
+    if first < 128 {
+        return Err(Refusal::at(bytes, Expected::Index));
     }
     let (high, rest) = short_groups(top, room - 1, rest)?;
     match u32::try_from(u64::from(first) - 128 + 128 * u64::from(high)) {
         Ok(n) => Ok((n, rest)),
-        Err(_) => Err(Refusal::Malformed),
+        Err(_) => Err(Refusal::at(bytes, Expected::Bits(32))),
     }
 }
 
@@ -46,12 +57,12 @@ fn long_groups(room: u8, bytes: &[u8]) -> Result<(u64, &[u8]), Refusal>
         return Ok((u64::from(first), rest));
     }
     if room == 0 {
-        return Err(Refusal::Malformed);
+        return Err(too_long(bytes, 9, Expected::Bits(64)));
     }
     let (high, rest) = long_groups(room - 1, rest)?;
     match u64::try_from(u128::from(first) - 128 + 128 * u128::from(high)) {
         Ok(n) => Ok((n, rest)),
-        Err(_) => Err(Refusal::Malformed),
+        Err(_) => Err(Refusal::at(bytes, Expected::Bits(64))),
     }
 }
 
@@ -86,8 +97,8 @@ fn short_number(top: u8, bytes: &[u8]) -> Result<(u32, &[u8]), Refusal>
     }
 }
 
-/// Reads a number of 32 bits (WebAssembly 3.0, binary format, "Integers"). Fails with `Malformed`
-/// if the bytes begin with none of at most 5 bytes.
+/// Reads a number of 32 bits (WebAssembly 3.0, binary format, "Integers"). Fails if the bytes begin
+/// with none of at most 5 bytes.
 #[inline(always)]
 pub fn u32_of(bytes: &[u8]) -> Result<(u32, &[u8]), Refusal>
     ensures { GivesAlways (λ x. (x.0, x.1.now)) result (read_u32 bytes.now) }
@@ -95,8 +106,8 @@ pub fn u32_of(bytes: &[u8]) -> Result<(u32, &[u8]), Refusal>
     short_number(128, bytes)
 }
 
-/// Reads a number of 64 bits (WebAssembly 3.0, binary format, "Integers"). Fails with `Malformed`
-/// if the bytes begin with none of at most 10 bytes.
+/// Reads a number of 64 bits (WebAssembly 3.0, binary format, "Integers"). Fails if the bytes begin
+/// with none of at most 10 bytes.
 pub fn u64_of(bytes: &[u8]) -> Result<(u64, &[u8]), Refusal>
     ensures { GivesAlways (λ x. (x.0, x.1.now)) result (read_u64 bytes.now) }
 {
@@ -104,8 +115,7 @@ pub fn u64_of(bytes: &[u8]) -> Result<(u64, &[u8]), Refusal>
 }
 
 /// Reads an index, from 0 to 4294967295, that is written as a signed number of 33 bits (WebAssembly
-/// 3.0, binary format, "Heap Types"). Fails with `Malformed` if the bytes begin with none of at
-/// most 5 bytes.
+/// 3.0, binary format, "Heap Types"). Fails if the bytes begin with none of at most 5 bytes.
 #[inline(always)]
 pub fn index_of(bytes: &[u8]) -> Result<(u32, &[u8]), Refusal>
     ensures { GivesAlways (λ x. (x.0, x.1.now)) result (read_index bytes.now) }

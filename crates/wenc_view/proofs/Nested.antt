@@ -7,9 +7,7 @@ use Rattle.wenc_read.specs.declared.refusal.NestedRefusal.{NestedRefusal}
 use Rattle.wenc_types.specs.ComponentTypes.{DefinedType, ComponentType, InstanceType}
 use Rattle.wenc_types.specs.ComponentTypes.{ComponentDeclaration, InstanceDeclaration}
 use Rattle.wenc_types.specs.ComponentTypes.{components_of, instances_of}
-use Rattle.wenc_read.specs.declared.refusal.NestedRefusal.TheVariants.{Flat, TooDeep}
 use Rattle.wenc_read.specs.inside.Fails.{FailsNested}
-use Rattle.wenc_read.specs.declared.refusal.Refusal.TheVariants.{Memory}
 use Rattle.wenc_view.specs.Gives.{FailsAlways}
 use Rattle.wenc_view.specs.laws.Repeats.{with_front}
 use Rattle.wenc_types.specs.DefinedTypes.{DefValType}
@@ -21,8 +19,7 @@ use Rattle.wenc_types.specs.reading.ComponentTypes.{read_instance_type}
 
 fails_deeper_on : {A B : Type 0} (e : NestedRefusal) (found : Result (A × List ℕ) Flaw) (next : A → List ℕ → Result B Flaw) → FailsAlways e found
     → FailsAlways e (go_on found next)
-fails_deeper_on (Flat e) found next h = (h.0, rw h.1 refl)
-fails_deeper_on TooDeep found next h = rw h refl
+fails_deeper_on e found next h = rw h refl
 
 pub stops_always : {A : Type 0} (e : NestedRefusal) (read : Reader A) (front : List A) (count i : ℕ) (bytes : List ℕ) (total : Result (List A × List ℕ) Flaw)
     → i < count → FailsAlways e (read bytes)
@@ -62,9 +59,4 @@ instance_fails (suc d) n bytes middle flaw some e r = let less : suc d - 1 ≡ d
 
 -- what fails so fails as a reader that asks for memory does, and asks for none
 pub fails_nested : {A : Type 0} (e : NestedRefusal) (found : Result A Flaw) → FailsAlways e found → FailsNested e found
-fails_nested (Flat refusal) found h = rw h.0 h.1
-fails_nested TooDeep found h = h
-
-pub asks_nothing : {A : Type 0} (e : NestedRefusal) (found : Result A Flaw) → FailsAlways e found → e ≢ Flat Memory
-asks_nothing (Flat refusal) found h = let r = h.0 in λ e. absurd cc
-asks_nothing TooDeep found h = λ e. absurd cc
+fails_nested e found h = h

@@ -1,33 +1,17 @@
 -- The options of a name, read one after the other.
-use Rattle.std.proofs.Common.{◌≡◌, ◌≢◌, ◌≤◌, ◌<◌, ◌+◌, ◌-◌, ℕ, zero, suc, Bool, true, false, cond}
+use Rattle.std.proofs.Common.{◌≡◌, ◌≢◌, ◌<◌, ℕ, zero, suc, true}
 use Rattle.std.proofs.Common.{nat_lt, List, ◌∷◌, Result, Ok, Err, refl}
-use Rattle.std.proofs.Common.{subst, ◌∙◌, arith, le-ltb, lt-ltb}
+use Rattle.std.proofs.Common.{subst, lt-ltb}
 use Rattle.wenc_base.specs.Readers.{Flaw, Bad, Deep, ◌>>=◌, go_on, give, times}
 use Rattle.wenc_base.specs.laws.Sound.{Told, Fewer, Several, times_told}
-use Rattle.wenc_parts.specs.Imports.{ExternName, NameOption, name_option}
+use Rattle.wenc_parts.specs.Imports.{NameOption, name_option}
 use Rattle.wenc_parts.specs.laws.Imports.{name_option_sound}
-use Rattle.wenc_parts.specs.reading.Imports.{read_name_option, with_option, with_options}
+use Rattle.wenc_parts.specs.reading.Imports.{read_name_option}
 use Rattle.wenc_parts.specs.reading.Imports.{option_number, ascend_from, given_options}
 use Rattle.wenc_view.specs.inside.Names.{ascending, read_options}
 
 abbrev Found : Type 0
 Found = Result (List NameOption × List ℕ) Flaw
-
--- an option, and those after it
-pub goes_on : (text : List ℕ) (least n : ℕ) (o : NameOption) (bytes middle : List ℕ) → read_name_option bytes ≡ Ok (o, middle)
-    → nat_lt (option_number o) least ≡ false
-    → read_options text least (suc n) bytes ≡ go_on (read_options text (suc (option_number o)) n middle) (λ name. give (with_option o name))
-goes_on text least n o bytes middle e lt = rw e (behind (times read_name_option n middle))
-  where
-    ascended : (b : Bool) (name : ExternName) (rest : List ℕ) → cond b (Ok (with_option o name, rest)) (Err Bad)
-        ≡ go_on (cond b (Ok (name, rest)) (Err Bad)) (λ m. give (with_option o m))
-    ascended true name rest = refl
-    ascended false name rest = refl
-
-    behind : (found : Found) → go_on (go_on found (λ os. give (o ∷ os))) (ascending text least)
-        ≡ go_on (go_on found (ascending text (suc (option_number o)))) (λ name. give (with_option o name))
-    behind (Err flaw) = refl
-    behind (Ok x) = rw (lt, ascend_from) (ascended (ascend_from (suc (option_number o)) x.0) (with_options text x.0) x.1)
 
 -- an option that comes too late
 is_late : (text : List ℕ) (least n : ℕ) (o : NameOption) (bytes middle : List ℕ) → read_name_option bytes ≡ Ok (o, middle)
@@ -53,17 +37,6 @@ some_ascend text n bytes = first (read_name_option bytes)
         (given_options text) ≡ go_on (go_on found (λ o. times read_name_option n >>= λ os. give (o ∷ os))) (ascending text 0)
     first (Err flaw) = refl
     first (Ok x) = behind x.0 (times read_name_option n x.1)
-
--- an option and those after it, as the code has them
-pub one_more : (text : List ℕ) (least count number : ℕ) (o : NameOption) (bytes middle rest : List ℕ) (name made : ExternName) → count ≢ 0
-    → read_name_option bytes ≡ Ok (o, middle) → number ≡ option_number o → least ≤ number
-    → read_options text (number + 1) (count - 1) middle ≡ Ok (name, rest) → made ≡ with_option o name → read_options text least count bytes ≡ Ok (made, rest)
-one_more text least zero number o bytes middle rest name made some e is le found is_made = absurd (some refl)
-one_more text least (suc n) number o bytes middle rest name made some e is le found is_made =
-    let next : number + 1 ≡ suc (option_number o) = omega arith in
-    let before : suc n - 1 ≡ n = omega arith in
-    let behind : read_options text (suc (option_number o)) n middle ≡ Ok (name, rest) = rw (next, before) at found in
-    rw is_made (goes_on text least n o bytes middle e (le-ltb _ _ (subst (λ (k : _). least ≤ k) is le)) ∙ rw behind refl)
 
 pub some_given : (text : List ℕ) (count : ℕ) (bytes : List ℕ) → count ≢ 0 → (times read_name_option count >>= given_options text) bytes
     ≡ read_options text 0 count bytes

@@ -4,10 +4,7 @@ use Rattle.std.proofs.Common.{inl, inr, ap}
 use Rattle.std.proofs.lemmas.Option.{same_Some}
 use Rattle.wenc_base.specs.laws.Sound.{tested}
 use Rattle.wenc_base.specs.Readers.{Flaw, Bad, read_byte, Reader, ◌>>=◌, give, pick, choose}
-use Rattle.wenc_read.specs.inside.Fails.{Fails}
-use Rattle.wenc_read.specs.laws.Tables.{first_there, fails_on}
-use Rattle.wenc_read.specs.declared.refusal.Refusal.{Refusal}
-use Rattle.wenc_read.specs.declared.refusal.Refusal.TheVariants.{Malformed}
+use Rattle.wenc_read.specs.laws.Tables.{first_there}
 use Rattle.wenc_view.specs.inside.Tables.{find}
 
 -- a value that is in the table is read
@@ -54,15 +51,6 @@ pub falls_through : {A T : Type 0} (byte_of : T → ℕ) (make : T → A) (ts : 
     → choose (map (λ u. (byte_of u, give (make u))) ts ++ []) other bytes ≡ other bytes
 unfolding choose
 falls_through byte_of make ts other b bytes rest first e = rw (first_there bytes rest b first) (passed byte_of make ts [] other b rest e)
-
--- what asks for no memory fails where nothing is read
-pub malformed : {A : Type 0} (e : Refusal) (found : Result A Flaw) → (e ≡ Malformed) × (found ≡ Err Bad) → Fails e found
-malformed e found h = rw h.0 h.1
-
-pub fails_first : {A : Type 0} (e : Refusal) (table : List (ℕ × Reader A)) (other : Reader A) (bytes : List ℕ) → (e ≡ Malformed) × (read_byte bytes ≡ Err Bad)
-    → Fails e (choose table other bytes)
-unfolding choose
-fails_first e table other bytes h = fails_on e (read_byte bytes) (pick table other) (malformed e (read_byte bytes) h)
 
 -- what is made of what is read
 pub made_of : {A B : Type 0} (make : A → B) (read : Reader A) (v : A) (bytes rest : List ℕ) → read bytes ≡ Ok (v, rest)

@@ -7,7 +7,7 @@ ghost use Rattle.wenc_read.specs.Prelude.{GivesAlways, exact_by};
 use crate::view::View;
 use wenc_base::ExportKind;
 use wenc_parts::{Alias, ComponentExportKind, ComponentOuterAliasKind};
-use wenc_read::{Refusal, byte};
+use wenc_read::{Expected, Refusal, byte};
 
 /// Reads an alias of an instance's export, after the byte `00`.
 #[inline(always)]
@@ -50,7 +50,7 @@ fn core_export(kind: ExportKind, bytes: &[u8]) -> Result<(Alias<'_>, &[u8]), Ref
             };
             Ok((alias, rest))
         }
-        _ => Err(Refusal::Malformed),
+        _ => Err(Refusal::at(bytes, Expected::From(1, 1))),
     }
 }
 
@@ -63,7 +63,7 @@ fn export_alone(kind: ComponentExportKind, bytes: &[u8]) -> Result<(Alias<'_>, &
 {
     match byte(bytes)? {
         (0x00, rest) => export(kind, rest),
-        _ => Err(Refusal::Malformed),
+        _ => Err(Refusal::at(bytes, Expected::From(0, 0))),
     }
 }
 
@@ -80,7 +80,7 @@ fn export_or_outer(
     match byte(bytes)? {
         (0x00, rest) => export(kind, rest),
         (0x02, rest) => outer(outer_kind, rest),
-        _ => Err(Refusal::Malformed),
+        _ => Err(Refusal::at(bytes, Expected::ExportOrOuter)),
     }
 }
 
@@ -97,14 +97,14 @@ fn core(bytes: &[u8]) -> Result<(Alias<'_>, &[u8]), Refusal>
         (0x04, rest) => core_export(ExportKind::Tag, rest),
         (0x10, rest) => match byte(rest)? {
             (0x02, rest) => outer(ComponentOuterAliasKind::CoreType, rest),
-            _ => Err(Refusal::Malformed),
+            _ => Err(Refusal::at(rest, Expected::From(2, 2))),
         },
         (0x11, rest) => export_or_outer(
             ComponentExportKind::Module,
             ComponentOuterAliasKind::CoreModule,
             rest,
         ),
-        _ => Err(Refusal::Malformed),
+        _ => Err(Refusal::at(bytes, Expected::CoreSort)),
     }
 }
 
@@ -139,7 +139,7 @@ impl<'a> View<'a> for Alias<'a> {
                 rest,
             ),
             (0x05, rest) => export_alone(ComponentExportKind::Instance, rest),
-            _ => Err(Refusal::Malformed),
+            _ => Err(Refusal::at(bytes, Expected::From(0, 5))),
         }
     }
 }

@@ -17,7 +17,7 @@ use crate::view::View;
 use wenc_base::ValType;
 use wenc_canon::CanonicalOption;
 use wenc_parts::{ComponentValType, ResultList};
-use wenc_read::{Refusal, byte};
+use wenc_read::{Expected, Refusal, byte};
 
 /// A canonical function, in place.
 #[derive(Clone, Copy)]
@@ -245,7 +245,7 @@ impl<'a> View<'a> for CanonicalOption {
                 Ok((CanonicalOption::CoreType(ty), rest))
             }
             (0x09, rest) => Ok((CanonicalOption::Gc, rest)),
-            _ => Err(Refusal::Malformed),
+            _ => Err(Refusal::at(bytes, Expected::From(0, 9))),
         }
     }
 }
@@ -257,7 +257,7 @@ fn zero(bytes: &[u8]) -> Result<((), &[u8]), Refusal>
 {
     match byte(bytes)? {
         (0x00, rest) => Ok(((), rest)),
-        _ => Err(Refusal::Malformed),
+        _ => Err(Refusal::at(bytes, Expected::From(0, 0))),
     }
 }
 
@@ -279,7 +279,7 @@ fn lifted(bytes: &[u8]) -> Result<(CanonView<'_>, &[u8]), Refusal>
             };
             Ok((function, rest))
         }
-        _ => Err(Refusal::Malformed),
+        _ => Err(Refusal::at(bytes, Expected::From(0, 0))),
     }
 }
 
@@ -295,7 +295,7 @@ fn lowered(bytes: &[u8]) -> Result<(CanonView<'_>, &[u8]), Refusal>
             let (options, rest) = ListOf::view_of(rest)?;
             Ok((CanonView::Lower { func, options }, rest))
         }
-        _ => Err(Refusal::Malformed),
+        _ => Err(Refusal::at(bytes, Expected::From(0, 0))),
     }
 }
 
@@ -512,7 +512,7 @@ fn of_forward(opcode: u8, bytes: &[u8]) -> Result<(CanonView<'_>, &[u8]), Refusa
         0x40 => indexed!(bytes, ThreadSpawnRef),
         0x41 => in_table!(bytes, ThreadSpawnIndirect),
         0x42 => plain!(bytes, ThreadAvailableParallelism),
-        _ => Err(Refusal::Malformed),
+        _ => Err(Refusal::before(bytes, Expected::Opcode)),
     }
 }
 

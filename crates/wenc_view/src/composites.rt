@@ -14,7 +14,7 @@ ghost use Rattle.wenc_read.specs.Prelude.{GivesAlways, exact_by};
 use crate::lists::ListOf;
 use crate::view::View;
 use wenc_base::{FieldType, StorageType, ValType};
-use wenc_read::{Refusal, byte};
+use wenc_read::{Expected, Refusal, byte};
 
 /// A function, array or structure type, in place.
 #[derive(Clone, Copy)]
@@ -70,10 +70,10 @@ impl<'a> View<'a> for StorageType {
         match byte(bytes)? {
             (0x78, rest) => Ok((StorageType::I8, rest)),
             (0x77, rest) => Ok((StorageType::I16, rest)),
-            _ => {
-                let (ty, rest) = ValType::view_of(bytes)?;
-                Ok((StorageType::Val(ty), rest))
-            }
+            _ => match ValType::view_of(bytes) {
+                Ok((ty, rest)) => Ok((StorageType::Val(ty), rest)),
+                Err(refusal) => Err(refusal.or(bytes, Expected::StorageType)),
+            },
         }
     }
 }
@@ -133,7 +133,7 @@ impl<'a> View<'a> for CompositeView<'a> {
                 let (fields, rest) = ListOf::view_of(rest)?;
                 Ok((CompositeView::Struct(fields), rest))
             }
-            _ => Err(Refusal::Malformed),
+            _ => Err(Refusal::at(bytes, Expected::From(0x5e, 0x60))),
         }
     }
 }
@@ -158,15 +158,17 @@ impl<'a> View<'a> for SubView<'a> {
         match byte(bytes)? {
             (0x50, rest) => open(rest),
             (0x4f, rest) => closed(rest),
-            _ => {
-                let (composite_type, rest) = CompositeView::view_of(bytes)?;
-                let ty = SubView {
-                    is_final: true,
-                    supertype_idx: None,
-                    composite_type,
-                };
-                Ok((ty, rest))
-            }
+            _ => match CompositeView::view_of(bytes) {
+                Ok((composite_type, rest)) => {
+                    let ty = SubView {
+                        is_final: true,
+                        supertype_idx: None,
+                        composite_type,
+                    };
+                    Ok((ty, rest))
+                }
+                Err(refusal) => Err(refusal.or(bytes, Expected::SubType)),
+            },
         }
     }
 }
@@ -205,7 +207,7 @@ fn closed(bytes: &[u8]) -> Result<(SubView<'_>, &[u8]), Refusal>
             };
             Ok((ty, rest))
         }
-        _ => Err(Refusal::Malformed),
+        _ => Err(Refusal::at(bytes, Expected::From(1, 1))),
     }
 }
 
@@ -229,10 +231,10 @@ impl<'a> View<'a> for GroupView<'a> {
                 let (types, rest) = ListOf::view_of(rest)?;
                 Ok((GroupView::Rec(types), rest))
             }
-            _ => {
-                let (ty, rest) = SubView::view_of(bytes)?;
-                Ok((GroupView::Sub(ty), rest))
-            }
+            _ => match SubView::view_of(bytes) {
+                Ok((ty, rest)) => Ok((GroupView::Sub(ty), rest)),
+                Err(refusal) => Err(refusal.or(bytes, Expected::Group)),
+            },
         }
     }
 }

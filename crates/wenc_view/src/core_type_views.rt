@@ -12,7 +12,7 @@ use crate::composites::{GroupView, SubView, open};
 use crate::lists::ListOf;
 use crate::view::{View, text_of};
 use wenc_base::EntityType;
-use wenc_read::{Refusal, byte};
+use wenc_read::{Expected, Refusal, byte};
 
 /// A declaration of a module type, in place.
 #[derive(Clone, Copy)]
@@ -67,9 +67,9 @@ fn outer_type(bytes: &[u8]) -> Result<(ModuleDeclView<'_>, &[u8]), Refusal>
                 let (index, rest) = u32::view_of(rest)?;
                 Ok((ModuleDeclView::Alias { count, index }, rest))
             }
-            _ => Err(Refusal::Malformed),
+            _ => Err(Refusal::at(rest, Expected::From(1, 1))),
         },
-        _ => Err(Refusal::Malformed),
+        _ => Err(Refusal::at(bytes, Expected::From(0x10, 0x10))),
     }
 }
 
@@ -105,7 +105,7 @@ impl<'a> View<'a> for ModuleDeclView<'a> {
                 let (ty, rest) = EntityType::view_of(rest)?;
                 Ok((ModuleDeclView::Export { name, ty }, rest))
             }
-            _ => Err(Refusal::Malformed),
+            _ => Err(Refusal::at(bytes, Expected::From(0, 3))),
         }
     }
 }
@@ -122,7 +122,7 @@ fn guarded(bytes: &[u8]) -> Result<(CoreTypeView<'_>, &[u8]), Refusal>
             let (ty, rest) = open(rest)?;
             Ok((CoreTypeView::Group(GroupView::Sub(ty)), rest))
         }
-        _ => Err(Refusal::Malformed),
+        _ => Err(Refusal::at(bytes, Expected::From(0x50, 0x50))),
     }
 }
 
@@ -151,10 +151,10 @@ impl<'a> View<'a> for CoreTypeView<'a> {
                 Ok((CoreTypeView::Group(GroupView::Rec(types)), rest))
             }
             (0x00, rest) => guarded(rest),
-            _ => {
-                let (ty, rest) = SubView::view_of(bytes)?;
-                Ok((CoreTypeView::Group(GroupView::Sub(ty)), rest))
-            }
+            _ => match SubView::view_of(bytes) {
+                Ok((ty, rest)) => Ok((CoreTypeView::Group(GroupView::Sub(ty)), rest)),
+                Err(refusal) => Err(refusal.or(bytes, Expected::CoreType)),
+            },
         }
     }
 }

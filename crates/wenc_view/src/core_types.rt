@@ -9,7 +9,7 @@ ghost use Rattle.wenc_read.specs.Prelude.{GivesAlways, exact_by};
 
 use crate::view::View;
 use wenc_base::{AbstractHeapType, HeapType, RefType, ValType};
-use wenc_read::{Refusal, byte, index_of};
+use wenc_read::{Expected, Refusal, byte, index_of};
 
 /// Returns the abstract heap type of this byte, if there is one.
 fn abstract_of(byte: u8) -> Option<AbstractHeapType>
@@ -50,10 +50,10 @@ impl<'a> View<'a> for HeapType {
         let (first, rest) = byte(bytes)?;
         match abstract_of(first) {
             Some(ty) => Ok((HeapType::Abstract(ty), rest)),
-            None => {
-                let (index, rest) = index_of(bytes)?;
-                Ok((HeapType::Concrete(index), rest))
-            }
+            None => match index_of(bytes) {
+                Ok((index, rest)) => Ok((HeapType::Concrete(index), rest)),
+                Err(refusal) => Err(refusal.or(bytes, Expected::HeapType)),
+            },
         }
     }
 }
@@ -79,7 +79,7 @@ impl<'a> View<'a> for RefType {
             (0x64, rest) => reference(false, rest),
             (first, rest) => match abstract_of(first) {
                 Some(ty) => Ok((to(true, HeapType::Abstract(ty)), rest)),
-                None => Err(Refusal::Malformed),
+                None => Err(Refusal::at(bytes, Expected::RefType)),
             },
         }
     }
@@ -123,10 +123,10 @@ impl<'a> View<'a> for ValType {
             (0x7d, rest) => Ok((ValType::F32, rest)),
             (0x7c, rest) => Ok((ValType::F64, rest)),
             (0x7b, rest) => Ok((ValType::V128, rest)),
-            _ => {
-                let (ty, rest) = RefType::view_of(bytes)?;
-                Ok((ValType::Ref(ty), rest))
-            }
+            _ => match RefType::view_of(bytes) {
+                Ok((ty, rest)) => Ok((ValType::Ref(ty), rest)),
+                Err(refusal) => Err(refusal.or(bytes, Expected::ValType)),
+            },
         }
     }
 }

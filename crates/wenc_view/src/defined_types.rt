@@ -13,7 +13,7 @@ use crate::lists::ListOf;
 use crate::types::primitive_of;
 use crate::view::View;
 use wenc_parts::{ComponentValType, PrimitiveValType};
-use wenc_read::{Refusal, byte};
+use wenc_read::{Expected, Refusal, byte};
 
 /// A case of a variant.
 #[derive(Clone, Copy)]
@@ -111,7 +111,7 @@ impl<'a> View<'a> for CaseView<'a> {
         let (ty, rest) = Option::view_of(rest)?;
         match byte(rest)? {
             (0x00, rest) => Ok((CaseView { name, ty }, rest)),
-            _ => Err(Refusal::Malformed),
+            _ => Err(Refusal::at(rest, Expected::From(0, 0))),
         }
     }
 }
@@ -193,7 +193,7 @@ fn other_defined(first: u8, bytes: &[u8]) -> Result<(DefinedView<'_>, &[u8]), Re
             let (value, rest) = ComponentValType::view_of(rest)?;
             Ok((DefinedView::Map { key, value }, rest))
         }
-        _ => Err(Refusal::Malformed),
+        _ => Err(Refusal::before(bytes, Expected::Type)),
     }
 }
 

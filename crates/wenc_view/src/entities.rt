@@ -15,7 +15,7 @@ use crate::view::View;
 use wenc_base::{
     EntityType, ExportKind, GlobalType, MemoryType, RefType, TableType, TagType, ValType,
 };
-use wenc_read::{Refusal, byte, u64_of};
+use wenc_read::{Expected, Refusal, byte, u64_of};
 
 /// Reads the maximum, if there is one.
 fn maximum(has_maximum: bool, bytes: &[u8]) -> Result<(Option<u64>, &[u8]), Refusal>
@@ -73,7 +73,7 @@ impl<'a> View<'a> for MemoryType {
             (0x05, rest) => memory(false, true, true, rest),
             (0x06, rest) => memory(true, true, false, rest),
             (0x07, rest) => memory(true, true, true, rest),
-            _ => Err(Refusal::Malformed),
+            _ => Err(Refusal::at(bytes, Expected::From(0, 7))),
         }
     }
 }
@@ -120,7 +120,7 @@ impl<'a> View<'a> for TableType {
             (0x01, rest) => table(element_type, false, true, rest),
             (0x04, rest) => table(element_type, true, false, rest),
             (0x05, rest) => table(element_type, true, true, rest),
-            _ => Err(Refusal::Malformed),
+            _ => Err(Refusal::at(rest, Expected::TableLimits)),
         }
     }
 }
@@ -165,7 +165,7 @@ impl<'a> View<'a> for TagType {
                 let (func_type_idx, rest) = u32::view_of(rest)?;
                 Ok((TagType { func_type_idx }, rest))
             }
-            _ => Err(Refusal::Malformed),
+            _ => Err(Refusal::at(bytes, Expected::From(0, 0))),
         }
     }
 }
@@ -206,7 +206,7 @@ impl<'a> View<'a> for EntityType {
                 let (ty, rest) = TagType::view_of(rest)?;
                 Ok((EntityType::Tag(ty), rest))
             }
-            _ => Err(Refusal::Malformed),
+            _ => Err(Refusal::at(bytes, Expected::From(0, 4))),
         }
     }
 }
@@ -232,7 +232,7 @@ impl<'a> View<'a> for ExportKind {
             (0x02, rest) => Ok((ExportKind::Memory, rest)),
             (0x03, rest) => Ok((ExportKind::Global, rest)),
             (0x04, rest) => Ok((ExportKind::Tag, rest)),
-            _ => Err(Refusal::Malformed),
+            _ => Err(Refusal::at(bytes, Expected::From(0, 4))),
         }
     }
 }

@@ -7,7 +7,7 @@ ghost use Rattle.wenc_read.specs.Prelude.{exact_by};
 
 use crate::view::View;
 use wenc_parts::ComponentExportKind;
-use wenc_read::{Refusal, byte};
+use wenc_read::{Expected, Refusal, byte};
 
 impl<'a> View<'a> for ComponentExportKind {
     ghost Value = { Value' };
@@ -26,14 +26,14 @@ impl<'a> View<'a> for ComponentExportKind {
         match byte(bytes)? {
             (0x00, rest) => match byte(rest)? {
                 (0x11, rest) => Ok((ComponentExportKind::Module, rest)),
-                _ => Err(Refusal::Malformed),
+                _ => Err(Refusal::at(rest, Expected::From(0x11, 0x11))),
             },
             (0x01, rest) => Ok((ComponentExportKind::Func, rest)),
             (0x02, rest) => Ok((ComponentExportKind::Value, rest)),
             (0x03, rest) => Ok((ComponentExportKind::Type, rest)),
             (0x05, rest) => Ok((ComponentExportKind::Instance, rest)),
             (0x04, rest) => Ok((ComponentExportKind::Component, rest)),
-            _ => Err(Refusal::Malformed),
+            _ => Err(Refusal::at(bytes, Expected::From(0, 5))),
         }
     }
 }

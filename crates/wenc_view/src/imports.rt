@@ -6,7 +6,7 @@ ghost use Rattle.wenc_read.specs.Prelude.{exact_by};
 
 use crate::view::View;
 use wenc_parts::{ComponentTypeRef, ComponentValType, TypeBounds};
-use wenc_read::{Refusal, byte};
+use wenc_read::{Expected, Refusal, byte};
 
 impl<'a> View<'a> for TypeBounds {
     ghost use Rattle.wenc_view.specs.Prelude.{TypeBounds as Value'};
@@ -30,7 +30,7 @@ impl<'a> View<'a> for TypeBounds {
                 Ok((TypeBounds::Eq(index), rest))
             }
             (0x01, rest) => Ok((TypeBounds::SubResource, rest)),
-            _ => Err(Refusal::Malformed),
+            _ => Err(Refusal::at(bytes, Expected::From(0, 1))),
         }
     }
 }
@@ -57,7 +57,7 @@ impl<'a> View<'a> for ComponentTypeRef {
                     let (index, rest) = u32::view_of(rest)?;
                     Ok((ComponentTypeRef::Module(index), rest))
                 }
-                _ => Err(Refusal::Malformed),
+                _ => Err(Refusal::at(rest, Expected::From(0x11, 0x11))),
             },
             (0x01, rest) => {
                 let (index, rest) = u32::view_of(rest)?;
@@ -79,7 +79,7 @@ impl<'a> View<'a> for ComponentTypeRef {
                 let (index, rest) = u32::view_of(rest)?;
                 Ok((ComponentTypeRef::Component(index), rest))
             }
-            _ => Err(Refusal::Malformed),
+            _ => Err(Refusal::at(bytes, Expected::From(0, 5))),
         }
     }
 }

@@ -27,7 +27,7 @@ use crate::names::NameView;
 use crate::view::{View, text_of};
 use wenc_base::ExportKind;
 use wenc_parts::{ComponentExportKind, ModuleArg};
-use wenc_read::{Refusal, byte};
+use wenc_read::{Expected, Refusal, byte};
 
 /// A core instance, in place.
 #[derive(Clone, Copy)]
@@ -76,7 +76,7 @@ impl<'a> View<'a> for ModuleArg {
                 let (instance, rest) = u32::view_of(rest)?;
                 Ok((ModuleArg::Instance(instance), rest))
             }
-            _ => Err(Refusal::Malformed),
+            _ => Err(Refusal::at(bytes, Expected::From(0x12, 0x12))),
         }
     }
 }
@@ -152,7 +152,7 @@ impl<'a> View<'a> for CoreInstanceView<'a> {
                 let (exports, rest) = ListOf::view_of(rest)?;
                 Ok((CoreInstanceView::Exports(exports), rest))
             }
-            _ => Err(Refusal::Malformed),
+            _ => Err(Refusal::at(bytes, Expected::From(0, 1))),
         }
     }
 }
@@ -237,7 +237,7 @@ impl<'a> View<'a> for InstanceView<'a> {
                 let (exports, rest) = ListOf::view_of(rest)?;
                 Ok((InstanceView::Exports(exports), rest))
             }
-            _ => Err(Refusal::Malformed),
+            _ => Err(Refusal::at(bytes, Expected::From(0, 1))),
         }
     }
 }

@@ -28,8 +28,10 @@ fn passed<'a, T: View<'a>>(count: u32, bytes: &'a [u8]) -> Result<&'a [u8], Refu
 {
     let mut rest = bytes;
     for _ in 0..count {
-        let (_, after) = T::view_of(rest)?;
-        rest = after;
+        match T::view_of(rest) {
+            Ok((_, after)) => rest = after,
+            Err(refusal) => return Err(refusal.of_many(bytes, count)),
+        }
     }
     Ok(rest)
 }

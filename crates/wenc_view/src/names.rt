@@ -7,7 +7,7 @@ ghost use Rattle.wenc_read.specs.Prelude.{GivesAlways, exact_by};
 ghost use Rattle.wenc_view.specs.Prelude.{name_seen, option_seen, read_options};
 
 use crate::view::{View, text_of};
-use wenc_read::{Refusal, byte, u32_of};
+use wenc_read::{Expected, Refusal, byte, u32_of};
 
 /// The name of an import or export, with its options, in place.
 #[derive(Clone, Copy)]
@@ -79,7 +79,16 @@ fn option_of(bytes: &[u8]) -> Result<(NameOptionView<'_>, &[u8]), Refusal>
             let (text, rest) = text_of(rest)?;
             Ok((NameOptionView::ExternalId(text), rest))
         }
-        _ => Err(Refusal::Malformed),
+        _ => Err(Refusal::at(bytes, Expected::From(0, 2))),
+    }
+}
+
+/// Returns the maximum of the first byte of an option that is the first of so many.
+fn most_of(count: u32) -> u8 {
+    match count {
+        0 | 1 => 2,
+        2 => 1,
+        _ => 0,
     }
 }
 
@@ -104,13 +113,20 @@ fn options_from<'a>(
         };
         return Ok((name, bytes));
     }
-    let (option, rest) = option_of(bytes)?;
-    let number = number_of(&option);
-    if number < least {
-        return Err(Refusal::Malformed);
+    let most = most_of(count);
+    match option_of(bytes) {
+        Ok((option, rest)) => {
+            let number = number_of(&option);
+            if number < least {
+                return Err(Refusal::at(bytes, Expected::From(least, most)));
+            }
+            match options_from(name, number + 1, count - 1, rest) {
+                Ok((named, rest)) => Ok((with(option, named), rest)),
+                Err(refusal) => Err(refusal.unless_from(least, most, bytes)),
+            }
+        }
+        Err(refusal) => Err(refusal.unless_from(least, most, bytes)),
     }
-    let (named, rest) = options_from(name, number + 1, count - 1, rest)?;
-    Ok((with(option, named), rest))
 }
 
 impl<'a> View<'a> for NameView<'a> {
@@ -141,11 +157,15 @@ impl<'a> View<'a> for NameView<'a> {
             (0x02, rest) => {
                 let (name, rest) = text_of(rest)?;
                 match u32_of(rest)? {
-                    (0, _) => Err(Refusal::Malformed),
-                    (count, rest) => options_from(name, 0, count, rest),
+                    (0, _) => Err(Refusal::at(rest, Expected::OptionCount)),
+                    (count, options) => match options_from(name, 0, count, options) {
+                        Ok((name, rest)) => Ok((name, rest)),
+                        Err(_) if count > 3 => Err(Refusal::at(rest, Expected::Bits(2))),
+                        Err(refusal) => Err(refusal),
+                    },
                 }
             }
-            _ => Err(Refusal::Malformed),
+            _ => Err(Refusal::at(bytes, Expected::From(0, 2))),
         }
     }
 }

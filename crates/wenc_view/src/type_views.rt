@@ -21,7 +21,7 @@ use crate::names::NameView;
 use crate::view::View;
 use wenc_base::ValType;
 use wenc_parts::{Alias, ComponentTypeRef, ComponentValType, ResultList};
-use wenc_read::{NestedRefusal, Refusal, byte, u32_of};
+use wenc_read::{Expected, NestedRefusal, Refusal, byte, u32_of};
 
 /// The declarations of a component type, as an iterator, which reads them when they are asked for.
 #[derive(Clone, Copy)]
@@ -140,7 +140,7 @@ fn resource_type(bytes: &[u8]) -> Result<(TypeView<'_>, &[u8]), Refusal>
 ///
 /// # Errors
 ///
-/// Fails with `Malformed` if no type begins the bytes, and with `TooDeep` if types nest deeper.
+/// Fails with `Flat` if no type begins the bytes, and with `TooDeep` if types nest deeper.
 #[cycle(types)]
 #[tactic(auto, using(wenc_types::specs::laws::ComponentTypes::one_level), unfolding(wenc_base::specs::Readers::choose))]
 pub fn type_at<'a>(
@@ -177,7 +177,7 @@ fn component_type<'a>(
     ensures counted { IfOk result (λ x. IsCountedType x.0) }
 {
     if depth_left == 0 {
-        return Err(NestedRefusal::TooDeep);
+        return Err(NestedRefusal::TooDeep(bytes.len().saturating_add(1)));
     }
     let depth_left = depth_left - 1;
     let (left, start) = u32_of(bytes)?;
@@ -202,7 +202,7 @@ fn instance_type<'a>(
     ensures counted { IfOk result (λ x. IsCountedType x.0) }
 {
     if depth_left == 0 {
-        return Err(NestedRefusal::TooDeep);
+        return Err(NestedRefusal::TooDeep(bytes.len().saturating_add(1)));
     }
     let depth_left = depth_left - 1;
     let (left, start) = u32_of(bytes)?;
@@ -231,8 +231,10 @@ fn component_decls<'a>(
 {
     let mut rest = bytes;
     for _ in 0..count {
-        let (_, after) = component_decl(depth_left, rest)?;
-        rest = after;
+        match component_decl(depth_left, rest) {
+            Ok((_, after)) => rest = after,
+            Err(refusal) => return Err(refusal.of_many(bytes, count)),
+        }
     }
     Ok(rest)
 }
@@ -253,8 +255,10 @@ fn instance_decls<'a>(
 {
     let mut rest = bytes;
     for _ in 0..count {
-        let (_, after) = instance_decl(depth_left, rest)?;
-        rest = after;
+        match instance_decl(depth_left, rest) {
+            Ok((_, after)) => rest = after,
+            Err(refusal) => return Err(refusal.of_many(bytes, count)),
+        }
     }
     Ok(rest)
 }
@@ -273,10 +277,10 @@ fn component_decl<'a>(
 {
     match byte(bytes)? {
         (0x03, rest) => Ok(imported(rest)?),
-        _ => {
-            let (decl, rest) = instance_decl(depth_left, bytes)?;
-            Ok((ComponentDeclView::Decl(decl), rest))
-        }
+        _ => match instance_decl(depth_left, bytes) {
+            Ok((decl, rest)) => Ok((ComponentDeclView::Decl(decl), rest)),
+            Err(refusal) => Err(refusal.or(bytes, Expected::From(0, 4))),
+        },
     }
 }
 
@@ -306,7 +310,7 @@ fn instance_decl<'a>(
             Ok((InstanceDeclView::Alias(alias), rest))
         }
         (0x04, rest) => Ok(exported(rest)?),
-        _ => Err(NestedRefusal::Flat(Refusal::Malformed)),
+        _ => Err(NestedRefusal::Flat(Refusal::at(bytes, Expected::InstanceDecl))),
     }
 }
 

@@ -11,7 +11,7 @@ ghost use Rattle.wenc_parts.specs.Prelude.{primitive_byte};
 
 use crate::view::View;
 use wenc_parts::{ComponentValType, PrimitiveValType, ResultList};
-use wenc_read::{Refusal, byte, index_of};
+use wenc_read::{Expected, Refusal, byte, index_of};
 
 /// Returns the primitive type of this byte, if there is one.
 pub(crate) fn primitive_of(byte: u8) -> Option<PrimitiveValType>
@@ -53,10 +53,10 @@ impl<'a> View<'a> for ComponentValType {
         let (first, rest) = byte(bytes)?;
         match primitive_of(first) {
             Some(ty) => Ok((ComponentValType::Primitive(ty), rest)),
-            None => {
-                let (index, rest) = index_of(bytes)?;
-                Ok((ComponentValType::Type(index), rest))
-            }
+            None => match index_of(bytes) {
+                Ok((index, rest)) => Ok((ComponentValType::Type(index), rest)),
+                Err(refusal) => Err(refusal.or(bytes, Expected::ComponentValType)),
+            },
         }
     }
 }
@@ -84,9 +84,9 @@ impl<'a> View<'a> for ResultList {
             }
             (0x01, rest) => match byte(rest)? {
                 (0x00, rest) => Ok((ResultList(None), rest)),
-                _ => Err(Refusal::Malformed),
+                _ => Err(Refusal::at(rest, Expected::From(0, 0))),
             },
-            _ => Err(Refusal::Malformed),
+            _ => Err(Refusal::at(bytes, Expected::From(0, 1))),
         }
     }
 }

@@ -5,7 +5,8 @@ ghost use Rattle.wenc_base.specs.Prelude.{u32_lawful, read_name, name as name_fo
 ghost use Rattle.wenc_base.specs.Prelude.{name_lawful};
 ghost use Rattle.wenc_read.specs.Prelude.{IsExact, GivesAlways, exact_by};
 
-use wenc_read::{Refusal, byte, flag_of, u32_of};
+use std::str::Utf8Error;
+use wenc_read::{Expected, Refusal, byte, flag_of, u32_of};
 
 /// A value that can be read from the beginning of bytes, and borrows from them (component model,
 /// binary format, from "Component Definitions" on). Nothing is allocated.
@@ -41,7 +42,7 @@ pub trait View<'a>: Sized + Copy {
     ///
     /// # Errors
     ///
-    /// Fails with `Malformed` if no value begins the bytes.
+    /// Fails if no value begins the bytes.
     fn view_of(bytes: &'a [u8]) -> Result<(Self, &'a [u8]), Refusal>
         ensures found { GivesAlways (λ x. (view x.0, x.1.now)) result (read bytes.now) }
         ensures counted { IfOk result (λ x. is_counted x.0) };
@@ -66,26 +67,36 @@ impl<'a> View<'a> for u32 {
     }
 }
 
+/// Returns the error of a text of so many bytes, before these, that isn't UTF-8.
+#[cold]
+fn not_utf8(len: usize, after: &[u8], error: Utf8Error) -> Refusal {
+    let left = len.saturating_sub(error.valid_up_to());
+    Refusal {
+        left: left.saturating_add(after.len()),
+        expected: Expected::Utf8,
+    }
+}
+
 /// Reads a string after its length in bytes (WebAssembly 3.0, binary format, "Names"), in place.
 ///
 /// # Errors
 ///
-/// Fails with `Malformed` if there is no length, the length exceeds the bytes that are left, or the
-/// string isn't UTF-8.
+/// Fails if there is no length, the length exceeds the bytes that are left, or the string isn't
+/// UTF-8.
 #[tactic(auto, unfolding(wenc_base::specs::reading::Forms::text_at))]
 #[inline(always)]
 pub fn text_of(bytes: &[u8]) -> Result<(&str, &[u8]), Refusal>
     ensures { GivesAlways (λ x. (x.0.now, x.1.now)) result (read_name bytes.now) }
 {
-    let (len, rest) = u32_of(bytes)?;
-    let len = len as usize;
+    let (size, rest) = u32_of(bytes)?;
+    let len = size as usize;
     if rest.len() < len {
-        return Err(Refusal::Malformed);
+        return Err(Refusal::at(rest, Expected::Bytes(size)));
     }
     let (front, rest) = rest.split_at(len);
     match std::str::from_utf8(front) {
         Ok(text) => Ok((text, rest)),
-        Err(_) => Err(Refusal::Malformed),
+        Err(error) => Err(not_utf8(len, rest, error)),
     }
 }
 
@@ -134,7 +145,7 @@ impl<'a, T: View<'a>> View<'a> for Option<T> {
                 let (value, rest) = T::view_of(rest)?;
                 Ok((Some(value), rest))
             }
-            _ => Err(Refusal::Malformed),
+            _ => Err(Refusal::at(bytes, Expected::From(0, 1))),
         }
     }
 }

@@ -1,11 +1,12 @@
 //! Walks through custom sections.
 
+use super::cause::Cause;
 use super::fault::{Failure, Fault};
 use super::report::{Contents, Entry, Part, Report};
 use super::walk::Walk;
 use std::ops::Range;
 use wenc::view::ItemView;
-use wenc::{DebugNames, NamesFault, ProducersReader};
+use wenc::{DebugNames, NamesFault, ProducersFault, ProducersReader};
 
 impl Contents {
     /// Returns what is reported of a custom section with this name.
@@ -52,8 +53,9 @@ impl<R: Report> Walk<'_, '_, R> {
         }
         match read {
             Ok(()) => Ok(()),
-            Err(NamesFault::BadSubsection { place }) => {
-                Ok(self.unread_reported(Fault::Names(data.start + place), data.end)?)
+            Err(NamesFault::BadSubsection { place, cause }) => {
+                let cause = Cause::Read(cause.moved(data.start));
+                Ok(self.unread_reported(Fault::Names(data.start + place, cause), data.end)?)
             }
             Err(_) => Err(Failure::NoMemory),
         }
@@ -64,9 +66,9 @@ impl<R: Report> Walk<'_, '_, R> {
         for tool in ProducersReader::new(data) {
             match tool {
                 Ok(tool) => self.entry(Entry::Tool(tool))?,
-                Err(fault) => {
-                    let end = start + data.len();
-                    self.unread_reported(Fault::Producers(start + fault.place), end)?;
+                Err(ProducersFault { place, cause }) => {
+                    let (end, cause) = (start + data.len(), Cause::Read(cause.moved(start)));
+                    self.unread_reported(Fault::Producers(start + place, cause), end)?;
                 }
             }
         }

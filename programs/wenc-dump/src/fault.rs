@@ -1,6 +1,7 @@
 //! Parts of a file that can't be read.
 
 use super::cause::Cause;
+use super::chain::Misfit;
 use std::collections::TryReserveError;
 use std::fmt::{self, Display};
 use std::io;
@@ -24,12 +25,14 @@ pub enum Fault {
     UnknownSection(usize, u8),
     /// A custom section without a name, at this byte offset, and why.
     NoName(usize, Option<Cause>),
+    /// A section with a wrong size.
+    Size(Misfit),
     /// The component at this byte offset, which is nested in that many others.
     TooDeep(usize, usize),
-    /// Debug names, from this byte offset on.
-    Names(usize),
-    /// Producers, from this byte offset on.
-    Producers(usize),
+    /// Debug names, from this byte offset on, and why.
+    Names(usize, Cause),
+    /// Producers, from this byte offset on, and why.
+    Producers(usize, Cause),
     /// So many indices that are out of range.
     OutOfRange(usize),
 }
@@ -50,19 +53,20 @@ impl Fault {
             ) => Some(place_of(unread)),
             Self::List(
                 ListFault::NotAComponent { place, .. }
-                | ListFault::BadSection { place }
+                | ListFault::BadSection { place, .. }
                 | ListFault::BadItem { place, .. }
                 | ListFault::TooDeep { place, .. },
                 _,
             ) => Some(place),
             Self::Module(at, ModuleFault::NotAModule { .. }, _) => Some(at),
-            Self::Module(at, ModuleFault::BadSection { place }, _) => Some(at + place),
-            Self::Module(at, ModuleFault::BadItem { unread }, _) => Some(at + place_of(unread)),
+            Self::Module(at, ModuleFault::BadSection { place, .. }, _) => Some(at + place),
+            Self::Module(at, ModuleFault::BadItem { unread, .. }, _) => Some(at + place_of(unread)),
             Self::UnknownSection(place, _)
             | Self::NoName(place, _)
+            | Self::Size(Misfit { place, .. })
             | Self::TooDeep(place, _)
-            | Self::Names(place)
-            | Self::Producers(place) => Some(place),
+            | Self::Names(place, _)
+            | Self::Producers(place, _) => Some(place),
             _ => None,
         }
     }
@@ -71,7 +75,7 @@ impl Fault {
     pub fn words(&self) -> &'static str {
         match self {
             Self::List(ListFault::BadItem { unread: Some(unread), .. }, _)
-            | Self::Module(_, ModuleFault::BadItem { unread }, _) => match unread {
+            | Self::Module(_, ModuleFault::BadItem { unread, .. }, _) => match unread {
                 Unread::Count { .. } => "no count",
                 Unread::Item { .. } => "items that aren't read",
                 Unread::Behind { .. } => "bytes behind the last item",
@@ -82,9 +86,10 @@ impl Fault {
             Self::Module(_, ModuleFault::BadSection { .. }, _) => "no core section",
             Self::UnknownSection(..) => "unknown section",
             Self::NoName(..) => "no name",
+            Self::Size(_) => "section of another size",
             Self::TooDeep(..) => "too deep component",
-            Self::Names(_) => "names that aren't read",
-            Self::Producers(_) => "producers that aren't read",
+            Self::Names(..) => "names that aren't read",
+            Self::Producers(..) => "producers that aren't read",
             _ => "items that aren't read",
         }
     }
@@ -94,17 +99,28 @@ impl Fault {
         let behind = |unread| matches!(unread, Unread::Behind { .. });
         match *self {
             Self::List(ListFault::BadItem { unread, .. }, _) => unread.is_some_and(behind),
-            Self::Module(_, ModuleFault::BadItem { unread }, _) => behind(unread),
+            Self::Module(_, ModuleFault::BadItem { unread, .. }, _) => behind(unread),
             _ => false,
         }
     }
 
     /// Returns why the part can't be read, and from which byte on.
-    pub fn cause(&self) -> Option<&Cause> {
-        match self {
-            Self::List(_, cause) | Self::Module(_, _, cause) | Self::NoName(_, cause) => {
-                cause.as_ref()
+    pub fn cause(&self) -> Option<Cause> {
+        match *self {
+            Self::List(
+                ListFault::BadSection { cause, .. }
+                | ListFault::BadItem { cause, .. }
+                | ListFault::TooDeep { cause, .. },
+                _,
+            ) => cause.map(Cause::Read),
+            Self::Module(at, ModuleFault::BadSection { cause, .. }, _) => {
+                Some(Cause::Read(cause.moved(at)))
             }
+            Self::Module(at, ModuleFault::BadItem { cause, .. }, _) => {
+                cause.map(|cause| Cause::Read(cause.moved(at)))
+            }
+            Self::List(_, cause) | Self::Module(_, _, cause) | Self::NoName(_, cause) => cause,
+            Self::Names(_, cause) | Self::Producers(_, cause) => Some(cause),
             _ => None,
         }
     }
@@ -131,29 +147,18 @@ fn moved(unread: Unread, by: usize) -> Unread {
     }
 }
 
-/// Writes the cause in a list of items, unless the fault's own words say it: what is in place of
-/// the first byte.
-fn write_list(f: &mut fmt::Formatter<'_>, fault: ListFault, cause: Cause) -> fmt::Result {
-    match fault {
-        ListFault::BadItem {
-            place, unread: Some(Unread::Item { number, place: item }), ..
-        } if !cause.is_at_first(item) => {
-            write!(f, "bad item {number} at {item:#x} in the section at {place:#x}: {cause}")
-        }
-        ListFault::BadItem { unread: Some(Unread::Item { .. }), .. } => fault.fmt(f),
-        _ => write!(f, "{fault}: {cause}"),
-    }
-}
-
 /// Writes a fault of the core module at this byte offset.
 fn write_module(f: &mut fmt::Formatter<'_>, at: usize, fault: ModuleFault) -> fmt::Result {
     match fault {
         ModuleFault::NotAModule { found } => {
             write!(f, "no core module's header at {at:#x}: found {found}")
         }
-        ModuleFault::BadSection { place } => ModuleFault::BadSection { place: at + place }.fmt(f),
-        ModuleFault::BadItem { unread } => {
-            ModuleFault::BadItem { unread: moved(unread, at) }.fmt(f)
+        ModuleFault::BadSection { place, cause } => {
+            ModuleFault::BadSection { place: at + place, cause: cause.moved(at) }.fmt(f)
+        }
+        ModuleFault::BadItem { unread, cause } => {
+            let cause = cause.map(|cause| cause.moved(at));
+            ModuleFault::BadItem { unread: moved(unread, at), cause }.fmt(f)
         }
         fault => fault.fmt(f),
     }
@@ -172,8 +177,10 @@ impl Display for Fault {
             Self::List(ListFault::NotAComponent { place: 0, found: Found::Nothing }, _) => {
                 f.write_str("no component's header at 0x0: found an empty file")
             }
-            Self::List(fault, None) => fault.fmt(f),
-            Self::List(fault, Some(cause)) => write_list(f, fault, cause),
+            Self::List(fault, cause) => {
+                fault.fmt(f)?;
+                write_cause(f, cause)
+            }
             Self::Module(at, fault, cause) => {
                 write_module(f, at, fault)?;
                 write_cause(f, cause)
@@ -183,11 +190,17 @@ impl Display for Fault {
                 write!(f, "custom section without a name at {place:#x}")?;
                 write_cause(f, cause)
             }
+            Self::Size(Misfit { place, stated, end }) => {
+                let (by, longer) =
+                    (stated.abs_diff(end), if end > stated { "longer" } else { "shorter" });
+                let bytes = if by == 1 { "byte" } else { "bytes" };
+                write!(f, "the section at {place:#x} may be {by} {bytes} {longer}")
+            }
             Self::TooDeep(place, depth) => {
                 write!(f, "components more than {depth} deep at {place:#x}")
             }
-            Self::Names(place) => write!(f, "bad debug names at {place:#x}"),
-            Self::Producers(place) => write!(f, "bad producers at {place:#x}"),
+            Self::Names(place, cause) => write!(f, "bad debug names at {place:#x}: {cause}"),
+            Self::Producers(place, cause) => write!(f, "bad producers at {place:#x}: {cause}"),
             Self::OutOfRange(1) => f.write_str("1 index is out of range"),
             Self::OutOfRange(count) => write!(f, "{count} indices are out of range"),
         }

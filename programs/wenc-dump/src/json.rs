@@ -142,7 +142,7 @@ impl<'o, W: Write> Json<'o, W> {
     }
 
     /// Writes the cause of a fault, if it is known.
-    fn cause(&mut self, cause: Option<&Cause>) -> io::Result<()> {
+    fn cause(&mut self, cause: Option<Cause>) -> io::Result<()> {
         let Some(cause) = cause else { return Ok(()) };
         self.put(",\"cause\":")?;
         self.number_at("{", "place", Some(cause.place()))?;
@@ -362,8 +362,9 @@ impl<W: Write> Report for Json<'_, W> {
         self.put("}")
     }
 
+    /// Writes whole lines alone.
     fn flush(&mut self) -> io::Result<()> {
-        self.out.flush()
+        if self.open.is_empty() { self.out.flush() } else { Ok(()) }
     }
 
     fn close(&mut self) -> io::Result<()> {

@@ -4,6 +4,7 @@
 
 mod arguments;
 mod cause;
+mod chain;
 mod check;
 mod colours;
 mod custom;
@@ -13,11 +14,9 @@ mod fold;
 mod json;
 mod modules;
 mod phrase;
-mod probe;
 mod report;
 mod run;
 mod select;
-mod shorter;
 mod text;
 mod walk;
 mod words;

@@ -1,19 +1,13 @@
 //! Walks through a core module, part by part.
 
-use super::cause::{self, Bad, Cause};
+use super::cause::{self, Cause};
 use super::fault::{Failure, Fault};
 use super::phrase;
-use super::probe::Place;
 use super::report::{Content, Contents, Part, Report};
 use super::walk::{Indices, Walk};
 use std::ops::Range;
 use wenc::tree::{CoreEntityType, Space};
-use wenc::{
-    Component, CoreItem, CoreSection, CoreSections, ModuleFault, RawSection, SectionId, Unread,
-};
-
-/// The number of bytes of a header.
-const HEADER: usize = Component::HEADER.len();
+use wenc::{CoreItem, CoreSection, CoreSections, ModuleFault, RawSection, SectionId};
 
 /// Returns the space in which an item has an index, if any.
 fn space(item: &CoreItem) -> Option<Space> {
@@ -61,82 +55,16 @@ impl<R: Report> Walk<'_, '_, R> {
             let frame = here.next_raw();
             match (section, frame) {
                 (Ok(section), _) => self.core_section(at, &section, &mut next)?,
-                (Err(_), Some((range, raw))) => {
-                    self.without_name(at, range, raw)?;
+                (Err(fault), Some((range, raw))) => {
+                    self.without_name(at, range, raw, fault)?;
                     sections = here.clone();
                 }
                 (Err(fault), None) => {
-                    let fault = self.of_core_frame(at, module.end, fault)?;
-                    self.unread(fault, module.end)?;
+                    self.unread(Fault::Module(at, fault, None), module.end)?;
                 }
             }
         }
         Ok(())
-    }
-
-    /// Returns the fault of a section without a size within a core module with these bounds.
-    fn of_core_frame(&self, at: usize, end: usize, fault: ModuleFault) -> Result<Fault, Failure> {
-        let ModuleFault::BadSection { place } = fault else {
-            return Ok(Fault::Module(at, fault, None));
-        };
-        let size = at + place + 1;
-        let cause = cause::of_number(size, &self.bytes[size..end])?;
-        Ok(Fault::Module(at, fault, Some(cause)))
-    }
-
-    /// Adds why it can't be read to the fault of a count or of an item in the content of a section,
-    /// which begins at this byte offset.
-    fn of_core_item(
-        &mut self,
-        at: usize,
-        section: &CoreSection,
-        fault: ModuleFault,
-    ) -> Result<Fault, Failure> {
-        let end = at + section.range.end;
-        let content = end - section.data.len();
-        let place = match fault {
-            ModuleFault::BadItem { unread: Unread::Count { place } } => {
-                let cause = cause::of_number(at + place, &self.bytes[at + place..end])?;
-                return Ok(Fault::Module(at, fault, Some(cause)));
-            }
-            ModuleFault::BadItem { unread: Unread::Item { place, .. } } => at + place,
-            fault => return Ok(Fault::Module(at, fault, None)),
-        };
-        if !are_shown(section) {
-            // there are fewer bytes than items
-            let needed = section.count().and_then(|count| usize::try_from(count).ok());
-            return Ok(Fault::Module(
-                at,
-                fault,
-                Some(Cause::Few { place, needed, len: end - place }),
-            ));
-        }
-        let first = match section.items().next() {
-            Some(Ok((range, _))) => at + range.start,
-            _ => place,
-        };
-        let cause = self.core_cause(at, section.id, content..first, place..end)?;
-        Ok(Fault::Module(at, fault, cause))
-    }
-
-    /// Returns why an item of a core module can't be read, if that is found: by the byte offsets of
-    /// the module, the section's count and the item.
-    fn core_cause(
-        &mut self,
-        at: usize,
-        id: u8,
-        count: Range<usize>,
-        item: Range<usize>,
-    ) -> Result<Option<Cause>, Failure> {
-        self.cause(&Bad {
-            place: Place::Module,
-            header: &self.bytes[at..at + HEADER],
-            id,
-            count: &self.bytes[count],
-            at: item.start,
-            bytes: &self.bytes[item],
-            is_too_deep: false,
-        })
     }
 
     /// Reports a custom section without a name.
@@ -145,10 +73,14 @@ impl<R: Report> Walk<'_, '_, R> {
         at: usize,
         range: Range<usize>,
         RawSection { id, data }: RawSection,
+        fault: ModuleFault,
     ) -> Result<(), Failure> {
         let range = at + range.start..at + range.end;
-        let (place, content, end) = (range.start, range.end - data.len(), range.end);
-        let cause = self.core_cause(at, id, content..content, content..range.end)?;
+        let (place, end) = (range.start, range.end);
+        let cause = match fault {
+            ModuleFault::BadSection { cause, .. } => Some(Cause::Read(cause.moved(at))),
+            _ => None,
+        };
         self.report.open(&Part::CoreSection {
             range,
             id,
@@ -188,7 +120,7 @@ impl<R: Report> Walk<'_, '_, R> {
             match item {
                 Ok((range, item)) => self.core_item(at, section, range, &item, next)?,
                 Err(fault) => {
-                    let fault = self.of_core_item(at, section, fault)?;
+                    let fault = Fault::Module(at, fault, None);
                     next.note(&fault);
                     if are_shown {
                         self.unread(fault, range.end)?;

@@ -79,21 +79,53 @@ fn dump(
     status: &mut u8,
 ) -> io::Result<()> {
     for file in &options.files {
+        let mut kept = Kept::default();
         let tell = &mut |fault: &Fault| {
-            complain(streams.err, format_args!("{}: {fault}\n", Escaped(file)));
             *status = fault.status().max(*status);
+            let is_kept = options.json && kept.add(format_args!("{}: {fault}\n", Escaped(file)));
+            if !is_kept {
+                complain(streams.err, format_args!("{}: {fault}\n", Escaped(file)));
+            }
         };
-        if options.json {
+        let done = if options.json {
             let mut json = Json::new(streams.out, options.hex);
             let mut json = Selected::new(&mut json, &options.sections);
-            report(&mut json, (file, options.check), streams.input, tell)?;
+            report(&mut json, (file, options.check), streams.input, tell)
         } else {
             let mut text = Text::new(streams.out, Style::of(options, terminal));
             let mut text = Selected::new(&mut text, &options.sections);
-            report(&mut text, (file, options.check), streams.input, tell)?;
+            report(&mut text, (file, options.check), streams.input, tell)
+        };
+        if !kept.0.is_empty() {
+            complain(streams.err, format_args!("{}", kept.0));
         }
+        done?;
     }
     Ok(())
+}
+
+/// Messages that follow the line in which they would be.
+#[derive(Default)]
+struct Kept(String);
+
+impl Kept {
+    /// Adds a message. Returns whether there is memory for it.
+    fn add(&mut self, message: fmt::Arguments) -> bool {
+        let len = self.0.len();
+        let is_added = fmt::Write::write_fmt(self, message).is_ok();
+        if !is_added {
+            self.0.truncate(len);
+        }
+        is_added
+    }
+}
+
+impl fmt::Write for Kept {
+    fn write_str(&mut self, text: &str) -> fmt::Result {
+        self.0.try_reserve(text.len()).map_err(|_| fmt::Error)?;
+        self.0.push_str(text);
+        Ok(())
+    }
 }
 
 impl Style {

@@ -1,25 +1,19 @@
 //! Walks through a file, part by part.
 
-use super::cause::{self, Bad, Cause};
+use super::cause::{self, Cause};
+use super::chain::{Misfit, misfit};
 use super::check::{Check, node_in};
 use super::fault::{Failure, Fault};
 use super::phrase;
-use super::probe::Place;
 use super::report::{Content, Contents, Label, Part, Report, Rest};
 use std::io;
 use std::ops::Range;
 use wenc::tree::Space;
 use wenc::view::ItemView;
-use wenc::{Component, CoreSections, DebugNames, ListFault, SectionReader, Sections, Unread};
+use wenc::{CoreSections, DebugNames, ListFault, SectionReader, Sections};
 
 /// The maximum nesting depth of components, which is that of types.
 pub const DEPTH: usize = 100;
-
-/// The number of bytes that are read, at most, to find the cause of one fault.
-const WORK: usize = 1 << 26;
-
-/// The same for all faults of a file, besides its size.
-const ALL_WORK: usize = 1 << 28;
 
 /// A walk through a file.
 pub struct Walk<'f, 'r, R> {
@@ -30,8 +24,8 @@ pub struct Walk<'f, 'r, R> {
     tell: &'r mut dyn FnMut(Fault),
     /// The debug names of the components around the next part, the outermost first.
     names: Vec<DebugNames>,
-    /// The number of bytes that may still be read to find causes.
-    work: usize,
+    /// Whether the next part is in a section with a wrong size, whose own fault is passed on.
+    is_in_misfit: bool,
     check: Check,
 }
 
@@ -77,8 +71,8 @@ pub fn walk(
     report: &mut impl Report,
     tell: &mut dyn FnMut(Fault),
 ) -> Result<(), Failure> {
-    let (check, work) = (Check::new(has_check), ALL_WORK.saturating_add(bytes.len()));
-    let mut walk = Walk { bytes, report, tell, names: Vec::new(), work, check };
+    let check = Check::new(has_check);
+    let mut walk = Walk { bytes, report, tell, names: Vec::new(), is_in_misfit: false, check };
     if let Ok(sections) = CoreSections::new(bytes) {
         walk.report.open(&Part::File(0..bytes.len(), Content::Module))?;
         walk.core_sections(0..bytes.len(), sections)?;
@@ -121,10 +115,13 @@ impl<'f, R: Report> Walk<'f, '_, R> {
         }
     }
 
-    /// Passes on a fault, after writing what comes before it.
+    /// Passes on a fault, after writing what comes before it, unless it is in a section with a wrong
+    /// size.
     fn fault(&mut self, fault: Fault) -> io::Result<()> {
-        self.report.flush()?;
-        (self.tell)(fault);
+        if !self.is_in_misfit {
+            self.report.flush()?;
+            (self.tell)(fault);
+        }
         Ok(())
     }
 
@@ -156,45 +153,6 @@ impl<'f, R: Report> Walk<'f, '_, R> {
         Fault::List(fault, cause::of_header(place, found, &self.bytes[place..end]))
     }
 
-    /// Returns why an item can't be read, if that is found.
-    pub(super) fn cause(&mut self, bad: &Bad) -> Result<Option<Cause>, Failure> {
-        let limit = self.work.min(WORK);
-        let mut left = limit;
-        let cause = bad.cause(&mut left)?;
-        self.work -= limit - left;
-        Ok(cause)
-    }
-
-    /// Adds why it can't be read to the fault of an item of a section.
-    fn of_item(&mut self, section: SectionReader<'f>, fault: ListFault) -> Result<Fault, Failure> {
-        let range = section.range();
-        let content = range.end - section.raw().data.len();
-        let (at, is_too_deep) = match fault {
-            ListFault::NoMemory => return Err(Failure::NoMemory),
-            ListFault::BadItem { unread: Some(Unread::Item { place, .. }), .. } => (place, false),
-            ListFault::TooDeep { unread: Some(Unread::Item { place, .. }), .. } => (place, true),
-            ListFault::BadSection { .. } => (content, false),
-            fault => return Ok(Fault::List(fault, None)),
-        };
-        let first = match section.items().next() {
-            Some(Ok((range, _))) => range.start,
-            _ => at,
-        };
-        let cause = self.cause(&Bad {
-            place: Place::Component,
-            header: &Component::HEADER,
-            id: section.id(),
-            count: &self.bytes[content..first],
-            bytes: &self.bytes[at..range.end],
-            at,
-            is_too_deep,
-        })?;
-        Ok(match fault {
-            ListFault::BadSection { place } => Fault::NoName(place, cause),
-            fault => Fault::List(fault, cause),
-        })
-    }
-
     /// Reports the component that the file is.
     fn component(&mut self, sections: Sections<'f>) -> Result<(), Failure> {
         let names = names_of(sections)?;
@@ -219,29 +177,45 @@ impl<'f, R: Report> Walk<'f, '_, R> {
         self.names.push(names);
         self.check.enter()?;
         let mut next = Indices::default();
-        for (frame, section) in framed(sections) {
-            match (section, frame) {
-                (Ok(section), _) => self.section(section, &mut next)?,
-                (Err(fault), None) => {
-                    let fault = self.of_frame(fault, end)?;
-                    self.unread(fault, end)?;
-                }
-                (Err(fault), Some((range, id))) => {
-                    self.unread_section(range, id, fault, &mut next)?;
-                }
-            }
+        let bytes = &self.bytes[..end];
+        let misfit = sections.offset().map_or(Ok(None), |from| misfit(bytes, from))?;
+        self.sections_to(sections, end, misfit, &mut next)?;
+        if let Some(behind) = misfit.and_then(|misfit| Sections::at(bytes, misfit.end)) {
+            self.sections_to(behind, end, None, &mut next)?;
         }
         self.check.leave();
         self.names.pop();
         Ok(())
     }
 
-    /// Returns the fault of a section without a size within the component, which ends at this byte
-    /// offset.
-    fn of_frame(&self, fault: ListFault, end: usize) -> Result<Fault, Failure> {
-        let ListFault::BadSection { place } = fault else { return Ok(Fault::List(fault, None)) };
-        let size = place + 1;
-        Ok(Fault::List(fault, Some(cause::of_number(size, &self.bytes[size..end])?)))
+    /// Reports sections of a component that ends at this byte offset, up to one with a wrong size
+    /// if there is one.
+    fn sections_to(
+        &mut self,
+        sections: Sections<'f>,
+        end: usize,
+        misfit: Option<Misfit>,
+        next: &mut Indices,
+    ) -> Result<(), Failure> {
+        for (frame, section) in framed(sections) {
+            let start = frame.as_ref().map(|(range, _)| range.start);
+            let is_in_misfit = self.is_in_misfit;
+            let misfit = misfit.filter(|misfit| start == Some(misfit.place));
+            if let Some(misfit) = misfit {
+                self.fault(Fault::Size(misfit))?;
+                self.is_in_misfit = true;
+            }
+            match (section, frame) {
+                (Ok(section), _) => self.section(section, next)?,
+                (Err(fault), None) => self.unread(Fault::List(fault, None), end)?,
+                (Err(fault), Some((range, id))) => self.unread_section(range, id, fault, next)?,
+            }
+            self.is_in_misfit = is_in_misfit;
+            if misfit.is_some() {
+                break;
+            }
+        }
+        Ok(())
     }
 
     /// Reports a section whose items can't be read.
@@ -253,11 +227,7 @@ impl<'f, R: Report> Walk<'f, '_, R> {
         next: &mut Indices,
     ) -> Result<(), Failure> {
         let fault = match fault {
-            ListFault::BadSection { place } => Fault::UnknownSection(place, id),
-            ListFault::BadItem { unread: Some(Unread::Count { place }), .. } => {
-                let cause = cause::of_number(place, &self.bytes[place..range.end])?;
-                Fault::List(fault, Some(cause))
-            }
+            ListFault::BadSection { place, .. } => Fault::UnknownSection(place, id),
             fault => Fault::List(fault, None),
         };
         let end = range.end;
@@ -280,7 +250,11 @@ impl<'f, R: Report> Walk<'f, '_, R> {
                     self.item(range, &item, next)?;
                     continue;
                 }
-                Err(fault) => self.of_item(section, fault)?,
+                Err(ListFault::NoMemory) => return Err(Failure::NoMemory),
+                Err(ListFault::BadSection { place, cause }) => {
+                    Fault::NoName(place, cause.map(Cause::Read))
+                }
+                Err(fault) => Fault::List(fault, None),
             };
             self.note(&fault, next);
             self.unread(fault, section.range().end)?;

@@ -80,7 +80,7 @@ fn visit_outer(
             }
             if around.len() >= limit {
                 let place = section.range().start;
-                return Err(ListFault::TooDeep { place, unread: None }.into());
+                return Err(ListFault::TooDeep { place, unread: None, cause: None }.into());
             }
             around.try_reserve(1).map_err(|_| ListFault::NoMemory)?;
             let nested = Visited::new(section.raw().data, innermost.depth + 1)?;

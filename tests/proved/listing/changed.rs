@@ -17,7 +17,7 @@ type Answers = [u32; 3];
 fn is_cut(front: &[u8], begin: usize) {
     let place = match read(front) {
         Ok(_) => front.len(),
-        Err(ListFault::BadSection { place }) => {
+        Err(ListFault::BadSection { place, .. }) => {
             assert!(place < front.len());
             place
         }
@@ -34,7 +34,7 @@ fn is_cut(front: &[u8], begin: usize) {
 fn place_of(fault: ListFault) -> usize {
     match fault {
         ListFault::NotAComponent { place, .. }
-        | ListFault::BadSection { place }
+        | ListFault::BadSection { place, .. }
         | ListFault::BadItem { place, .. }
         | ListFault::TooDeep { place, .. } => place,
         fault => panic!("{fault:?}"),

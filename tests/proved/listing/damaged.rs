@@ -7,7 +7,8 @@ use crate::proved::tests::hex::bytes;
 use crate::proved::tests::refusing::Refusing;
 use crate::proved::wenc_list::{self, list};
 use crate::tree::Space;
-use crate::{ComponentSectionId, Encode, ListFault, Sections, Unread};
+use crate::{Cause, ComponentSectionId, Encode, ListFault, Sections, Unread};
+use std::ops::Range;
 use std::vec::Vec;
 
 /// Items that can't be read, each a word in hexadecimal, with the id of a section of one item.
@@ -145,16 +146,53 @@ fn number(bytes: &[u8]) -> (usize, usize) {
     (bytes[..len].iter().rev().fold(0, add), len)
 }
 
-/// The fault of a component whose section at this place can't be read, in that this part.
-fn fault_of(bytes: &[u8], place: usize, unread: Option<Unread>) -> ListFault {
-    let Some(unread) = unread else { return ListFault::BadSection { place } };
-    let (Unread::Count { place: at }
-    | Unread::Item { place: at, .. }
-    | Unread::Behind { place: at }) = unread;
-    let (size, len) = number(&bytes[place + 1..]);
-    let byte = bytes[..place + 1 + len + size].get(at).copied();
-    let section = ComponentSectionId::try_from(bytes[place]).expect("an id");
-    ListFault::BadItem { place, section, unread: Some(unread), byte }
+/// The fault is that the section at this place can't be read, in that this part, and its cause is
+/// in that part.
+fn is_fault(fault: ListFault, bytes: &[u8], place: usize, unread: Option<Unread>) {
+    let (begin, end) = match unread {
+        None => (place, bytes.len()),
+        Some(Unread::Count { place: at } | Unread::Item { place: at, .. }) => {
+            let (size, len) = number(&bytes[place + 1..]);
+            (at, place + 1 + len + size)
+        }
+        Some(Unread::Behind { .. }) => (0, 0),
+    };
+    let cause = match fault {
+        ListFault::BadSection { cause, .. } | ListFault::BadItem { cause, .. } => cause,
+        fault => panic!("{fault:?}"),
+    };
+    let wanted = match unread {
+        None => ListFault::BadSection { place, cause },
+        Some(_) => {
+            let section = ComponentSectionId::try_from(bytes[place]).expect("an id");
+            ListFault::BadItem { place, section, unread, cause }
+        }
+    };
+    assert_eq!(fault, wanted, "{bytes:x?}");
+    match cause {
+        None => assert_eq!(end, 0),
+        Some(cause) => is_so(cause, bytes, begin..end),
+    }
+}
+
+/// What the cause says of these bytes is so.
+fn is_so(cause: Cause, bytes: &[u8], part: Range<usize>) {
+    let (from, len) = (cause.place(), part.len());
+    match cause {
+        Cause::Byte { place, byte, expected } => {
+            assert!(part.contains(&place) && bytes[place] == byte, "{cause} {bytes:x?}");
+            assert!(expected.ranges().all(|range| !range.contains(&byte)), "{cause} {bytes:x?}");
+        }
+        Cause::Text { place, byte } => {
+            assert!(part.contains(&place) && bytes[place] == byte && byte >= 0x80, "{cause}");
+        }
+        Cause::Number { place, .. } => assert!(part.contains(&place), "{cause} {bytes:x?}"),
+        Cause::Few { place, needed, len: left } => {
+            assert!(part.start <= place && left < needed as usize && left <= len, "{cause}");
+            assert!(from <= part.end && (from == part.end || bytes[part.start] == 0), "{cause}");
+        }
+        Cause::Deep { .. } => panic!("{cause}"),
+    }
 }
 
 /// The same part, so many bytes further on.
@@ -170,8 +208,8 @@ fn moved(unread: Unread, by: usize) -> Unread {
 /// around it, that part there.
 fn is_told(sections: &[u8], place: usize, unread: Option<Unread>) {
     let bytes = component(sections);
-    let fault = fault_of(&bytes, place, unread);
-    assert_eq!(read(&bytes), Err(fault), "{sections:x?}");
+    let fault = read(&bytes).expect_err("it can't be read");
+    is_fault(fault, &bytes, place, unread);
     requests(&bytes);
     let all = Sections::new(&bytes).expect("a component");
     assert_eq!(all.index_count(Space::Types), Err(fault));
@@ -183,7 +221,7 @@ fn is_told(sections: &[u8], place: usize, unread: Option<Unread>) {
         Err(fault) => Some(fault),
     });
     let unread = unread.map(|unread| moved(unread, 10));
-    assert_eq!(found, Some(fault_of(&outer, place + 10, unread)), "{sections:x?}");
+    is_fault(found.expect("a fault"), &outer, place + 10, unread);
 }
 
 /// Each request of the listing is refused in turn. Returns how many there are.
@@ -265,7 +303,10 @@ fn deep_types() {
             let mut bytes = component(&[0x07]);
             data.as_slice().encode(&mut bytes);
             let unread = item(number, bytes.len() - data.len() + before.len());
-            let fault = ListFault::TooDeep { place: 8, unread };
+            // three bytes of each type around it
+            let place = bytes.len() - data.len() + before.len() + 300;
+            let cause = Some(Cause::Deep { place });
+            let fault = ListFault::TooDeep { place: 8, unread, cause };
             assert_eq!(read(&bytes).err(), (!is_read).then_some(fault));
         }
     }

@@ -5,9 +5,8 @@ use crate::proved::tests::hex::bytes;
 use crate::proved::wenc_decode::room_for;
 use crate::proved::wenc_list::{ProducersPart, ProducersParts, first_unread};
 use crate::proved::wenc_parts::{ComponentValType, ResultList};
-use crate::proved::wenc_read::{NestedRefusal, Refusal, flag_of, u64_of};
+use crate::proved::wenc_read::{Expected, NestedRefusal, Refusal, flag_of, u64_of};
 use crate::proved::wenc_view::{TypeView, View, type_at};
-use crate::shim::alloc::AllocError;
 use std::fmt::Debug;
 
 /// Bytes, and the value that they begin with and how many of them it has, or none.
@@ -46,7 +45,7 @@ fn are<T: Copy + PartialEq + Debug>(
 ) {
     for (bytes, wanted) in rows {
         let wanted = wanted.map(|(value, len)| (value, &bytes[len..]));
-        assert_eq!(read(bytes), wanted.ok_or(Refusal::Malformed), "{bytes:02x?}");
+        assert_eq!(read(bytes).ok(), wanted, "{bytes:02x?}");
     }
 }
 
@@ -87,12 +86,13 @@ fn producers() {
         let left = (parts.tools, parts.fields, parts.rest);
         for _ in 0..2 {
             let end = parts.next().map(|part| part.map(texts));
-            assert_eq!(end, if len == 17 { Ok(None) } else { Err(Refusal::Malformed) }, "{len}");
+            assert_eq!(end.ok(), (len == 17).then_some(None), "{len}");
             assert_eq!((parts.tools, parts.fields, parts.rest), left);
         }
     }
-    assert_eq!(ProducersParts::new(b"").err(), Some(Refusal::Malformed));
-    assert_eq!(ProducersParts::new(b"\x80").err(), Some(Refusal::Malformed));
+    for (data, expected) in [(&b""[..], Expected::Bytes(1)), (b"\x80", Expected::Bytes(1))] {
+        assert_eq!(ProducersParts::new(data).err(), Some(Refusal { left: 0, expected }));
+    }
 }
 
 /// Values that have no room are counted as none.
@@ -110,14 +110,9 @@ fn depth() {
     let bytes = bytes("4201014201016e002a");
     let Ok((TypeView::Instance(decls), [0x2a])) = type_at(2, &bytes) else { panic!("a type") };
     assert_eq!((decls.len(), decls.count()), (1, 1));
-    assert_eq!(type_at(1, &bytes), Err(NestedRefusal::TooDeep));
-    assert_eq!(type_at(2, &bytes[..6]), Err(NestedRefusal::from(Refusal::Malformed)));
-}
-
-#[test]
-fn refusals() {
-    assert_eq!(NestedRefusal::from(Refusal::from(AllocError)), NestedRefusal::from(AllocError));
-    assert_eq!(Refusal::from(AllocError), Refusal::Memory);
+    assert_eq!(type_at(1, &bytes), Err(NestedRefusal::TooDeep(6)));
+    let refusal = Refusal { left: 0, expected: Expected::Bytes(1) };
+    assert_eq!(type_at(2, &bytes[..6]), Err(NestedRefusal::from(refusal)));
 }
 
 /// Sections, and the place of one that is read, or of none.

@@ -1,11 +1,11 @@
 //! Examples of `wenc_list`, `wenc_view` and `wenc_decode`.
 
-use std::alloc::Allocator;
+use std::alloc::{AllocError, Allocator};
 use wasm_encoder::{AliasTree, ItemTree, ListFault, Unread, first_unread, list};
 use wenc_decode::TreeOf;
 use wenc_list::{ItemView, Names, Sections, behind_module_header, names_of, part_of};
 use wenc_parts::Alias;
-use wenc_read::Refusal;
+use wenc_read::{Expected, Refusal};
 use wenc_view::{ListOf, View};
 
 /// `list`: whether a component has imports.
@@ -51,7 +51,7 @@ pub fn first_tree<A: Allocator + Copy>(
 pub fn first_section(module: &[u8]) -> Result<((u8, &[u8]), &[u8]), Refusal> {
     match behind_module_header(module) {
         Some(sections) => part_of(sections),
-        None => Err(Refusal::Malformed),
+        None => Err(Refusal::at(module, Expected::From(0, 0))),
     }
 }
 
@@ -75,8 +75,8 @@ pub fn sum_of(bytes: &[u8]) -> Result<(u64, &[u8]), Refusal> {
 /// `TreeOf`: an alias as an owned value.
 pub fn alias_tree<A: Allocator + Copy>(
     alloc: A,
-    bytes: &[u8],
-) -> Result<(AliasTree<A>, &[u8]), Refusal> {
-    let (alias, rest) = Alias::view_of(bytes)?;
-    Ok((AliasTree::tree_of(alloc, alias)?, rest))
+    alias: Alias<'_>,
+) -> Result<AliasTree<A>, AllocError> {
+    let tree = AliasTree::tree_of(alloc, alias)?;
+    Ok(tree)
 }

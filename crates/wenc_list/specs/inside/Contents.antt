@@ -12,15 +12,10 @@ use Rattle.wenc_builder.specs.Sections.{collects}
 use Rattle.wenc_canon.specs.reading.Canonicals.{read_canonical}
 use Rattle.wenc_types.specs.reading.ComponentTypes.{read_type}
 use Rattle.wenc_parts.specs.reading.Aliases.{read_alias}
-use Rattle.wenc_read.specs.declared.refusal.NestedRefusal.{NestedRefusal}
-use Rattle.wenc_read.specs.declared.refusal.NestedRefusal.TheVariants.{Flat, TooDeep}
-use Rattle.wenc_read.specs.declared.refusal.Refusal.TheVariants as refusals
 use Rattle.wenc_sections.specs.inside.Items.{read_import, read_inline_export}
 use Rattle.wenc_sections.specs.reading.Items.{read_core_instance, read_instance}
 use Rattle.wenc_sections.specs.reading.Items.{read_start_content}
 use Rattle.wenc_types.specs.reading.CoreTypes.{read_core_type}
-use Rattle.wenc_list.specs.declared.fault.ListFault.{ListFault}
-use Rattle.wenc_list.specs.declared.fault.ListFault.TheVariants as faults
 
 -- ---- items
 
@@ -98,10 +93,3 @@ read_frame (id ∷ bytes) =
     else Ok ((id, take size rest), drop size rest))
 
 -- ---- faults
-
--- why the content of a section with this id isn't read
-abbrev pub fault_of_content : NestedRefusal → ℕ → ℕ → ListFault
-fault_of_content (Flat refusals.Memory) id place = faults.Memory
-fault_of_content (Flat refusals.Malformed) id place =
-    if nat_eq id 0 then faults.BadSection place else faults.BadItem place
-fault_of_content TooDeep id place = faults.TooDeep place

@@ -3,10 +3,7 @@ use Rattle.std.proofs.Common.{◌≡◌, ℕ, List, [], ◌∷◌, Result, Ok, r
 use Rattle.wenc_base.specs.laws.Lawful.{same_Ok_pair, IsPast, pick_past}
 use Rattle.wenc_base.specs.Readers.{Flaw, Reader, go_on, read_byte, pick, choose}
 use Rattle.wenc_read.specs.declared.refusal.NestedRefusal.{NestedRefusal}
-use Rattle.wenc_read.specs.declared.refusal.NestedRefusal.TheVariants.{Flat, TooDeep}
-use Rattle.wenc_read.specs.declared.refusal.Refusal.{Refusal}
-use Rattle.wenc_read.specs.declared.refusal.Refusal.TheVariants.{Memory, Malformed}
-use Rattle.wenc_read.specs.inside.Fails.{Fails, FailsNested}
+use Rattle.wenc_read.specs.inside.Fails.{FailsNested}
 
 -- what stands after a first byte, by the row of that byte
 pub at_first : {A : Type 0} (table : List (ℕ × Reader A)) (other : Reader A) (b first : ℕ)
@@ -30,12 +27,6 @@ past_rows table other b bytes rest e h = rw (first_there bytes rest b e)
     (pick_past table other b rest h)
 
 -- what fails fails whatever is made of it
-pub fails_on : {A B : Type 0} (e : Refusal) (found : Result (A × List ℕ) Flaw)
-    (next : A → List ℕ → Result B Flaw) → Fails e found → Fails e (go_on found next)
-fails_on Memory found next h = tt
-fails_on Malformed found next h = rw h refl
-
 pub fails_nested_on : {A B : Type 0} (e : NestedRefusal) (found : Result (A × List ℕ) Flaw)
     (next : A → List ℕ → Result B Flaw) → FailsNested e found → FailsNested e (go_on found next)
-fails_nested_on (Flat e) found next h = fails_on e found next h
-fails_nested_on TooDeep found next h = rw h refl
+fails_nested_on e found next h = rw h refl

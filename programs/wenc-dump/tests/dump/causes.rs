@@ -154,7 +154,7 @@ const KINDS: [(&[u8], &str); 26] = [
     ),
     (
         b"\x07\x0c\x01\x42\x01\x04\0\x04a\xc3\x28c\x01\0",
-        "bad item 0 at 0xb in the section at 0x8: 0x28 at 0x12 isn't UTF-8",
+        "bad item 0 at 0xb in the section at 0x8: 0xc3 at 0x11 isn't UTF-8",
     ),
     (b"\0\x03\x02a\x80", "custom section without a name at 0x8: 0x80 at 0xc isn't UTF-8"),
     // unknown kinds and opcodes
@@ -170,11 +170,7 @@ const KINDS: [(&[u8], &str); 26] = [
         b"\x08\x02\x01\x7f",
         "bad item 0 at 0xb in the section at 0x8: 0x7f where a canonical function is expected",
     ),
-    (
-        b"\x08\x04\x01\0\0\x33",
-        "bad item 0 at 0xb in the section at 0x8: \
-         needs 5 bytes or more from 0xb on, where 3 are left",
-    ),
+    (b"\x08\x04\x01\0\0\x33", "bad item 0 at 0xb in the section at 0x8: the bytes end at 0xe"),
     // types of values: of a field, in a list, of two bytes, and of a core function
     (
         b"\x07\x06\x01\x72\x01\x01a\x41",
@@ -210,14 +206,10 @@ const KINDS: [(&[u8], &str); 26] = [
     (
         b"\x0a\x08\x01\0\x09file\x03",
         "bad item 0 at 0xb in the section at 0x8: \
-         needs 13 bytes or more from 0xb on, where 7 are left",
+         needs 9 bytes or more from 0xd on, where 5 are left",
     ),
     (b"\x06\x05\x01", "bad section at 0x8: needs 5 bytes or more from 0xa on, where 1 is left"),
-    (
-        b"\x06\x01\x80",
-        "bad count at 0xa in the section at 0x8: \
-         needs 2 bytes or more from 0xa on, where 1 is left",
-    ),
+    (b"\x06\x01\x80", "bad count at 0xa in the section at 0x8: the bytes end at 0xb"),
     // numbers that are too large or too long
     (
         b"\x07\xff\xff\xff\xff\xff\x01",
@@ -282,7 +274,7 @@ fn fault_of(bytes: &[u8]) -> Option<(usize, Range<usize>)> {
         ends.first().map_or(bytes.len(), |(range, _)| range.end)
     };
     match fault {
-        ListFault::BadSection { place } => Some((place, place..section(place))),
+        ListFault::BadSection { place, .. } => Some((place, place..section(place))),
         ListFault::BadItem { place, unread: Some(unread), .. } => match unread {
             Unread::Count { place: at } | Unread::Item { place: at, .. } => {
                 Some((at, at..section(place)))
@@ -336,9 +328,10 @@ fn items_that_are_cut_need_bytes() {
     for (id, item) in items(24).iter().step_by(5 * STEP) {
         for len in 1..item.len() {
             let bytes = alone(*id, &item[..len]);
-            let (_, message) = cause(&bytes).expect("a cause");
-            assert!(message.starts_with("needs "), "{:02x?}: {message}", &item[..len]);
-            assert!(message.ends_with(if len == 1 { " 1 is left" } else { " are left" }));
+            let (place, message) = cause(&bytes).expect("a cause");
+            let is_end = message.starts_with("the bytes end at ");
+            assert!(is_end || message.starts_with("needs "), "{:02x?}: {message}", &item[..len]);
+            assert_eq!(place, bytes.len(), "{:02x?}: {message}", &item[..len]);
             cut += 1;
         }
     }

@@ -63,7 +63,7 @@ fn bad_producers_are_a_fault() {
       0x22 producers that aren't read
         0x22: 04 52 75 ff 74 04 32 30 32 34
 ";
-    expect("bad_producers", &bytes, out, Some("bad producers at 0x22"));
+    expect("bad_producers", &bytes, out, Some("bad producers at 0x22: 0xff at 0x25 isn't UTF-8"));
 }
 
 /// Bytes that aren't read are printed in hexadecimal: once, and to the end of the section.
@@ -82,7 +82,7 @@ fn unread_bytes_are_printed() {
 ";
     let bad = "\
 bad item 0 at 0xb in the section at 0x8: 0x09 at 0xe, where 0x00 to 0x05 is expected
-custom section without a name at 0x25: needs 8 bytes or more from 0x27 on, where 2 are left";
+custom section without a name at 0x25: needs 7 bytes or more from 0x28 on, where 1 is left";
     let line = "      0xb: 00 01 66 09 00 00 11 61 62 63 64 65 66 67 68 69";
     let path = file("unread", sections);
     expect_of(&[], &path, &format!("{front}{line} ...\n{back}"), Some(bad));

@@ -1,7 +1,10 @@
 //! What is printed in front of a fault, and what is said of it.
 
-use crate::{dump, expect, expect_of, file_of};
+use crate::corpus::corpus;
+use crate::{component, dump, expect, expect_of, file_of};
+use std::fs;
 use std::path::Path;
+use wenc_dump::Terminal;
 
 #[test]
 fn types_too_deep_are_a_fault() {
@@ -48,7 +51,7 @@ fn core_modules_are_printed_as_far_as_they_are_read() {
   0xc no core section
     0xc: 01 01
 ";
-    let bad = "bad core section at 0xc: needs 1 byte or more from 0xe on, where 0 are left";
+    let bad = "bad core section at 0xc: the bytes end at 0xe";
     expect_of(&[], &file, out, Some(bad));
     // the second import has no kind; there is one export less than bytes; no start
     let module = b"\0asm\x01\0\0\0\
@@ -71,7 +74,7 @@ fn core_modules_are_printed_as_far_as_they_are_read() {
     let bad = "\
 bad item 1 at 0x11: 0x05 at 0x15, where 0x00 to 0x04 is expected
 bytes behind the last item at 0x1d
-bad item 0 at 0x20: needs 1 byte or more from 0x20 on, where 0 are left";
+bad item 0 at 0x20: the bytes end at 0x20";
     expect_of(&[], &file_of("bad_entries", module), out, Some(bad));
 }
 
@@ -103,9 +106,9 @@ fn sections_of_core_modules_in_components_are_faults() {
   0x22..0x25 alias section, 3 bytes, 0 items
 ";
     let bad = "\
-bad count at 0x14: needs 1 byte or more from 0x14 on, where 0 are left
+bad count at 0x14: the bytes end at 0x14
 unknown section 65 at 0x14
-custom section without a name at 0x16: needs 8 bytes or more from 0x18 on, where 1 is left
+custom section without a name at 0x16: needs 7 bytes or more from 0x19 on, where 0 are left
 bytes behind the last item at 0x1c
 bad core section at 0x20: needs 127 bytes or more from 0x22 on, where 0 are left";
     let sections = [b"\x01\x18", BAD_SECTIONS, b"\x06\x01\0"].concat();
@@ -164,8 +167,8 @@ fn what_follows_a_fault_is_printed() {
     let bad = "\
 bad item 1 at 0x10 in the section at 0x8: the section ends where an import is expected
 unknown section 12 at 0x10
-bad count at 0x15 in the section at 0x13: needs 2 bytes or more from 0x15 on, where 1 is left
-custom section without a name at 0x16: needs 8 bytes or more from 0x18 on, where 1 is left
+bad count at 0x15 in the section at 0x13: the bytes end at 0x16
+custom section without a name at 0x16: needs 7 bytes or more from 0x19 on, where 0 are left
 bad item 0 at 0x2b in the section at 0x28: 0x09 where an alias is expected
 no component's header at 0x2e: found other bytes: 00 61 73
 bad section at 0x4d: needs 5 bytes or more from 0x4f on, where 1 is left";
@@ -187,7 +190,6 @@ fn indices_behind_bytes_behind_items_are_known() {
     expect("known", b"\x06\x02\0\0\x07\x03\x01\x69\0", out, Some(bad));
 }
 
-/// Of the examples of instances some are longer than the room behind these items.
 #[test]
 fn instance_sections_may_end_early() {
     let out = "\
@@ -205,7 +207,7 @@ fn instance_sections_may_end_early() {
       0xb: 00 00
 ";
     let bad = "bad item 0 at 0xb in the section at 0x8: \
-        needs 3 bytes or more from 0xb on, where 2 are left";
+        the bytes end at 0xd";
     expect("instance_cut_item", b"\x05\x03\x01\0\0", out, Some(bad));
     let out = "\
 0x0..0xf component, 15 bytes
@@ -228,4 +230,65 @@ fn an_item_may_need_no_bytes_behind_it() {
     let err = String::from_utf8_lossy(&output.stderr);
     assert!(err.contains(": bad item 0 at 0xb in the section at 0x8: "), "{err}");
     assert_eq!((output.status.code(), err.lines().count()), (Some(1), 1), "{err}");
+}
+
+/// A byte more or less in a section, with which no section follows it: what follows is printed from
+/// where sections reach the end.
+#[test]
+fn sections_may_have_another_size() {
+    let import = b"\x0a\x06\x01\0\x01f\x01\0";
+    let said = |sections: &[u8]| {
+        let (status, out, err) = crate::run(&[], &component(sections), Terminal::default());
+        assert_eq!(status, 1);
+        (out.lines().filter(|line| line.contains(" import \"f\" Func(0)")).count(), err)
+    };
+    let type_section = *b"\x07\x05\x01\x40\0\x01\0";
+    for (at, by, words) in [(2, 1, "1 byte longer"), (6, 3, "3 bytes longer")] {
+        let mut bytes = type_section.to_vec();
+        (0..by).for_each(|_| bytes.insert(at, 0x55));
+        let found = said(&[&bytes[..], import].concat());
+        assert_eq!(found, (1, format!("-: the section at 0x8 may be {words}\n")));
+    }
+    // in a record with two fields
+    let record = *b"\x07\x09\x01\x72\x02\x01a\x7f\x01b\x7f";
+    for (at, by, words) in [(6, 1, "1 byte shorter"), (5, 2, "2 bytes shorter")] {
+        let mut bytes = record.to_vec();
+        bytes.drain(at..at + by);
+        let found = said(&[&bytes[..], import].concat());
+        assert_eq!(found, (1, format!("-: the section at 0x8 may be {words}\n")));
+    }
+}
+
+/// Of damages by a byte more or less most are told in one line.
+#[test]
+fn most_sizes_are_mended() {
+    let mut lines = Vec::new();
+    for file in fs::read_dir(corpus("wasm")).expect("the corpus is there") {
+        let bytes = fs::read(file.expect("it is there").path()).expect("it is there");
+        if bytes.len() > 1_500 || wenc::list(&bytes).is_err() {
+            continue;
+        }
+        for at in (8..bytes.len()).step_by(7) {
+            let (mut longer, mut shorter) = (bytes.clone(), bytes.clone());
+            longer.insert(at, 0x55);
+            shorter.remove(at);
+            for bytes in [longer, shorter] {
+                let (_, _, err) = crate::run(&[], &bytes, Terminal::default());
+                lines.push(err.lines().count());
+            }
+        }
+    }
+    lines.sort_unstable();
+    assert_eq!(lines[lines.len() / 2], 1, "{}", lines.len());
+    assert!(lines[lines.len() - 1] < 100, "{lines:?}");
+}
+
+/// A file of a megabyte in which nearly each section can't be read is printed in a second or so.
+#[test]
+fn many_faults_are_told_at_once() {
+    let bytes = component(&b"\x06\x02\x01\x09".repeat(1 << 18));
+    for options in [&[][..], &["--json"], &["--check"]] {
+        let (status, _, err) = crate::run(options, &bytes, Terminal::default());
+        assert_eq!((status, err.lines().count()), (1, 1 << 18));
+    }
 }

@@ -89,7 +89,9 @@ fn debug_names_custom_sections_and_nested_components() {
         {\"name\":\"component-name\",\"size\":14,\"names\":[\
         {\"space\":null,\"index\":null,\"name\":\"c\"},\
         {\"space\":\"component\",\"index\":0,\"name\":\"n\"}],\"unread\":49}}]}]},\
-        \"fault\":{\"place\":49,\"message\":\"bad debug names at 0x31\"}";
+        \"fault\":{\"place\":49,\"message\":\"bad debug names at 0x31: \
+        0x09 at 0x33, where 0x00 to 0x05 is expected\",\"cause\":{\"place\":51,\
+        \"message\":\"0x09 at 0x33, where 0x00 to 0x05 is expected\"}}";
     expect(&[], &file("json_names", &[&nested[..], names].concat()), 1, out);
 }
 
@@ -115,8 +117,8 @@ fn core_modules() {
         {\"start\":18,\"end\":22,\"id\":2,\"kind\":\"import\",\"name\":null,\"count\":1,\
         \"items\":[],\"unread\":21}],\"unread\":22}}]}]},\
         \"fault\":{\"place\":21,\"message\":\"bad item 0 at 0x15: \
-        needs 5 bytes or more from 0x15 on, where 1 is left\",\"cause\":{\"place\":22,\
-        \"message\":\"needs 5 bytes or more from 0x15 on, where 1 is left\"}}";
+        the bytes end at 0x16\",\"cause\":{\"place\":22,\
+        \"message\":\"the bytes end at 0x16\"}}";
     expect(&[], &file("json_unread", sections), 1, out);
 }
 
@@ -140,8 +142,8 @@ fn faults() {
     let module = file_of("json_bad_module", b"\0asm\x01\0\0\0\x01");
     let out = "\"module\":{\"start\":0,\"end\":9,\"sections\":[],\"unread\":8},\
         \"fault\":{\"place\":8,\"message\":\"bad core section at 0x8: \
-        needs 1 byte or more from 0x9 on, where 0 are left\",\"cause\":{\"place\":9,\
-        \"message\":\"needs 1 byte or more from 0x9 on, where 0 are left\"}}";
+        the bytes end at 0x9\",\"cause\":{\"place\":9,\
+        \"message\":\"the bytes end at 0x9\"}}";
     expect(&[], &module, 1, out);
     // no section; a section with an unknown id, and one whose type has no known index
     let out = "\"component\":{\"start\":0,\"end\":10,\"name\":null,\"sections\":[],\"unread\":8},\

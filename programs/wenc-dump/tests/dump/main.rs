@@ -5,8 +5,8 @@ mod causes;
 mod check;
 mod corpus;
 mod custom;
-mod examples;
 mod faults;
+mod fuzz;
 mod json;
 #[cfg(target_os = "linux")]
 mod limits;

@@ -55,7 +55,12 @@ fn debug_names() {
       0x33 names that aren't read
         0x33: 01 03 01 01 00
 ";
-    expect("bad_names", &[FUNCTION, names].concat(), out, Some("bad debug names at 0x33"));
+    expect(
+        "bad_names",
+        &[FUNCTION, names].concat(),
+        out,
+        Some("bad debug names at 0x33: the bytes end at 0x38"),
+    );
 }
 
 /// The names of the component and of the one around it, where an index is one of theirs.
@@ -144,8 +149,8 @@ fn modules_and_nested_components() {
         0x28: 07
 ";
     let bad = "\
-bad count at 0x18: needs 1 byte or more from 0x18 on, where 0 are left
-bad core section at 0x18: needs 1 byte or more from 0x19 on, where 0 are left
+bad count at 0x18: the bytes end at 0x18
+bad core section at 0x18: the bytes end at 0x19
 no core module's header at 0x28: found other bytes: 07";
     expect("nested", &[&module[..], nested].concat(), out, Some(bad));
 }

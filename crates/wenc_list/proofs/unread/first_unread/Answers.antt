@@ -38,7 +38,7 @@ pub returns-in-Err-counted-clause-unread : goal.returns-in-Err-counted-clause-un
 returns-in-Err-counted-clause-unread c =
     let id = c.in-Ok.id in
     let content = c.in-Ok.content.now in
-    let bad = c.in-Err-counted.ensures.1 in
+    let bad = c.in-Err-counted.ensures in
     let collecting = no_count id content bad in
     record {
       id = id;
@@ -54,7 +54,7 @@ returns-in-Err-counted-clause-unread c =
     }
 
 pub returns-in-Err-clause-unread : goal.returns-in-Err-clause-unread
-returns-in-Err-clause-unread c = unframed (drop c.args.place c.args.bytes.now) (rw c.split_at.ensures.back at c.in-Err.ensures.1)
+returns-in-Err-clause-unread c = unframed (drop c.args.place c.args.bytes.now) (rw c.split_at.ensures.back at c.in-Err.ensures)
 
 pub returns-in-Err-clause-named : goal.returns-in-Err-clause-named
 returns-in-Err-clause-named c n = absurd (named_none c.args.bytes.now c.args.place n (returns-in-Err-clause-unread c))

@@ -1,8 +1,6 @@
 use Rattle.std.proofs.Common.{◌≡◌, ◌++◌, ◌∷◌, [], Ok}
-use Rattle.std.proofs.lemmas.Result.{err_from_is_err_and}
 use Rattle.wenc_base.specs.Readers.{times}
 use Rattle.wenc_read.specs.declared.refusal.NestedRefusal.TheVariants.{Flat}
-use Rattle.wenc_read.specs.declared.refusal.Refusal.TheVariants.{Malformed}
 use Rattle.wenc_view.specs.laws.Members.{members_are}
 use Rattle.wenc_view.specs.laws.Repeats.{at_start, times_go_on, stops, is_done}
 use Rattle.wenc_view.proofs.lists.passed.Goals as goal
@@ -10,23 +8,19 @@ use Rattle.wenc_view.proofs.lists.passed.Goals as goal
 pub loop-init : goal.loop-init
 loop-init g c = ([], at_start g.T.View.read c.args.count c.args.bytes.now)
 
-pub returns-in_err-after : goal.returns-in_err-after
-returns-in_err-after g c =
-    let p = err_from_is_err_and c.from_residual.result c.from_residual.ensures.1 in
+pub returns-in-Err : goal.returns-in-Err
+returns-in-Err g c =
     let read = g.T.View.read in
-    rw (p.1, p.2) (
-      c.in_err-after.ensures.found.0,
-      stops (Flat Malformed) read c.loop.invariant.0 c.args.count c.loop.counter c.loop.rest.now
-          (times read c.args.count c.args.bytes.now) c.loop-test.true c.in_err-after.ensures.found.1 c.loop.invariant.1,
-    )
+    stops (Flat c.in-Err.refusal) read c.loop.invariant.0 c.args.count c.loop.counter c.loop.rest.now
+        (times read c.args.count c.args.bytes.now) c.loop-test.true c.in-Err.ensures.found c.loop.invariant.1
 
 pub loop-preserved : goal.loop-preserved
 loop-preserved g c =
     let read = g.T.View.read in
-    let v = g.T.View.view c.in_ok-after.field-0-0 in (
+    let v = g.T.View.view c.in-Ok.field-0-0 in (
       c.loop.invariant.0 ++ v ∷ [],
-      times_go_on read c.loop.invariant.0 c.args.count c.loop.counter c.loop.rest.now v c.in_ok-after.after.now
-          (times read c.args.count c.args.bytes.now) c.loop-test.true c.in_ok-after.ensures.found c.loop.invariant.1,
+      times_go_on read c.loop.invariant.0 c.args.count c.loop.counter c.loop.rest.now v c.in-Ok.after.now
+          (times read c.args.count c.args.bytes.now) c.loop-test.true c.in-Ok.ensures.found c.loop.invariant.1,
     )
 
 pub returns : goal.returns

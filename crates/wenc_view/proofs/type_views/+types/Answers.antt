@@ -20,20 +20,19 @@ use Rattle.wenc_view.proofs.type_views.+types.Goals as goal
 pub instance_decls-loop-init : goal.instance_decls-loop-init
 instance_decls-loop-init t c = ([], at_start (read_instance_declaration (read_type c.args.depth_left)) c.args.count c.args.bytes.now)
 
-pub instance_decls-returns-in_err-after : goal.instance_decls-returns-in_err-after
-instance_decls-returns-in_err-after t c =
+pub instance_decls-returns-in-Err : goal.instance_decls-returns-in-Err
+instance_decls-returns-in-Err t c =
     let read = read_instance_declaration (read_type c.args.depth_left) in
-    let p = err_from_is_err_and c.from_residual.result c.from_residual.ensures.1 in
-    rw (p.1, p.2) (stops_always c.in_err-after.field-0.0 read c.loop.invariant.0 c.args.count c.loop.counter c.loop.rest.now
-    (times read c.args.count c.args.bytes.now) c.loop-test.true c.in_err-after.ensures.found c.loop.invariant.1)
+    (rw c.of_many.ensures (stops_always c.in-Err.refusal read c.loop.invariant.0 c.args.count c.loop.counter c.loop.rest.now
+    (times read c.args.count c.args.bytes.now) c.loop-test.true c.in-Err.ensures.found c.loop.invariant.1))
 
 pub instance_decls-loop-preserved : goal.instance_decls-loop-preserved
 instance_decls-loop-preserved t c =
     let read = read_instance_declaration (read_type c.args.depth_left) in
-    let v = instance_declaration_seen c.in_ok-after.field-0-0 in (
+    let v = instance_declaration_seen c.in-Ok.field-0-0 in (
       c.loop.invariant.0 ++ v ∷ [],
-      times_go_on read c.loop.invariant.0 c.args.count c.loop.counter c.loop.rest.now v c.in_ok-after.after.now
-          (times read c.args.count c.args.bytes.now) c.loop-test.true c.in_ok-after.ensures.found c.loop.invariant.1,
+      times_go_on read c.loop.invariant.0 c.args.count c.loop.counter c.loop.rest.now v c.in-Ok.after.now
+          (times read c.args.count c.args.bytes.now) c.loop-test.true c.in-Ok.ensures.found c.loop.invariant.1,
     )
 
 pub instance_decls-returns : goal.instance_decls-returns
@@ -60,20 +59,19 @@ instance_type-returns-clause-found t c = instance_found c.args.depth_left c.in_o
 pub component_decls-loop-init : goal.component_decls-loop-init
 component_decls-loop-init t c = ([], at_start (read_component_declaration (read_type c.args.depth_left)) c.args.count c.args.bytes.now)
 
-pub component_decls-returns-in_err-after : goal.component_decls-returns-in_err-after
-component_decls-returns-in_err-after t c =
+pub component_decls-returns-in-Err : goal.component_decls-returns-in-Err
+component_decls-returns-in-Err t c =
     let read = read_component_declaration (read_type c.args.depth_left) in
-    let p = err_from_is_err_and c.from_residual.result c.from_residual.ensures.1 in
-    rw (p.1, p.2) (stops_always c.in_err-after.field-0.0 read c.loop.invariant.0 c.args.count c.loop.counter c.loop.rest.now
-    (times read c.args.count c.args.bytes.now) c.loop-test.true c.in_err-after.ensures.found c.loop.invariant.1)
+    (rw c.of_many.ensures (stops_always c.in-Err.refusal read c.loop.invariant.0 c.args.count c.loop.counter c.loop.rest.now
+    (times read c.args.count c.args.bytes.now) c.loop-test.true c.in-Err.ensures.found c.loop.invariant.1))
 
 pub component_decls-loop-preserved : goal.component_decls-loop-preserved
 component_decls-loop-preserved t c =
     let read = read_component_declaration (read_type c.args.depth_left) in
-    let v = component_declaration_seen c.in_ok-after.field-0-0 in (
+    let v = component_declaration_seen c.in-Ok.field-0-0 in (
       c.loop.invariant.0 ++ v ∷ [],
-      times_go_on read c.loop.invariant.0 c.args.count c.loop.counter c.loop.rest.now v c.in_ok-after.after.now
-          (times read c.args.count c.args.bytes.now) c.loop-test.true c.in_ok-after.ensures.found c.loop.invariant.1,
+      times_go_on read c.loop.invariant.0 c.args.count c.loop.counter c.loop.rest.now v c.in-Ok.after.now
+          (times read c.args.count c.args.bytes.now) c.loop-test.true c.in-Ok.ensures.found c.loop.invariant.1,
     )
 
 pub component_decls-returns : goal.component_decls-returns

@@ -7,11 +7,11 @@ use Rattle.wenc_view.proofs.view.text_of.Goals as goal
 pub returns-in-Ok : goal.returns-in-Ok
 unfolding text_at
 returns-in-Ok c =
-    let t : is_utf8 (take c.in_ok-len.len c.in_ok-len.rest.now) ≡ true = is_text _ _ c.split_at.ensures.front c.in-Ok.ensures.cases.1 in
+    let t : is_utf8 (take c.in_ok-size.size c.in_ok-size.rest.now) ≡ true = is_text _ _ c.split_at.ensures.front c.in-Ok.ensures.cases.1 in
     search rules
 
 pub returns-in-Err : goal.returns-in-Err
 unfolding text_at
 returns-in-Err c =
-    let t : is_utf8 (take c.in_ok-len.len c.in_ok-len.rest.now) ≡ false = is_no_text _ _ c.split_at.ensures.front c.in-Err.ensures.cases.0 in
+    let t : is_utf8 (take c.in_ok-size.size c.in_ok-size.rest.now) ≡ false = is_no_text _ _ c.split_at.ensures.front c.in-Err.ensures.cases.0 in
     search rules

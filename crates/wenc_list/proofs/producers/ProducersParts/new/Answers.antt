@@ -8,5 +8,5 @@ returns-clause-read c = (refl, number_read c.in_ok-fields.fields c.args.bytes.no
 
 pub returns-in_err-fields-clause-fault : goal.returns-in_err-fields-clause-fault
 returns-in_err-fields-clause-fault c =
-    let t : IsNoNumber c.args.bytes.now = no_number c.args.bytes.now c.in_err-fields.ensures.1 in
+    let t : IsNoNumber c.args.bytes.now = no_number c.args.bytes.now c.in_err-fields.ensures in
     search rules

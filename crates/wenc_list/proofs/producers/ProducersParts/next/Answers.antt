@@ -5,27 +5,27 @@ use Rattle.wenc_list.proofs.producers.ProducersParts.next.Goals as goal
 
 pub returns-in_err-name-clause-fault : goal.returns-in_err-name-clause-fault
 returns-in_err-name-clause-fault c =
-    let t : IsNoTool c.args.self.now.rest.now = no_tool c.args.self.now.rest.now c.in_err-name.ensures.1 in
+    let t : IsNoTool c.args.self.now.rest.now = no_tool c.args.self.now.rest.now c.in_err-name.ensures in
     search rules
 
 pub returns-in_err-field-clause-fault : goal.returns-in_err-field-clause-fault
 returns-in_err-field-clause-fault c =
-    let t : IsNoField c.args.self.now.rest.now = no_name c.args.self.now.rest.now c.in_err-field.ensures.1 in
+    let t : IsNoField c.args.self.now.rest.now = no_name c.args.self.now.rest.now c.in_err-field.ensures in
     search rules
 
 pub returns-in_err-field-clause-unread : goal.returns-in_err-field-clause-unread
 returns-in_err-field-clause-unread c =
-    let t = unread_name c.args.self.now.tools c.args.self.now.fields c.args.self.now.rest.now (omega arith) (omega arith) c.in_err-field.ensures.1 in
+    let t = unread_name c.args.self.now.tools c.args.self.now.fields c.args.self.now.rest.now (omega arith) (omega arith) c.in_err-field.ensures in
     search rules
 
 pub returns-in_err-tools-clause-fault : goal.returns-in_err-tools-clause-fault
 returns-in_err-tools-clause-fault c =
-    let t : IsNoField c.args.self.now.rest.now = no_count c.in_ok-field.field.now c.args.self.now.rest.now c.in_ok-field.rest.now c.in_ok-field.ensures c.in_err-tools.ensures.1 in
+    let t : IsNoField c.args.self.now.rest.now = no_count c.in_ok-field.field.now c.args.self.now.rest.now c.in_ok-field.rest.now c.in_ok-field.ensures c.in_err-tools.ensures in
     search rules
 
 pub returns-in_err-tools-clause-unread : goal.returns-in_err-tools-clause-unread
 returns-in_err-tools-clause-unread c =
-    let t = unread_count c.in_ok-field.field.now c.args.self.now.tools c.args.self.now.fields c.args.self.now.rest.now c.in_ok-field.rest.now (omega arith) (omega arith) c.in_ok-field.ensures c.in_err-tools.ensures.1 in
+    let t = unread_count c.in_ok-field.field.now c.args.self.now.tools c.args.self.now.fields c.args.self.now.rest.now c.in_ok-field.rest.now (omega arith) (omega arith) c.in_ok-field.ensures c.in_err-tools.ensures in
     search rules
 
 pub returns-then-self-gt0-2-clause-taken : goal.returns-then-self-gt0-2-clause-taken

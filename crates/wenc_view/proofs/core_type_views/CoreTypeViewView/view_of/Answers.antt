@@ -1,11 +1,9 @@
 use Rattle.std.proofs.Common.{◌≡◌, Err, rules, ◌∙◌, sym, subst, [], ◌∷◌, false, refl, Result, List}
 use Rattle.std.proofs.Common.{ℕ}
-use Rattle.std.proofs.lemmas.Result.{err_from_is_err_and}
 use Rattle.wenc_base.specs.Composites.{Sub, Single}
 use Rattle.wenc_base.specs.reading.Composites.{final_rows, read_extension, read_types, sub_of}
 use Rattle.wenc_base.specs.reading.Forms.{read_list}
 use Rattle.wenc_base.specs.Readers.{Flaw, Bad, give, choose, nowhere}
-use Rattle.wenc_read.specs.declared.refusal.Refusal.TheVariants.{Malformed}
 use Rattle.wenc_read.specs.laws.Tables.{at_first}
 use Rattle.wenc_types.specs.CoreTypes.{Grouped, Module}
 use Rattle.wenc_types.specs.reading.CoreTypes.{read_declarations, read_module_declaration}
@@ -20,8 +18,8 @@ pub returns-in_ok-decls-in-80-default-clause-found : goal.returns-in_ok-decls-in
 returns-in_ok-decls-in-80-default-clause-found c = at_first _ _ 0x50 _ _ _ c.in_ok-rest.ensures (search rules)
     ∙ made_of Module (read_list read_module_declaration) _ _ _ c.in_ok-decls-in-80-default.ensures.found
 
-pub returns-in_ok-ty-in_default-clause-found : goal.returns-in_ok-ty-in_default-clause-found
-returns-in_ok-ty-in_default-clause-found c =
+pub returns-in-Ok-clause-found : goal.returns-in-Ok-clause-found
+returns-in-Ok-clause-found c =
     let alone = wraps (λ s. s) (final_rows (λ s. s)) (final_rows (λ s. s)) ((0x50, read_extension (λ n d. sub_of false n d)) ∷ []) (finals_follow (λ s. s)
     (λ s. s)) _ _ _ c.in_ok-rest.ensures (search rules) in
     wraps (λ s. Grouped (Single s)) (final_rows (λ s. s)) (final_rows (λ s. Grouped (Single s))) ((0x4e, read_types Grouped) ∷ (
@@ -30,23 +28,17 @@ returns-in_ok-ty-in_default-clause-found c =
           (λ s. Grouped (Single s)),
     ) ∷ (0x50, read_declarations Module) ∷ []) (finals_follow (λ s. Grouped (Single s)) (λ s. s)) _ _ _ c.in_ok-rest.ensures
     (search rules)
-    ∙ rw (sym (found_alone (choose (final_rows (λ s. s)) nowhere c.args.bytes.now)) ∙ sym alone ∙ c.in_ok-ty-in_default.ensures.found) refl
+    ∙ rw (sym (found_alone (choose (final_rows (λ s. s)) nowhere c.args.bytes.now)) ∙ sym alone ∙ c.in-Ok.ensures.found) refl
 
-pub returns-in_err-ty-in_default-clause-found : goal.returns-in_err-ty-in_default-clause-found
-returns-in_err-ty-in_default-clause-found c =
-    let p = err_from_is_err_and c.from_residual-in_err-ty-in_default.result c.from_residual-in_err-ty-in_default.ensures.1 in
+pub returns-in-Err-clause-found : goal.returns-in-Err-clause-found
+returns-in-Err-clause-found c =
     let alone = wraps (λ s. s) (final_rows (λ s. s)) (final_rows (λ s. s)) ((0x50, read_extension (λ n d. sub_of false n d)) ∷ []) (finals_follow (λ s. s)
     (λ s. s)) _ _ _ c.in_ok-rest.ensures (search rules) in
-    rw (
-      p.1,
-      p.2,
-      wraps (λ s. Grouped (Single s)) (final_rows (λ s. s)) (final_rows (λ s. Grouped (Single s))) ((0x4e, read_types Grouped) ∷ (
+    rw (wraps (λ s. Grouped (Single s)) (final_rows (λ s. s)) (final_rows (λ s. Grouped (Single s))) ((0x4e, read_types Grouped) ∷ (
         0x00,
         read_open
-            (λ s. Grouped (Single s)),
-      ) ∷ (0x50, read_declarations Module) ∷ []) (finals_follow (λ s. Grouped (Single s)) (λ s. s)) _ _ _ c.in_ok-rest.ensures
-          (search rules),
-    )
-    (fails_always_on c.in_err-ty-in_default.field-0.0 (choose (final_rows (λ s. s)) nowhere c.args.bytes.now) (λ s. give (Grouped (Single s)))
-    (subst (λ (found : Result (Sub × List ℕ) Flaw). (c.in_err-ty-in_default.field-0.0 ≡ Malformed) × (found ≡ Err Bad)) (alone
-    ∙ found_alone (choose (final_rows (λ s. s)) nowhere c.args.bytes.now)) c.in_err-ty-in_default.ensures.found))
+            (λ s. Grouped (Single s))) ∷ (0x50, read_declarations Module) ∷ []) (finals_follow (λ s. Grouped (Single s)) (λ s. s)) _ _ _ c.in_ok-rest.ensures
+          (search rules))
+    (fails_always_on c.in-Err.refusal (choose (final_rows (λ s. s)) nowhere c.args.bytes.now) (λ s. give (Grouped (Single s)))
+    (subst (λ (found : Result (Sub × List ℕ) Flaw). found ≡ Err Bad) (alone
+    ∙ found_alone (choose (final_rows (λ s. s)) nowhere c.args.bytes.now)) c.in-Err.ensures.found))

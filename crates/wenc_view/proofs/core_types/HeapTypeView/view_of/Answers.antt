@@ -13,27 +13,22 @@ use Rattle.wenc_view.proofs.core_types.HeapTypeView.view_of.Goals as goal
 pub returns-in_err-first-clause-found : goal.returns-in_err-first-clause-found
 returns-in_err-first-clause-found c =
     let p = err_from_is_err_and c.from_residual.result c.from_residual.ensures.1 in
-    rw (p.1, p.2) (always_first c.in_err-first.field-0.0 (abstract_rows Abstract) (read_index >>= λ n. give (Concrete n)) c.args.bytes.now
+    rw p.1 (always_first c.in_err-first.field-0.0 (abstract_rows Abstract) (read_index >>= λ n. give (Concrete n)) c.args.bytes.now
     c.in_err-first.ensures)
 
 pub returns-in-Some-clause-found : goal.returns-in-Some-clause-found
 returns-in-Some-clause-found c = begins abstract_byte Abstract abstract_types [] (read_index >>= λ n. give (Concrete n)) _ _ _ _ c.in_ok-first.ensures
     (sym c.abstract_of.ensures ∙ c.in-Some.is)
 
-pub returns-in_err-index-in-None-clause-found : goal.returns-in_err-index-in-None-clause-found
-returns-in_err-index-in-None-clause-found c =
-    let p = err_from_is_err_and c.from_residual-in_err-index-in-None.result c.from_residual-in_err-index-in-None.ensures.1 in
-    rw (
-      p.1,
-      p.2,
-      falls_through abstract_byte Abstract abstract_types (read_index >>= λ n. give (Concrete n)) _ _ _ c.in_ok-first.ensures
-          (sym c.abstract_of.ensures ∙ c.in-None.is),
-    ) (fails_always_on c.in_err-index-in-None.field-0.0 (read_index c.args.bytes.now)
-    (λ n. give (Concrete n)) c.in_err-index-in-None.ensures)
+pub returns-in-Err-clause-found : goal.returns-in-Err-clause-found
+returns-in-Err-clause-found c =
+    rw (falls_through abstract_byte Abstract abstract_types (read_index >>= λ n. give (Concrete n)) _ _ _ c.in_ok-first.ensures
+          (sym c.abstract_of.ensures ∙ c.in-None.is)) (fails_always_on c.in-Err.refusal (read_index c.args.bytes.now)
+    (λ n. give (Concrete n)) c.in-Err.ensures)
 
-pub returns-in_ok-index-in-None-clause-found : goal.returns-in_ok-index-in-None-clause-found
-returns-in_ok-index-in-None-clause-found c = rw (
+pub returns-in-Ok-clause-found : goal.returns-in-Ok-clause-found
+returns-in-Ok-clause-found c = rw (
   falls_through abstract_byte Abstract abstract_types (read_index >>= λ n. give (Concrete n)) _ _ _ c.in_ok-first.ensures
       (sym c.abstract_of.ensures ∙ c.in-None.is),
-  c.in_ok-index-in-None.ensures,
+  c.in-Ok.ensures,
 ) refl

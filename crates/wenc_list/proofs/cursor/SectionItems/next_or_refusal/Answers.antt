@@ -1,9 +1,8 @@
 use Rattle.std.proofs.Common.{refl, arith}
 use Rattle.wenc_list.specs.Items.{item_seen}
 use Rattle.wenc_list.proofs.Taken.{item_found, item_leaves, item_fault}
-use Rattle.wenc_view.proofs.Nested.{fails_nested, asks_nothing}
-use Rattle.wenc_list.proofs.Asked.{no_memory}
-use Rattle.wenc_list.proofs.cursor.SectionItems.next.Goals as goal
+use Rattle.wenc_view.proofs.Nested.{fails_nested}
+use Rattle.wenc_list.proofs.cursor.SectionItems.next_or_refusal.Goals as goal
 
 pub returns-in-Ok-clause-taken : goal.returns-in-Ok-clause-taken
 returns-in-Ok-clause-taken c =
@@ -19,9 +18,5 @@ returns-in-Ok-clause-taken c =
     }
 
 pub returns-in-Err-clause-fault : goal.returns-in-Err-clause-fault
-returns-in-Err-clause-fault c = rw c.content_fault.ensures (item_fault c.args.self.now c.in-Err.refusal (omega arith) c.are_bytes.ensures
-    (fails_nested c.in-Err.refusal _ c.in-Err.ensures.found))
-
-pub returns-in-Err-clause-asks_nothing : goal.returns-in-Err-clause-asks_nothing
-returns-in-Err-clause-asks_nothing c = rw c.content_fault.ensures (no_memory c.in-Err.refusal c.args.self.now.id c.args.self.now.place
-    (asks_nothing c.in-Err.refusal _ c.in-Err.ensures.found))
+returns-in-Err-clause-fault c some = item_fault c.args.self.now c.placed_nested.result some c.are_bytes.ensures
+    (rw c.placed_nested.ensures.flaw (fails_nested c.in-Err.refusal _ c.in-Err.ensures.found))

@@ -1,7 +1,8 @@
+use Rattle.std.proofs.Common.{refl}
 use Rattle.wenc_list.proofs.Listed.{no_frame}
 use Rattle.wenc_list.proofs.SectionLaws.{is_framed}
 use Rattle.wenc_list.proofs.Taken.{section_leaves, count_holds, no_count, collects_other, uncounted_fault}
-use Rattle.wenc_list.proofs.cursor.Sections.next.Goals as goal
+use Rattle.wenc_list.proofs.cursor.Sections.next_or_refusal.Goals as goal
 
 pub returns-in-Ok-counted-clause-taken : goal.returns-in-Ok-counted-clause-taken
 returns-in-Ok-counted-clause-taken c =
@@ -22,12 +23,12 @@ pub returns-in-Err-counted-clause-fault : goal.returns-in-Err-counted-clause-fau
 returns-in-Err-counted-clause-fault c =
     let id = c.in-Ok.id in
     let content = c.in-Ok.content.now in
-    let bad = c.in-Err-counted.ensures.1 in
+    let bad = c.in-Err-counted.ensures in
     let framed = is_framed c.args.self.now.rest.now id content c.in-Ok.rest.now c.in-Ok.ensures in
     let f = uncounted_fault 0 c.args.self.now.rest.now id content c.in-Ok.rest.now framed (collects_other id (no_count id content bad)) bad in
-    (c.place-place.ensures, f.1, f.2)
+    (refl, f.1, f.2)
 
 pub returns-in-Err-clause-fault : goal.returns-in-Err-clause-fault
 returns-in-Err-clause-fault c =
-    let f = no_frame 0 c.args.self.now.rest.now c.in-Err.ensures.1 in
-    (c.place-place.ensures, f.1, f.2)
+    let f = no_frame 0 c.args.self.now.rest.now c.in-Err.ensures in
+    (refl, f.1, f.2)

@@ -1,0 +1,109 @@
+//! Sections that end elsewhere than their sizes say.
+
+use super::fault::Failure;
+use std::iter;
+use std::ops::Range;
+use wenc::view::ItemView;
+use wenc::{Cause, ComponentSectionId, CoreSections, ListFault, SectionReader, Sections};
+
+/// The maximum number of bytes by which a size is taken to be wrong.
+const MOST: usize = 4;
+
+/// The maximum number of sections and sizes that are tried, each by reading two sections.
+const TRIES: usize = 16;
+
+/// A section whose size is wrong, if the sections behind it are to reach the end.
+#[derive(Clone, Copy, Debug, PartialEq, Eq)]
+pub struct Misfit {
+    /// The byte offset of its id.
+    pub place: usize,
+    /// The byte offset at which it ends by its size.
+    pub stated: usize,
+    /// The byte offset at which it may end.
+    pub end: usize,
+}
+
+/// Returns the byte offsets of the content of the section at this byte offset, if it has a known
+/// id and a size within the bytes.
+fn content(bytes: &[u8], place: usize) -> Option<Range<usize>> {
+    let (range, section) = Sections::at(bytes, place)?.next_raw()?;
+    ComponentSectionId::try_from(section.id).ok()?;
+    Some(range.end - section.data.len()..range.end)
+}
+
+/// Returns the section at this byte offset, if all of its items can be read: modules and components
+/// by their header.
+fn whole(bytes: &[u8], place: usize) -> Option<SectionReader<'_>> {
+    let section = Sections::at(bytes, place)?.next()?.ok()?;
+    let is_read = section.items().all(|item| match item {
+        Ok((_, ItemView::Module(bytes))) => CoreSections::new(bytes).is_ok(),
+        Ok((_, ItemView::Component(bytes))) => Sections::new(bytes).is_ok(),
+        item => item.is_ok(),
+    });
+    is_read.then_some(section)
+}
+
+/// Returns whether the items of the section at this byte offset fill its content. Sections whose
+/// items are all bytes aren't known to do so.
+fn is_filled(bytes: &[u8], place: usize) -> bool {
+    let takes_all = [
+        ComponentSectionId::CoreCustom,
+        ComponentSectionId::CoreModule,
+        ComponentSectionId::Component,
+    ];
+    whole(bytes, place).is_some_and(|section| !takes_all.map(u8::from).contains(&section.id()))
+}
+
+/// Returns whether a section begins at this byte offset whose bytes are too few.
+fn is_cut(bytes: &[u8], place: usize) -> bool {
+    let next = Sections::at(bytes, place).and_then(|mut sections| sections.next());
+    let Some(Err(ListFault::BadSection { cause, .. })) = next else { return false };
+    matches!(cause, Some(Cause::Few { .. }))
+}
+
+/// Returns for each byte offset from this one on whether the sections from there on reach the end.
+fn reaching(bytes: &[u8], from: usize) -> Result<Vec<bool>, Failure> {
+    let mut reaching = Vec::new();
+    reaching.try_reserve_exact(bytes.len() - from + 1)?;
+    reaching.resize(bytes.len() - from, false);
+    reaching.push(true);
+    for place in (from..bytes.len()).rev() {
+        let end = content(bytes, place).map(|content| content.end);
+        reaching[place - from] = end.is_some_and(|end| reaching[end - from]);
+    }
+    Ok(reaching)
+}
+
+/// Returns the first section, of those from this byte offset on, that may have another size: its
+/// items don't fill it, and with the other size the sections behind it, of which the first can be
+/// read, reach the end of the bytes. Returns `None` if they do so as they are, and if there is no
+/// such section.
+///
+/// # Errors
+///
+/// Fails if an allocation fails. It takes a byte for each of the bytes, where they aren't sections.
+pub fn misfit(bytes: &[u8], from: usize) -> Result<Option<Misfit>, Failure> {
+    let next = |place: &usize| content(bytes, *place).map(|content| content.end);
+    let last = iter::successors(Some(from), next).last().unwrap_or(from);
+    if last == bytes.len() {
+        return Ok(None);
+    }
+    let (is_cut, reaching) = (is_cut(bytes, last), reaching(bytes, from)?);
+    let near = |place: usize| {
+        let sizes = content(bytes, place).into_iter().flat_map(|content| {
+            let Range { start, end: stated } = content;
+            let ends = (1..=MOST).flat_map(move |by| [Some(stated + by), stated.checked_sub(by)]);
+            let ends = ends.flatten().filter(move |end| (start..=bytes.len()).contains(end));
+            ends.map(move |end| (stated, end))
+        });
+        sizes.map(move |(stated, end)| Misfit { place, stated, end })
+    };
+    let is_likely = |misfit: &Misfit| {
+        let goes_on =
+            if misfit.end == bytes.len() { !is_cut } else { whole(bytes, misfit.end).is_some() };
+        goes_on && !is_filled(bytes, misfit.place)
+    };
+    let all = iter::successors(Some(from), next).flat_map(near);
+    let mut reaching = all.filter(|misfit| reaching[misfit.end - from]).take(TRIES);
+    Ok(reaching.find(is_likely))
+}

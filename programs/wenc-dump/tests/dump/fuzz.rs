@@ -1,0 +1,198 @@
+//! Thousands of damaged components.
+
+use crate::component;
+use crate::corpus::corpus;
+use crate::values::Value;
+use std::fs;
+use wenc::view::ItemView;
+use wenc::{
+    CoreSection, CoreSections, DebugNames, ListFault, ProducersReader, SectionReader, Sections,
+    Unread, list,
+};
+use wenc_dump::Terminal;
+
+/// How many components are damaged. Programs that aren't optimized are slow.
+const COMPONENTS: usize = if cfg!(debug_assertions) { 1_000 } else { 20_000 };
+
+/// Random numbers.
+struct Random(u64);
+
+impl Random {
+    /// A number below this one.
+    fn below(&mut self, end: usize) -> usize {
+        self.0 ^= self.0 >> 12;
+        self.0 ^= self.0 << 25;
+        self.0 ^= self.0 >> 27;
+        (self.0.wrapping_mul(0x2545_f491_4f6c_dd1d) >> 33) as usize % end
+    }
+
+    fn one_of<'a, T>(&mut self, values: &'a [T]) -> &'a T {
+        &values[self.below(values.len())]
+    }
+
+    fn byte(&mut self) -> u8 {
+        // Few bytes mean something.
+        if self.below(2) == 0 { self.below(0x13) as u8 } else { self.below(0x100) as u8 }
+    }
+
+    /// Bytes with a few damages behind a header.
+    fn damaged(&mut self, mut bytes: Vec<u8>) -> Vec<u8> {
+        for _ in 0..=self.below(3) {
+            let at = 8 + self.below(bytes.len() - 7);
+            match self.below(6) {
+                0 => bytes.insert(at, self.byte()),
+                1 => bytes.truncate(at),
+                2 if at < bytes.len() => {
+                    bytes.remove(at);
+                }
+                3 if at < bytes.len() => bytes[at] ^= 1 << self.below(8),
+                4 => {
+                    let end = (at + self.below(9)).min(bytes.len());
+                    bytes.drain(at..end);
+                }
+                _ if at < bytes.len() => bytes[at] = self.byte(),
+                _ => bytes.push(self.byte()),
+            }
+        }
+        bytes
+    }
+}
+
+/// Small components of the corpus, and the sections of all.
+fn parts() -> (Vec<Vec<u8>>, Vec<Vec<u8>>) {
+    let (mut components, mut parts) = (Vec::new(), Vec::new());
+    for file in fs::read_dir(corpus("wasm")).expect("the corpus is there") {
+        let bytes = fs::read(file.expect("it is there").path()).expect("it is there");
+        for section in Sections::new(&bytes).into_iter().flatten().flatten() {
+            if section.range().len() < 400 {
+                parts.push(section.bytes().to_vec());
+            }
+        }
+        if bytes.len() < 1_500 {
+            components.push(bytes);
+        }
+    }
+    assert!(components.len() > 10 && parts.len() > 100);
+    (components, parts)
+}
+
+/// Whether all of a custom section is read.
+fn is_custom_read(item: &ItemView) -> bool {
+    match item {
+        ItemView::Custom { name: DebugNames::SECTION, .. } => DebugNames::new().read(item).is_ok(),
+        ItemView::Custom { name: ProducersReader::SECTION, data } => {
+            ProducersReader::new(data).all(|tool| tool.is_ok())
+        }
+        _ => true,
+    }
+}
+
+/// Whether all of the core module with these bytes is read.
+fn is_module_read(bytes: &[u8]) -> bool {
+    let is_read = |section: CoreSection| {
+        let has_tools = section.name == Some(ProducersReader::SECTION);
+        section.kind().is_some()
+            && section.items().all(|item| item.is_ok())
+            && (!has_tools || ProducersReader::new(section.data).all(|tool| tool.is_ok()))
+    };
+    CoreSections::new(bytes).is_ok_and(|mut sections| sections.all(|it| it.is_ok_and(is_read)))
+}
+
+/// Whether all of the component with these bytes is read, which is this deep in others.
+fn is_component_read(bytes: &[u8], depth: usize) -> bool {
+    let is_read = |section: SectionReader| {
+        section.items().all(|item| match item {
+            Ok((_, ItemView::Component(bytes))) => is_component_read(bytes, depth + 1),
+            Ok((_, ItemView::Module(bytes))) => is_module_read(bytes),
+            Ok((_, item)) => is_custom_read(&item),
+            Err(_) => false,
+        })
+    };
+    let sections = Sections::new(bytes);
+    depth < 100 && sections.is_ok_and(|mut sections| sections.all(|it| it.is_ok_and(is_read)))
+}
+
+/// The place of the part that `list` names, and where the section ends.
+fn part_of(bytes: &[u8], fault: ListFault) -> (usize, usize) {
+    let (section, part) = match fault {
+        ListFault::BadSection { place, .. } => (place, place),
+        ListFault::BadItem { place, unread: Some(unread), .. }
+        | ListFault::TooDeep { place, unread: Some(unread), .. } => match unread {
+            Unread::Count { place: at }
+            | Unread::Item { place: at, .. }
+            | Unread::Behind { place: at } => (place, at),
+        },
+        fault => panic!("{fault}"),
+    };
+    let mut sections = Sections::at(bytes, section).expect("it is within");
+    (part, sections.next_raw().map_or(bytes.len(), |(range, _)| range.end))
+}
+
+/// What is said of the bytes is so, as far as `list` says it, too.
+fn is_so(bytes: &[u8]) -> u8 {
+    let run = |options: &[&str]| crate::run(options, bytes, Terminal::default());
+    let is_read = is_component_read(bytes, 0);
+    let (status, out, err) = run(&[]);
+    assert_eq!((status, err.is_empty()), (u8::from(!is_read), is_read), "{err}{bytes:02x?}");
+    let (with_check, checked, _) = run(&["--json", "--check"]);
+    Value::read(&checked);
+    let (json_status, json, messages) = run(&["--json"]);
+    assert_eq!((json_status, &messages), (status, &err), "{bytes:02x?}");
+    assert!(with_check >= status && !out.is_empty(), "{bytes:02x?}");
+    let json = Value::read(&json);
+    assert_eq!(json.at("fault") == &Value::Null, is_read, "{bytes:02x?}");
+    let Err(fault) = list(bytes) else { return status };
+    let (part, end) = part_of(bytes, fault);
+    let Value::Object(told) = json.at("fault") else { panic!("{fault}") };
+    let is_same = told["place"] == Value::Number(part as u128);
+    if let Some(cause) = told.get("cause").filter(|_| is_same) {
+        let place = cause.at("place").number() as usize;
+        assert!(part <= place && place <= end, "{err}{bytes:02x?}");
+    }
+    status
+}
+
+#[test]
+fn damaged_components() {
+    let (components, parts) = parts();
+    let mut random = Random(0x9e37_79b9_7f4a_7c15);
+    let mut bad = 0;
+    for number in 0..COMPONENTS {
+        let bytes = if number % 2 == 0 {
+            random.one_of(&components).clone()
+        } else {
+            let sections = (0..random.below(6)).map(|_| random.one_of(&parts).clone());
+            component(&sections.collect::<Vec<_>>().concat())
+        };
+        bad += usize::from(is_so(&random.damaged(bytes)));
+    }
+    assert!(bad > COMPONENTS / 2 && bad < COMPONENTS, "{bad}");
+}
+
+/// Each kind of item, cut at each byte, at the end of the component and with bytes behind.
+#[test]
+fn cut_items() {
+    let (_, parts) = parts();
+    let mut kinds = [0; 12];
+    let others: [&[u8]; 5] = [
+        b"\0\x03\x01xy",
+        b"\x01\x08\0asm\x01\0\0\0",
+        b"\x04\x08\0asm\x0d\0\x01\0",
+        b"\x05\x06\x02\x01\0\0\0\0",
+        b"\x09\x03\0\0\0",
+    ];
+    let small = parts.iter().map(Vec::as_slice).filter(|part| part.len() < 60);
+    for section in others.into_iter().chain(small) {
+        let id = usize::from(section[0]);
+        if kinds[id] == 8 {
+            continue;
+        }
+        kinds[id] += 1;
+        for len in 1..=section.len() {
+            for behind in [0, 300] {
+                is_so(&component(&[&section[..len], &vec![0; behind]].concat()));
+            }
+        }
+    }
+    assert!(kinds.iter().all(|number| *number > 0), "{kinds:?}");
+}

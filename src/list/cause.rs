@@ -1,0 +1,191 @@
+//! Why bytes can't be read, and from which byte on.
+
+use crate::proved::wenc_read::{Expected, Refusal};
+use core::fmt;
+use core::ops::RangeInclusive;
+
+/// Why bytes can't be read, and from which byte on. Each place is a byte offset.
+///
+/// Needs the feature `reader`.
+#[derive(Clone, Copy, Debug, PartialEq, Eq, Hash)]
+#[non_exhaustive]
+pub enum Cause {
+    /// A byte in place of which others are expected.
+    Byte {
+        /// Its byte offset.
+        place: usize,
+        /// The byte.
+        byte: u8,
+        /// The bytes that can be there; none where the end is expected.
+        expected: Bytes,
+    },
+    /// A byte of a text that isn't UTF-8.
+    Text {
+        /// Its byte offset.
+        place: usize,
+        /// The byte.
+        byte: u8,
+    },
+    /// A number that is too large, or has too many bytes.
+    Number {
+        /// The byte offset of its first byte.
+        place: usize,
+        /// The maximum number of its bits.
+        bits: u8,
+    },
+    /// There are too few bytes.
+    Few {
+        /// The byte offset from which on they are needed.
+        place: usize,
+        /// The number of bytes that are needed, at least.
+        needed: u32,
+        /// The number of bytes that are there.
+        len: usize,
+    },
+    /// A type in 100 others.
+    Deep {
+        /// The byte offset of its first byte.
+        place: usize,
+    },
+}
+
+impl Cause {
+    /// Converts the error of reading the bytes up to this byte offset.
+    #[cold]
+    pub(crate) fn new(bytes: &[u8], end: usize, Refusal { left, expected }: Refusal) -> Self {
+        let place = end.saturating_sub(left);
+        let byte = bytes.get(..end).and_then(|bytes| bytes.get(place)).copied();
+        match (expected, byte) {
+            (Expected::Bytes(needed), _) => Self::Few { place, needed, len: left },
+            (Expected::Bits(bits), _) => Self::Number { place, bits },
+            (_, None) => Self::Few { place, needed: 1, len: 0 },
+            (Expected::Utf8, Some(byte)) => Self::Text { place, byte },
+            (_, Some(byte)) => Self::Byte { place, byte, expected: Bytes::of(expected) },
+        }
+    }
+
+    /// Returns the cause with so many bytes before its byte offset.
+    #[must_use]
+    pub fn moved(mut self, by: usize) -> Self {
+        match &mut self {
+            Self::Byte { place, .. }
+            | Self::Text { place, .. }
+            | Self::Number { place, .. }
+            | Self::Few { place, .. }
+            | Self::Deep { place } => *place = place.saturating_add(by),
+        }
+        self
+    }
+
+    /// Returns the byte offset of the cause, or of the end where bytes are missing.
+    pub fn place(&self) -> usize {
+        match *self {
+            Self::Few { place, len, .. } => place.saturating_add(len),
+            Self::Byte { place, .. }
+            | Self::Text { place, .. }
+            | Self::Number { place, .. }
+            | Self::Deep { place } => place,
+        }
+    }
+
+    /// Returns the byte in place of which an item at this byte offset is expected, or `None` where
+    /// the bytes end; `None` also where the item's first byte isn't wrong.
+    pub(super) fn at_first(&self, item: usize) -> Option<Option<u8>> {
+        match *self {
+            Self::Byte { place, byte, .. } if place == item => Some(Some(byte)),
+            Self::Few { place, len: 0, .. } if place == item => Some(None),
+            _ => None,
+        }
+    }
+}
+
+impl fmt::Display for Cause {
+    fn fmt(&self, f: &mut fmt::Formatter<'_>) -> fmt::Result {
+        match *self {
+            Self::Byte { place, byte, expected } => {
+                write!(f, "{byte:#04x} at {place:#x}, where {expected} is expected")
+            }
+            Self::Text { place, byte } => write!(f, "{byte:#04x} at {place:#x} isn't UTF-8"),
+            Self::Number { place, bits } => {
+                write!(f, "the number at {place:#x} has more than {bits} bits")
+            }
+            Self::Few { place, needed: 1, len: 0 } => write!(f, "the bytes end at {place:#x}"),
+            Self::Few { place, needed, len } => {
+                let (bytes, are) =
+                    (if needed == 1 { "" } else { "s" }, if len == 1 { "is" } else { "are" });
+                write!(
+                    f,
+                    "needs {needed} byte{bytes} or more from {place:#x} on, where {len} {are} left"
+                )
+            }
+            Self::Deep { place } => write!(f, "the type at {place:#x} is in more than 100 others"),
+        }
+    }
+}
+
+/// The bytes that are expected in one place, as up to four ranges; none where the end is.
+#[derive(Clone, Copy, PartialEq, Eq, Hash)]
+pub struct Bytes([(u8, u8); 4]);
+
+/// A range without a byte.
+const NONE: (u8, u8) = (1, 0);
+
+impl Bytes {
+    fn of(expected: Expected) -> Self {
+        let one = |byte| (byte, byte);
+        Self(match expected {
+            Expected::From(first, last) => [(first, last), NONE, NONE, NONE],
+            Expected::Index => [(0, 0x3f), (0x80, 0xff), NONE, NONE],
+            Expected::CoreSort => [(0, 4), (0x10, 0x11), NONE, NONE],
+            Expected::CoreSpace => [(0, 4), (0x10, 0x12), NONE, NONE],
+            Expected::ExportOrOuter => [one(0), one(2), NONE, NONE],
+            Expected::OptionCount => [(1, 3), (0x81, 0x83), NONE, NONE],
+            Expected::Opcode => [(0, 6), (9, 0x2f), (0x40, 0x42), NONE],
+            Expected::SubType => [(0x4f, 0x50), (0x5e, 0x60), NONE, NONE],
+            Expected::Group => [(0x4e, 0x50), (0x5e, 0x60), NONE, NONE],
+            Expected::CoreType => [one(0), (0x4e, 0x50), (0x5e, 0x60), NONE],
+            Expected::RefType => [(0x63, 0x64), (0x69, 0x74), NONE, NONE],
+            Expected::ValType => [(0x63, 0x64), (0x69, 0x74), (0x7b, 0x7f), NONE],
+            Expected::StorageType => [(0x63, 0x64), (0x69, 0x74), (0x77, 0x78), (0x7b, 0x7f)],
+            Expected::HeapType => [(0, 0x3f), (0x69, 0x74), (0x80, 0xff), NONE],
+            Expected::TableLimits => [(0, 1), (4, 5), NONE, NONE],
+            Expected::ComponentValType => [(0, 0x3f), one(0x64), (0x73, 0xff), NONE],
+            Expected::Type => [(0x3f, 0x43), (0x63, 0x6b), (0x6d, 0x7f), NONE],
+            Expected::InstanceDecl => [(0, 2), one(4), NONE, NONE],
+            _ => [NONE; 4],
+        })
+    }
+
+    /// Returns the ranges, which ascend.
+    pub fn ranges(self) -> impl Iterator<Item = RangeInclusive<u8>> {
+        self.0.into_iter().map(|(first, last)| first..=last).filter(|range| !range.is_empty())
+    }
+}
+
+/// Writes the ranges in order, or that the end is expected.
+impl fmt::Display for Bytes {
+    fn fmt(&self, f: &mut fmt::Formatter<'_>) -> fmt::Result {
+        if self.ranges().next().is_none() {
+            return f.write_str("the end");
+        }
+        let last = self.ranges().count().saturating_sub(1);
+        for (at, range) in self.ranges().enumerate() {
+            f.write_str(match at {
+                0 => "",
+                _ if at == last => " or ",
+                _ => ", ",
+            })?;
+            write!(f, "{:#04x}", range.start())?;
+            if range.start() != range.end() {
+                write!(f, " to {:#04x}", range.end())?;
+            }
+        }
+        Ok(())
+    }
+}
+
+impl fmt::Debug for Bytes {
+    fn fmt(&self, f: &mut fmt::Formatter<'_>) -> fmt::Result {
+        f.debug_set().entries(self.ranges()).finish()
+    }
+}
