@@ -1,10 +1,9 @@
 //! The imports, the exports and the start of a core module.
 
-use crate::proved::wenc_list::Unread;
 use crate::proved::wenc_read::{Expected, Refusal, u32_of};
 use crate::proved::wenc_view::View;
 use crate::tree::CoreEntityType;
-use crate::{Cause, CoreSection, ExportKind, ModuleFault, SectionId};
+use crate::{Cause, CoreSection, ExportKind, ModuleFault, SectionId, Unread};
 use core::ops::Range;
 
 /// An item of a core module, which borrows from the module (WebAssembly 3.0, binary format, "Import
@@ -96,18 +95,21 @@ impl<'a> CoreSection<'a> {
     /// # Ok::<(), ModuleFault>(())
     /// ```
     pub fn items(&self) -> CoreItems<'a> {
-        let (kind, left) = (self.kind(), self.count());
-        let rest = match (kind, left) {
-            (Some(SectionId::Start), _) | (_, None) => self.data,
-            _ => u32_of(self.data).map_or(self.data, |(_, rest)| rest),
+        let kind = self.kind();
+        let (left, rest) = match kind {
+            Some(SectionId::Start) => (Ok(1), self.data),
+            kind => match u32_of(self.data) {
+                // the number of data segments isn't a count of items here
+                Ok((_, rest)) if kind == Some(SectionId::DataCount) => (Ok(0), rest),
+                Ok((count, rest)) => (Ok(count), rest),
+                Err(refusal) => (Err(refusal), self.data),
+            },
         };
-        // the number of data segments isn't a count of items here
-        let left = left.map(|left| if kind == Some(SectionId::DataCount) { 0 } else { left });
         let is_read = |kind: &SectionId| match kind {
             SectionId::Custom => false,
             SectionId::Import | SectionId::Export | SectionId::Start => true,
             // no items, or more than there are bytes
-            _ => left.is_none_or(|left| left == 0 || left as usize > rest.len()),
+            _ => left.map_or(true, |left| left == 0 || left as usize > rest.len()),
         };
         CoreItems { kind: kind.filter(is_read), left, number: 0, rest, end: self.range.end }
     }
@@ -121,8 +123,8 @@ impl<'a> CoreSection<'a> {
 pub struct CoreItems<'a> {
     /// The kind of the section; `None` if none of it is read, and after an error.
     kind: Option<SectionId>,
-    /// The number of items that follow, as stated by the section.
-    left: Option<u32>,
+    /// The number of items that follow, as stated by the section, or why none is stated.
+    left: Result<u32, Refusal>,
     /// The number of items returned so far.
     number: u32,
     rest: &'a [u8],
@@ -141,31 +143,27 @@ impl<'a> CoreItems<'a> {
     /// Returns the next item, with its byte offsets.
     fn take(&mut self, kind: SectionId) -> Option<<Self as Iterator>::Item> {
         let place = self.end - self.rest.len();
-        let unread = match self.left {
-            Some(0) if self.rest.is_empty() => return None,
-            Some(0) => Unread::Behind { place },
-            None => Unread::Count { place },
-            Some(left) => match CoreItem::first(kind, self.rest) {
-                Ok((item, rest)) => {
-                    (self.left, self.number, self.rest) = (Some(left - 1), self.number + 1, rest);
-                    return Some(Ok((place..self.end - rest.len(), item)));
-                }
-                Err(refusal) => {
-                    let unread = Unread::Item { number: self.number, place };
-                    // of a section of other items the count exceeds the bytes
-                    let refusal = match refusal.expected {
-                        Expected::End => Refusal::at(self.rest, Expected::Bytes(left)),
-                        _ => refusal,
-                    };
-                    return Some(Err(self.bad(unread, Some(refusal))));
-                }
-            },
+        let left = match self.left {
+            Ok(0) if self.rest.is_empty() => return None,
+            Ok(0) => return Some(Err(self.bad(Unread::Behind { place }, None))),
+            Ok(left) => left,
+            Err(refusal) => return Some(Err(self.bad(Unread::Count { place }, Some(refusal)))),
         };
-        let refusal = match unread {
-            Unread::Count { .. } => u32_of(self.rest).err(),
-            _ => None,
-        };
-        Some(Err(self.bad(unread, refusal)))
+        match CoreItem::first(kind, self.rest) {
+            Ok((item, rest)) => {
+                (self.left, self.number, self.rest) = (Ok(left - 1), self.number + 1, rest);
+                Some(Ok((place..self.end - rest.len(), item)))
+            }
+            Err(refusal) => {
+                let unread = Unread::Item { number: self.number, place };
+                // of a section of other items the count exceeds the bytes
+                let refusal = match refusal.expected {
+                    Expected::End => Refusal::at(self.rest, Expected::Bytes(left)),
+                    _ => refusal,
+                };
+                Some(Err(self.bad(unread, Some(refusal))))
+            }
+        }
     }
 }
 

@@ -9,8 +9,8 @@ use crate::tree::{ItemTree, Space};
 use crate::twins::twins;
 use crate::view::{ItemView, NameView};
 use crate::{
-    Cause, ComponentExportKind, ComponentSectionId, ComponentTypeRef, DebugNames, Found, ListFault,
-    RawSection, Unread,
+    ComponentExportKind, ComponentSectionId, ComponentTypeRef, DebugNames, Found, ListFault,
+    RawSection,
 };
 use core::fmt;
 use core::iter;
@@ -240,20 +240,7 @@ impl<'a> Sections<'a> {
     #[inline(never)]
     fn refused(&mut self, left: proved::Sections<'a>, refusal: SectionRefusal<'a>) -> ListFault {
         self.left = None;
-        match refusal {
-            SectionRefusal::Frame(refusal) => {
-                let cause = Some(Cause::new(self.bytes, left.ends, refusal));
-                ListFault::BadSection { place: left.place(), cause }
-            }
-            SectionRefusal::Count(of, refusal) => {
-                let unread = Some(Unread::Count { place: of.reached() });
-                let cause = Some(Cause::new(self.bytes, of.ends, refusal));
-                match of.id.try_into() {
-                    Ok(section) => ListFault::BadItem { place: of.place, section, unread, cause },
-                    Err(_) => ListFault::BadSection { place: of.place, cause },
-                }
-            }
-        }
+        ListFault::of_section(self.bytes, left.place(), refusal)
     }
 
     /// Returns what is in the sections whose ids are kept, up to the first fault.

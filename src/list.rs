@@ -1,19 +1,23 @@
 //! Listing a component.
 
+use crate::ComponentSectionId;
 use crate::proved::wasm_encoder as proved;
+use crate::proved::wenc_list::{ListRefusal, SectionItems, SectionRefusal, list_or_refusal};
+use crate::proved::wenc_read::NestedRefusal;
 use crate::shim::alloc::Global;
-use crate::{ComponentSectionId, Sections};
 use core::fmt;
 use found::item_of;
 
 pub use cause::{Bytes, Cause};
 pub use found::Found;
-pub use proved::{ListedSection, Listing, Unread};
+pub use proved::{ListedSection, Listing};
 pub use queries::Definitions;
+pub use unread::Unread;
 
 mod cause;
 mod found;
 mod queries;
+mod unread;
 
 /// Why a component can't be listed. A place is a byte offset in the component; for a section, the
 /// offset of its id.
@@ -81,20 +85,60 @@ pub enum ListFault {
 }
 
 impl ListFault {
-    /// Converts the proved fault of these bytes.
-    fn new(bytes: &[u8], fault: proved::ListFault) -> Self {
-        match fault {
-            proved::ListFault::Memory => Self::NoMemory,
-            proved::ListFault::NotAComponent { place } => {
-                Self::NotAComponent { place, found: Found::of(bytes) }
+    /// Converts the proved error of these bytes.
+    fn new(bytes: &[u8], refusal: ListRefusal<'_>) -> Self {
+        match refusal {
+            ListRefusal::Memory => Self::NoMemory,
+            ListRefusal::Header => Self::NotAComponent { place: 0, found: Found::of(bytes) },
+            ListRefusal::Section { place, refusal } => Self::of_section(bytes, place, refusal),
+            ListRefusal::Item { count, left, refusal } => {
+                Self::of_item(bytes, count, left, refusal)
             }
-            proved::ListFault::BadSection { place }
-            | proved::ListFault::BadItem { place }
-            | proved::ListFault::TooDeep { place } => {
-                let fault = Sections::at(bytes, place)
-                    .and_then(|sections| sections.items().find_map(Result::err));
-                fault.unwrap_or(Self::BadSection { place, cause: None })
+        }
+    }
+
+    /// Returns why no section is next at this byte offset.
+    pub(crate) fn of_section(bytes: &[u8], place: usize, refusal: SectionRefusal<'_>) -> Self {
+        match refusal {
+            SectionRefusal::Frame(refusal) => {
+                let cause = Some(Cause::new(bytes, bytes.len(), refusal));
+                Self::BadSection { place, cause }
             }
+            SectionRefusal::Count(of, refusal) => {
+                let unread = Some(Unread::Count { place: of.reached() });
+                let cause = Some(Cause::new(bytes, of.ends, refusal));
+                match of.id.try_into() {
+                    Ok(section) => Self::BadItem { place, section, unread, cause },
+                    Err(_) => Self::BadSection { place, cause },
+                }
+            }
+        }
+    }
+
+    /// Returns why no item is next where this is left of a section with so many items.
+    pub(crate) fn of_item(
+        bytes: &[u8],
+        count: u32,
+        left: SectionItems<'_>,
+        refusal: NestedRefusal,
+    ) -> Self {
+        let SectionItems { id, place, ends, left: more, .. } = left;
+        let unread = match (more, left.reached()) {
+            (0, place) => Unread::Behind { place },
+            (_, place) => Unread::Item { number: count.saturating_sub(more), place },
+        };
+        let refusal = match refusal {
+            NestedRefusal::Flat(refusal) => refusal,
+            NestedRefusal::TooDeep(left) => {
+                let cause = Some(Cause::Deep { place: ends.saturating_sub(left) });
+                return Self::TooDeep { place, unread: Some(unread), cause };
+            }
+        };
+        let cause = (more > 0).then(|| Cause::new(bytes, ends, refusal));
+        match ComponentSectionId::try_from(id) {
+            Ok(ComponentSectionId::CoreCustom) if more > 0 => Self::BadSection { place, cause },
+            Ok(section) => Self::BadItem { place, section, unread: Some(unread), cause },
+            Err(_) => Self::BadSection { place, cause: None },
         }
     }
 }
@@ -217,5 +261,5 @@ impl core::error::Error for ListFault {}
 /// # Ok::<(), ListFault>(())
 /// ```
 pub fn list(bytes: &[u8]) -> Result<Listing, ListFault> {
-    proved::list(Global, bytes).map_err(|fault| ListFault::new(bytes, fault))
+    list_or_refusal(Global, bytes).map_err(|refusal| ListFault::new(bytes, refusal))
 }

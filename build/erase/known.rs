@@ -63,7 +63,7 @@ pub const TREES: [&str; 23] = [
 ];
 
 /// Types that derive more for users of Rust than their sources say, with the additional derives.
-pub const DERIVED_TOO: [(&str, &str); 37] = [
+pub const DERIVED_TOO: [(&str, &str); 36] = [
     ("AbstractHeapType", "Hash"),
     ("Alias", "Debug, Hash, PartialEq, Eq"),
     ("ArrayType", "Hash"),
@@ -99,7 +99,6 @@ pub const DERIVED_TOO: [(&str, &str); 37] = [
     ("TableType", "Hash"),
     ("TagType", "Hash"),
     ("TypeView", "Debug, PartialEq, Eq, Hash"),
-    ("Unread", "Hash"),
     ("ValType", "Hash"),
 ];
 

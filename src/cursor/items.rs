@@ -6,7 +6,7 @@ use crate::proved::wenc_read::NestedRefusal;
 use crate::shim::alloc::Global;
 use crate::tree::ItemTree;
 use crate::view::ItemView;
-use crate::{Cause, ComponentSectionId, ListFault, Unread};
+use crate::{ComponentSectionId, ListFault};
 use core::fmt;
 use core::ops::Range;
 
@@ -78,26 +78,7 @@ impl<'a> Items<'a> {
     #[inline(never)]
     fn refused(&mut self, left: proved::SectionItems<'a>, refusal: NestedRefusal) -> ListFault {
         self.left = None;
-        let proved::SectionItems { id, place, ends, left: more, .. } = left;
-        let unread = match (more, left.reached()) {
-            (0, place) => Unread::Behind { place },
-            (_, place) => Unread::Item { number: self.count - more, place },
-        };
-        let refusal = match refusal {
-            NestedRefusal::Flat(refusal) => refusal,
-            NestedRefusal::TooDeep(left) => {
-                let cause = Some(Cause::Deep { place: ends.saturating_sub(left) });
-                return ListFault::TooDeep { place, unread: Some(unread), cause };
-            }
-        };
-        let cause = (more > 0).then(|| Cause::new(self.bytes, ends, refusal));
-        match ComponentSectionId::try_from(id) {
-            Ok(ComponentSectionId::CoreCustom) if more > 0 => {
-                ListFault::BadSection { place, cause }
-            }
-            Ok(section) => ListFault::BadItem { place, section, unread: Some(unread), cause },
-            Err(_) => ListFault::BadSection { place, cause: None },
-        }
+        ListFault::of_item(self.bytes, self.count, left, refusal)
     }
 }
 

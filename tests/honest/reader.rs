@@ -77,7 +77,7 @@ pub const TREES: [&str; 23] = [
 ];
 
 /// Types that derive more than their sources say, and what.
-pub const DERIVED_TOO: [(&str, &str); 37] = [
+pub const DERIVED_TOO: [(&str, &str); 36] = [
     ("AbstractHeapType", "Hash"),
     ("Alias", "Debug, Hash, PartialEq, Eq"),
     ("ArrayType", "Hash"),
@@ -113,7 +113,6 @@ pub const DERIVED_TOO: [(&str, &str); 37] = [
     ("TableType", "Hash"),
     ("TagType", "Hash"),
     ("TypeView", "Debug, PartialEq, Eq, Hash"),
-    ("Unread", "Hash"),
     ("ValType", "Hash"),
 ];
 

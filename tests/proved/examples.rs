@@ -9,7 +9,7 @@ use crate::proved::proved_tests::examples::{
 use crate::proved::proved_tests::wrapping::wrapped;
 use crate::proved::wasm_encoder::{
     Component, ComponentImportSection, ComponentTypeRef, ComponentTypeSection, ComponentValType,
-    Encode, Fault, PrimitiveValType, Unread,
+    Encode, Fault, PrimitiveValType,
 };
 use crate::proved::wenc_list::{ItemTree, ItemView, Names};
 use crate::proved::wenc_parts::Alias;
@@ -181,9 +181,9 @@ fn runs() {
     let (bytes, refused) = builder::run(Global).unwrap();
     assert!(!refused && bytes.as_slice() == RUN);
     assert!(list::imports(Global, RUN).unwrap());
-    let unread = list::unread(Global, b"\0asm\x0d\0\x01\0\x06\x02\x01\x09");
-    assert_eq!(unread, Some(Unread::Item { number: 0, place: 11 }));
-    assert_eq!(list::unread(Global, RUN), None);
+    let aliases = b"\0asm\x0d\0\x01\0\x06\x06\x02\x03\x02\x00\x00\x09";
+    assert_eq!(list::read_before(Global, aliases), Some(1));
+    assert_eq!(list::read_before(Global, RUN), None);
     let item = list::first_item(RUN).unwrap();
     assert!(matches!(item, Some(ItemView::Import { name, .. }) if name.name == "file"));
     let item = list::first_tree(Global, RUN).unwrap();

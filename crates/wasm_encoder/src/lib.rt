@@ -25,9 +25,7 @@ pub use wenc_base::{
 };
 pub use wenc_builder::{ComponentBuilder, Space};
 pub use wenc_canon::{AddsBuiltin, AddsSlot, CanonicalFunctionSection, CanonicalOption};
-pub use wenc_list::{
-    ItemTree, ListFault, ListedSection, Listing, SectionItems, Sections, Unread, first_unread, list,
-};
+pub use wenc_list::{ItemTree, ListFault, ListedSection, Listing, SectionItems, Sections, list};
 pub use wenc_parts::{
     Alias, AliasTree, Component, ComponentExportKind, ComponentExternName, ComponentOuterAliasKind,
     ComponentSection, ComponentSectionId, ComponentTypeRef, ComponentValType, ModuleArg,

@@ -2,7 +2,6 @@ pub mod Listed
 pub mod Indices
 pub mod SectionLaws
 pub mod Taken
-pub mod Walked
 pub mod Faults
 pub mod OwnBytes
 pub mod Parts

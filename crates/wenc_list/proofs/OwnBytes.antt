@@ -5,7 +5,7 @@ use Rattle.std.proofs.lemmas.List.{take_at}
 use Rattle.std.proofs.lemmas.Option.{same_Some}
 use Rattle.std.specs.Prelude.{remove, slice_get, slice_range}
 use Rattle.wenc_base.specs.Number.{ReadsGroups, last, more}
-use Rattle.wenc_base.specs.Piece.{Wide}
+use Rattle.wenc_base.specs.Piece.{Wide, EndsWith}
 use Rattle.wenc_base.specs.laws.Numbers.{u32_groups}
 use Rattle.wenc_builder.specs.Sections.{Section, Reading, members, section_piece, sections, preamble}
 use Rattle.wenc_list.specs.Items.{section_view}
@@ -14,7 +14,18 @@ use Rattle.wenc_list.specs.declared.listing.ListedSection.{ListedSection}
 use Rattle.wenc_list.proofs.Listed.{section_shorter, from_all}
 use Rattle.wenc_list.proofs.SectionLaws.{section_framed, section_reads}
 use Rattle.wenc_list.proofs.Taken.{at_place}
-use Rattle.wenc_list.proofs.Walked.{header, header_is}
+
+-- ---- the header
+
+-- the bytes of a header
+abbrev pub header : List ℕ
+header = 0x00 ∷ 0x61 ∷ 0x73 ∷ 0x6d ∷ 0x0d ∷ 0x00 ∷ 0x01 ∷ 0x00 ∷ []
+
+pub header_is : (bytes rest : List ℕ) → preamble.Reads Wide bytes rest → bytes ≡ header ++ rest
+header_is bytes rest r = rw (r.1, r.2.1, r.2.2.1, r.2.2.2.1, r.2.2.2.2.1, r.2.2.2.2.2.1, r.2.2.2.2.2.2.1, r.2.2.2.2.2.2.2) refl
+
+pub header_leaves : (bytes rest : List ℕ) → preamble.Reads Wide bytes rest → EndsWith bytes rest
+header_leaves bytes rest r = (header, header_is bytes rest r)
 
 -- ---- a section
 

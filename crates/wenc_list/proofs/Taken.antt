@@ -23,7 +23,7 @@ use Rattle.wenc_builder.specs.Item.{Item, ModuleItem, CoreInstanceItem, CoreType
 use Rattle.wenc_builder.specs.Item.{CanonItem, StartItem, ImportItem, ExportItem, CustomItem, RawItem}
 use Rattle.wenc_builder.specs.Sections.{Section, members, collects, item_of, section_piece}
 use Rattle.wenc_builder.specs.laws.Reading.{item_of_lawful}
-use Rattle.wenc_read.specs.inside.Fails.{FailsNested}
+use Rattle.wenc_read.specs.Gives.{flaw_of}
 use Rattle.wenc_read.specs.declared.refusal.NestedRefusal.{NestedRefusal}
 use Rattle.wenc_read.specs.declared.refusal.NestedRefusal.TheVariants.{Flat, TooDeep}
 use Rattle.wenc_sections.specs.Start.{start_content}
@@ -36,7 +36,7 @@ use Rattle.wenc_list.specs.declared.cursor.SectionItems.{SectionItems}
 use Rattle.wenc_list.specs.declared.fault.ListFault.{ListFault}
 use Rattle.wenc_list.specs.declared.fault.ListFault.TheVariants as faults
 use Rattle.wenc_list.specs.inside.Contents.{read_content_item, whole_item, read_item_in, read_count}
-use Rattle.wenc_list.specs.Cursor.{fault_of_content}
+use Rattle.wenc_list.specs.Cursor.{fault_of_content, fault_of_items}
 use Rattle.wenc_list.proofs.SectionLaws.{ItemWithin, GoesIn, item_tells, item_finds, IsPast, AloneIn, Fills, section_reads, section_framed}
 use Rattle.wenc_list.proofs.SectionLaws.{members_of, told_ok, not_both, frame_finds, same_frame}
 
@@ -611,11 +611,26 @@ item_found id bytes x rest e = told_ok (InWithin 100 id bytes) (GoesIn 100 id by
 pub count_holds : (id : ℕ) (content : List ℕ) (n : ℕ) (items : List ℕ) → read_count id content ≡ Ok (n, items) → Holds id content n items
 count_holds id content n items e = told_ok (λ x. Holds id content x.0 x.1) ⊥ (read_count id content) (n, items) (count_told id content) e
 
-pub item_fault : (s : SectionItems) (refusal : NestedRefusal) → 0 < s.left → AreBytes s.rest.now
-    → FailsNested refusal (read_item_in 100 s.id s.rest.now) → IsFaultIn s (fault_of_content refusal s.id s.place)
+item_fault : (s : SectionItems) (refusal : NestedRefusal) → 0 < s.left → AreBytes s.rest.now
+    → read_item_in 100 s.id s.rest.now ≡ Err (flaw_of refusal) → IsFaultIn s (fault_of_content refusal s.id s.place)
 item_fault s (Flat refusal) some are h =
     elim (eqb_tells s.id 0) [
       | inl t ↦ rw (t.0, cond) (refl, some, t.1, no_label s.rest.now are (rw t.1 at h))
       | inr t ↦ rw (t.0, cond) (refl, inl (some, t.1, never_item s.id s.rest.now h))
     ]
 item_fault s (TooDeep left) some are h = let g = goes_deep s.id s.rest.now h in (refl, some, g.0, g.1, no_item s.id s.rest.now h)
+
+pub next_fault : (s : SectionItems) (refusal : NestedRefusal) → (s.left ≡ 0 → ⊥) → AreBytes s.rest.now
+    → read_item_in 100 s.id s.rest.now ≡ Err (flaw_of refusal) → IsFaultIn s (fault_of_items s refusal)
+next_fault s refusal some are h =
+    elim (eqb_tells s.left 0) [
+      | inl t ↦ absurd (some t.1)
+      | inr t ↦ rw (t.0, cond) (item_fault s refusal (omega (arith, t.1)) are h)
+    ]
+
+pub behind_fault : (s : SectionItems) (refusal : NestedRefusal) → s.left ≡ 0 → 0 < length s.rest.now → IsFaultIn s (fault_of_items s refusal)
+behind_fault s refusal none more =
+    elim (eqb_tells s.left 0) [
+      | inl t ↦ rw (t.0, cond) (refl, inr (none, more))
+      | inr t ↦ absurd (t.1 none)
+    ]

@@ -18,6 +18,8 @@ use Rattle.wenc_list.specs.declared.cursor.SectionRefusal.{SectionRefusal}
 use Rattle.wenc_list.specs.declared.cursor.SectionRefusal.TheVariants.{Frame, Count}
 use Rattle.wenc_list.specs.declared.fault.ListFault.{ListFault}
 use Rattle.wenc_list.specs.declared.fault.ListFault.TheVariants as faults
+use Rattle.wenc_list.specs.declared.refusal.ListRefusal.{ListRefusal}
+use Rattle.wenc_list.specs.declared.refusal.ListRefusal.TheVariants as refusals
 
 -- ---- items in their sections
 
@@ -102,10 +104,37 @@ fault_of_content (Flat refusal) id place =
     if nat_eq id 0 then faults.BadSection place else faults.BadItem place
 fault_of_content (TooDeep left) id place = faults.TooDeep place
 
+-- why the next of these items isn't read, or what follows the last one
+abbrev pub fault_of_items : SectionItems → NestedRefusal → ListFault
+fault_of_items s refusal =
+    if nat_eq s.left 0 then faults.BadItem s.place else fault_of_content refusal s.id s.place
+
 -- why no section is read at this place
 abbrev pub fault_of_section : SectionRefusal → ℕ → ListFault
 fault_of_section (Frame refusal) place = faults.BadSection place
 fault_of_section (Count section refusal) place = faults.BadItem place
+
+-- why a component isn't listed
+abbrev pub fault_of_list : ListRefusal → ListFault
+fault_of_list refusals.Memory = faults.Memory
+fault_of_list refusals.Header = faults.NotAComponent 0
+fault_of_list (refusals.Section place refusal) = fault_of_section refusal place
+fault_of_list (refusals.Item count left refusal) = fault_of_items left refusal
+
+-- A section begins these bytes, the last ones of a component with `ends` bytes, and no count of its
+-- items begins its content.
+pub record LacksCount (ends : ℕ) (bytes : List ℕ) (s : SectionItems) : Type 0 where
+  pub rest : List ℕ
+  pub framed : IsFramed bytes s.id s.rest.now rest
+  pub collecting : IsTrue (collects s.id)
+  pub never : (n : ℕ) (items : List ℕ) → (u32 n).Reads Wide s.rest.now items → ⊥
+  pub is_place : s.place ≡ ends - length bytes
+  pub is_end : s.ends ≡ ends - length rest
+
+-- a section that the refusal names has no count
+abbrev pub IsCountless : ℕ → List ℕ → SectionRefusal → Type 0
+IsCountless ends bytes (Frame refusal) = Unit {0}
+IsCountless ends bytes (Count section refusal) = LacksCount ends bytes section
 
 -- ---- where the bytes can't be read on
 

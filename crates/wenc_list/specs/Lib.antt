@@ -3,7 +3,6 @@ pub mod Items
 pub mod Listing
 pub mod Names
 pub mod Producers
-pub mod Unread
 pub mod inside
 pub mod laws
 pub mod Prelude

@@ -1,6 +1,8 @@
 -- The names that clauses cite, re-exported from the files that define them.
-pub use Rattle.wenc_list.specs.Cursor.{HasTaken, IsFaultIn, IsPlacedIn, IsSpent, Opens}
-pub use Rattle.wenc_list.specs.Cursor.{fault_of_content, fault_of_section, left_of}
+pub use Rattle.wenc_list.specs.Cursor.{HasTaken, IsCountless, IsFaultIn, IsPlacedIn, IsSpent}
+pub use Rattle.wenc_list.specs.Cursor.{LacksCount, Opens}
+pub use Rattle.wenc_list.specs.Cursor.{fault_of_content, fault_of_items, fault_of_list}
+pub use Rattle.wenc_list.specs.Cursor.{fault_of_section, left_of}
 pub use Rattle.wenc_list.specs.Items.{item_section, item_view, section_view}
 pub use Rattle.wenc_list.specs.Items.{IsCountedItem, item_seen}
 pub use Rattle.wenc_list.specs.Listing.{AreFrom, ArePlaced, AreWithin, HasNoHeader, IsFaultBehind}
@@ -12,14 +14,12 @@ pub use Rattle.wenc_list.specs.Names.{IsCountedNames, read_part, read_sort, subs
 pub use Rattle.wenc_list.specs.Producers.{AreSpent, HasTakenPart, IsMalformed, IsNoNumber}
 pub use Rattle.wenc_list.specs.Producers.{IsNoPart, Part, part_seen, parts_in}
 pub use Rattle.wenc_list.specs.Producers.{parts_left, producers_parts, tool_seen, with_part}
-pub use Rattle.wenc_list.specs.Unread.{IsNamed, IsReadHere, IsUnread}
 pub use Rattle.wenc_list.specs.inside.Contents.{read_alias_item}
 pub use Rattle.wenc_list.specs.inside.Contents.{read_canonical_item, read_core_instance_item}
 pub use Rattle.wenc_list.specs.inside.Contents.{read_core_type_item, read_count, read_export_item}
 pub use Rattle.wenc_list.specs.inside.Contents.{read_frame, read_import_item, read_instance_item}
 pub use Rattle.wenc_list.specs.inside.Contents.{read_item_in, read_type_item}
 pub use Rattle.wenc_list.specs.inside.Taken.{FaultsIn, TakesAll}
-pub use Rattle.wenc_list.specs.inside.Unread.{IsUnreadOf}
 pub use Rattle.wenc_list.specs.laws.Names.{item_name_sound}
 pub use Rattle.wenc_list.specs.declared.cursor.SectionItems.{SectionItems}
 pub use Rattle.wenc_list.specs.declared.fault.ListFault.{ListFault}

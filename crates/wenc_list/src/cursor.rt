@@ -6,7 +6,8 @@ ghost use Rattle.wenc_builder.specs.Prelude.{preamble};
 ghost use Rattle.wenc_list.specs.Prelude.{Opens, HasTaken, IsSpent, IsFaultIn, item_view};
 ghost use Rattle.wenc_list.specs.Prelude.{item_seen, IsCountedItem};
 ghost use Rattle.wenc_list.specs.Prelude.{IsFaultHere, HasNoHeader, fault_of_content, read_count};
-ghost use Rattle.wenc_list.specs.Prelude.{fault_of_section, left_of, IsPlacedIn};
+ghost use Rattle.wenc_list.specs.Prelude.{fault_of_items};
+ghost use Rattle.wenc_list.specs.Prelude.{fault_of_section, left_of, IsPlacedIn, IsCountless};
 ghost use Rattle.wenc_list.specs.declared.fault.ListFault.TheVariants.{Memory, NotAComponent};
 ghost use Rattle.wenc_read.specs.Prelude.{GivesAlways, flaw_of};
 
@@ -104,8 +105,18 @@ fn content_fault(refusal: NestedRefusal, id: u8, place: usize) -> ListFault
     }
 }
 
+/// Maps the error of reading the next of these items.
+pub(crate) fn item_fault(items: &SectionItems<'_>, refusal: NestedRefusal) -> ListFault
+    ensures { result ≡ fault_of_items items.now refusal }
+{
+    if items.left == 0 {
+        return ListFault::BadItem { place: items.place };
+    }
+    content_fault(refusal, items.id, items.place)
+}
+
 /// Maps the error of reading the section at this byte offset.
-fn section_fault(refusal: SectionRefusal<'_>, place: usize) -> ListFault
+pub(crate) fn section_fault(refusal: SectionRefusal<'_>, place: usize) -> ListFault
     ensures { result ≡ fault_of_section refusal.entry place }
 {
     match refusal {
@@ -175,6 +186,8 @@ impl<'a> Sections<'a> {
         // An error has its cause in the section that begins the remaining bytes.
         ensures fault { let place = self.old.ends - length self.old.rest.now in
             IfErr result (λ e. IsFaultHere place self.old.rest.now (fault_of_section e place)) }
+        // A section that is named has no count.
+        ensures countless { IfErr result (IsCountless self.old.ends self.old.rest.now) }
         // Its place is in them.
         ensures within { IfErr result (IsPlacedIn self.old.rest.now) }
         ensures some { IfErr result (λ _. 0 < length self.old.rest.now) }
@@ -267,10 +280,7 @@ impl<'a> SectionItems<'a> {
             (λ _. Unit {0})) }
         ensures refused { IfErr result (λ _. self.new ≡ self.old) }
         // An error has its cause in the remaining bytes.
-        ensures fault { IfErr result (λ e. 0 < self.old.left
-            → IsFaultIn self.old (fault_of_content e self.old.id self.old.place)) }
-        ensures behind { IfErr result (λ _. self.old.left ≡ 0
-            → 0 < length self.old.rest.now) }
+        ensures fault { IfErr result (λ e. IsFaultIn self.old (fault_of_items self.old e)) }
         // Its place is in them.
         ensures within { IfErr result (λ e. left_of e ≤ length self.old.rest.now) }
     {
@@ -322,8 +332,7 @@ impl<'a> SectionItems<'a> {
     {
         match self.next_or_refusal() {
             Ok(item) => Ok(item),
-            Err(_) if self.left == 0 => Err(ListFault::BadItem { place: self.place }),
-            Err(refusal) => Err(content_fault(refusal, self.id, self.place)),
+            Err(refusal) => Err(item_fault(self, refusal)),
         }
     }
 

@@ -15,14 +15,14 @@ mod listing;
 mod members;
 mod names;
 mod producers;
+mod refusal;
 mod sections;
-mod unread;
 
 pub use cursor::{SectionItems, SectionRefusal, Sections};
 pub use fault::ListFault;
 pub use item::ItemTree;
 pub use item_view::ItemView;
-pub use listing::{ListedSection, Listing, list};
+pub use listing::{ListedSection, Listing, list, list_or_refusal};
 pub use names::{ItemName, Names, behind_module_header, names_of, part_of};
 pub use producers::{ProducersPart, ProducersParts};
-pub use unread::{Unread, first_unread};
+pub use refusal::ListRefusal;

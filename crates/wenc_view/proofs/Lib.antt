@@ -1,4 +1,3 @@
-pub mod Always
 pub mod Nested
 pub mod Options
 pub mod Texts

@@ -4,10 +4,7 @@ use Rattle.wenc_base.specs.Readers.{Flaw}
 use Rattle.wenc_read.specs.Gives.{flaw_of}
 use Rattle.wenc_read.specs.declared.refusal.NestedRefusal.{NestedRefusal}
 
-abbrev pub FailsAlways : {A : Type 0} → NestedRefusal → Result A Flaw → Type 0
-FailsAlways refusal found = found ≡ Err (flaw_of refusal)
-
 abbrev pub GivesNestedAlways : {X A : Type 0} → (X → A) → Result X NestedRefusal → Result A Flaw
     → Type 0
 GivesNestedAlways view (Ok x) found = found ≡ Ok (view x)
-GivesNestedAlways view (Err refusal) found = FailsAlways refusal found
+GivesNestedAlways view (Err refusal) found = found ≡ Err (flaw_of refusal)

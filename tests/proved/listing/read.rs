@@ -1,9 +1,8 @@
-//! Numbers and types that bytes begin with, and sections of which nothing is unread.
+//! Numbers and types that bytes begin with.
 
-use super::component;
 use crate::proved::tests::hex::bytes;
 use crate::proved::wenc_decode::room_for;
-use crate::proved::wenc_list::{ProducersPart, ProducersParts, first_unread};
+use crate::proved::wenc_list::{ProducersPart, ProducersParts};
 use crate::proved::wenc_parts::{ComponentValType, ResultList};
 use crate::proved::wenc_read::{Expected, NestedRefusal, Refusal, flag_of, u64_of};
 use crate::proved::wenc_view::{TypeView, View, type_at};
@@ -113,26 +112,4 @@ fn depth() {
     assert_eq!(type_at(1, &bytes), Err(NestedRefusal::TooDeep(6)));
     let refusal = Refusal { left: 0, expected: Expected::Bytes(1) };
     assert_eq!(type_at(2, &bytes[..6]), Err(NestedRefusal::from(refusal)));
-}
-
-/// Sections, and the place of one that is read, or of none.
-const READ: [(&str, usize); 10] = [
-    ("", 0),
-    ("", 8),
-    ("", usize::MAX),
-    ("060100", 8),
-    ("060100", 12),
-    ("0601000a06010001660100", 11),
-    ("010109", 8),
-    // No section begins there, or a custom one without a name.
-    ("06", 8),
-    ("0c00", 8),
-    ("00020261", 8),
-];
-
-#[test]
-fn nothing_is_unread() {
-    for (sections, place) in READ {
-        assert_eq!(first_unread(&component(&bytes(sections)), place), None, "{sections} {place}");
-    }
 }

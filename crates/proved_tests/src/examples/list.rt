@@ -1,9 +1,12 @@
 //! Examples of `wenc_list`, `wenc_view` and `wenc_decode`.
 
 use std::alloc::{AllocError, Allocator};
-use wasm_encoder::{AliasTree, ItemTree, ListFault, Unread, first_unread, list};
+use wasm_encoder::{AliasTree, ItemTree, ListFault, list};
 use wenc_decode::TreeOf;
-use wenc_list::{ItemView, Names, Sections, behind_module_header, names_of, part_of};
+use wenc_list::{
+    ItemView, ListRefusal, Names, Sections, behind_module_header, list_or_refusal, names_of,
+    part_of,
+};
 use wenc_parts::Alias;
 use wenc_read::{Expected, Refusal};
 use wenc_view::{ListOf, View};
@@ -18,10 +21,10 @@ pub fn imports<A: Allocator + Copy>(alloc: A, component: &[u8]) -> Result<bool, 
     Ok(imports)
 }
 
-/// `first_unread`: which item of a component can't be read.
-pub fn unread<A: Allocator + Copy>(alloc: A, component: &[u8]) -> Option<Unread> {
-    match list(alloc, component) {
-        Err(ListFault::BadItem { place }) => first_unread(component, place),
+/// `list_or_refusal`: how many items of a section are before one that can't be read.
+pub fn read_before<A: Allocator + Copy>(alloc: A, component: &[u8]) -> Option<u32> {
+    match list_or_refusal(alloc, component) {
+        Err(ListRefusal::Item { count, left, .. }) => Some(count.saturating_sub(left.left)),
         _ => None,
     }
 }

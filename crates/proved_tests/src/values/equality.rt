@@ -18,7 +18,7 @@ use wenc_base::{
 };
 use wenc_builder::Space;
 use wenc_canon::CanonicalOption;
-use wenc_list::{ListFault, Unread};
+use wenc_list::ListFault;
 use wenc_parts::{
     ComponentExportKind, ComponentOuterAliasKind, ComponentSectionId, ComponentTypeRef,
     ComponentValType, ModuleArg, PrimitiveValType, ResultList, TypeBounds,
@@ -280,12 +280,6 @@ pub fn nested_refusals(one: NestedRefusal, other: NestedRefusal) -> bool
 }
 
 pub fn faults_of_listing(one: ListFault, other: ListFault) -> bool
-    ensures { IsTrue result ↔ (one ≡ other) }
-{
-    one == other
-}
-
-pub fn unread_parts(one: Unread, other: Unread) -> bool
     ensures { IsTrue result ↔ (one ≡ other) }
 {
     one == other

@@ -91,5 +91,3 @@ read_frame (id ∷ bytes) =
     else go_on (read_u32 bytes)
     (λ size rest. if nat_lt (length rest) size then Err Bad
     else Ok ((id, take size rest), drop size rest))
-
--- ---- faults

@@ -1,9 +1,7 @@
 -- What a table of first bytes finds, and where a reader stops.
-use Rattle.std.proofs.Common.{◌≡◌, ℕ, List, [], ◌∷◌, Result, Ok, refl}
+use Rattle.std.proofs.Common.{◌≡◌, ℕ, List, [], ◌∷◌, Result, Ok, Err, refl}
 use Rattle.wenc_base.specs.laws.Lawful.{same_Ok_pair, IsPast, pick_past}
-use Rattle.wenc_base.specs.Readers.{Flaw, Reader, go_on, read_byte, pick, choose}
-use Rattle.wenc_read.specs.declared.refusal.NestedRefusal.{NestedRefusal}
-use Rattle.wenc_read.specs.inside.Fails.{FailsNested}
+use Rattle.wenc_base.specs.Readers.{Flaw, Bad, Reader, go_on, read_byte, pick, choose}
 
 -- what stands after a first byte, by the row of that byte
 pub at_first : {A : Type 0} (table : List (ℕ × Reader A)) (other : Reader A) (b first : ℕ)
@@ -27,6 +25,12 @@ past_rows table other b bytes rest e h = rw (first_there bytes rest b e)
     (pick_past table other b rest h)
 
 -- what fails fails whatever is made of it
-pub fails_nested_on : {A B : Type 0} (e : NestedRefusal) (found : Result (A × List ℕ) Flaw)
-    (next : A → List ℕ → Result B Flaw) → FailsNested e found → FailsNested e (go_on found next)
-fails_nested_on e found next h = rw h refl
+pub fails_on : {A B : Type 0} (flaw : Flaw) (found : Result (A × List ℕ) Flaw)
+    (next : A → List ℕ → Result B Flaw) → found ≡ Err flaw → go_on found next ≡ Err flaw
+fails_on flaw found next h = rw h refl
+
+-- without a first byte no row is found
+pub fails_first : {A : Type 0} (table : List (ℕ × Reader A)) (other : Reader A) (bytes : List ℕ)
+    → read_byte bytes ≡ Err Bad → choose table other bytes ≡ Err Bad
+unfolding choose
+fails_first table other bytes h = rw h refl

@@ -1,11 +1,9 @@
 -- Reading values one after the other, as a loop does.
 use Rattle.std.proofs.Common.{◌≡◌, ℕ, suc, ◌-◌, ◌+◌, ◌≤◌, ◌<◌, List, [], ◌∷◌, ◌++◌, Result, Ok, Err}
-use Rattle.std.proofs.Common.{refl, sym, ap, subst, ◌∙◌, append_assoc, arith}
+use Rattle.std.proofs.Common.{refl, sym, ap, ◌∙◌, append_assoc, arith}
 use Rattle.std.proofs.lemmas.List.{append-nil}
 use Rattle.wenc_base.specs.Readers.{Flaw, Reader, go_on, times}
-use Rattle.wenc_read.specs.declared.refusal.NestedRefusal.{NestedRefusal}
-use Rattle.wenc_read.specs.inside.Fails.{FailsNested}
-use Rattle.wenc_read.specs.laws.Tables.{fails_nested_on}
+use Rattle.wenc_read.specs.laws.Tables.{fails_on}
 
 -- what was read before, and what is still read
 abbrev pub with_front : {A : Type 0} → List A → Result (List A × List ℕ) Flaw
@@ -39,16 +37,14 @@ times_go_on read front count i bytes v after total lt h so_far =
     (times read (count - (i + 1)) after)) in
     sym one ∙ so_far
 
-pub stops : {A : Type 0} (e : NestedRefusal) (read : Reader A) (front : List A) (count i : ℕ)
-    (bytes : List ℕ) (total : Result (List A × List ℕ) Flaw) → i < count
-    → FailsNested e (read bytes)
-    → with_front front (times read (count - i) bytes) ≡ total → FailsNested e total
-stops {A} e read front count i bytes total lt h so_far =
+pub stops : {A : Type 0} (flaw : Flaw) (read : Reader A) (front : List A) (count i : ℕ)
+    (bytes : List ℕ) (total : Result (List A × List ℕ) Flaw) → i < count → read bytes ≡ Err flaw
+    → with_front front (times read (count - i) bytes) ≡ total → total ≡ Err flaw
+stops {A} flaw read front count i bytes total lt h so_far =
     let k : count - i ≡ suc (count - (i + 1)) = omega arith in
-    let one : FailsNested e (with_front front (times read (count - i) bytes)) = rw k
-    (fails_nested_on e (times read (suc (count - (i + 1))) bytes) _ (fails_nested_on e
-    (read bytes) _ h)) in
-    subst (λ (found : Result (List A × List ℕ) Flaw). FailsNested e found) so_far one
+    let one : with_front front (times read (count - i) bytes) ≡ Err flaw = rw k
+    (fails_on flaw (times read (suc (count - (i + 1))) bytes) _ (fails_on flaw (read bytes) _ h)) in
+    sym so_far ∙ one
 
 pub is_done : {A : Type 0} (read : Reader A) (front : List A) (count i : ℕ) (bytes : List ℕ)
     (total : Result (List A × List ℕ) Flaw) → count ≤ i

@@ -1,5 +1,5 @@
 use Rattle.wenc_list.proofs.Taken.{after_section, stands_at_place, stands_where_reached}
-use Rattle.wenc_list.proofs.Walked.{header_leaves}
+use Rattle.wenc_list.proofs.OwnBytes.{header_leaves}
 use Rattle.wenc_list.proofs.laws.where_it_stands.Goals as goal
 
 pub returns-clause-header : goal.returns-clause-header

@@ -15,7 +15,7 @@ loop-items-preserved g c =
     let before = c.loop-items.items.items in
     let x = c.in-Some.item in
     let views : map item_view c.push.new.self.items ≡ map item_view before ++ item_view x ∷ [] = rw c.in_ok-push.ensures.items (map_push item_view before x) in
-    rw views (one_more_taken c.args.from c.loop-items.left c.next_tree.new.self (map item_view before) (item_view x) c.loop-items.invariant
+    rw views (one_more_taken c.args.from c.loop-items.left c.next_item.new.left (map item_view before) (item_view x) c.loop-items.invariant
     (rw c.in-Some.is at c.in_ok-item.ensures.taken))
 
 pub loop-items-init : goal.loop-items-init

@@ -1,6 +1,7 @@
 use Rattle.std.proofs.Common.{◌≡◌, ◌-◌, ◌+◌, ◌++◌, ◌∷◌, [], length, map, arith, length-append, ◌∙◌}
 use Rattle.std.proofs.lemmas.List.{map_push}
 use Rattle.std.proofs.lemmas.Result.{err_from_is_err_and}
+use Rattle.wenc_list.specs.Cursor.{fault_of_list}
 use Rattle.wenc_list.specs.Items.{section_view}
 use Rattle.wenc_list.proofs.Listed.{section_shorter, from_few, from_more, from_each, within_more, stops_here, listed_read, listed_within}
 use Rattle.wenc_list.proofs.Listed.{listed_begins, some_opens}
@@ -15,7 +16,7 @@ returns-in_err-items-clause-fault g c =
     let left = c.loop-sections.left.rest.now in
     let i = c.loop-sections.invariant in
     rw (p.1, p.2) (stops_here all (c.loop-sections.left.ends - length left) (map section_view c.loop-sections.sections.items)
-    c.args.from.rest.now left c.in_err-items.field-0.0 (from_each all c.loop-sections.sections.items c.args.from.rest.now left i.read)
+    c.args.from.rest.now left (fault_of_list c.in_err-items.field-0.0) (from_each all c.loop-sections.sections.items c.args.from.rest.now left i.read)
     i.within (omega (arith, i.shorter, i.same_end)) c.in_err-items.ensures.some c.in_err-items.ensures.fault)
 
 pub returns-in_err-section-clause-fault : goal.returns-in_err-section-clause-fault
@@ -26,10 +27,11 @@ returns-in_err-section-clause-fault g c =
     let i = c.loop-sections.invariant in
     let o = rw c.in-Some.is at c.in_ok-items.ensures.taken in
     let f = c.in_err-section.ensures.fault in
-    let some = some_opens c.loop-sections.left.ends left c.next.new.self.rest.now c.in-Some.items o in
-    let here = taken_fault c.loop-sections.left.ends left c.next.new.self.rest.now c.in-Some.items f.xs f.left c.in_err-section.field-0.0 o f.taken f.cause in
+    let some = some_opens c.loop-sections.left.ends left c.next_section.new.left.rest.now c.in-Some.items o in
+    let here = taken_fault c.loop-sections.left.ends left c.next_section.new.left.rest.now c.in-Some.items f.xs f.left
+    (fault_of_list c.in_err-section.field-0.0) o f.taken f.cause in
     rw (p.1, p.2) (stops_here all c.in-Some.items.place (map section_view c.loop-sections.sections.items) c.args.from.rest.now left
-    c.in_err-section.field-0.0 (from_each all c.loop-sections.sections.items c.args.from.rest.now left i.read) i.within
+    (fault_of_list c.in_err-section.field-0.0) (from_each all c.loop-sections.sections.items c.args.from.rest.now left i.read) i.within
     (omega (arith, i.shorter, i.same_end, o.is_place)) some here)
 
 pub count-requires : goal.count-requires
@@ -38,8 +40,8 @@ count-requires g c k =
     let before = c.loop-sections.sections.items in
     let s = c.in_ok-section.section in
     let o = rw c.in-Some.is at c.in_ok-items.ensures.taken in
-    let read = listed_read left.ends left.rest.now c.next.new.self.rest.now c.in-Some.items s o c.in_ok-section.ensures.taken c.in_ok-section.ensures.id in
-    let few = are_few s left.rest.now c.next.new.self.rest.now read k in
+    let read = listed_read left.ends left.rest.now c.next_section.new.left.rest.now c.in-Some.items s o c.in_ok-section.ensures.taken c.in_ok-section.ensures.id in
+    let few = are_few s left.rest.now c.next_section.new.left.rest.now read k in
     let some = from_few c.args.from.ends before c.args.from.rest.now left.rest.now c.loop-sections.invariant.read in
     let room = c.ranges.from in
     rw c.deref.ensures.value (omega (arith, few, some, c.loop-sections.invariant.few k, c.requires))
@@ -49,8 +51,8 @@ loop-sections-smaller g c =
     let left = c.loop-sections.left in
     let s = c.in_ok-section.section in
     let o = rw c.in-Some.is at c.in_ok-items.ensures.taken in
-    section_shorter (section_view s) left.rest.now c.next.new.self.rest.now
-    (listed_read left.ends left.rest.now c.next.new.self.rest.now c.in-Some.items s o c.in_ok-section.ensures.taken
+    section_shorter (section_view s) left.rest.now c.next_section.new.left.rest.now
+    (listed_read left.ends left.rest.now c.next_section.new.left.rest.now c.in-Some.items s o c.in_ok-section.ensures.taken
     c.in_ok-section.ensures.id)
 
 pub loop-sections-preserved : goal.loop-sections-preserved
@@ -59,7 +61,7 @@ loop-sections-preserved g c =
     let i = c.loop-sections.invariant in
     let before = c.loop-sections.sections.items in
     let s = c.in_ok-section.section in
-    let after = c.next.new.self.rest.now in
+    let after = c.next_section.new.left.rest.now in
     let o = rw c.in-Some.is at c.in_ok-items.ensures.taken in
     let taken = c.in_ok-section.ensures.taken in
     let id = c.in_ok-section.ensures.id in

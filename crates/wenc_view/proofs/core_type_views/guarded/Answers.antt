@@ -2,11 +2,11 @@ use Rattle.std.proofs.Common.{rules, ◌∙◌, [], ◌∷◌, false, refl}
 use Rattle.std.proofs.lemmas.Result.{err_from_is_err_and}
 use Rattle.wenc_base.specs.Composites.{Single}
 use Rattle.wenc_base.specs.reading.Composites.{read_extension, sub_of}
-use Rattle.wenc_base.specs.Readers.{give, nowhere}
+use Rattle.wenc_base.specs.Readers.{Bad, give, nowhere}
 use Rattle.wenc_read.specs.laws.Tables.{at_first}
 use Rattle.wenc_types.specs.CoreTypes.{Grouped}
 use Rattle.wenc_view.proofs.SubTypes.{extension_follows}
-use Rattle.wenc_view.proofs.Always.{fails_always_on}
+use Rattle.wenc_read.specs.laws.Tables.{fails_on}
 use Rattle.wenc_view.proofs.core_type_views.guarded.Goals as goal
 
 pub returns-in_err-ty-in-80-default-clause-found : goal.returns-in_err-ty-in-80-default-clause-found
@@ -18,7 +18,7 @@ returns-in_err-ty-in-80-default-clause-found c =
           (search rules),
       extension_follows (λ s. Grouped (Single s)) (λ n d. sub_of false n d) c.in_ok-rest.field-0.1.now,
     )
-    (fails_always_on c.in_err-ty-in-80-default.field-0.0 (read_extension (λ n d. sub_of false n d) c.in_ok-rest.field-0.1.now)
+    (fails_on Bad (read_extension (λ n d. sub_of false n d) c.in_ok-rest.field-0.1.now)
     (λ s. give (Grouped (Single s))) c.in_err-ty-in-80-default.ensures.found)
 
 pub returns-in_ok-ty-in-80-default-clause-found : goal.returns-in_ok-ty-in-80-default-clause-found

@@ -1,6 +1,5 @@
 use Rattle.std.proofs.Common.{◌≡◌, ◌++◌, ◌∷◌, [], Ok}
-use Rattle.wenc_base.specs.Readers.{times}
-use Rattle.wenc_read.specs.declared.refusal.NestedRefusal.TheVariants.{Flat}
+use Rattle.wenc_base.specs.Readers.{Bad, times}
 use Rattle.wenc_view.specs.laws.Members.{members_are}
 use Rattle.wenc_view.specs.laws.Repeats.{at_start, times_go_on, stops, is_done}
 use Rattle.wenc_view.proofs.lists.passed.Goals as goal
@@ -11,8 +10,8 @@ loop-init g c = ([], at_start g.T.View.read c.args.count c.args.bytes.now)
 pub returns-in-Err : goal.returns-in-Err
 returns-in-Err g c =
     let read = g.T.View.read in
-    stops (Flat c.in-Err.refusal) read c.loop.invariant.0 c.args.count c.loop.counter c.loop.rest.now
-        (times read c.args.count c.args.bytes.now) c.loop-test.true c.in-Err.ensures.found c.loop.invariant.1
+    stops Bad read c.loop.invariant.0 c.args.count c.loop.counter c.loop.rest.now
+    (times read c.args.count c.args.bytes.now) c.loop-test.true c.in-Err.ensures.found c.loop.invariant.1
 
 pub loop-preserved : goal.loop-preserved
 loop-preserved g c =

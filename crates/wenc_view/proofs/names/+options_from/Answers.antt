@@ -6,4 +6,4 @@ use Rattle.wenc_view.proofs.names.+options_from.Goals as goal
 pub returns-then-number-least : goal.returns-then-number-least
 returns-then-number-least t c =
     late c.args.name.now c.args.least c.args.count c.number_of-number.result (option_seen c.in-Ok.option) c.args.bytes.now c.in-Ok.rest.now
-        (search rules) c.in-Ok.ensures c.number_of-number.ensures (search rules)
+    (search rules) c.in-Ok.ensures c.number_of-number.ensures (search rules)

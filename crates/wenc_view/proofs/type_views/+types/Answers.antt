@@ -1,6 +1,6 @@
 use Rattle.std.proofs.Common.{◌≡◌, ◌-◌, ◌++◌, ◌∷◌, [], Ok, arith, rules}
 use Rattle.std.proofs.lemmas.Result.{err_from_is_err_and}
-use Rattle.wenc_base.specs.Readers.{give, times}
+use Rattle.wenc_base.specs.Readers.{Bad, give, times}
 use Rattle.wenc_read.specs.laws.Tables.{past_rows}
 use Rattle.wenc_types.specs.ComponentTypes.{DefinedType}
 use Rattle.wenc_types.specs.reading.DefinedTypes.{read_defined}
@@ -11,9 +11,10 @@ use Rattle.wenc_types.specs.reading.ComponentTypes.{read_shallow}
 use Rattle.wenc_types.specs.laws.ComponentTypes.{one_level}
 use Rattle.wenc_view.specs.Types.{component_declaration_seen, instance_declaration_seen}
 use Rattle.wenc_view.specs.laws.Members.{members_are, are_counted}
-use Rattle.wenc_view.specs.laws.Repeats.{at_start, times_go_on, is_done}
-use Rattle.wenc_view.proofs.Always.{fails_always_on}
-use Rattle.wenc_view.proofs.Nested.{stops_always, component_found, component_fails, instance_found}
+use Rattle.wenc_view.specs.laws.Repeats.{at_start, times_go_on, stops, is_done}
+use Rattle.wenc_read.specs.Gives.{flaw_of}
+use Rattle.wenc_read.specs.laws.Tables.{fails_on}
+use Rattle.wenc_view.proofs.Nested.{component_found, component_fails, instance_found}
 use Rattle.wenc_view.proofs.Nested.{instance_fails, shallow_ok}
 use Rattle.wenc_view.proofs.type_views.+types.Goals as goal
 
@@ -23,7 +24,7 @@ instance_decls-loop-init t c = ([], at_start (read_instance_declaration (read_ty
 pub instance_decls-returns-in-Err : goal.instance_decls-returns-in-Err
 instance_decls-returns-in-Err t c =
     let read = read_instance_declaration (read_type c.args.depth_left) in
-    (rw c.of_many.ensures (stops_always c.in-Err.refusal read c.loop.invariant.0 c.args.count c.loop.counter c.loop.rest.now
+    (rw c.of_many.ensures (stops (flaw_of c.in-Err.refusal) read c.loop.invariant.0 c.args.count c.loop.counter c.loop.rest.now
     (times read c.args.count c.args.bytes.now) c.loop-test.true c.in-Err.ensures.found c.loop.invariant.1))
 
 pub instance_decls-loop-preserved : goal.instance_decls-loop-preserved
@@ -45,7 +46,7 @@ instance_decls-returns t c =
 pub instance_type-returns-in_err-rest-clause-found : goal.instance_type-returns-in_err-rest-clause-found
 instance_type-returns-in_err-rest-clause-found t c =
     let p = err_from_is_err_and c.from_residual-in_err-rest.result c.from_residual-in_err-rest.ensures.1 in
-    rw (p.1, p.2) (instance_fails c.args.depth_left c.in_ok-left.left c.args.bytes.now c.in_ok-left.start.now c.in_err-rest.field-0.0
+    rw (p.1, p.2) (instance_fails c.args.depth_left c.in_ok-left.left c.args.bytes.now c.in_ok-left.start.now (flaw_of c.in_err-rest.field-0.0)
     (omega arith) c.in_ok-left.ensures c.in_err-rest.ensures)
 
 pub instance_type-returns-clause-counted : goal.instance_type-returns-clause-counted
@@ -62,7 +63,7 @@ component_decls-loop-init t c = ([], at_start (read_component_declaration (read_
 pub component_decls-returns-in-Err : goal.component_decls-returns-in-Err
 component_decls-returns-in-Err t c =
     let read = read_component_declaration (read_type c.args.depth_left) in
-    (rw c.of_many.ensures (stops_always c.in-Err.refusal read c.loop.invariant.0 c.args.count c.loop.counter c.loop.rest.now
+    (rw c.of_many.ensures (stops (flaw_of c.in-Err.refusal) read c.loop.invariant.0 c.args.count c.loop.counter c.loop.rest.now
     (times read c.args.count c.args.bytes.now) c.loop-test.true c.in-Err.ensures.found c.loop.invariant.1))
 
 pub component_decls-loop-preserved : goal.component_decls-loop-preserved
@@ -84,7 +85,7 @@ component_decls-returns t c =
 pub component_type-returns-in_err-rest-clause-found : goal.component_type-returns-in_err-rest-clause-found
 component_type-returns-in_err-rest-clause-found t c =
     let p = err_from_is_err_and c.from_residual-in_err-rest.result c.from_residual-in_err-rest.ensures.1 in
-    rw (p.1, p.2) (component_fails c.args.depth_left c.in_ok-left.left c.args.bytes.now c.in_ok-left.start.now c.in_err-rest.field-0.0
+    rw (p.1, p.2) (component_fails c.args.depth_left c.in_ok-left.left c.args.bytes.now c.in_ok-left.start.now (flaw_of c.in_err-rest.field-0.0)
     (omega arith) c.in_ok-left.ensures c.in_err-rest.ensures)
 
 pub component_type-returns-clause-counted : goal.component_type-returns-clause-counted
@@ -114,4 +115,4 @@ type_at-returns-in_err-ty-in_default-clause-found t c =
       past_rows (type_rows (read_component_type c.args.depth_left) (read_instance_type c.args.depth_left)) read_shallow
           _ _ _ c.in_ok-rest.ensures (search rules, (search rules, (search rules, (search rules, (search rules, tt))))),
     )
-    (fails_always_on c.in_err-ty-in_default.field-0.0 (read_defined c.args.bytes.now) (λ ty. give (DefinedType ty)) c.in_err-ty-in_default.ensures.found)
+    (fails_on Bad (read_defined c.args.bytes.now) (λ ty. give (DefinedType ty)) c.in_err-ty-in_default.ensures.found)

@@ -1,7 +1,6 @@
 use Rattle.std.proofs.Common.{refl, arith}
 use Rattle.wenc_list.specs.Items.{item_seen}
-use Rattle.wenc_list.proofs.Taken.{item_found, item_leaves, item_fault}
-use Rattle.wenc_view.proofs.Nested.{fails_nested}
+use Rattle.wenc_list.proofs.Taken.{item_found, item_leaves, next_fault, behind_fault}
 use Rattle.wenc_list.proofs.cursor.SectionItems.next_or_refusal.Goals as goal
 
 pub returns-in-Ok-clause-taken : goal.returns-in-Ok-clause-taken
@@ -18,5 +17,5 @@ returns-in-Ok-clause-taken c =
     }
 
 pub returns-in-Err-clause-fault : goal.returns-in-Err-clause-fault
-returns-in-Err-clause-fault c some = item_fault c.args.self.now c.placed_nested.result some c.are_bytes.ensures
-    (rw c.placed_nested.ensures.flaw (fails_nested c.in-Err.refusal _ c.in-Err.ensures.found))
+returns-in-Err-clause-fault c = next_fault c.args.self.now c.placed_nested.result c.not-left c.are_bytes.ensures
+    (rw c.placed_nested.ensures.flaw c.in-Err.ensures.found)

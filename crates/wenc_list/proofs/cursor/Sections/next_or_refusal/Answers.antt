@@ -1,7 +1,7 @@
-use Rattle.std.proofs.Common.{refl}
+use Rattle.std.proofs.Common.{refl, inl}
 use Rattle.wenc_list.proofs.Listed.{no_frame}
 use Rattle.wenc_list.proofs.SectionLaws.{is_framed}
-use Rattle.wenc_list.proofs.Taken.{section_leaves, count_holds, no_count, collects_other, uncounted_fault}
+use Rattle.wenc_list.proofs.Taken.{section_leaves, count_holds, no_count, collects_other, uncounted, uncounted_fault}
 use Rattle.wenc_list.proofs.cursor.Sections.next_or_refusal.Goals as goal
 
 pub returns-in-Ok-counted-clause-taken : goal.returns-in-Ok-counted-clause-taken
@@ -27,6 +27,21 @@ returns-in-Err-counted-clause-fault c =
     let framed = is_framed c.args.self.now.rest.now id content c.in-Ok.rest.now c.in-Ok.ensures in
     let f = uncounted_fault 0 c.args.self.now.rest.now id content c.in-Ok.rest.now framed (collects_other id (no_count id content bad)) bad in
     (refl, f.1, f.2)
+
+pub returns-in-Err-counted-clause-countless : goal.returns-in-Err-counted-clause-countless
+returns-in-Err-counted-clause-countless c =
+    let id = c.in-Ok.id in
+    let content = c.in-Ok.content.now in
+    let bad = c.in-Err-counted.ensures in
+    let collecting = no_count id content bad in
+    record {
+      rest = c.in-Ok.rest.now;
+      framed = is_framed c.args.self.now.rest.now id content c.in-Ok.rest.now c.in-Ok.ensures;
+      collecting = collecting;
+      never = λ n items r. uncounted id content bad n items (inl (collecting, r));
+      is_place = c.place-place.ensures;
+      is_end = c.saturating_sub.ensures;
+    }
 
 pub returns-in-Err-clause-fault : goal.returns-in-Err-clause-fault
 returns-in-Err-clause-fault c =

@@ -3,9 +3,9 @@ use Rattle.wenc_base.specs.Composites.{RecType, Single}
 use Rattle.wenc_base.specs.reading.Composites.{sub_rows, read_types}
 use Rattle.wenc_view.proofs.Rows.{wraps}
 use Rattle.wenc_view.proofs.SubTypes.{subs_follow}
-use Rattle.wenc_base.specs.Readers.{give}
+use Rattle.wenc_base.specs.Readers.{Bad, give}
 use Rattle.wenc_base.specs.reading.Composites.{read_sub_type}
-use Rattle.wenc_view.proofs.Always.{fails_always_on}
+use Rattle.wenc_read.specs.laws.Tables.{fails_on}
 use Rattle.wenc_view.proofs.composites.GroupViewView.view_of.Goals as goal
 
 pub returns-in-Ok-clause-found : goal.returns-in-Ok-clause-found
@@ -17,5 +17,5 @@ returns-in-Ok-clause-found c =
 pub returns-in-Err-clause-found : goal.returns-in-Err-clause-found
 returns-in-Err-clause-found c =
     rw (wraps Single (sub_rows (λ s. s)) (sub_rows Single) ((0x4e, read_types (λ (t : RecType). t)) ∷ []) (subs_follow Single
-          (λ s. s)) _ _ _ c.in_ok-rest.ensures (search rules))
-    (fails_always_on c.in-Err.refusal (read_sub_type c.args.bytes.now) (λ s. give (Single s)) c.in-Err.ensures.found)
+    (λ s. s)) _ _ _ c.in_ok-rest.ensures (search rules))
+    (fails_on Bad (read_sub_type c.args.bytes.now) (λ s. give (Single s)) c.in-Err.ensures.found)

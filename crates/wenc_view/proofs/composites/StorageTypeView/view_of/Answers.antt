@@ -4,9 +4,9 @@ use Rattle.wenc_base.specs.reading.Composites.{small_rows}
 use Rattle.wenc_base.specs.reading.Types.{val_type_rows}
 use Rattle.wenc_view.proofs.Rows.{wraps}
 use Rattle.wenc_view.proofs.ValTypes.{val_types_follow}
-use Rattle.wenc_base.specs.Readers.{give}
+use Rattle.wenc_base.specs.Readers.{Bad, give}
 use Rattle.wenc_base.specs.reading.Types.{read_val_type}
-use Rattle.wenc_view.proofs.Always.{fails_always_on}
+use Rattle.wenc_read.specs.laws.Tables.{fails_on}
 use Rattle.wenc_view.proofs.composites.StorageTypeView.view_of.Goals as goal
 
 pub returns-in-Ok-clause-found : goal.returns-in-Ok-clause-found
@@ -17,4 +17,4 @@ returns-in-Ok-clause-found c =
 pub returns-in-Err-clause-found : goal.returns-in-Err-clause-found
 returns-in-Err-clause-found c =
     rw (wraps Val (val_type_rows (λ t. t)) (val_type_rows Val) small_rows (val_types_follow Val (λ t. t)) _ _ _ c.in_ok-rest.ensures (search rules))
-    (fails_always_on c.in-Err.refusal (read_val_type c.args.bytes.now) (λ t. give (Val t)) c.in-Err.ensures.found)
+    (fails_on Bad (read_val_type c.args.bytes.now) (λ t. give (Val t)) c.in-Err.ensures.found)

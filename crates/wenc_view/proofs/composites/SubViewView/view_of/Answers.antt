@@ -2,13 +2,13 @@ use Rattle.std.proofs.Common.{rules, ◌∙◌, false, true, Some, [], ◌∷◌
 use Rattle.wenc_base.specs.Composites.{final}
 use Rattle.wenc_base.specs.reading.Composites.{composite_rows, read_closed, read_extension, sub_of}
 use Rattle.wenc_base.specs.reading.Composites.{sub_rows}
-use Rattle.wenc_base.specs.Readers.{nowhere}
+use Rattle.wenc_base.specs.Readers.{Bad, nowhere}
 use Rattle.wenc_read.specs.laws.Tables.{at_first}
 use Rattle.wenc_view.proofs.Rows.{wraps}
 use Rattle.wenc_view.proofs.SubTypes.{composites_follow}
 use Rattle.wenc_base.specs.Readers.{give}
 use Rattle.wenc_base.specs.reading.Composites.{read_composite}
-use Rattle.wenc_view.proofs.Always.{fails_always_on}
+use Rattle.wenc_read.specs.laws.Tables.{fails_on}
 use Rattle.wenc_view.proofs.composites.SubViewView.view_of.Goals as goal
 
 pub returns-in-Ok-clause-found : goal.returns-in-Ok-clause-found
@@ -26,8 +26,9 @@ returns-in-80-default-clause-found c = rw (at_first (sub_rows (λ s. s)) nowhere
 pub returns-in-Err-clause-found : goal.returns-in-Err-clause-found
 returns-in-Err-clause-found c =
     rw (wraps final (composite_rows (λ d. d)) (composite_rows final) ((0x4f, read_closed (λ n d. sub_of true (Some n) d)) ∷ (
-        0x50,
-        read_extension
-            (λ n d. sub_of false n d)) ∷ []) (composites_follow final (λ d. d)) _ _ _ c.in_ok-rest.ensures (search rules))
-    (fails_always_on c.in-Err.refusal (read_composite c.args.bytes.now)
+      0x50,
+      read_extension
+          (λ n d. sub_of false n d),
+    ) ∷ []) (composites_follow final (λ d. d)) _ _ _ c.in_ok-rest.ensures (search rules))
+    (fails_on Bad (read_composite c.args.bytes.now)
     (λ d. give (final d)) c.in-Err.ensures.found)

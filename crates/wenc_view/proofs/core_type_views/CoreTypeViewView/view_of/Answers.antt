@@ -11,7 +11,7 @@ use Rattle.wenc_types.specs.reading.CoreTypes.{read_open}
 use Rattle.wenc_view.proofs.Rows.{found_alone, wraps}
 use Rattle.wenc_view.proofs.SubTypes.{finals_follow}
 use Rattle.wenc_view.proofs.Tables.{made_of}
-use Rattle.wenc_view.proofs.Always.{fails_always_on}
+use Rattle.wenc_read.specs.laws.Tables.{fails_on}
 use Rattle.wenc_view.proofs.core_type_views.CoreTypeViewView.view_of.Goals as goal
 
 pub returns-in_ok-decls-in-80-default-clause-found : goal.returns-in_ok-decls-in-80-default-clause-found
@@ -35,10 +35,11 @@ returns-in-Err-clause-found c =
     let alone = wraps (λ s. s) (final_rows (λ s. s)) (final_rows (λ s. s)) ((0x50, read_extension (λ n d. sub_of false n d)) ∷ []) (finals_follow (λ s. s)
     (λ s. s)) _ _ _ c.in_ok-rest.ensures (search rules) in
     rw (wraps (λ s. Grouped (Single s)) (final_rows (λ s. s)) (final_rows (λ s. Grouped (Single s))) ((0x4e, read_types Grouped) ∷ (
-        0x00,
-        read_open
-            (λ s. Grouped (Single s))) ∷ (0x50, read_declarations Module) ∷ []) (finals_follow (λ s. Grouped (Single s)) (λ s. s)) _ _ _ c.in_ok-rest.ensures
-          (search rules))
-    (fails_always_on c.in-Err.refusal (choose (final_rows (λ s. s)) nowhere c.args.bytes.now) (λ s. give (Grouped (Single s)))
+      0x00,
+      read_open
+          (λ s. Grouped (Single s)),
+    ) ∷ (0x50, read_declarations Module) ∷ []) (finals_follow (λ s. Grouped (Single s)) (λ s. s)) _ _ _ c.in_ok-rest.ensures
+    (search rules))
+    (fails_on Bad (choose (final_rows (λ s. s)) nowhere c.args.bytes.now) (λ s. give (Grouped (Single s)))
     (subst (λ (found : Result (Sub × List ℕ) Flaw). found ≡ Err Bad) (alone
     ∙ found_alone (choose (final_rows (λ s. s)) nowhere c.args.bytes.now)) c.in-Err.ensures.found))

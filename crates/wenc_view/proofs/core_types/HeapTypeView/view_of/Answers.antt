@@ -2,18 +2,18 @@ use Rattle.std.proofs.Common.{[], sym, refl, ◌∙◌}
 use Rattle.std.proofs.lemmas.Result.{err_from_is_err_and}
 use Rattle.wenc_base.specs.Types.{abstract_byte}
 use Rattle.wenc_base.specs.declared.types.HeapType.TheVariants.{Abstract, Concrete}
-use Rattle.wenc_base.specs.Readers.{◌>>=◌, give}
+use Rattle.wenc_base.specs.Readers.{Bad, ◌>>=◌, give}
 use Rattle.wenc_base.specs.reading.Numbers.{read_index}
 use Rattle.wenc_base.specs.laws.Types.{abstract_types}
 use Rattle.wenc_base.specs.reading.Types.{abstract_rows}
 use Rattle.wenc_view.proofs.Tables.{begins, falls_through}
-use Rattle.wenc_view.proofs.Always.{fails_always_on, always_first}
+use Rattle.wenc_read.specs.laws.Tables.{fails_on, fails_first}
 use Rattle.wenc_view.proofs.core_types.HeapTypeView.view_of.Goals as goal
 
 pub returns-in_err-first-clause-found : goal.returns-in_err-first-clause-found
 returns-in_err-first-clause-found c =
     let p = err_from_is_err_and c.from_residual.result c.from_residual.ensures.1 in
-    rw p.1 (always_first c.in_err-first.field-0.0 (abstract_rows Abstract) (read_index >>= λ n. give (Concrete n)) c.args.bytes.now
+    rw p.1 (fails_first (abstract_rows Abstract) (read_index >>= λ n. give (Concrete n)) c.args.bytes.now
     c.in_err-first.ensures)
 
 pub returns-in-Some-clause-found : goal.returns-in-Some-clause-found
@@ -23,7 +23,7 @@ returns-in-Some-clause-found c = begins abstract_byte Abstract abstract_types []
 pub returns-in-Err-clause-found : goal.returns-in-Err-clause-found
 returns-in-Err-clause-found c =
     rw (falls_through abstract_byte Abstract abstract_types (read_index >>= λ n. give (Concrete n)) _ _ _ c.in_ok-first.ensures
-          (sym c.abstract_of.ensures ∙ c.in-None.is)) (fails_always_on c.in-Err.refusal (read_index c.args.bytes.now)
+    (sym c.abstract_of.ensures ∙ c.in-None.is)) (fails_on Bad (read_index c.args.bytes.now)
     (λ n. give (Concrete n)) c.in-Err.ensures)
 
 pub returns-in-Ok-clause-found : goal.returns-in-Ok-clause-found

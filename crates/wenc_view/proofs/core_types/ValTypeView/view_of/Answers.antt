@@ -3,9 +3,9 @@ use Rattle.wenc_base.specs.declared.types.ValType.TheVariants.{Ref}
 use Rattle.wenc_base.specs.reading.Types.{reference_rows, number_rows}
 use Rattle.wenc_view.proofs.Rows.{wraps}
 use Rattle.wenc_view.proofs.ValTypes.{references_follow}
-use Rattle.wenc_base.specs.Readers.{give}
+use Rattle.wenc_base.specs.Readers.{Bad, give}
 use Rattle.wenc_base.specs.reading.Types.{read_reference}
-use Rattle.wenc_view.proofs.Always.{fails_always_on}
+use Rattle.wenc_read.specs.laws.Tables.{fails_on}
 use Rattle.wenc_view.proofs.core_types.ValTypeView.view_of.Goals as goal
 
 pub returns-in-Ok-clause-found : goal.returns-in-Ok-clause-found
@@ -16,5 +16,5 @@ returns-in-Ok-clause-found c =
 pub returns-in-Err-clause-found : goal.returns-in-Err-clause-found
 returns-in-Err-clause-found c =
     rw (wraps Ref (reference_rows (λ r. r)) (reference_rows Ref) (number_rows (λ t. t)) (references_follow Ref (λ r. r)) _ _ _ c.in_ok-rest.ensures
-          (search rules))
-    (fails_always_on c.in-Err.refusal (read_reference c.args.bytes.now) (λ r. give (Ref r)) c.in-Err.ensures.found)
+    (search rules))
+    (fails_on Bad (read_reference c.args.bytes.now) (λ r. give (Ref r)) c.in-Err.ensures.found)

@@ -1,2 +1,0 @@
--- What only private functions and proofs need: no contract of a public call reaches it.
-pub mod Fails
