@@ -2,7 +2,7 @@
 use Rattle.std.proofs.Common.{◌≡◌, ℕ, List, [], ◌∷◌, length, refl, ◌⊎◌, inl, inr}
 use Rattle.std.specs.List.{AllByRecursion}
 use Rattle.wenc_base.specs.Piece.{Wide}
-use Rattle.wenc_builder.specs.Sections.{Section, section_piece, sections, Reading}
+use Rattle.wenc_builder.specs.Sections.{Section, section_piece, sections, preamble, Reading}
 use Rattle.wenc_list.specs.Listing.{AreWithin, IsMemoryOrTooDeep, StopsAt, IsFaultBehind, IsFaultOf}
 use Rattle.wenc_list.specs.declared.fault.ListFault.{ListFault}
 use Rattle.wenc_list.specs.declared.fault.ListFault.TheVariants as faults
@@ -43,6 +43,14 @@ only_deep all bytes fault f ss r = elim (memory_or_deep all bytes fault f ss r)
     [ inl e ↦ inl e | inr d ↦ inr (d.0, d.1, λ w. (let e = only_memory all bytes fault f ss r w in let g = d.1 in cc)) ]
 
 -- ---- of all bytes
+
+pub fault_behind : (bytes behind : List ℕ) (fault : ListFault) → preamble.Reads Wide bytes behind → IsFaultBehind (length bytes) behind fault
+    → IsFaultOf bytes fault
+fault_behind bytes behind faults.Memory r f = tt
+fault_behind bytes behind (faults.NotAComponent place) r f = absurd f
+fault_behind bytes behind (faults.BadSection place) r f = (behind, r, f)
+fault_behind bytes behind (faults.BadItem place) r f = (behind, r, f)
+fault_behind bytes behind (faults.TooDeep place) r f = (behind, r, f)
 
 pub no_fault : (bytes : List ℕ) (ss : List Section) → Reading Wide bytes ss → AreWithin 100 ss → (fault : ListFault) → IsFaultOf bytes fault
     → fault ≡ faults.Memory

@@ -147,3 +147,25 @@ left_of (TooDeep left) = left
 abbrev pub IsPlacedIn : List ℕ → SectionRefusal → Type 0
 IsPlacedIn bytes (Frame refusal) = refusal.left ≤ length bytes
 IsPlacedIn bytes (Count section refusal) = refusal.left ≤ length section.rest.now
+
+-- What is left of a section with `count` items in a component with these bytes: some items were
+-- taken, one after the other.
+pub record IsLeftOf (bytes : List ℕ) (count : ℕ) (left : SectionItems) : Type 0 where
+  pub here : List ℕ
+  pub leaves : EndsWith bytes here
+  pub first : SectionItems
+  pub rest : List ℕ
+  pub opens : Opens (length bytes) here first rest
+  pub xs : List Item
+  pub taken : HasTaken first xs left
+  pub are : count ≡ first.left
+
+-- where the bytes of a component can't be read on
+abbrev pub StopsInside : List ℕ → ListRefusal → Type 0
+StopsInside bytes refusals.Memory = Unit {0}
+StopsInside bytes refusals.Header = Unit {0}
+StopsInside bytes (refusals.Section place refusal) =
+    (here : List ℕ) × EndsWith bytes here × (place ≡ length bytes - length here) ×
+    IsPlacedIn here refusal × IsCountless (length bytes) here refusal
+StopsInside bytes (refusals.Item count left refusal) =
+    IsLeftOf bytes count left × (left_of refusal ≤ length left.rest.now)

@@ -1,6 +1,6 @@
 -- The names that clauses cite, re-exported from the files that define them.
 pub use Rattle.wenc_list.specs.Cursor.{HasTaken, IsCountless, IsFaultIn, IsPlacedIn, IsSpent}
-pub use Rattle.wenc_list.specs.Cursor.{LacksCount, Opens}
+pub use Rattle.wenc_list.specs.Cursor.{IsLeftOf, LacksCount, Opens, StopsInside}
 pub use Rattle.wenc_list.specs.Cursor.{fault_of_content, fault_of_items, fault_of_list}
 pub use Rattle.wenc_list.specs.Cursor.{fault_of_section, left_of}
 pub use Rattle.wenc_list.specs.Items.{item_section, item_view, section_view}
@@ -19,7 +19,7 @@ pub use Rattle.wenc_list.specs.inside.Contents.{read_canonical_item, read_core_i
 pub use Rattle.wenc_list.specs.inside.Contents.{read_core_type_item, read_count, read_export_item}
 pub use Rattle.wenc_list.specs.inside.Contents.{read_frame, read_import_item, read_instance_item}
 pub use Rattle.wenc_list.specs.inside.Contents.{read_item_in, read_type_item}
-pub use Rattle.wenc_list.specs.inside.Taken.{FaultsIn, TakesAll}
+pub use Rattle.wenc_list.specs.inside.Taken.{FaultsIn, IsNextOf, IsNextSectionOf, StopsIn, TakesAll}
 pub use Rattle.wenc_list.specs.laws.Names.{item_name_sound}
 pub use Rattle.wenc_list.specs.declared.cursor.SectionItems.{SectionItems}
 pub use Rattle.wenc_list.specs.declared.fault.ListFault.{ListFault}

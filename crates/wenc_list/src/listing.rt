@@ -1,13 +1,14 @@
 //! A whole component: its header, and its sections up to the end.
-ghost use Rattle.std.specs.Prelude.{◌≡◌, ◌≤◌, ◌<◌, ◌-◌, List, [], ◌∷◌, map, length};
+ghost use Rattle.std.specs.Prelude.{◌≡◌, ◌≤◌, ◌<◌, ◌-◌, ℕ, List, [], ◌∷◌, map, length};
 ghost use Rattle.std.specs.Prelude.{slice_index, IfOk, IfErr, Err, MatchOption, MatchResult};
-ghost use Rattle.wenc_base.specs.Prelude.{Wide};
+ghost use Rattle.wenc_base.specs.Prelude.{EndsWith, Wide};
 ghost use Rattle.wenc_builder.specs.Prelude.{Section, Reading};
 ghost use Rattle.wenc_list.specs.Prelude.{Space, item_view, section_view, AreWithin, AreFrom};
 ghost use Rattle.wenc_list.specs.Prelude.{ArePlaced, count_of_sections, IsFaultOf};
 ghost use Rattle.wenc_list.specs.Prelude.{IsMemoryOrTooDeep, HasNoHeader, IsFaultBehind, TakesAll};
 ghost use Rattle.wenc_list.specs.Prelude.{FaultsIn, HasTaken, IsFaultHere, IsFaultIn, IsSpent};
-ghost use Rattle.wenc_list.specs.Prelude.{Opens, fault_of_list};
+ghost use Rattle.wenc_list.specs.Prelude.{IsNextOf, IsNextSectionOf, Opens, StopsIn};
+ghost use Rattle.wenc_list.specs.Prelude.{StopsInside, fault_of_list};
 ghost use Rattle.wenc_list.specs.declared.fault.ListFault.TheVariants.{Memory, NotAComponent};
 ghost use Rattle.wenc_list.specs.declared.refusal.ListRefusal.TheVariants.{Header};
 ghost use Rattle.wenc_sections.specs.Prelude.{space_number};
@@ -56,6 +57,7 @@ fn next_item<'a, A: Allocator + Copy>(
         (λ x. HasTaken left.old (item_view x ∷ []) left.new)) }
     ensures unchanged { IfOk result (λ o. MatchOption o (left.new ≡ left.old) (λ _. Unit {0})) }
     ensures fault { IfErr result (λ e. IsFaultIn left.old (fault_of_list e)) }
+    ensures stopped { IfErr result (IsNextOf count left.old) }
 {
     match left.next_or_refusal() {
         Ok(Some(item)) => {
@@ -81,6 +83,7 @@ fn next_section<'a>(left: &mut Sections<'a>) -> Result<Option<SectionItems<'a>>,
     ensures fault { let place = left.old.ends - length left.old.rest.now in
         IfErr result (λ e. IsFaultHere place left.old.rest.now (fault_of_list e)) }
     ensures some { IfErr result (λ _. 0 < length left.old.rest.now) }
+    ensures stopped { IfErr result (IsNextSectionOf left.old) }
 {
     match left.next_or_refusal() {
         Ok(section) => Ok(section),
@@ -101,6 +104,7 @@ fn section<A: Allocator + Copy>(
     ensures placed { IfOk result (λ s. s.place ≡ from.entry.place) }
     ensures ended { IfOk result (λ s. s.ends ≡ from.entry.ends) }
     ensures fault { IfErr result (λ e. FaultsIn from.entry (fault_of_list e)) }
+    ensures stopped { IfErr result (StopsIn from.entry) }
 {
     let mut left = from;
     let mut items = Vec::with_capacity(alloc, room_for(left.left, left.rest))?;
@@ -127,6 +131,8 @@ fn sections<A: Allocator + Copy>(
         ≡ count_of_sections k (map section_view x.0.items)) }
     ensures fault { IfErr result
         (λ e. IsFaultBehind from.entry.ends from.entry.rest.now (fault_of_list e)) }
+    ensures stopped { (bytes : List ℕ) → from.entry.ends ≡ length bytes
+        → EndsWith bytes from.entry.rest.now → IfErr result (StopsInside bytes) }
 {
     let mut left = from;
     let mut sections = Vec::new(alloc);
@@ -175,14 +181,18 @@ pub fn list_or_refusal<A: Allocator + Copy>(
         (λ e. IsMemoryOrTooDeep ss (fault_of_list e)) }
     // A fault has its cause: it names the first section that isn't read within that depth.
     ensures fault { IfErr result (λ e. IsFaultOf bytes.now (fault_of_list e)) }
+    // An error has what remains there, with a place in it.
+    ensures stopped { IfErr result (StopsInside bytes.now) }
     // Without a header the error is `Header`.
     ensures no_header { HasNoHeader bytes.now → result ≡ Err Header }
 {
-    let Ok(all) = Sections::new(bytes) else {
-        return Err(ListRefusal::Header);
-    };
-    let (sections, counts) = sections(alloc, all)?;
-    Ok(Listing { sections, counts })
+    match Sections::new(bytes) {
+        Ok(all) => {
+            let (sections, counts) = sections(alloc, all)?;
+            Ok(Listing { sections, counts })
+        }
+        Err(_) => Err(ListRefusal::Header),
+    }
 }
 
 /// Lists the sections of a component with their items and byte offsets, and counts the indices that

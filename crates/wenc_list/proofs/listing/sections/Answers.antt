@@ -1,11 +1,13 @@
 use Rattle.std.proofs.Common.{◌≡◌, ◌-◌, ◌+◌, ◌++◌, ◌∷◌, [], length, map, arith, length-append, ◌∙◌}
 use Rattle.std.proofs.lemmas.List.{map_push}
 use Rattle.std.proofs.lemmas.Result.{err_from_is_err_and}
+use Rattle.wenc_base.specs.laws.Lawful.{ends_on}
 use Rattle.wenc_list.specs.Cursor.{fault_of_list}
 use Rattle.wenc_list.specs.Items.{section_view}
 use Rattle.wenc_list.proofs.Listed.{section_shorter, from_few, from_more, from_each, within_more, stops_here, listed_read, listed_within}
 use Rattle.wenc_list.proofs.Listed.{listed_begins, some_opens}
 use Rattle.wenc_list.proofs.Indices.{count_more, are_few}
+use Rattle.wenc_list.proofs.Stops.{sections_leave, next_stops, section_stops}
 use Rattle.wenc_list.proofs.Taken.{taken_fault}
 use Rattle.wenc_list.proofs.listing.sections.Goals as goal
 
@@ -33,6 +35,31 @@ returns-in_err-section-clause-fault g c =
     rw (p.1, p.2) (stops_here all c.in-Some.items.place (map section_view c.loop-sections.sections.items) c.args.from.rest.now left
     (fault_of_list c.in_err-section.field-0.0) (from_each all c.loop-sections.sections.items c.args.from.rest.now left i.read) i.within
     (omega (arith, i.shorter, i.same_end, o.is_place)) some here)
+
+pub returns-in_err-items-clause-stopped : goal.returns-in_err-items-clause-stopped
+returns-in_err-items-clause-stopped g c bytes is_end ends =
+    let p = err_from_is_err_and c.from_residual.result c.from_residual.ensures.1 in
+    let i = c.loop-sections.invariant in
+    let before = from_each c.args.from.ends c.loop-sections.sections.items c.args.from.rest.now c.loop-sections.left.rest.now i.read in
+    let left = sections_leave (map section_view c.loop-sections.sections.items) c.args.from.rest.now c.loop-sections.left.rest.now before in
+    rw (p.1, p.2) (next_stops bytes c.loop-sections.left c.in_err-items.field-0.0 (i.same_end ∙ is_end)
+    (ends_on bytes c.args.from.rest.now c.loop-sections.left.rest.now ends left) c.in_err-items.ensures.stopped)
+
+pub returns-in_err-section-clause-stopped : goal.returns-in_err-section-clause-stopped
+returns-in_err-section-clause-stopped g c bytes is_end ends =
+    let p = err_from_is_err_and c.from_residual-in_err-section.result c.from_residual-in_err-section.ensures.1 in
+    let i = c.loop-sections.invariant in
+    let before = from_each c.args.from.ends c.loop-sections.sections.items c.args.from.rest.now c.loop-sections.left.rest.now i.read in
+    let left = sections_leave (map section_view c.loop-sections.sections.items) c.args.from.rest.now c.loop-sections.left.rest.now before in
+    let o = rw c.in-Some.is at c.in_ok-items.ensures.taken in
+    rw (p.1, p.2) (section_stops bytes c.loop-sections.left.rest.now c.next_section.new.left.rest.now c.loop-sections.left.ends c.in-Some.items
+    c.in_err-section.field-0.0 (i.same_end ∙ is_end) (ends_on bytes c.args.from.rest.now c.loop-sections.left.rest.now ends left) o
+    c.in_err-section.ensures.stopped)
+
+pub returns-in_err-push-clause-stopped : goal.returns-in_err-push-clause-stopped
+returns-in_err-push-clause-stopped g c bytes is_end ends =
+    let p = err_from_is_err_and c.from_residual-in_err-push.result c.from_residual-in_err-push.ensures.1 in
+    rw (p.1, p.2) tt
 
 pub count-requires : goal.count-requires
 count-requires g c k =

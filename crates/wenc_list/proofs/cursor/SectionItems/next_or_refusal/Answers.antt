@@ -17,5 +17,5 @@ returns-in-Ok-clause-taken c =
     }
 
 pub returns-in-Err-clause-fault : goal.returns-in-Err-clause-fault
-returns-in-Err-clause-fault c = next_fault c.args.self.now c.placed_nested.result c.not-left c.are_bytes.ensures
+returns-in-Err-clause-fault c = next_fault c.args.self.now c.placed_nested.result c.if-self-eq0.false c.are_bytes.ensures
     (rw c.placed_nested.ensures.flaw c.in-Err.ensures.found)
