@@ -5,6 +5,7 @@
 #[path = "../../../tests/calls/call.rs"]
 mod call;
 mod called;
+mod causes;
 #[path = "../../../tests/common/counts.rs"]
 mod counts;
 mod declared;

@@ -1,0 +1,274 @@
+//! Why components can't be read: of damaged ones C says what Rust says.
+
+use super::edges::{EMPTY, Held};
+use std::collections::BTreeMap;
+use std::{fs, mem, ptr};
+use wenc::view::ItemView;
+use wenc::{Cause, ListFault, Sections, Unread, list};
+use wenc_capi::Status;
+use wenc_capi::listing::*;
+use wenc_capi::rows::SectionRow;
+use wenc_capi::walk::*;
+
+/// The sentence of the section at this place, whose length is asked for first.
+fn sentence(bytes: &[u8], section: usize) -> String {
+    let (at, len) = (bytes.as_ptr(), bytes.len());
+    let needed = unsafe { wenc_fault_text(at, len, section, ptr::null_mut(), 0) };
+    let mut text = vec![1; needed + 1];
+    let to = text.as_mut_ptr().cast();
+    assert_eq!(unsafe { wenc_fault_text(at, len, section, to, needed + 1) }, needed);
+    assert_eq!(text.pop(), Some(0));
+    String::from_utf8(text).expect("it is UTF-8")
+}
+
+/// What C says of a fault: the status, the section, the sentence, and where the walk stays.
+type Told = (Status, usize, String, Option<usize>);
+
+/// What a walk says that goes on behind each section that can't be read.
+fn walked(bytes: &[u8]) -> Vec<Told> {
+    let (mut walk, mut told): (Walk, _) = (unsafe { mem::zeroed() }, Vec::new());
+    let status = unsafe { wenc_walk_begin(&mut walk, bytes.as_ptr(), bytes.len()) };
+    if status != Status::Done {
+        return vec![(status, 0, sentence(bytes, 0), None)];
+    }
+    loop {
+        let mut section: SectionRow = unsafe { mem::zeroed() };
+        match unsafe { wenc_walk_section(&mut walk, &mut section) } {
+            Status::Done => loop {
+                match unsafe { wenc_walk_item(&mut walk, ptr::null_mut()) } {
+                    Status::Done => {}
+                    Status::End => break,
+                    status => {
+                        let text = sentence(bytes, section.place);
+                        told.push((status, section.place, text, Some(walk.next_item)));
+                        break;
+                    }
+                }
+            },
+            Status::End => return told,
+            status => {
+                let place = walk.next_section;
+                told.push((status, place, sentence(bytes, place), None));
+                if unsafe { wenc_walk_skip(&mut walk, ptr::null_mut()) } != Status::Done {
+                    return told;
+                }
+            }
+        }
+    }
+}
+
+/// The faults in all sections, by Rust.
+fn faults(bytes: &[u8]) -> Vec<ListFault> {
+    let mut sections = match Sections::new(bytes) {
+        Ok(sections) => sections,
+        Err(fault) => return vec![fault],
+    };
+    let mut found = Vec::new();
+    loop {
+        let mut copy = sections;
+        match sections.next() {
+            None => return found,
+            Some(Ok(section)) => found.extend(section.items().find_map(Result::err)),
+            Some(Err(fault)) => {
+                found.push(fault);
+                if copy.next_raw().is_none() {
+                    return found;
+                }
+                sections = copy;
+            }
+        }
+    }
+}
+
+/// The status, the section, the part of it and the cause of a fault.
+fn parts(fault: ListFault) -> (Status, usize, Option<Unread>, Option<Cause>) {
+    match fault {
+        ListFault::NotAComponent { place, .. } => (Status::NotAComponent, place, None, None),
+        ListFault::BadSection { place, cause } => (Status::BadSection, place, None, cause),
+        ListFault::BadItem { place, unread, cause, .. } => (Status::BadItem, place, unread, cause),
+        ListFault::TooDeep { place, unread, cause } => (Status::TooDeep, place, unread, cause),
+        fault => panic!("{fault:?}"),
+    }
+}
+
+/// Where the bytes can't be read, and the bytes that can be there; what that counts as.
+fn stop(cause: Cause) -> (usize, Vec<u8>, &'static str) {
+    match cause {
+        Cause::Byte { place, expected, .. } => {
+            (place, expected.ranges().flatten().collect(), "byte")
+        }
+        Cause::Text { place, .. } => (place, Vec::new(), "text"),
+        Cause::Number { place, .. } => (place, Vec::new(), "number"),
+        Cause::Few { place, len, .. } => (place + len, Vec::new(), "few"),
+        Cause::Deep { place } => (place, Vec::new(), "deep"),
+        cause => panic!("{cause:?}"),
+    }
+}
+
+/// The place of the content of a custom section, where the walk stays if that has no name.
+fn content(bytes: &[u8], section: usize) -> Option<usize> {
+    let (range, raw) = Sections::at(bytes, section)?.next_raw()?;
+    (raw.id == 0).then_some(range.end - raw.data.len())
+}
+
+/// What a walk should say of a fault.
+fn told(bytes: &[u8], fault: ListFault) -> Told {
+    let (status, section, unread, _) = parts(fault);
+    let next = match unread {
+        Some(Unread::Item { place, .. } | Unread::Behind { place }) => Some(place),
+        None if status == Status::BadSection => content(bytes, section),
+        _ => None,
+    };
+    (status, section, fault.to_string(), next)
+}
+
+/// What is read at once has the first of the faults.
+fn is_listed_so(bytes: &[u8], first: Option<ListFault>) {
+    let (mut listing, mut row) = (Held::nothing(), UnreadPart::default());
+    let status = unsafe { wenc_list(listing.at(), bytes.as_ptr(), bytes.len(), &mut row) };
+    assert_eq!(list(bytes).err(), first);
+    let Some(fault) = first else {
+        assert_eq!((status, row.cause, row.expected), (Status::Done, 0, [0; 32]));
+        return;
+    };
+    let (wanted, section, unread, cause) = parts(fault);
+    let (part, item, place) = match unread {
+        None => (0, 0, section),
+        Some(Unread::Count { place }) => (1, 0, place),
+        Some(Unread::Item { number, place }) => (2, number, place),
+        Some(Unread::Behind { place }) => (3, 0, place),
+    };
+    let (cause, expected, _) = cause.map_or((place, Vec::new(), ""), stop);
+    assert_eq!((status, row.section, row.place), (wanted, section, place), "{fault}");
+    assert_eq!((row.part, row.item, row.cause), (part, item, cause), "{fault}");
+    let is_set = |byte: &u8| row.expected[usize::from(byte / 8)] >> (byte % 8) & 1 == 1;
+    assert_eq!((0..=255).filter(is_set).collect::<Vec<u8>>(), expected, "{fault}");
+    assert_eq!(sentence(bytes, row.section), fault.to_string());
+}
+
+/// Counts the faults of these bytes by their causes, of which C says what Rust says.
+fn compare(bytes: &[u8], counts: &mut BTreeMap<&str, usize>) {
+    let faults = faults(bytes);
+    is_listed_so(bytes, faults.first().copied());
+    let wanted: Vec<Told> = faults.iter().map(|fault| told(bytes, *fault)).collect();
+    assert_eq!(walked(bytes), wanted);
+    for fault in faults {
+        let kind = parts(fault).3.map_or("none", |cause| stop(cause).2);
+        *counts.entry(kind).or_default() += 1;
+    }
+}
+
+/// The components of the corpus, and those that are nested in them.
+fn components() -> Vec<Vec<u8>> {
+    let folder = concat!(env!("CARGO_MANIFEST_DIR"), "/../tests/real/corpus/wasm");
+    let mut files: Vec<_> = fs::read_dir(folder)
+        .expect("the corpus is there")
+        .map(|file| file.expect("a file").path())
+        .collect();
+    files.sort();
+    let mut components = Vec::new();
+    let mut left: Vec<_> = files.iter().map(|file| fs::read(file).expect("its bytes")).collect();
+    while let Some(bytes) = left.pop() {
+        // some have canonical functions of other versions
+        for item in Sections::new(&bytes).expect("a component").items().flatten() {
+            if let (_, ItemView::Component(nested)) = item {
+                left.push(nested.to_vec());
+            }
+        }
+        components.push(bytes);
+    }
+    components
+}
+
+/// Random numbers.
+struct Random(u64);
+
+impl Random {
+    /// A number below this one.
+    fn below(&mut self, end: usize) -> usize {
+        self.0 ^= self.0 >> 12;
+        self.0 ^= self.0 << 25;
+        self.0 ^= self.0 >> 27;
+        (self.0.wrapping_mul(0x2545_f491_4f6c_dd1d) >> 33) as usize % end
+    }
+}
+
+/// The bytes, damaged at this place.
+fn damaged(mut bytes: Vec<u8>, place: usize, random: &mut Random) -> Vec<u8> {
+    match random.below(6) {
+        0 => bytes.truncate(place),
+        1 => bytes[place] = random.below(0x100) as u8,
+        2 => bytes[place] ^= 1 << random.below(8),
+        3 => bytes[place] |= 0x80,
+        4 => drop(bytes.remove(place)),
+        _ => bytes.iter_mut().skip(place).take(6).for_each(|byte| *byte = 0xff),
+    }
+    bytes
+}
+
+#[test]
+fn causes_are_those_of_rust() {
+    let (mut random, mut counts) = (Random(1), BTreeMap::new());
+    let components = components();
+    for bytes in &components {
+        // what is in a core module or a nested component isn't read
+        let mut places: Vec<usize> = (0..8).collect();
+        for section in Sections::new(bytes).expect("a component") {
+            let section = section.expect("it is read");
+            let len = if matches!(section.id(), 1 | 4) { 10 } else { usize::MAX };
+            places.extend(section.range().take(len));
+        }
+        for _ in 0..60 {
+            let place = places[random.below(places.len())];
+            compare(&damaged(bytes.clone(), place, &mut random), &mut counts);
+        }
+    }
+    // types in a hundred others
+    let deep = [&b"\x01"[..], &b"\x42\x01\x01".repeat(100), b"\x42\0"].concat();
+    let size = [deep.len() as u8 | 0x80, (deep.len() >> 7) as u8];
+    compare(&[b"\0asm\x0d\0\x01\0\x07", &size[..], &deep].concat(), &mut counts);
+    let kinds: Vec<&str> = counts.keys().copied().collect();
+    assert_eq!(kinds, ["byte", "deep", "few", "none", "number", "text"]);
+    assert!(counts["byte"] > 2_000 && counts["number"] > 50, "{counts:?}");
+}
+
+/// A place that is no section's is read on from, as in Rust, or there is no sentence.
+#[test]
+fn any_place_is_taken() {
+    let component = b"\0asm\x0d\0\x01\0\x07\x05\x01\x40\0\x01\0\x0a\x06\x01\0\x01f\x09\0";
+    let mut said = 0;
+    for section in (0..=component.len() + 2).chain([usize::MAX - 1, usize::MAX]) {
+        let fault = Sections::at(component, section)
+            .and_then(|mut sections| sections.next())
+            .and_then(|section| match section {
+                Ok(section) => section.items().find_map(Result::err),
+                Err(fault) => Some(fault),
+            });
+        // the header begins at 0
+        let wanted = fault.filter(|_| section > 0).map_or(String::new(), |fault| fault.to_string());
+        assert_eq!(sentence(component, section), wanted, "{section}");
+        said += usize::from(!wanted.is_empty());
+    }
+    assert_eq!(said, 14);
+}
+
+/// Nothing is said of bytes that can't be there, and none are a component without a header.
+#[test]
+fn bytes_that_are_none() {
+    let said = |bytes, len| {
+        let mut text = [1_u8; 50];
+        let at = text.as_mut_ptr().cast();
+        let needed = unsafe { wenc_fault_text(bytes, len, 0, at, text.len()) };
+        assert_eq!(unsafe { wenc_fault_text(bytes, len, 0, ptr::null_mut(), 50) }, needed);
+        assert_eq!(unsafe { wenc_fault_text(bytes, len, 0, ptr::null_mut(), 0) }, needed);
+        assert_eq!(text[needed], 0);
+        String::from_utf8(text[..needed].to_vec()).expect("it is UTF-8")
+    };
+    let header = "no component's header at 0x0: found nothing";
+    assert_eq!(said(EMPTY, 0), header);
+    assert_eq!(said(b"".as_ptr(), 0), header);
+    for len in [1, 8, usize::MAX] {
+        assert_eq!(said(EMPTY, len), "");
+    }
+    assert_eq!(said(b"\0".as_ptr(), usize::MAX), "");
+}
