@@ -1,6 +1,6 @@
 /* Walks over a component, and prints its sections and items with their byte offsets, and its debug
- * names. An item that can't be read ends its section, and a section that can't be read is skipped;
- * so the rest is read. Nothing is allocated. */
+ * names. It says why an item or a section can't be read, and goes on behind the section. Nothing is
+ * allocated. */
 #include <stdio.h>
 #include <stdlib.h>
 
@@ -21,6 +21,13 @@ static void print_text(const char *before, wenc_text text) {
   if (text.at != NULL) printf("%s%.*s", before, (int)text.len, text.at);
 }
 
+/* Prints why the section at this byte offset can't be read. */
+static void print_fault(const char *before, size_t section) {
+  char text[200];
+  wenc_fault_text(component, sizeof component, section, text, sizeof text);
+  printf("%s%s\n", before, text);
+}
+
 static void print_names(const wenc_listed_item *item) {
   wenc_names_walk names;
   wenc_debug_name name;
@@ -32,13 +39,13 @@ static void print_names(const wenc_listed_item *item) {
   }
 }
 
-static void print_items(wenc_walk *walk) {
+static void print_items(wenc_walk *walk, size_t section) {
   /* The number of indices in each space, and at the end what has none. */
   static unsigned long indices[WENC_SPACES + 1];
   wenc_listed_item item;
   enum wenc_status status;
   while ((status = wenc_walk_item(walk, &item)) == WENC_DONE) {
-    printf("  %lu..%lu space %u index %lu", number(item.place), number(item.place + item.len),
+    printf("  %#lx..%#lx space %u index %lu", number(item.place), number(item.place + item.len),
            (unsigned)item.space, indices[item.space]);
     print_text(" name ", item.name.name);
     if (item.ref != WENC_REF_NONE) printf(" of type %u %lu", item.ref, (unsigned long)item.of);
@@ -48,8 +55,7 @@ static void print_items(wenc_walk *walk) {
     indices[item.space] += item.indices;
     print_names(&item);
   }
-  if (status != WENC_END)
-    printf("  %s at %lu\n", wenc_status_text(status), number(walk->next_item));
+  if (status != WENC_END) print_fault("  ", section);
 }
 
 int main(void) {
@@ -59,12 +65,12 @@ int main(void) {
   while (status == WENC_DONE) {
     status = wenc_walk_section(&walk, &section);
     if (status == WENC_BAD_SECTION || status == WENC_BAD_ITEM) {
-      printf("%s at %lu\n", wenc_status_text(status), number(walk.next_section));
+      print_fault("", walk.next_section);
       status = wenc_walk_skip(&walk, NULL);
     } else if (status == WENC_DONE) {
-      printf("section %lu at %lu, content at %lu\n", (unsigned long)section.id,
+      printf("section %lu at %#lx, content at %#lx\n", (unsigned long)section.id,
              number(section.place), number(section.content));
-      print_items(&walk);
+      print_items(&walk, section.place);
     }
   }
   return status == WENC_END ? 0 : 1;
