@@ -8,11 +8,11 @@
  * (wenc_types_new), a section (wenc_section_new, wenc_names_new), or a component that was read
  * (wenc_list). A walk (wenc_walk_begin) reads a component without a handle, and allocates nothing.
  *
- *  - Each call but wenc_free, wenc_version and wenc_status_text returns a status, which is
- *    WENC_DONE or says why the call failed. A call that fails changes nothing: neither what its
- *    handles own, nor what its arguments point to; except that wenc_list writes which part it can't
- *    read. If the first argument is a handle that owns something, wenc_last_error then says which
- *    argument was wrong.
+ *  - Each call but wenc_free, wenc_version, wenc_status_text and wenc_fault_text returns a status,
+ *    which is WENC_DONE or says why the call failed. A call that fails changes nothing: neither
+ *    what its handles own, nor what its arguments point to; except that wenc_list writes which part
+ *    it can't read. If the first argument is a handle that owns something, wenc_last_error then
+ *    says which argument was wrong. Why bytes can't be read is said by wenc_fault_text.
  *
  *  - A text is UTF-8 without a terminating 0; bytes are any bytes. Both are passed as a pointer and
  *    a number of bytes, and the call keeps no pointer to them. If the number is 0, the pointer may
@@ -490,6 +490,7 @@ typedef struct {
   const char *argument;
   /* The number of the member that is wrong, counting from 0, if the argument is an array. */
   size_t member;
+  /* What the call returned, or WENC_DONE if none failed. */
   enum wenc_status status;
 } wenc_error;
 
@@ -503,10 +504,12 @@ typedef struct {
   uint32_t part;
   /* For WENC_UNREAD_ITEM, the number of items before it in the section. */
   uint32_t item;
-  /* The byte offset of the first byte that can't be read, or of the end where bytes are missing. */
+  /* The byte offset of the first byte that can't be read, or of the end where bytes are missing;
+   * that of the first byte of a number that is too large, and of a type that nests too deep. */
   size_t cause;
   /* The bytes that can be there: `byte` if the bit `byte % 8` of `expected[byte / 8]` is set. All 0
-   * if that doesn't depend on the byte alone, as in a text or where bytes are missing. */
+   * if none can, as behind the last item, or if that doesn't depend on the byte alone, as in a
+   * text, in a number that is too large, or where bytes are missing. */
   uint8_t expected[32];
 } wenc_unread;
 
@@ -563,6 +566,7 @@ typedef struct {
  * owns nothing: it may be copied, and each copy goes its own way. Offsets are byte offsets in the
  * component. They may be read; if they are changed, the calls read something else or fail. */
 typedef struct {
+  /* The component. */
   const uint8_t *bytes;
   size_t len;
   /* The offset of the next section, or of the end. */
@@ -578,6 +582,7 @@ typedef struct {
 
 /* A walk over the debug names in a custom section. It is as wenc_walk is. */
 typedef struct {
+  /* The section's data. */
   const uint8_t *bytes;
   size_t len;
   /* The offset of the next name or subsection, or of the end, in the section's data. */
@@ -1004,7 +1009,8 @@ WENC_CHECKED enum wenc_status wenc_names_raw(wenc_handle *names, uint8_t id, con
  *
  * These calls read a component section by section, and item by item, in linear time. Nothing is
  * allocated. They return WENC_BAD_ARGUMENT for a walk that is NULL or wasn't begun, and WENC_END if
- * nothing is left. If a call fails, the walk stays where it was: at what can't be read. */
+ * nothing is left. If a call fails, the walk stays where it was: at what can't be read.
+ * wenc_fault_text says why a section or an item can't be. */
 
 /* Begins a walk over the component with these bytes, which it borrows: before its first section.
  * WENC_NOT_A_COMPONENT. */
@@ -1049,10 +1055,16 @@ WENC_CHECKED enum wenc_status wenc_walk_name(wenc_names_walk *names, wenc_debug_
 WENC_CHECKED enum wenc_status wenc_list(wenc_handle *listing, const uint8_t *bytes, size_t len,
                                         wenc_unread *unread);
 
-/* Writes why the section at this byte offset of a component can't be read, as an English sentence:
- * `section` of wenc_unread, or `place` of a section that a walk returned. At most `size` bytes are
- * written to `text`, the last of them a 0. Returns the length of all of the sentence, without a 0;
- * 0 if the section can be read. */
+/* Writes why the section at this byte offset of a component can't be read, as an English sentence
+ * in ASCII: its first part that can't be, what is there, and what is expected there. `section` is
+ * that of wenc_unread, or for a walk the `place` of the section whose item, or `next_section` if
+ * the section, can't be read; 0 is the component's header.
+ *
+ * At most `size` bytes are written to `text`, the last of them a 0; none if it is NULL. Returns the
+ * length of all of the sentence in bytes, without the 0: it was cut off if that isn't less than
+ * `size`. Returns 0, for no sentence, if the section can be read, if the offset is that of the end
+ * or past it, and if `bytes` or `len` can't be. From an offset that is no section's other sections
+ * are read. The words may change with the version. */
 size_t wenc_fault_text(const uint8_t *bytes, size_t len, size_t section, char *text, size_t size);
 
 /* Writes the section with this number, counting from 0, to `*section`. WENC_BAD_ARGUMENT if there
