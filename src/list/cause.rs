@@ -152,7 +152,7 @@ impl Bytes {
             Expected::ComponentValType => [(0, 0x3f), one(0x64), (0x73, 0xff), NONE],
             Expected::Type => [(0x3f, 0x43), (0x63, 0x6b), (0x6d, 0x7f), NONE],
             Expected::InstanceDecl => [(0, 2), one(4), NONE, NONE],
-            _ => [NONE; 4],
+            Expected::Bytes(_) | Expected::End | Expected::Utf8 | Expected::Bits(_) => [NONE; 4],
         })
     }
 
