@@ -102,6 +102,9 @@ fn what_is_not_read_is_told() {
         ("01050102000161", "the bytes end at 0xe"),
         ("01030100ff", "0xff at 0xb, where the end is expected"),
         ("0109010100808080808000", "the number at 0xc has more than 32 bits"),
+        // another subsection behind
+        ("000101090100", "the bytes end at 0xa"),
+        ("01020600090100", "0x06 at 0x9, where 0x00 to 0x05 is expected"),
         // a size that is none, or past the end
         ("0180", "the bytes end at 0x9"),
         ("0902", "needs 2 bytes or more from 0x9 on, where 0 are left"),

@@ -115,7 +115,7 @@ const SECTIONS: &[(usize, Option<Unread>, &str)] = &[
     (8, item(0, 11), "060201090c00"),
     (11, item(0, 14), "06010006020109"),
     // No count.
-    (8, count(10), "0600 0606808080808000 06058080808010"),
+    (8, count(10), "0600 0606808080808000 06058080808010 06000c00"),
     (11, count(13), "0601000a00"),
     // Fewer items than are counted, or one that begins with a wrong byte.
     (8, item(0, 11), "060101 060101060100"),
@@ -265,7 +265,7 @@ fn sections() {
             told += 1;
         }
     }
-    assert_eq!(told, 58);
+    assert_eq!(told, 59);
 }
 
 /// Memory is asked for the section's one item, and for no more.

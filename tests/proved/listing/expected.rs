@@ -11,9 +11,10 @@ use std::vec::Vec;
 const BEHIND: [u8; 16] = [0; 16];
 
 /// The bytes in front of one in items, each a word, `_` for none, with the id of their section.
-const FRONTS: [(u8, &str); 15] = [
+const FRONTS: [(u8, &str); 16] = [
     (2, "_ 00000100 010100"),
     (3, "_ 00 4e01 4e014f 4f 5001 5e 5e7f 5f01 5f017f 6001 600163 600164 600163c0 600164c080"),
+    (3, "005000 4e015000 4e014f0100"),
     (3, "500101 500102 50010210 50010300 5001000000 500100000001 50010000000170"),
     (3, "500100000002 500100000003 5001000000037f 500100000004"),
     (5, "_ 01010000 00000100"),
@@ -95,6 +96,6 @@ fn items() {
     };
     all.insert(is_so(2, names(b"")));
     all.insert(is_so(3, names(b"\0")));
-    // all tables, and sixteen single ranges
-    assert_eq!((places, all.len()), (109, 33), "{all:#?}");
+    // all tables, and seventeen single ranges
+    assert_eq!((places, all.len()), (112, 34), "{all:#?}");
 }

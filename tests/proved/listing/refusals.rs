@@ -1,6 +1,12 @@
 //! Where readers stop, and what they expect there.
 
-use crate::proved::wenc_read::{Expected, NestedRefusal, Refusal};
+use crate::proved::wenc_read::{
+    Expected, NestedRefusal, Refusal, byte, flag_of, index_of, u32_of, u64_of,
+};
+use crate::proved::wenc_view::{ListOf, NameView, View, text_of, type_at};
+use crate::{Cause, ComponentSectionId, ListFault, Unread};
+use std::string::ToString;
+use std::vec::Vec;
 
 const fn refusal(left: usize, expected: Expected) -> Refusal {
     Refusal { left, expected }
@@ -54,4 +60,162 @@ fn counts() {
         assert_eq!(nested, NestedRefusal::Flat(wanted));
     }
     assert_eq!(NestedRefusal::TooDeep(3).of_many(b"", 9), NestedRefusal::TooDeep(3));
+}
+
+/// What has so many bytes left at the byte offset 4, where other bytes are behind.
+fn cause(left: usize, expected: Expected) -> Cause {
+    Cause::new(b"ab\xffdef", 4, refusal(left, expected))
+}
+
+#[test]
+fn causes() {
+    let Cause::Byte { place: 1, byte: b'b', expected } = cause(3, Expected::From(2, 4)) else {
+        panic!("it is a byte")
+    };
+    assert_eq!(expected.ranges().collect::<Vec<_>>(), [2..=4]);
+    let end = cause(1, Expected::End);
+    assert!(matches!(end, Cause::Byte { place: 3, byte: b'd', .. }));
+    assert_eq!(end.to_string(), "0x64 at 0x3, where the end is expected");
+    assert_eq!(cause(2, Expected::Utf8), Cause::Text { place: 2, byte: 0xff });
+    assert_eq!(cause(4, Expected::Bits(32)), Cause::Number { place: 0, bits: 32 });
+    assert_eq!(cause(3, Expected::Bytes(9)), Cause::Few { place: 1, needed: 9, len: 3 });
+    // what is behind the end isn't there
+    let few = Cause::Few { place: 4, needed: 1, len: 0 };
+    for expected in [Expected::Bytes(1), Expected::Utf8, Expected::Type, Expected::End] {
+        assert_eq!(cause(0, expected), few);
+    }
+    // no place is before the bytes
+    assert_eq!(cause(5, Expected::Utf8), Cause::Text { place: 0, byte: b'a' });
+}
+
+#[test]
+fn causes_are_moved() {
+    let Cause::Byte { expected, .. } = cause(4, Expected::Type) else { panic!("it is a byte") };
+    let of = |by: usize| {
+        [
+            Cause::Byte { place: 3 + by, byte: 1, expected },
+            Cause::Text { place: 3 + by, byte: 0xff },
+            Cause::Number { place: 3 + by, bits: 64 },
+            Cause::Few { place: 3 + by, needed: 7, len: 2 },
+            Cause::Deep { place: 3 + by },
+        ]
+    };
+    assert_eq!(of(0).map(|cause| cause.moved(10)), of(10));
+    assert_eq!(of(0).map(|cause| cause.place()), [3, 3, 3, 5, 3]);
+    let last = usize::MAX;
+    assert_eq!(of(0).map(|cause| cause.moved(last).place()), [last; 5]);
+}
+
+#[test]
+fn causes_are_sentences() {
+    let of = |left, expected| cause(left, expected).to_string();
+    let byte = "0x61 at 0x0, where 0x3f to 0x43, 0x63 to 0x6b or 0x6d to 0x7f is expected";
+    assert_eq!(of(4, Expected::Type), byte);
+    let byte = "0x61 at 0x0, where 0x00 or 0x02 is expected";
+    assert_eq!(of(4, Expected::ExportOrOuter), byte);
+    assert_eq!(of(4, Expected::From(3, 4)), "0x61 at 0x0, where 0x03 to 0x04 is expected");
+    assert_eq!(of(2, Expected::Utf8), "0xff at 0x2 isn't UTF-8");
+    assert_eq!(of(3, Expected::Bits(32)), "the number at 0x1 has more than 32 bits");
+    assert_eq!(of(0, Expected::Bytes(1)), "the bytes end at 0x4");
+    let few = "needs 2 bytes or more from 0x4 on, where 0 are left";
+    assert_eq!(of(0, Expected::Bytes(2)), few);
+    let few = "needs 2 bytes or more from 0x3 on, where 1 is left";
+    assert_eq!(of(1, Expected::Bytes(2)), few);
+    let few = "needs 3 bytes or more from 0x2 on, where 2 are left";
+    assert_eq!(of(2, Expected::Bytes(3)), few);
+    let deep = Cause::Deep { place: 300 }.to_string();
+    assert_eq!(deep, "the type at 0x12c is in more than 100 others");
+}
+
+/// Of an item's first byte it is said what item is expected.
+#[test]
+fn first_bytes_of_items() {
+    let byte = |place| {
+        let Cause::Byte { expected, .. } = cause(4, Expected::From(2, 4)) else {
+            panic!("it is a byte")
+        };
+        Cause::Byte { place, byte: 9, expected }
+    };
+    let few = |place, needed, len| Cause::Few { place, needed, len };
+    let rows = [
+        (byte(11), "0x09 where a type is expected"),
+        (byte(12), "0x09 at 0xc, where 0x02 to 0x04 is expected"),
+        (few(11, 1, 0), "the section ends where a type is expected"),
+        (few(12, 1, 0), "the bytes end at 0xc"),
+        (few(11, 3, 2), "needs 3 bytes or more from 0xb on, where 2 are left"),
+    ];
+    for (cause, wanted) in rows {
+        let (unread, cause) = (Some(Unread::Item { number: 0, place: 11 }), Some(cause));
+        let section = ComponentSectionId::Type;
+        let fault = ListFault::BadItem { place: 8, section, unread, cause };
+        let item = "bad item 0 at 0xb in the section at 0x8: ";
+        assert_eq!(fault.to_string().strip_prefix(item), Some(wanted));
+    }
+}
+
+/// A number that is too large or too long is refused at its first byte, others where they stop.
+#[test]
+fn numbers() {
+    let bits = |left, bits| Some(refusal(left, Expected::Bits(bits)));
+    let ends = Some(refusal(0, Expected::Bytes(1)));
+    assert_eq!(byte(b"").err(), ends);
+    // with two bytes behind
+    assert_eq!(u32_of(b"\xff\xff\xff\xff\x1f\x07\x08").err(), bits(7, 32));
+    assert_eq!(u32_of(b"\x80\x80\x80\x80\x80\x00\x07\x08").err(), bits(8, 32));
+    assert_eq!(u32_of(b"\x80\x80").err(), ends);
+    assert_eq!(u64_of(b"\xff\xff\xff\xff\xff\xff\xff\xff\xff\x02\x07\x08").err(), bits(12, 64));
+    assert_eq!(u64_of(b"\x80\x80\x80\x80\x80\x80\x80\x80\x80\x80\x00\x07").err(), bits(12, 64));
+    assert_eq!(u64_of(b"\x80\x80").err(), ends);
+    let index = |left| Some(refusal(left, Expected::Index));
+    assert_eq!(index_of(b"\x40\x07\x08").err(), index(3));
+    assert_eq!(index_of(b"\x80\xff\x7f\x07\x08").err(), index(3));
+    assert_eq!(index_of(b"\x80\x80\x80\x80\x10\x07\x08").err(), bits(7, 32));
+    assert_eq!(index_of(b"\x80\x80\x80\x80\x40\x07\x08").err(), bits(7, 32));
+}
+
+#[test]
+fn flags_and_texts() {
+    let flag = Some(refusal(3, Expected::From(0, 1)));
+    assert_eq!(flag_of(b"\x02\x00\x01").err(), flag);
+    assert_eq!(<Option<u32>>::view_of(b"\x02\x00\x01").err(), flag);
+    // a byte that begins no character, and two characters that aren't whole
+    for text in [&b"\x03a\xffb\x07"[..], b"\x03a\xc3b\x07", b"\x03a\xe2\x82\x07"] {
+        assert_eq!(text_of(text).err(), Some(refusal(3, Expected::Utf8)));
+    }
+    assert_eq!(text_of(b"\x03ab").err(), Some(refusal(2, Expected::Bytes(3))));
+    assert_eq!(text_of(b"\x80").err(), Some(refusal(0, Expected::Bytes(1))));
+}
+
+/// A list that says more members than there are bytes is refused at its first one.
+#[test]
+fn lists_of_too_many() {
+    let of = |bytes| <ListOf<'_, u32>>::view_of(bytes).err();
+    assert_eq!(of(b"\x05\x01\x02\x80"), Some(refusal(3, Expected::Bytes(5))));
+    assert_eq!(of(b"\x03\x01\x02\x80"), Some(refusal(0, Expected::Bytes(1))));
+    for kind in [0x41, 0x42] {
+        let of = |rest: &[u8]| type_at(1, &[&[kind], rest].concat()).err();
+        let wanted = |left, expected| Some(NestedRefusal::Flat(refusal(left, expected)));
+        // types, of which the second isn't there
+        assert_eq!(of(b"\x05\x01\x7f\x01"), wanted(3, Expected::Bytes(5)));
+        assert_eq!(of(b"\x03\x01\x7f\x01"), wanted(0, Expected::Bytes(1)));
+        // another type in it, at depth 1
+        let deep = Some(NestedRefusal::TooDeep(2));
+        assert_eq!(of(b"\x01\x01\x42\x00"), deep);
+        assert_eq!(of(b"\x01\x01\x41\x00"), deep);
+    }
+}
+
+/// Options of a name ascend, so each leaves room for those behind it; there are one to three.
+#[test]
+fn options_of_names() {
+    let of = |options: &[u8]| NameView::view_of(&[b"\x02\x01a", options].concat()).err();
+    let from = |left, first, last| Some(refusal(left, Expected::From(first, last)));
+    assert_eq!(of(b"\x00\x07"), Some(refusal(2, Expected::OptionCount)));
+    assert_eq!(of(b"\x04\x00\x00\x01\x00\x02\x00"), Some(refusal(7, Expected::Bits(2))));
+    assert_eq!(of(b"\x01\x03\x00"), from(2, 0, 2));
+    assert_eq!(of(b"\x02\x02\x00\x02\x00"), from(4, 0, 1));
+    assert_eq!(of(b"\x02\x01\x00\x01\x00"), from(2, 2, 2));
+    assert_eq!(of(b"\x02\x00\x00\x00\x00"), from(2, 1, 2));
+    assert_eq!(of(b"\x03\x01\x00\x02\x00"), from(4, 0, 0));
+    assert_eq!(of(b"\x03\x00\x00\x02\x00"), from(2, 1, 1));
 }
