@@ -292,7 +292,7 @@ typedef struct {
 
 #define HANDLES 5
 
-static unsigned long calls, accepted, refusals, compared, read_items, blamed;
+static unsigned long calls, accepted, refusals, compared, read_items, blamed, said;
 
 /* Begins something: what is decided by a number. */
 static enum wenc_status begin(uint32_t number, wenc_handle *handle) {
@@ -342,16 +342,31 @@ static void begin_two(two *one) {
   if (status == WENC_DONE) REQUIRE(begin(number, &one->shadow) == WENC_DONE);
 }
 
+/* A sentence says why the section can't be read: as much of it as there is room for. */
+static void check_sentence(const uint8_t *bytes, size_t len, size_t section, bool is_bad) {
+  char text[256];
+  size_t size = below(sizeof text), wanted;
+  memset(text, 1, sizeof text);
+  wanted = wenc_fault_text(bytes, len, section, text, size);
+  REQUIRE((wanted > 0) == is_bad && wanted < sizeof text);
+  REQUIRE(text[size] == 1);
+  if (size > 0) REQUIRE(strlen(text) == (wanted < size ? wanted : size - 1));
+  if (is_bad) said++;
+}
+
 /* Walks over bytes beside a listing of them: the same items, or the same status. */
 static void compare_walk(const uint8_t *bytes, size_t len) {
   wenc_handle listing = {NULL};
   wenc_walk walk;
   wenc_listed_section section, section_row;
   wenc_listed_item item, row;
+  wenc_unread unread;
   size_t sections, items;
-  enum wenc_status wanted = wenc_list(&listing, bytes, len, NULL);
+  enum wenc_status wanted = wenc_list(&listing, bytes, len, &unread);
   enum wenc_status status = wenc_walk_begin(&walk, bytes, len);
   name = "walk";
+  REQUIRE(unread.section <= unread.place && unread.place <= unread.cause && unread.cause <= len);
+  check_sentence(bytes, len, unread.section, wanted != WENC_DONE);
   for (sections = 0; status == WENC_DONE; sections++) {
     if ((status = wenc_walk_section(&walk, &section)) != WENC_DONE) break;
     if (wanted == WENC_DONE) {
@@ -391,6 +406,7 @@ static void damage(const uint8_t *bytes, size_t len) {
     REQUIRE((unsigned)wenc_walk_item(&walk, &item) <= WENC_END);
     REQUIRE((unsigned)(k % 2 ? wenc_walk_section(&walk, NULL) : wenc_walk_skip(&walk, NULL)) <=
             WENC_END);
+    REQUIRE(wenc_fault_text(copy, len, below((uint32_t)len + 2), NULL, 0) < 256);
   }
   names.bytes = copy, names.len = len, names.next = below((uint32_t)len + 2);
   names.space = a_number(), names.names = below(3) ? 0 : a_number();
@@ -478,9 +494,9 @@ int main(int argc, char **argv) {
   }
   printf("%lu calls, %lu accepted, %lu without memory, %lu with a wrong argument that is named\n",
          calls, accepted, refusals, blamed);
-  printf("%lu components compared, %lu items read\n", compared, read_items);
+  printf("%lu components compared, %lu items read, %lu faults said\n", compared, read_items, said);
   return accepted > count && compared > count && refusals > 0 && read_items > count &&
-                 blamed > count
+                 blamed > count && said > count
              ? 0
              : 1;
 }
