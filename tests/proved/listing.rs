@@ -3,6 +3,8 @@
 
 pub mod built;
 #[cfg(feature = "reader")]
+mod causes;
+#[cfg(feature = "reader")]
 mod changed;
 #[cfg(feature = "reader")]
 mod damaged;

@@ -270,5 +270,5 @@ fn bytes_that_are_none() {
     for len in [1, 8, usize::MAX] {
         assert_eq!(said(EMPTY, len), "");
     }
-    assert_eq!(said(b"\0".as_ptr(), usize::MAX), "");
+    assert_eq!(said(b"a".as_ptr(), usize::MAX), "");
 }
