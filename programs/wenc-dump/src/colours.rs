@@ -2,7 +2,7 @@
 
 use std::ffi::OsStr;
 
-/// A kind of text, by its colour.
+/// A kind of text that has a colour.
 #[derive(Clone, Copy, PartialEq, Eq)]
 pub enum Hue {
     /// A byte offset, or a range of them.
@@ -13,19 +13,16 @@ pub enum Hue {
     Name,
     /// An index that is out of range.
     Fault,
-    /// Other text, which has no colour.
-    Plain,
 }
 
 impl Hue {
     /// Returns the number of the colour.
-    pub fn colour(self) -> Option<u8> {
+    pub fn colour(self) -> u8 {
         match self {
-            Self::Place => Some(2),
-            Self::Index => Some(36),
-            Self::Name => Some(32),
-            Self::Fault => Some(31),
-            Self::Plain => None,
+            Self::Place => 2,
+            Self::Index => 36,
+            Self::Name => 32,
+            Self::Fault => 31,
         }
     }
 }

@@ -4,8 +4,6 @@ use super::check::OutOfRange;
 use super::colours::Hue;
 use super::escape::Escaped;
 use super::fault::Fault;
-use super::fold::{Members, Names, Pieces, clause_lead, closing, fits, flat, opening};
-use super::phrase::{is_phrase, spoken};
 use super::report::{Content, Entry, Label, Part, Report, Rest};
 use super::words;
 use std::ffi::OsStr;
@@ -13,7 +11,7 @@ use std::fmt::Display;
 use std::io::{self, Write};
 use std::ops::Range;
 use wenc::Producer;
-use wenc::tree::{Node, UsedIndex};
+use wenc::tree::UsedIndex;
 
 /// The usual number of columns of a line, if it can be folded.
 pub const COLUMNS: usize = 100;
@@ -26,7 +24,7 @@ const INDENTATION: usize = 40;
 const BYTES: usize = 16;
 
 /// What text is like.
-#[derive(Clone, Copy)]
+#[derive(Clone, Copy, Default)]
 pub struct Style {
     pub has_colours: bool,
     /// Whether it has the bytes of items.
@@ -40,25 +38,22 @@ pub struct Style {
 /// Text whose lines are indented by their depth.
 pub struct Text<'o, W> {
     out: &'o mut W,
-    style: Style,
+    pub(super) style: Style,
     /// The number of open parts.
     depth: usize,
     /// The number of columns that are taken on the line.
-    columns: usize,
+    pub(super) columns: usize,
+    /// The number of columns after which writes fail.
+    most: usize,
 }
 
-/// A writer that counts columns.
-struct Counted<'o, W> {
-    out: &'o mut W,
-    columns: &'o mut usize,
-}
-
-impl<W: Write> Write for Counted<'_, W> {
+/// Writes on the line.
+impl<W: Write> Write for Text<'_, W> {
     fn write(&mut self, bytes: &[u8]) -> io::Result<usize> {
         let len = self.out.write(bytes)?;
         // each character has one byte that isn't a continuation byte
-        *self.columns += bytes[..len].iter().filter(|byte| **byte & 0xc0 != 0x80).count();
-        Ok(len)
+        self.columns += bytes[..len].iter().filter(|byte| **byte & 0xc0 != 0x80).count();
+        if self.columns > self.most { Err(io::ErrorKind::WriteZero.into()) } else { Ok(len) }
     }
 
     fn flush(&mut self) -> io::Result<()> {
@@ -66,36 +61,38 @@ impl<W: Write> Write for Counted<'_, W> {
     }
 }
 
-impl<W: Write> Pieces for Text<'_, W> {
-    type Stop = io::Error;
-
-    fn piece(&mut self, hue: Hue, text: impl Display) -> io::Result<()> {
-        let mut counted = Counted { out: self.out, columns: &mut self.columns };
-        let Some(colour) = hue.colour().filter(|_| self.style.has_colours) else {
-            return write!(counted, "{text}");
-        };
-        write!(counted.out, "\x1b[{colour}m")?;
-        write!(counted, "{text}")?;
-        write!(counted.out, "\x1b[0m")
-    }
-
-    fn plain(&mut self, text: &str) -> io::Result<()> {
-        Counted { out: self.out, columns: &mut self.columns }.write_all(text.as_bytes())
-    }
-}
-
 impl<'o, W: Write> Text<'o, W> {
     /// Creates a writer of text.
     pub fn new(out: &'o mut W, style: Style) -> Self {
-        Self { out, style, depth: 0, columns: 0 }
+        Self { out, style, depth: 0, columns: 0, most: usize::MAX }
     }
 
-    fn begin_line(&mut self, depth: usize) -> io::Result<()> {
+    /// Creates a writer of text without colours, of which that many columns are there.
+    pub(super) fn within(most: usize, out: &'o mut W) -> Self {
+        Self { most, ..Self::new(out, Style::default()) }
+    }
+
+    /// Writes a piece of text, in its colour.
+    pub(super) fn piece(&mut self, hue: Hue, text: impl Display) -> io::Result<()> {
+        if !self.style.has_colours {
+            return write!(self, "{text}");
+        }
+        write!(self.out, "\x1b[{}m", hue.colour())?;
+        write!(self, "{text}")?;
+        write!(self.out, "\x1b[0m")
+    }
+
+    /// Writes a piece of text, without a colour.
+    pub(super) fn plain(&mut self, text: &str) -> io::Result<()> {
+        self.write_all(text.as_bytes())
+    }
+
+    pub(super) fn begin_line(&mut self, depth: usize) -> io::Result<()> {
         self.columns = INDENTATION.min(2 * depth);
         write!(self.out, "{:width$}", "", width = self.columns)
     }
 
-    fn end_line(&mut self) -> io::Result<()> {
+    pub(super) fn end_line(&mut self) -> io::Result<()> {
         self.out.write_all(b"\n")
     }
 
@@ -111,7 +108,7 @@ impl<'o, W: Write> Text<'o, W> {
     }
 
     /// Writes a name in quotes, after this text.
-    fn named(&mut self, lead: &str, name: Option<&str>) -> io::Result<()> {
+    pub(super) fn named(&mut self, lead: &str, name: Option<&str>) -> io::Result<()> {
         let Some(name) = name else { return Ok(()) };
         self.plain(lead)?;
         self.piece(Hue::Name, format_args!("{name:?}"))
@@ -120,25 +117,25 @@ impl<'o, W: Write> Text<'o, W> {
     /// Writes the word of a section, or its id.
     fn section(&mut self, word: Option<&str>, id: u8) -> io::Result<()> {
         match word {
-            Some(word) => self.piece(Hue::Plain, format_args!("{word} section")),
-            None => self.piece(Hue::Plain, format_args!("section {id}")),
+            Some(word) => write!(self, "{word} section"),
+            None => write!(self, "section {id}"),
         }
     }
 
     fn size(&mut self, size: usize) -> io::Result<()> {
-        self.piece(Hue::Plain, format_args!(", {}", words::Counted(size, "byte")))
+        write!(self, ", {}", words::Counted(size, "byte"))
     }
 
     fn items(&mut self, count: Option<u32>) -> io::Result<()> {
         let Some(count) = count else { return Ok(()) };
         // a count of 32 bits fits
-        self.piece(Hue::Plain, format_args!(", {}", words::Counted(count as usize, "item")))
+        write!(self, ", {}", words::Counted(count as usize, "item"))
     }
 
     fn label(&mut self, label: &Label) -> io::Result<()> {
         let word = words::space(label.space);
         match (label.count, label.from) {
-            (0, _) => self.piece(Hue::Plain, format_args!("no {word}"))?,
+            (0, _) => write!(self, "no {word}")?,
             (_, None) => self.piece(Hue::Index, format_args!("{word} ?"))?,
             (1, Some(from)) => self.piece(Hue::Index, format_args!("{word} {from}"))?,
             (count, Some(from)) => {
@@ -204,65 +201,12 @@ impl<'o, W: Write> Text<'o, W> {
         }
     }
 
-    /// Writes a node on a line of this depth, with `after` columns to spare. It was read from so
-    /// many bytes, if that is known.
-    fn node(
-        &mut self,
-        node: &Node,
-        encoded_len: Option<usize>,
-        names: Names,
-        depth: usize,
-        after: usize,
-    ) -> io::Result<()> {
-        match node {
-            Node::Record(name, fields) if is_phrase(name) => {
-                for (at, (lead, node)) in spoken(name, *fields).enumerate() {
-                    clause_lead(at, lead, self)?;
-                    self.node(&node, None, names, depth, after)?;
-                }
-                return Ok(());
-            }
-            _ => {}
-        }
-        let columns = self.style.columns.saturating_sub(self.columns + after);
-        match Members::of(node) {
-            Some(members) if !fits(node, encoded_len, names, columns) => {
-                self.unfold(node, &members, names, depth)
-            }
-            _ => flat(node, names, self),
-        }
-    }
-
-    /// Writes each member of a node on its own line.
-    fn unfold(
-        &mut self,
-        node: &Node,
-        members: &Members,
-        names: Names,
-        depth: usize,
-    ) -> io::Result<()> {
-        opening(node, self)?;
-        self.end_line()?;
-        members.try_each(|_, key, part| {
-            self.begin_line(depth + 1)?;
-            if let Some(key) = key {
-                self.plain(key)?;
-                self.plain(": ")?;
-            }
-            self.node(&part.node(), part.encoded_len(), names, depth + 1, 1)?;
-            self.plain(",")?;
-            self.end_line()
-        })?;
-        self.begin_line(depth)?;
-        closing(node, self)
-    }
-
     /// Writes bytes, which begin at this byte offset, and after which others may be left out.
     fn bytes(&mut self, mut place: usize, bytes: &[u8], has_more: bool) -> io::Result<()> {
         for some in bytes.chunks(BYTES) {
             self.begin_line(self.depth + 1)?;
             self.piece(Hue::Place, format_args!("{place:#x}:"))?;
-            some.iter().try_for_each(|byte| self.piece(Hue::Plain, format_args!(" {byte:02x}")))?;
+            some.iter().try_for_each(|byte| write!(self, " {byte:02x}"))?;
             self.plain(if has_more { " ..." } else { "" })?;
             self.end_line()?;
             place += some.len();
@@ -308,7 +252,7 @@ impl<W: Write> Report for Text<'_, W> {
     fn begin(&mut self, file: &OsStr) -> io::Result<()> {
         self.depth = 0;
         if self.style.has_titles {
-            self.piece(Hue::Plain, format_args!("{}:", Escaped(file)))?;
+            write!(self, "{}:", Escaped(file))?;
             self.end_line()?;
         }
         Ok(())
@@ -342,7 +286,7 @@ impl<W: Write> Report for Text<'_, W> {
     fn out_of_range(&mut self, place: usize, index: &UsedIndex) -> io::Result<()> {
         self.begin_line(self.depth)?;
         self.place(&(place..place), false)?;
-        self.piece(Hue::Plain, OutOfRange(index))?;
+        write!(self, "{}", OutOfRange(index))?;
         self.end_line()
     }
 
