@@ -37,12 +37,19 @@ struct Open {
     object: &'static str,
 }
 
-/// Text within quotes.
-struct Letters<'o, W> {
-    out: &'o mut W,
-    /// The result of the writes.
-    written: io::Result<()>,
+/// A string within quotes.
+struct Quoted<T>(T);
+
+impl<T: Display> Display for Quoted<T> {
+    fn fmt(&self, f: &mut fmt::Formatter<'_>) -> fmt::Result {
+        f.write_str("\"")?;
+        write!(Letters(f), "{}", self.0)?;
+        f.write_str("\"")
+    }
 }
+
+/// A writer of the letters of a string.
+struct Letters<'f, 'a>(&'f mut fmt::Formatter<'a>);
 
 /// Returns whether a letter is escaped: if JSON requires it, and if the letter is invisible, or
 /// breaks a line or changes its direction.
@@ -53,24 +60,17 @@ fn is_escaped(letter: char) -> bool {
         || matches!(letter, '\u{2028}'..='\u{202e}' | '\u{2066}'..='\u{2069}')
 }
 
-impl<W: Write> Letters<'_, W> {
-    fn put(&mut self, mut text: &str) -> io::Result<()> {
+impl fmt::Write for Letters<'_, '_> {
+    fn write_str(&mut self, mut text: &str) -> fmt::Result {
         while let Some((at, letter)) = text.char_indices().find(|(_, letter)| is_escaped(*letter)) {
-            self.out.write_all(&text.as_bytes()[..at])?;
+            self.0.write_str(&text[..at])?;
             match letter {
-                '"' | '\\' => write!(self.out, "\\{letter}")?,
-                _ => write!(self.out, "\\u{:04x}", u32::from(letter))?,
+                '"' | '\\' => write!(self.0, "\\{letter}")?,
+                _ => write!(self.0, "\\u{:04x}", u32::from(letter))?,
             }
             text = &text[at + letter.len_utf8()..];
         }
-        self.out.write_all(text.as_bytes())
-    }
-}
-
-impl<W: Write> fmt::Write for Letters<'_, W> {
-    fn write_str(&mut self, text: &str) -> fmt::Result {
-        self.written = self.put(text);
-        self.written.as_ref().map_err(|_| fmt::Error).copied()
+        self.0.write_str(text)
     }
 }
 
@@ -84,30 +84,11 @@ impl<'o, W: Write> Json<'o, W> {
         self.out.write_all(text.as_bytes())
     }
 
-    /// Writes a string in quotes.
-    fn text(&mut self, text: impl Display) -> io::Result<()> {
-        self.put("\"")?;
-        let mut letters = Letters { out: self.out, written: Ok(()) };
-        // an error is kept in `written`
-        let _ = write!(letters, "{text}");
-        letters.written?;
-        self.put("\"")
-    }
-
-    /// Writes a key after its lead, a comma or a brace, and a string or null.
-    fn text_at(&mut self, lead: &str, key: &str, text: Option<impl Display>) -> io::Result<()> {
+    /// Writes a key after its lead, a comma or a brace, and a value or null.
+    fn field(&mut self, lead: &str, key: &str, value: Option<impl Display>) -> io::Result<()> {
         write!(self.out, "{lead}\"{key}\":")?;
-        match text {
-            Some(text) => self.text(text),
-            None => self.put("null"),
-        }
-    }
-
-    /// Writes a key after its lead, a comma or a brace, and a number or null.
-    fn number_at(&mut self, lead: &str, key: &str, number: Option<impl Display>) -> io::Result<()> {
-        write!(self.out, "{lead}\"{key}\":")?;
-        match number {
-            Some(number) => write!(self.out, "{number}"),
+        match value {
+            Some(value) => write!(self.out, "{value}"),
             None => self.put("null"),
         }
     }
@@ -127,26 +108,26 @@ impl<'o, W: Write> Json<'o, W> {
 
     /// Writes the id of a section, and its word.
     fn kind(&mut self, id: u8, word: Option<&str>) -> io::Result<()> {
-        self.number_at(",", "id", Some(id))?;
-        self.text_at(",", "kind", word)
+        self.field(",", "id", Some(id))?;
+        self.field(",", "kind", word.map(Quoted))
     }
 
     fn label(&mut self, label: Option<&Label>) -> io::Result<()> {
         let Some(Label { space, from, count, name }) = label else {
             return self.put(",\"space\":null,\"index\":null,\"count\":0,\"name\":null");
         };
-        self.text_at(",", "space", Some(words::space(*space)))?;
-        self.number_at(",", "index", *from)?;
-        self.number_at(",", "count", Some(count))?;
-        self.text_at(",", "name", *name)
+        self.field(",", "space", Some(Quoted(words::space(*space))))?;
+        self.field(",", "index", *from)?;
+        self.field(",", "count", Some(count))?;
+        self.field(",", "name", name.map(Quoted))
     }
 
     /// Writes the cause of a fault, if it is known.
     fn cause(&mut self, cause: Option<Cause>) -> io::Result<()> {
         let Some(cause) = cause else { return Ok(()) };
         self.put(",\"cause\":")?;
-        self.number_at("{", "place", Some(cause.place()))?;
-        self.text_at(",", "message", Some(cause))?;
+        self.field("{", "place", Some(cause.place()))?;
+        self.field(",", "message", Some(Quoted(cause)))?;
         self.put("}")
     }
 
@@ -167,7 +148,7 @@ impl<'o, W: Write> Json<'o, W> {
         match content {
             Content::Component(name) => {
                 self.range(range)?;
-                self.text_at(",", "name", *name)?;
+                self.field(",", "name", name.map(Quoted))?;
                 self.put(",\"sections\":[")?;
                 Ok(Open { list: Some("]"), has_unread: false, object: "}" })
             }
@@ -177,8 +158,8 @@ impl<'o, W: Write> Json<'o, W> {
                 Ok(Open { list: Some("]"), has_unread: true, object: "}" })
             }
             Content::Custom(name, size, contents) => {
-                self.text_at("{", "name", Some(name))?;
-                self.number_at(",", "size", Some(size))?;
+                self.field("{", "name", Some(Quoted(name)))?;
+                self.field(",", "size", Some(size))?;
                 let list = self.contents(*contents)?;
                 Ok(Open { list: Some(list), has_unread: true, object: "}" })
             }
@@ -196,8 +177,8 @@ impl<'o, W: Write> Json<'o, W> {
             Node::Present(part) => self.child(*part),
             Node::Number(number) => write!(self.out, "{number}"),
             Node::Flag(flag) => write!(self.out, "{flag}"),
-            Node::Text(text) => self.text(text),
-            Node::Word(word) => self.text(word),
+            Node::Text(text) => write!(self.out, "{}", Quoted(text)),
+            Node::Word(word) => write!(self.out, "{}", Quoted(word)),
             Node::Index { index, .. } | Node::OutOfRange { index, .. } => {
                 write!(self.out, "{index}")
             }
@@ -276,14 +257,14 @@ impl<'o, W: Write> Json<'o, W> {
         match entry {
             Entry::Name(of, name) => {
                 let (space, index) = of.unzip();
-                self.text_at(lead, "space", space.map(words::space))?;
-                self.number_at(",", "index", index)?;
-                self.text_at(",", "name", Some(name))
+                self.field(lead, "space", space.map(words::space).map(Quoted))?;
+                self.field(",", "index", index)?;
+                self.field(",", "name", Some(Quoted(name)))
             }
             Entry::Tool(Producer { field, name, version }) => {
-                self.text_at(lead, "field", Some(field))?;
-                self.text_at(",", "name", Some(name))?;
-                self.text_at(",", "version", Some(version))
+                self.field(lead, "field", Some(Quoted(field)))?;
+                self.field(",", "name", Some(Quoted(name)))?;
+                self.field(",", "version", Some(Quoted(version)))
             }
         }
     }
@@ -299,15 +280,15 @@ impl<'o, W: Write> Json<'o, W> {
             Part::Section { range, id, count } => {
                 self.member(range)?;
                 self.kind(*id, words::section(*id))?;
-                self.number_at(",", "count", *count)?;
+                self.field(",", "count", *count)?;
                 self.put(",\"items\":[")?;
                 Ok(Open { list: Some("]"), has_unread: false, object: "}" })
             }
             Part::CoreSection { range, id, name, contents, count, bytes } => {
                 self.member(range)?;
                 self.kind(*id, words::core_section(*id))?;
-                self.text_at(",", "name", *name)?;
-                self.number_at(",", "count", *count)?;
+                self.field(",", "name", name.map(Quoted))?;
+                self.field(",", "count", *count)?;
                 self.bytes("hex", bytes)?;
                 self.core_contents(*contents)
             }
@@ -329,7 +310,7 @@ impl<'o, W: Write> Json<'o, W> {
 
 impl<W: Write> Report for Json<'_, W> {
     fn begin(&mut self, file: &OsStr) -> io::Result<()> {
-        self.text_at("{", "file", Some(Path::new(file).display()))
+        self.field("{", "file", Some(Quoted(Path::new(file).display())))
     }
 
     fn open(&mut self, part: &Part) -> io::Result<()> {
@@ -355,10 +336,10 @@ impl<W: Write> Report for Json<'_, W> {
             Scope::Component(out) => ("component", out),
             Scope::Type(depth) => ("type", depth),
         };
-        self.text_at(lead, "space", Some(words::space(used.space)))?;
-        self.number_at(",", key, Some(scope))?;
-        self.number_at(",", "index", Some(used.index))?;
-        self.number_at(",", "count", Some(used.count.unwrap_or_default()))?;
+        self.field(lead, "space", Some(Quoted(words::space(used.space))))?;
+        self.field(",", key, Some(scope))?;
+        self.field(",", "index", Some(used.index))?;
+        self.field(",", "count", Some(used.count.unwrap_or_default()))?;
         self.put("}")
     }
 
@@ -387,8 +368,8 @@ impl<W: Write> Report for Json<'_, W> {
         match fault {
             None => self.put("null")?,
             Some(fault) => {
-                self.number_at("{", "place", fault.place())?;
-                self.text_at(",", "message", Some(fault))?;
+                self.field("{", "place", fault.place())?;
+                self.field(",", "message", Some(Quoted(fault)))?;
                 self.cause(fault.cause())?;
                 self.put("}")?;
             }
