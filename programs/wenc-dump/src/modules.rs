@@ -7,7 +7,7 @@ use super::report::{Content, Contents, Part, Report};
 use super::walk::{Indices, Walk};
 use std::ops::Range;
 use wenc::tree::{CoreEntityType, Space};
-use wenc::{CoreItem, CoreSection, CoreSections, ModuleFault, RawSection, SectionId};
+use wenc::{CoreItem, CoreSection, CoreSections, ModuleFault, SectionId};
 
 /// Returns the space in which an item has an index, if any.
 fn space(item: &CoreItem) -> Option<Space> {
@@ -52,51 +52,26 @@ impl<R: Report> Walk<'_, '_, R> {
         let mut next = Indices::default();
         let mut here = sections.clone();
         while let Some(section) = sections.next() {
-            let frame = here.next_raw();
-            match (section, frame) {
-                (Ok(section), _) => self.core_section(at, &section, &mut next)?,
-                (Err(fault), Some((range, raw))) => {
-                    self.without_name(at, range, raw, fault)?;
+            match (section, here.next_raw()) {
+                (Ok(section), _) => self.core_section(at, &section, None, &mut next)?,
+                (Err(ModuleFault::BadSection { cause, .. }), Some((range, raw))) => {
+                    let section = CoreSection { id: raw.id, name: None, data: raw.data, range };
+                    self.core_section(at, &section, Some(cause), &mut next)?;
                     sections = here.clone();
                 }
-                (Err(fault), None) => {
-                    self.unread(Fault::Module(at, fault, None), module.end)?;
-                }
+                (Err(fault), _) => self.unread(Fault::Module(at, fault, None), module.end)?,
             }
         }
         Ok(())
     }
 
-    /// Reports a custom section without a name.
-    fn without_name(
-        &mut self,
-        at: usize,
-        range: Range<usize>,
-        RawSection { id, data }: RawSection,
-        fault: ModuleFault,
-    ) -> Result<(), Failure> {
-        let range = at + range.start..at + range.end;
-        let (place, end) = (range.start, range.end);
-        let cause = match fault {
-            ModuleFault::BadSection { cause, .. } => Some(Cause::Read(cause.moved(at))),
-            _ => None,
-        };
-        self.report.open(&Part::CoreSection {
-            range,
-            id,
-            name: None,
-            contents: Contents::Other,
-            count: None,
-            bytes: data,
-        })?;
-        self.unread_reported(Fault::NoName(place, cause), end)?;
-        Ok(self.report.close()?)
-    }
-
+    /// Reports a section of the core module that begins at this byte offset, and why it has no
+    /// name if it is a custom section without one.
     fn core_section(
         &mut self,
         at: usize,
         section: &CoreSection,
+        no_name: Option<wenc::Cause>,
         next: &mut Indices,
     ) -> Result<(), Failure> {
         let are_shown = are_shown(section);
@@ -110,6 +85,10 @@ impl<R: Report> Walk<'_, '_, R> {
             count: section.count(),
             bytes: if are_shown { &[] } else { section.data },
         })?;
+        if let Some(cause) = no_name {
+            let cause = Some(Cause::Read(cause.moved(at)));
+            self.unread_reported(Fault::NoName(range.start, cause), range.end)?;
+        }
         if section.kind().is_none() {
             self.unread_reported(Fault::UnknownSection(range.start, section.id), range.end)?;
         }
