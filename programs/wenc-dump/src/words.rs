@@ -4,55 +4,42 @@ use std::fmt::{self, Display};
 use wenc::tree::Space;
 use wenc::{ComponentSectionId, SectionId};
 
-/// The sections of components, with their words.
-const SECTIONS: [(ComponentSectionId, &str); 12] = [
-    (ComponentSectionId::CoreCustom, "custom"),
-    (ComponentSectionId::CoreModule, "core module"),
-    (ComponentSectionId::CoreInstance, "core instance"),
-    (ComponentSectionId::CoreType, "core type"),
-    (ComponentSectionId::Component, "component"),
-    (ComponentSectionId::Instance, "instance"),
-    (ComponentSectionId::Alias, "alias"),
-    (ComponentSectionId::Type, "type"),
-    (ComponentSectionId::CanonicalFunction, "canonical function"),
-    (ComponentSectionId::Start, "start"),
-    (ComponentSectionId::Import, "import"),
-    (ComponentSectionId::Export, "export"),
-];
-
-/// The sections of core modules, with their words.
-const CORE_SECTIONS: [(SectionId, &str); 14] = [
-    (SectionId::Custom, "custom"),
-    (SectionId::Type, "type"),
-    (SectionId::Import, "import"),
-    (SectionId::Function, "function"),
-    (SectionId::Table, "table"),
-    (SectionId::Memory, "memory"),
-    (SectionId::Global, "global"),
-    (SectionId::Export, "export"),
-    (SectionId::Start, "start"),
-    (SectionId::Element, "element"),
-    (SectionId::Code, "code"),
-    (SectionId::Data, "data"),
-    (SectionId::DataCount, "data count"),
-    (SectionId::Tag, "tag"),
-];
-
 /// Returns the word for a section of a component; `None` if its id is above 11.
 pub fn section(id: u8) -> Option<&'static str> {
-    found(&SECTIONS, id)
+    Some(match ComponentSectionId::try_from(id).ok()? {
+        ComponentSectionId::CoreCustom => "custom",
+        ComponentSectionId::CoreModule => "core module",
+        ComponentSectionId::CoreInstance => "core instance",
+        ComponentSectionId::CoreType => "core type",
+        ComponentSectionId::Component => "component",
+        ComponentSectionId::Instance => "instance",
+        ComponentSectionId::Alias => "alias",
+        ComponentSectionId::Type => "type",
+        ComponentSectionId::CanonicalFunction => "canonical function",
+        ComponentSectionId::Start => "start",
+        ComponentSectionId::Import => "import",
+        ComponentSectionId::Export => "export",
+    })
 }
 
 /// Returns the word for a section of a core module; `None` if its id is above 13.
 pub fn core_section(id: u8) -> Option<&'static str> {
-    found(&CORE_SECTIONS, id)
-}
-
-fn found<I: Copy>(all: &[(I, &'static str)], id: u8) -> Option<&'static str>
-where
-    u8: From<I>,
-{
-    all.iter().find(|(of, _)| u8::from(*of) == id).map(|(_, word)| *word)
+    Some(match SectionId::try_from(id).ok()? {
+        SectionId::Custom => "custom",
+        SectionId::Type => "type",
+        SectionId::Import => "import",
+        SectionId::Function => "function",
+        SectionId::Table => "table",
+        SectionId::Memory => "memory",
+        SectionId::Global => "global",
+        SectionId::Export => "export",
+        SectionId::Start => "start",
+        SectionId::Element => "element",
+        SectionId::Code => "code",
+        SectionId::Data => "data",
+        SectionId::DataCount => "data count",
+        SectionId::Tag => "tag",
+    })
 }
 
 /// Returns the word for an index space.
