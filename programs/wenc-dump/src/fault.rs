@@ -2,6 +2,7 @@
 
 use super::cause::Cause;
 use super::chain::Misfit;
+use super::words::Counted;
 use std::collections::TryReserveError;
 use std::fmt::{self, Display};
 use std::io;
@@ -19,7 +20,7 @@ pub enum Fault {
     NoMemory,
     /// A section, an item or a nested component, in a component, and why.
     List(ListFault, Option<Cause>),
-    /// A core module at this byte offset, or a section or an item of it, and why.
+    /// A core module, or a section or an item of it, at this byte offset, and why.
     Module(usize, ModuleFault, Option<Cause>),
     /// A section at this byte offset with this id, which is unknown.
     UnknownSection(usize, u8),
@@ -43,25 +44,46 @@ impl Fault {
         if error.kind() == io::ErrorKind::OutOfMemory { Self::NoMemory } else { Self::Input(error) }
     }
 
+    /// Converts the fault of the core module at this byte offset, whose header has this cause.
+    pub fn of_module(at: usize, fault: ModuleFault, cause: Option<Cause>) -> Self {
+        match fault {
+            ModuleFault::BadSection { place, cause: why } => {
+                let place = at + place;
+                Self::Module(place, ModuleFault::BadSection { place, cause: why.moved(at) }, cause)
+            }
+            ModuleFault::BadItem { unread, cause: why } => {
+                let (unread, why) = (moved(unread, at), why.map(|why| why.moved(at)));
+                let fault = ModuleFault::BadItem { unread, cause: why };
+                Self::Module(place_of(unread), fault, cause)
+            }
+            fault => Self::Module(at, fault, cause),
+        }
+    }
+
+    /// Returns the part of a section that can't be read.
+    fn unread(&self) -> Option<Unread> {
+        match *self {
+            Self::List(
+                ListFault::BadItem { unread, .. } | ListFault::TooDeep { unread, .. },
+                _,
+            ) => unread,
+            Self::Module(_, ModuleFault::BadItem { unread, .. }, _) => Some(unread),
+            _ => None,
+        }
+    }
+
     /// Returns the byte offset of the part.
     pub fn place(&self) -> Option<usize> {
         match *self {
-            Self::List(
-                ListFault::BadItem { unread: Some(unread), .. }
-                | ListFault::TooDeep { unread: Some(unread), .. },
-                _,
-            ) => Some(place_of(unread)),
             Self::List(
                 ListFault::NotAComponent { place, .. }
                 | ListFault::BadSection { place, .. }
                 | ListFault::BadItem { place, .. }
                 | ListFault::TooDeep { place, .. },
                 _,
-            ) => Some(place),
-            Self::Module(at, ModuleFault::NotAModule { .. }, _) => Some(at),
-            Self::Module(at, ModuleFault::BadSection { place, .. }, _) => Some(at + place),
-            Self::Module(at, ModuleFault::BadItem { unread, .. }, _) => Some(at + place_of(unread)),
-            Self::UnknownSection(place, _)
+            ) => Some(self.unread().map_or(place, place_of)),
+            Self::Module(place, _, _)
+            | Self::UnknownSection(place, _)
             | Self::NoName(place, _)
             | Self::Size(Misfit { place, .. })
             | Self::TooDeep(place, _)
@@ -73,35 +95,26 @@ impl Fault {
 
     /// Returns the words for the part in text, where they follow its byte offset.
     pub fn words(&self) -> &'static str {
-        match self {
-            Self::List(ListFault::BadItem { unread: Some(unread), .. }, _)
-            | Self::Module(_, ModuleFault::BadItem { unread, .. }, _) => match unread {
-                Unread::Count { .. } => "no count",
-                Unread::Item { .. } => "items that aren't read",
-                Unread::Behind { .. } => "bytes behind the last item",
-            },
-            Self::List(ListFault::NotAComponent { .. }, _) => "no component's header",
-            Self::List(ListFault::BadSection { .. }, _) => "no section",
-            Self::Module(_, ModuleFault::NotAModule { .. }, _) => "no core module's header",
-            Self::Module(_, ModuleFault::BadSection { .. }, _) => "no core section",
-            Self::UnknownSection(..) => "unknown section",
-            Self::NoName(..) => "no name",
-            Self::Size(_) => "section of another size",
-            Self::TooDeep(..) => "too deep component",
-            Self::Names(..) => "names that aren't read",
-            Self::Producers(..) => "producers that aren't read",
+        match (self.unread(), self) {
+            (Some(Unread::Count { .. }), _) => "no count",
+            (Some(Unread::Behind { .. }), _) => "bytes behind the last item",
+            (_, Self::List(ListFault::NotAComponent { .. }, _)) => "no component's header",
+            (_, Self::List(ListFault::BadSection { .. }, _)) => "no section",
+            (_, Self::Module(_, ModuleFault::NotAModule { .. }, _)) => "no core module's header",
+            (_, Self::Module(_, ModuleFault::BadSection { .. }, _)) => "no core section",
+            (_, Self::UnknownSection(..)) => "unknown section",
+            (_, Self::NoName(..)) => "no name",
+            (_, Self::Size(_)) => "section of another size",
+            (_, Self::TooDeep(..)) => "too deep component",
+            (_, Self::Names(..)) => "names that aren't read",
+            (_, Self::Producers(..)) => "producers that aren't read",
             _ => "items that aren't read",
         }
     }
 
     /// Returns whether all items before the part were read, and none is left.
     pub fn is_behind_items(&self) -> bool {
-        let behind = |unread| matches!(unread, Unread::Behind { .. });
-        match *self {
-            Self::List(ListFault::BadItem { unread, .. }, _) => unread.is_some_and(behind),
-            Self::Module(_, ModuleFault::BadItem { unread, .. }, _) => behind(unread),
-            _ => false,
-        }
+        matches!(self.unread(), Some(Unread::Behind { .. }))
     }
 
     /// Returns why the part can't be read, and from which byte on.
@@ -112,13 +125,16 @@ impl Fault {
                 | ListFault::BadItem { cause, .. }
                 | ListFault::TooDeep { cause, .. },
                 _,
-            ) => cause.map(Cause::Read),
-            Self::Module(at, ModuleFault::BadSection { cause, .. }, _) => {
-                Some(Cause::Read(cause.moved(at)))
-            }
-            Self::Module(at, ModuleFault::BadItem { cause, .. }, _) => {
-                cause.map(|cause| Cause::Read(cause.moved(at)))
-            }
+            )
+            | Self::Module(_, ModuleFault::BadItem { cause, .. }, _) => cause.map(Cause::Read),
+            Self::Module(_, ModuleFault::BadSection { cause, .. }, _) => Some(Cause::Read(cause)),
+            _ => self.own_cause(),
+        }
+    }
+
+    /// Returns the cause that isn't in a fault of the reader.
+    fn own_cause(&self) -> Option<Cause> {
+        match *self {
             Self::List(_, cause) | Self::Module(_, _, cause) | Self::NoName(_, cause) => cause,
             Self::Names(_, cause) | Self::Producers(_, cause) => Some(cause),
             _ => None,
@@ -147,28 +163,6 @@ fn moved(unread: Unread, by: usize) -> Unread {
     }
 }
 
-/// Writes a fault of the core module at this byte offset.
-fn write_module(f: &mut fmt::Formatter<'_>, at: usize, fault: ModuleFault) -> fmt::Result {
-    match fault {
-        ModuleFault::NotAModule { found } => {
-            write!(f, "no core module's header at {at:#x}: found {found}")
-        }
-        ModuleFault::BadSection { place, cause } => {
-            ModuleFault::BadSection { place: at + place, cause: cause.moved(at) }.fmt(f)
-        }
-        ModuleFault::BadItem { unread, cause } => {
-            let cause = cause.map(|cause| cause.moved(at));
-            ModuleFault::BadItem { unread: moved(unread, at), cause }.fmt(f)
-        }
-        fault => fault.fmt(f),
-    }
-}
-
-/// Writes the cause behind a fault.
-fn write_cause(f: &mut fmt::Formatter<'_>, cause: Option<Cause>) -> fmt::Result {
-    cause.map_or(Ok(()), |cause| write!(f, ": {cause}"))
-}
-
 impl Display for Fault {
     fn fmt(&self, f: &mut fmt::Formatter<'_>) -> fmt::Result {
         match *self {
@@ -177,33 +171,27 @@ impl Display for Fault {
             Self::List(ListFault::NotAComponent { place: 0, found: Found::Nothing }, _) => {
                 f.write_str("no component's header at 0x0: found an empty file")
             }
-            Self::List(fault, cause) => {
-                fault.fmt(f)?;
-                write_cause(f, cause)
+            Self::List(fault, _) => fault.fmt(f),
+            Self::Module(place, ModuleFault::NotAModule { found }, _) => {
+                write!(f, "no core module's header at {place:#x}: found {found}")
             }
-            Self::Module(at, fault, cause) => {
-                write_module(f, at, fault)?;
-                write_cause(f, cause)
-            }
+            Self::Module(_, fault, _) => fault.fmt(f),
             Self::UnknownSection(place, id) => write!(f, "unknown section {id} at {place:#x}"),
-            Self::NoName(place, cause) => {
-                write!(f, "custom section without a name at {place:#x}")?;
-                write_cause(f, cause)
-            }
+            Self::NoName(place, _) => write!(f, "custom section without a name at {place:#x}"),
             Self::Size(Misfit { place, stated, end }) => {
-                let (by, longer) =
-                    (stated.abs_diff(end), if end > stated { "longer" } else { "shorter" });
-                let bytes = if by == 1 { "byte" } else { "bytes" };
-                write!(f, "the section at {place:#x} may be {by} {bytes} {longer}")
+                let by = Counted(stated.abs_diff(end), "byte");
+                let longer = if end > stated { "longer" } else { "shorter" };
+                write!(f, "the section at {place:#x} may be {by} {longer}")
             }
             Self::TooDeep(place, depth) => {
                 write!(f, "components more than {depth} deep at {place:#x}")
             }
-            Self::Names(place, cause) => write!(f, "bad debug names at {place:#x}: {cause}"),
-            Self::Producers(place, cause) => write!(f, "bad producers at {place:#x}: {cause}"),
+            Self::Names(place, _) => write!(f, "bad debug names at {place:#x}"),
+            Self::Producers(place, _) => write!(f, "bad producers at {place:#x}"),
             Self::OutOfRange(1) => f.write_str("1 index is out of range"),
             Self::OutOfRange(count) => write!(f, "{count} indices are out of range"),
-        }
+        }?;
+        self.own_cause().map_or(Ok(()), |cause| write!(f, ": {cause}"))
     }
 }
 

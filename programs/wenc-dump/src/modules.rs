@@ -36,7 +36,7 @@ impl<R: Report> Walk<'_, '_, R> {
                     ModuleFault::NotAModule { found } => cause::of_header(at, found, bytes),
                     _ => None,
                 };
-                Ok(self.unread(Fault::Module(at, fault, cause), at + bytes.len())?)
+                Ok(self.unread(Fault::of_module(at, fault, cause), at + bytes.len())?)
             }
         }
     }
@@ -59,7 +59,7 @@ impl<R: Report> Walk<'_, '_, R> {
                     self.core_section(at, &section, Some(cause), &mut next)?;
                     sections = here.clone();
                 }
-                (Err(fault), _) => self.unread(Fault::Module(at, fault, None), module.end)?,
+                (Err(fault), _) => self.unread(Fault::of_module(at, fault, None), module.end)?,
             }
         }
         Ok(())
@@ -99,7 +99,7 @@ impl<R: Report> Walk<'_, '_, R> {
             match item {
                 Ok((range, item)) => self.core_item(at, section, range, &item, next)?,
                 Err(fault) => {
-                    let fault = Fault::Module(at, fault, None);
+                    let fault = Fault::of_module(at, fault, None);
                     next.note(&fault);
                     if are_shown {
                         self.unread(fault, range.end)?;
