@@ -106,12 +106,6 @@ impl<'o, W: Write> Json<'o, W> {
         self.range(range)
     }
 
-    /// Writes the id of a section, and its word.
-    fn kind(&mut self, id: u8, word: Option<&str>) -> io::Result<()> {
-        self.field(",", "id", Some(id))?;
-        self.field(",", "kind", word.map(Quoted))
-    }
-
     fn label(&mut self, label: Option<&Label>) -> io::Result<()> {
         let Some(Label { space, from, count, name }) = label else {
             return self.put(",\"space\":null,\"index\":null,\"count\":0,\"name\":null");
@@ -239,16 +233,18 @@ impl<'o, W: Write> Json<'o, W> {
         Ok(back)
     }
 
-    /// Begins the lists of a section of a core module. Returns what closes them.
-    fn core_contents(&mut self, contents: Contents) -> io::Result<Open> {
+    /// Begins the lists of a section, which is one of a core module if it has contents. Returns what
+    /// closes them.
+    fn items(&mut self, contents: Option<Contents>) -> io::Result<Open> {
         self.put(",\"items\":[")?;
-        let list = if contents == Contents::Other {
-            "]"
-        } else {
-            self.put("]")?;
-            self.contents(contents)?
+        let list = match contents {
+            None | Some(Contents::Other) => "]",
+            Some(contents) => {
+                self.put("]")?;
+                self.contents(contents)?
+            }
         };
-        Ok(Open { list: Some(list), has_unread: true, object: "}" })
+        Ok(Open { list: Some(list), has_unread: contents.is_some(), object: "}" })
     }
 
     /// Writes a part of a custom section, up to the bracket that ends it.
@@ -277,20 +273,16 @@ impl<'o, W: Write> Json<'o, W> {
                 self.put(if is_module { ",\"module\":" } else { ",\"component\":" })?;
                 self.content(range, content)
             }
-            Part::Section { range, id, count } => {
+            Part::Section { range, id, word, count, core } => {
                 self.member(range)?;
-                self.kind(*id, words::section(*id))?;
+                self.field(",", "id", Some(id))?;
+                self.field(",", "kind", word.map(Quoted))?;
+                if let Some(core) = core {
+                    self.field(",", "name", core.name.map(Quoted))?;
+                }
                 self.field(",", "count", *count)?;
-                self.put(",\"items\":[")?;
-                Ok(Open { list: Some("]"), has_unread: false, object: "}" })
-            }
-            Part::CoreSection { range, id, name, contents, count, bytes } => {
-                self.member(range)?;
-                self.kind(*id, words::core_section(*id))?;
-                self.field(",", "name", name.map(Quoted))?;
-                self.field(",", "count", *count)?;
-                self.bytes("hex", bytes)?;
-                self.core_contents(*contents)
+                self.bytes("hex", core.as_ref().map_or(&[], |core| core.bytes))?;
+                self.items(core.as_ref().map(|core| core.contents))
             }
             Part::Entry(entry) => {
                 self.entry(entry)?;

@@ -3,8 +3,9 @@
 use super::cause::{self, Cause};
 use super::fault::{Failure, Fault};
 use super::phrase;
-use super::report::{Content, Contents, Part, Report};
+use super::report::{Content, Contents, Core, Part, Report};
 use super::walk::{Indices, Walk};
+use super::words;
 use std::ops::Range;
 use wenc::tree::{CoreEntityType, Space};
 use wenc::{CoreItem, CoreSection, CoreSections, ModuleFault, SectionId};
@@ -77,13 +78,13 @@ impl<R: Report> Walk<'_, '_, R> {
         let are_shown = are_shown(section);
         let contents = section.name.map_or(Contents::Other, Contents::of_core);
         let range = at + section.range.start..at + section.range.end;
-        self.report.open(&Part::CoreSection {
+        let bytes = if are_shown { &[] } else { section.data };
+        self.report.open(&Part::Section {
             range: range.clone(),
             id: section.id,
-            name: section.name,
-            contents,
+            word: words::core_section(section.id),
             count: section.count(),
-            bytes: if are_shown { &[] } else { section.data },
+            core: Some(Core { name: section.name, contents, bytes }),
         })?;
         if let Some(cause) = no_name {
             let cause = Some(Cause::Read(cause.moved(at)));

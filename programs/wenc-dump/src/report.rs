@@ -47,29 +47,18 @@ pub struct Rest<'a> {
 pub enum Part<'a> {
     /// The component or the core module that the file is.
     File(Range<usize>, Content<'a>),
-    /// A section of a component.
+    /// A section.
     Section {
         /// Its bytes, from its id on.
         range: Range<usize>,
         /// Its id.
         id: u8,
-        /// The number of its items; `None` if that can't be read.
+        /// The word for its kind; `None` if the id is unknown.
+        word: Option<&'static str>,
+        /// The number of its items; `None` if it isn't a section of items, or that can't be read.
         count: Option<u32>,
-    },
-    /// A section of a core module.
-    CoreSection {
-        /// Its bytes, from its id on.
-        range: Range<usize>,
-        /// Its id.
-        id: u8,
-        /// The name of a custom section.
-        name: Option<&'a str>,
-        /// What is reported of its content besides its items.
-        contents: Contents,
-        /// The number of its items, if it is a section of items.
-        count: Option<u32>,
-        /// Its content; empty if its items are reported.
-        bytes: &'a [u8],
+        /// What only sections of core modules have.
+        core: Option<Core<'a>>,
     },
     /// An item of a section.
     Item {
@@ -84,6 +73,16 @@ pub enum Part<'a> {
     },
     /// A part of a custom section.
     Entry(Entry<'a>),
+}
+
+/// What is reported of a section of a core module besides its items.
+pub struct Core<'a> {
+    /// The name of a custom section.
+    pub name: Option<&'a str>,
+    /// What is reported of its content.
+    pub contents: Contents,
+    /// Its content; empty if its items are reported.
+    pub bytes: &'a [u8],
 }
 
 /// What is reported of a custom section.

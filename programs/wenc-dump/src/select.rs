@@ -55,13 +55,12 @@ impl<'r, R: Report> Selected<'r, R> {
 
     /// Returns whether a part is reported.
     fn has(&self, part: &Part) -> bool {
-        let (id, word) = match part {
-            _ if self.depth != 1 || self.kinds.is_empty() => return true,
-            Part::Section { id, .. } => (*id, words::section(*id)),
-            Part::CoreSection { id, .. } => (*id, words::core_section(*id)),
-            _ => return true,
-        };
-        self.kinds.iter().any(|kind| kind.has(id, word))
+        match part {
+            Part::Section { id, word, .. } if self.depth == 1 && !self.kinds.is_empty() => {
+                self.kinds.iter().any(|kind| kind.has(*id, *word))
+            }
+            _ => true,
+        }
     }
 
     /// Passes something on, unless it is left out.

@@ -221,19 +221,13 @@ impl<'o, W: Write> Text<'o, W> {
                 self.file(range, content)?;
                 Ok((0, &[]))
             }
-            Part::Section { range, id, count } => {
+            Part::Section { range, id, word, count, core } => {
                 self.place(range, true)?;
-                self.section(words::section(*id), *id)?;
+                self.section(*word, *id)?;
+                self.named(" ", core.as_ref().and_then(|core| core.name))?;
                 self.size(range.len())?;
                 self.items(*count)?;
-                Ok((0, &[]))
-            }
-            Part::CoreSection { range, id, name, count, bytes, .. } => {
-                self.place(range, true)?;
-                self.section(words::core_section(*id), *id)?;
-                self.named(" ", *name)?;
-                self.size(range.len())?;
-                self.items(*count)?;
+                let bytes = core.as_ref().map_or(&[][..], |core| core.bytes);
                 Ok((range.end - bytes.len(), bytes))
             }
             Part::Item { range, label, content, bytes } => {

@@ -6,6 +6,7 @@ use super::check::{Check, node_in};
 use super::fault::{Failure, Fault};
 use super::phrase;
 use super::report::{Content, Contents, Label, Part, Report, Rest};
+use super::words;
 use std::io;
 use std::ops::Range;
 use wenc::tree::Space;
@@ -231,7 +232,13 @@ impl<'f, R: Report> Walk<'f, '_, R> {
             fault => Fault::List(fault, None),
         };
         let end = range.end;
-        self.report.open(&Part::Section { range, id, count: None })?;
+        self.report.open(&Part::Section {
+            range,
+            id,
+            word: words::section(id),
+            count: None,
+            core: None,
+        })?;
         self.note(&fault, next);
         self.unread(fault, end)?;
         Ok(self.report.close()?)
@@ -239,7 +246,8 @@ impl<'f, R: Report> Walk<'f, '_, R> {
 
     fn section(&mut self, section: SectionReader<'f>, next: &mut Indices) -> Result<(), Failure> {
         let (range, id, count) = (section.range(), section.id(), Some(section.count()));
-        self.report.open(&Part::Section { range, id, count })?;
+        let word = words::section(id);
+        self.report.open(&Part::Section { range, id, word, count, core: None })?;
         for item in section.items() {
             let fault = match item {
                 Ok((range, ItemView::Component(_))) => {
