@@ -85,10 +85,8 @@ impl Options {
 
 /// Returns the option with a value that the argument is, with the value if it has it.
 fn valued(argument: &str) -> Option<(&str, Option<&str>)> {
-    let (option, value) = match argument.split_once('=') {
-        Some((option, value)) => (option, Some(value)),
-        None => (argument, None),
-    };
+    let with_value = argument.split_once('=').map(|(option, value)| (option, Some(value)));
+    let (option, value) = with_value.unwrap_or((argument, None));
     matches!(option, "--section" | "--color" | "--width").then_some((option, value))
 }
 

@@ -7,7 +7,7 @@ use super::fault::Fault;
 use super::report::{Content, Entry, Label, Part, Report, Rest};
 use super::words;
 use std::ffi::OsStr;
-use std::fmt::Display;
+use std::fmt::{Debug, Display};
 use std::io::{self, Write};
 use std::ops::Range;
 use wenc::Producer;
@@ -96,14 +96,9 @@ impl<'o, W: Write> Text<'o, W> {
         self.out.write_all(b"\n")
     }
 
-    /// Writes a range of byte offsets, or only the first.
-    fn place(&mut self, range: &Range<usize>, is_whole: bool) -> io::Result<()> {
-        let Range { start, end } = range;
-        if is_whole {
-            self.piece(Hue::Place, format_args!("{start:#x}..{end:#x}"))?;
-        } else {
-            self.piece(Hue::Place, format_args!("{start:#x}"))?;
-        }
+    /// Writes a byte offset, or a range of them.
+    fn place(&mut self, place: impl Debug) -> io::Result<()> {
+        self.piece(Hue::Place, format_args!("{place:#x?}"))?;
         self.plain(" ")
     }
 
@@ -114,22 +109,8 @@ impl<'o, W: Write> Text<'o, W> {
         self.piece(Hue::Name, format_args!("{name:?}"))
     }
 
-    /// Writes the word of a section, or its id.
-    fn section(&mut self, word: Option<&str>, id: u8) -> io::Result<()> {
-        match word {
-            Some(word) => write!(self, "{word} section"),
-            None => write!(self, "section {id}"),
-        }
-    }
-
     fn size(&mut self, size: usize) -> io::Result<()> {
         write!(self, ", {}", words::Counted(size, "byte"))
-    }
-
-    fn items(&mut self, count: Option<u32>) -> io::Result<()> {
-        let Some(count) = count else { return Ok(()) };
-        // a count of 32 bits fits
-        write!(self, ", {}", words::Counted(count as usize, "item"))
     }
 
     fn label(&mut self, label: &Label) -> io::Result<()> {
@@ -147,7 +128,7 @@ impl<'o, W: Write> Text<'o, W> {
     }
 
     fn file(&mut self, range: &Range<usize>, content: &Content) -> io::Result<()> {
-        self.place(range, true)?;
+        self.place(range)?;
         match content {
             Content::Component(name) => {
                 self.plain("component")?;
@@ -164,7 +145,10 @@ impl<'o, W: Write> Text<'o, W> {
         label: Option<&Label>,
         content: &Content,
     ) -> io::Result<()> {
-        self.place(range, matches!(content, Content::Component(_) | Content::Module))?;
+        match content {
+            Content::Component(_) | Content::Module => self.place(range)?,
+            _ => self.place(range.start)?,
+        }
         if let Some(label) = label {
             self.label(label)?;
         }
@@ -222,11 +206,17 @@ impl<'o, W: Write> Text<'o, W> {
                 Ok((0, &[]))
             }
             Part::Section { range, id, word, count, core } => {
-                self.place(range, true)?;
-                self.section(*word, *id)?;
+                self.place(range)?;
+                match word {
+                    Some(word) => write!(self, "{word} section")?,
+                    None => write!(self, "section {id}")?,
+                }
                 self.named(" ", core.as_ref().and_then(|core| core.name))?;
                 self.size(range.len())?;
-                self.items(*count)?;
+                if let Some(count) = *count {
+                    // a count of 32 bits fits
+                    write!(self, ", {}", words::Counted(count as usize, "item"))?;
+                }
                 let bytes = core.as_ref().map_or(&[][..], |core| core.bytes);
                 Ok((range.end - bytes.len(), bytes))
             }
@@ -265,7 +255,7 @@ impl<W: Write> Report for Text<'_, W> {
 
     fn unread(&mut self, place: usize, what: &str, rest: Rest) -> io::Result<()> {
         self.begin_line(self.depth)?;
-        self.place(&(place..place), false)?;
+        self.place(place)?;
         self.plain(what)?;
         self.end_line()?;
         let Rest { bytes, are_reported } = rest;
@@ -279,7 +269,7 @@ impl<W: Write> Report for Text<'_, W> {
 
     fn out_of_range(&mut self, place: usize, index: &UsedIndex) -> io::Result<()> {
         self.begin_line(self.depth)?;
-        self.place(&(place..place), false)?;
+        self.place(place)?;
         write!(self, "{}", OutOfRange(index))?;
         self.end_line()
     }

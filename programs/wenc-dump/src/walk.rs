@@ -90,23 +90,6 @@ fn names_of(sections: Sections) -> Result<DebugNames, Failure> {
     sections.try_names().map_err(|_| Failure::NoMemory)
 }
 
-/// The byte offsets and the id of a section, if it has a size within bounds, and its items.
-type Framed<'f> = (Option<(Range<usize>, u8)>, Result<SectionReader<'f>, ListFault>);
-
-/// Returns the sections that have a size within bounds, each with its byte offsets, its id, and its
-/// items or why they can't be counted; then why no section follows.
-fn framed<'f>(mut sections: Sections<'f>) -> impl Iterator<Item = Framed<'f>> {
-    std::iter::from_fn(move || {
-        let mut here = sections;
-        let section = sections.next()?;
-        let frame = here.next_raw().map(|(range, raw)| (range, raw.id));
-        if section.is_err() && frame.is_some() {
-            sections = here;
-        }
-        Some((frame, section))
-    })
-}
-
 impl<'f, R: Report> Walk<'f, '_, R> {
     /// Notes that an item or a section of the innermost component can't be read.
     fn note(&mut self, fault: &Fault, next: &mut Indices) {
@@ -193,12 +176,14 @@ impl<'f, R: Report> Walk<'f, '_, R> {
     /// if there is one.
     fn sections_to(
         &mut self,
-        sections: Sections<'f>,
+        mut sections: Sections<'f>,
         end: usize,
         misfit: Option<Misfit>,
         next: &mut Indices,
     ) -> Result<(), Failure> {
-        for (frame, section) in framed(sections) {
+        let mut here = sections;
+        while let Some(section) = sections.next() {
+            let frame = here.next_raw();
             let start = frame.as_ref().map(|(range, _)| range.start);
             let is_in_misfit = self.is_in_misfit;
             let misfit = misfit.filter(|misfit| start == Some(misfit.place));
@@ -209,7 +194,10 @@ impl<'f, R: Report> Walk<'f, '_, R> {
             match (section, frame) {
                 (Ok(section), _) => self.section(section, next)?,
                 (Err(fault), None) => self.unread(Fault::List(fault, None), end)?,
-                (Err(fault), Some((range, id))) => self.unread_section(range, id, fault, next)?,
+                (Err(fault), Some((range, raw))) => {
+                    self.unread_section(range, raw.id, fault, next)?;
+                    sections = here;
+                }
             }
             self.is_in_misfit = is_in_misfit;
             if misfit.is_some() {
@@ -231,14 +219,8 @@ impl<'f, R: Report> Walk<'f, '_, R> {
             ListFault::BadSection { place, .. } => Fault::UnknownSection(place, id),
             fault => Fault::List(fault, None),
         };
-        let end = range.end;
-        self.report.open(&Part::Section {
-            range,
-            id,
-            word: words::section(id),
-            count: None,
-            core: None,
-        })?;
+        let (end, word) = (range.end, words::section(id));
+        self.report.open(&Part::Section { range, id, word, count: None, core: None })?;
         self.note(&fault, next);
         self.unread(fault, end)?;
         Ok(self.report.close()?)
