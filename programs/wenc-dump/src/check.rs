@@ -22,7 +22,7 @@ impl Check {
 
     /// Enters a component.
     pub fn enter(&mut self) -> Result<(), Failure> {
-        self.counts.try_reserve(1).map_err(|_| Failure::NoMemory)?;
+        self.counts.try_reserve(1)?;
         self.counts.push(IndexCounts::default());
         Ok(())
     }

@@ -157,7 +157,7 @@ impl<'f, R: Report> Walk<'f, '_, R> {
         end: usize,
         names: DebugNames,
     ) -> Result<(), Failure> {
-        self.names.try_reserve(1).map_err(|_| Failure::NoMemory)?;
+        self.names.try_reserve(1)?;
         self.names.push(names);
         self.check.enter()?;
         let mut next = Indices::default();
