@@ -118,7 +118,7 @@ impl fmt::Display for Cause {
                     "needs {needed} byte{bytes} or more from {place:#x} on, where {len} {are} left"
                 )
             }
-            Self::Deep { place } => write!(f, "the type at {place:#x} is in more than 100 others"),
+            Self::Deep { place } => write!(f, "the type at {place:#x} is in 100 others"),
         }
     }
 }

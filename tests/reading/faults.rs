@@ -71,8 +71,7 @@ fn faults_say_what_they_are() {
         (bad(None, None), "bad item in the section at 0x8"),
         (
             ListFault::TooDeep { place, unread, cause: deep },
-            "too deep item 3 at 0x1f in the section at 0x8: the type at 0xe7 is in more than 100 \
-             others",
+            "too deep item 3 at 0x1f in the section at 0x8: the type at 0xe7 is in 100 others",
         ),
         (
             ListFault::TooDeep { place, unread: None, cause: None },

@@ -21,7 +21,7 @@ fn types_too_deep_are_a_fault() {
       0xc: 42 01 01 42 01 01 42 01 01 42 01 01 42 01 01 42 ...
 ";
     let bad = "\
-too deep item 0 at 0xc in the section at 0x8: the type at 0x138 is in more than 100 others";
+too deep item 0 at 0xc in the section at 0x8: the type at 0x138 is in 100 others";
     expect("too_deep_type", &section, out, Some(bad));
 }
 
