@@ -52,9 +52,9 @@ pub struct Options {
     pub json: bool,
     /// The kinds of the sections that are printed; none for all.
     pub sections: Vec<Kind>,
-    /// Whether the output is coloured; `None` if it is on a terminal.
+    /// Whether the output is coloured; `None` for colours on a terminal only.
     pub colours: Option<bool>,
-    /// The number of columns of a line.
+    /// The maximum number of columns of a line.
     pub columns: Option<usize>,
 }
 
@@ -63,7 +63,7 @@ impl Options {
     ///
     /// # Errors
     ///
-    /// A message, if there is no such option or it can't have this value.
+    /// Returns a message if there is no such option, or if it can't have this value.
     fn set(&mut self, option: &str, value: &str) -> Result<(), String> {
         let bad = || format!("no value of {option}: {}", Escaped(value.as_ref()));
         match option {
@@ -83,7 +83,8 @@ impl Options {
     }
 }
 
-/// Returns the option with a value that the argument is, with the value if it has it.
+/// Splits an argument into an option that takes a value, and the value if it follows `=`. Returns
+/// `None` for other arguments.
 fn valued(argument: &str) -> Option<(&str, Option<&str>)> {
     let with_value = argument.split_once('=').map(|(option, value)| (option, Some(value)));
     let (option, value) = with_value.unwrap_or((argument, None));
@@ -94,7 +95,7 @@ fn valued(argument: &str) -> Option<(&str, Option<&str>)> {
 ///
 /// # Errors
 ///
-/// A message about the first unknown option or bad value, or about missing files.
+/// Returns a message about the first unknown option or bad value, or about missing files.
 pub fn request(mut arguments: impl Iterator<Item = OsString>) -> Result<Request, String> {
     let mut options = Options::default();
     let mut are_files = false;
@@ -122,7 +123,7 @@ pub fn request(mut arguments: impl Iterator<Item = OsString>) -> Result<Request,
     if options.files.is_empty() { Err("no file".into()) } else { Ok(Request::Dump(options)) }
 }
 
-/// Returns whether the argument begins as options do.
+/// Returns whether the argument begins with a hyphen, and isn't a hyphen alone.
 fn is_option(argument: &OsStr) -> bool {
     argument != "-" && argument.as_encoded_bytes().starts_with(b"-")
 }

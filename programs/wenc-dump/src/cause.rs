@@ -15,7 +15,7 @@ pub enum Cause {
         /// The version.
         version: u32,
     },
-    /// Bytes that no header has.
+    /// Bytes that don't begin with a header.
     Start {
         /// The byte offset of the first.
         place: usize,
@@ -26,7 +26,7 @@ pub enum Cause {
     },
 }
 
-/// Returns what the bytes have in place of a header, if there is more to be said.
+/// Returns what these bytes have in place of a header, if `found` doesn't say it already.
 pub fn of_header(place: usize, found: Found, bytes: &[u8]) -> Option<Cause> {
     match found {
         Found::OtherVersion => {

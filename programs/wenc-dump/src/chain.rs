@@ -81,7 +81,7 @@ fn reaching(bytes: &[u8], from: usize) -> Result<Vec<bool>, Failure> {
 ///
 /// # Errors
 ///
-/// Fails if an allocation fails. It takes a byte for each of the bytes, where they aren't sections.
+/// Fails if an allocation fails: one of a byte for each byte that is left, unless all are sections.
 pub fn misfit(bytes: &[u8], from: usize) -> Result<Option<Misfit>, Failure> {
     let next = |place: &usize| content(bytes, *place).map(|content| content.end);
     let last = iter::successors(Some(from), next).last().unwrap_or(from);

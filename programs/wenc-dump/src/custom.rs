@@ -18,8 +18,8 @@ impl Contents {
         }
     }
 
-    /// Returns what is reported of a custom section with this name in a core module: the names
-    /// there are other ones.
+    /// Returns what is reported of a custom section with this name in a core module, where debug
+    /// names are encoded otherwise.
     pub fn of_core(name: &str) -> Self {
         if name == ProducersReader::SECTION { Self::Producers } else { Self::Other }
     }

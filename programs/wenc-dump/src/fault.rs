@@ -34,7 +34,7 @@ pub enum Fault {
     Names(usize, Cause),
     /// Producers, from this byte offset on, and why.
     Producers(usize, Cause),
-    /// So many indices that are out of range.
+    /// The number of indices that are out of range.
     OutOfRange(usize),
 }
 

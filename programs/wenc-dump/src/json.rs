@@ -335,7 +335,7 @@ impl<W: Write> Report for Json<'_, W> {
         self.put("}")
     }
 
-    /// Writes whole lines alone.
+    /// Flushes the output between lines only.
     fn flush(&mut self) -> io::Result<()> {
         if self.open.is_empty() { self.out.flush() } else { Ok(()) }
     }

@@ -33,8 +33,7 @@ pub struct Terminal {
 
 /// Runs `wenc-dump` with these arguments, of which the first is the program's name, and returns the
 /// exit status: 0 if all was read and printed, 1 if a part of a file can't be read or a write
-/// failed, 2 if the arguments are bad, 3 if memory ran out. It is no failure if the reader of the
-/// output closes it.
+/// failed, 2 if the arguments are bad, 3 if memory ran out. A closed pipe isn't a failure.
 pub fn run(
     arguments_with_name: impl Iterator<Item = OsString>,
     terminal: Terminal,
@@ -66,7 +65,7 @@ fn print(out: &mut impl Write, text: &str) -> io::Result<()> {
     out.flush()
 }
 
-/// Prints a message. A failure of that can't be reported.
+/// Prints a message. An error of that is ignored, since it can't be reported.
 fn complain(err: &mut impl Write, message: fmt::Arguments) {
     let _ = err.write_fmt(message).and_then(|()| err.flush());
 }
@@ -104,7 +103,7 @@ fn dump(
     Ok(())
 }
 
-/// Messages that follow the line in which they would be.
+/// Messages that are held back until the line of JSON that they would break is written.
 #[derive(Default)]
 struct Kept(String);
 

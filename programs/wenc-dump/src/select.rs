@@ -37,7 +37,7 @@ impl Kind {
     }
 }
 
-/// A report without the sections of the file that aren't of these kinds. Without kinds it has all.
+/// A report of those sections of the file that are of these kinds; of all if there are no kinds.
 pub struct Selected<'r, R> {
     report: &'r mut R,
     kinds: &'r [Kind],
@@ -63,7 +63,7 @@ impl<'r, R: Report> Selected<'r, R> {
         }
     }
 
-    /// Passes something on, unless it is left out.
+    /// Passes a call on, unless the open section is left out.
     fn pass(&mut self, to: impl FnOnce(&mut R) -> io::Result<()>) -> io::Result<()> {
         if self.left_out.is_none() { to(self.report) } else { Ok(()) }
     }

@@ -13,7 +13,7 @@ use std::ops::Range;
 use wenc::Producer;
 use wenc::tree::UsedIndex;
 
-/// The usual number of columns of a line, if it can be folded.
+/// The maximum number of columns of a line that can be folded, unless another one is given.
 pub const COLUMNS: usize = 100;
 
 /// The maximum indentation in columns, so that each line has room for text, and the size of the
@@ -23,7 +23,7 @@ const INDENTATION: usize = 40;
 /// The number of bytes in a line of bytes.
 const BYTES: usize = 16;
 
-/// What text is like.
+/// How text is laid out.
 #[derive(Clone, Copy, Default)]
 pub struct Style {
     pub has_colours: bool,
@@ -31,7 +31,7 @@ pub struct Style {
     pub has_bytes: bool,
     /// Whether it has the names of files.
     pub has_titles: bool,
-    /// The number of columns of a line, if it can be folded.
+    /// The maximum number of columns of a line that can be folded.
     pub columns: usize,
 }
 
@@ -67,7 +67,7 @@ impl<'o, W: Write> Text<'o, W> {
         Self { out, style, depth: 0, columns: 0, most: usize::MAX }
     }
 
-    /// Creates a writer of text without colours, of which that many columns are there.
+    /// Creates a writer of text without colours, which fails after so many columns of a line.
     pub(super) fn within(most: usize, out: &'o mut W) -> Self {
         Self { most, ..Self::new(out, Style::default()) }
     }
@@ -185,7 +185,7 @@ impl<'o, W: Write> Text<'o, W> {
         }
     }
 
-    /// Writes bytes, which begin at this byte offset, and after which others may be left out.
+    /// Writes lines of bytes, from this byte offset on, and whether bytes after them are left out.
     fn bytes(&mut self, mut place: usize, bytes: &[u8], has_more: bool) -> io::Result<()> {
         for some in bytes.chunks(BYTES) {
             self.begin_line(self.depth + 1)?;
