@@ -233,8 +233,8 @@ impl<'o, W: Write> Json<'o, W> {
         Ok(back)
     }
 
-    /// Begins the lists of a section, which is one of a core module if it has contents. Returns what
-    /// closes them.
+    /// Begins the lists of a section, which is one of a core module if it has contents. Returns
+    /// what closes them.
     fn items(&mut self, contents: Option<Contents>) -> io::Result<Open> {
         self.put(",\"items\":[")?;
         let list = match contents {

@@ -57,7 +57,8 @@ impl<R: Report> Walk<'_, '_, R> {
                 (Ok(section), _) => self.core_section(at, &section, None, &mut next)?,
                 (Err(ModuleFault::BadSection { cause, .. }), Some((range, raw))) => {
                     let section = CoreSection { id: raw.id, name: None, data: raw.data, range };
-                    self.core_section(at, &section, Some(cause), &mut next)?;
+                    let cause = Some(Cause::Read(cause.moved(at)));
+                    self.core_section(at, &section, cause, &mut next)?;
                     sections = here.clone();
                 }
                 (Err(fault), _) => self.unread(Fault::of_module(at, fault, None), module.end)?,
@@ -72,7 +73,7 @@ impl<R: Report> Walk<'_, '_, R> {
         &mut self,
         at: usize,
         section: &CoreSection,
-        no_name: Option<wenc::Cause>,
+        no_name: Option<Cause>,
         next: &mut Indices,
     ) -> Result<(), Failure> {
         let are_shown = are_shown(section);
@@ -86,9 +87,8 @@ impl<R: Report> Walk<'_, '_, R> {
             count: section.count(),
             core: Some(Core { name: section.name, contents, bytes }),
         })?;
-        if let Some(cause) = no_name {
-            let cause = Some(Cause::Read(cause.moved(at)));
-            self.unread_reported(Fault::NoName(range.start, cause), range.end)?;
+        if no_name.is_some() {
+            self.unread_reported(Fault::NoName(range.start, no_name), range.end)?;
         }
         if section.kind().is_none() {
             self.unread_reported(Fault::UnknownSection(range.start, section.id), range.end)?;
@@ -102,11 +102,7 @@ impl<R: Report> Walk<'_, '_, R> {
                 Err(fault) => {
                     let fault = Fault::of_module(at, fault, None);
                     next.note(&fault);
-                    if are_shown {
-                        self.unread(fault, range.end)?;
-                    } else {
-                        self.unread_reported(fault, range.end)?;
-                    }
+                    self.unread_of(fault, range.end, !are_shown)?;
                 }
             }
         }

@@ -99,8 +99,8 @@ impl<'f, R: Report> Walk<'f, '_, R> {
         }
     }
 
-    /// Passes on a fault, after writing what comes before it, unless it is in a section with a wrong
-    /// size.
+    /// Passes on a fault, after writing what comes before it, unless it is in a section with a
+    /// wrong size.
     fn fault(&mut self, fault: Fault) -> io::Result<()> {
         if !self.is_in_misfit {
             self.report.flush()?;
@@ -109,8 +109,7 @@ impl<'f, R: Report> Walk<'f, '_, R> {
         Ok(())
     }
 
-    /// Reports that nothing more is read of the innermost open part, which ends at this byte
-    /// offset.
+    /// Reports that nothing more is read of the innermost open part, up to its end.
     pub(super) fn unread(&mut self, fault: Fault, end: usize) -> io::Result<()> {
         self.unread_of(fault, end, false)
     }
@@ -121,7 +120,13 @@ impl<'f, R: Report> Walk<'f, '_, R> {
         self.unread_of(fault, end, true)
     }
 
-    fn unread_of(&mut self, fault: Fault, end: usize, are_reported: bool) -> io::Result<()> {
+    /// Does what [`unread`](Self::unread) or [`unread_reported`](Self::unread_reported) does.
+    pub(super) fn unread_of(
+        &mut self,
+        fault: Fault,
+        end: usize,
+        are_reported: bool,
+    ) -> io::Result<()> {
         if let Some(place) = fault.place() {
             let rest = Rest { bytes: self.bytes.get(place..end).unwrap_or(&[]), are_reported };
             self.report.unread(place, fault.words(), rest)?;
