@@ -21,7 +21,8 @@ pub enum Cause {
     },
     /// A byte of a text that isn't UTF-8.
     Text {
-        /// Its byte offset.
+        /// Its byte offset: up to it the text is UTF-8, as of
+        /// [`valid_up_to`](core::str::Utf8Error::valid_up_to).
         place: usize,
         /// The byte.
         byte: u8,
@@ -33,7 +34,8 @@ pub enum Cause {
         /// The maximum number of its bits.
         bits: u8,
     },
-    /// There are too few bytes.
+    /// There are too few bytes, for a text, for the members of a list or for what is next. The bytes
+    /// that are there may be wrong, too.
     Few {
         /// The byte offset from which on they are needed.
         place: usize,

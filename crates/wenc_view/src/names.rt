@@ -129,6 +129,15 @@ fn options_from<'a>(
     }
 }
 
+/// Returns the error of bytes that begin with another number than 1 to 3.
+#[cold]
+fn no_count_of_options(bytes: &[u8]) -> Refusal {
+    match bytes {
+        [0x81 | 0x82 | 0x83, ..] => Refusal::at(bytes, Expected::Bits(2)),
+        _ => Refusal::at(bytes, Expected::OptionCount),
+    }
+}
+
 impl<'a> View<'a> for NameView<'a> {
     ghost Value = { ExternName };
 
@@ -157,10 +166,10 @@ impl<'a> View<'a> for NameView<'a> {
             (0x02, rest) => {
                 let (name, rest) = text_of(rest)?;
                 match u32_of(rest)? {
-                    (0, _) => Err(Refusal::at(rest, Expected::OptionCount)),
+                    (0, _) => Err(no_count_of_options(rest)),
                     (count, options) => match options_from(name, 0, count, options) {
                         Ok((name, rest)) => Ok((name, rest)),
-                        Err(_) if count > 3 => Err(Refusal::at(rest, Expected::Bits(2))),
+                        Err(_) if count > 3 => Err(no_count_of_options(rest)),
                         Err(refusal) => Err(refusal),
                     },
                 }

@@ -12,58 +12,58 @@ use Rattle.wenc_list.proofs.listing.list_or_refusal.Goals as goal
 pub returns-in-Err-clause-listed : goal.returns-in-Err-clause-listed
 returns-in-Err-clause-listed g c ss r w = absurd (c.in-Err.ensures.fault.1 r.0 r.1)
 
-pub returns-in-Ok-in_err-sections-clause-listed : goal.returns-in-Ok-in_err-sections-clause-listed
-returns-in-Ok-in_err-sections-clause-listed g c ss r w =
+pub returns-in_err-sections-in-Ok-clause-listed : goal.returns-in_err-sections-in-Ok-clause-listed
+returns-in_err-sections-in-Ok-clause-listed g c ss r w =
     let p = err_from_is_err_and c.from_residual.result c.from_residual.ensures.1 in
     let same = same_behind c.args.bytes.now r.0 c.in-Ok.all.rest.now r.1 c.in-Ok.ensures.begins in
-    rw (p.1, p.2) (only_memory c.in-Ok.all.ends c.in-Ok.all.rest.now (fault_of_list c.in_err-sections.field-0.0) c.in_err-sections.ensures.fault ss (rw same at r.2) w)
+    rw (p.1, p.2) (only_memory c.in-Ok.all.ends c.in-Ok.all.rest.now (fault_of_list c.in_err-sections-in-Ok.field-0.0) c.in_err-sections-in-Ok.ensures.fault ss (rw same at r.2) w)
 
-pub returns-in-Ok-in_err-sections-clause-no_header : goal.returns-in-Ok-in_err-sections-clause-no_header
-returns-in-Ok-in_err-sections-clause-no_header g c h = absurd (h c.in-Ok.all.rest.now c.in-Ok.ensures.begins)
+pub returns-in_err-sections-in-Ok-clause-no_header : goal.returns-in_err-sections-in-Ok-clause-no_header
+returns-in_err-sections-in-Ok-clause-no_header g c h = absurd (h c.in-Ok.all.rest.now c.in-Ok.ensures.begins)
 
-pub returns-in-Ok-clause-reading : goal.returns-in-Ok-clause-reading
-returns-in-Ok-clause-reading g c = (
+pub returns-in_ok-sections-in-Ok-clause-reading : goal.returns-in_ok-sections-in-Ok-clause-reading
+returns-in_ok-sections-in-Ok-clause-reading g c = (
   c.in-Ok.all.rest.now,
   c.in-Ok.ensures.begins,
-  from_all c.in-Ok.all.ends c.in_ok-sections.sections.items c.in-Ok.all.rest.now c.in_ok-sections.ensures.listed,
+  from_all c.in-Ok.all.ends c.in_ok-sections-in-Ok.sections.items c.in-Ok.all.rest.now c.in_ok-sections-in-Ok.ensures.listed,
 )
 
-pub returns-in-Ok-clause-listed : goal.returns-in-Ok-clause-listed
-returns-in-Ok-clause-listed g c ss r w =
+pub returns-in_ok-sections-in-Ok-clause-listed : goal.returns-in_ok-sections-in-Ok-clause-listed
+returns-in_ok-sections-in-Ok-clause-listed g c ss r w =
     let same = same_behind c.args.bytes.now r.0 c.in-Ok.all.rest.now r.1 c.in-Ok.ensures.begins in
-    same_sections (map section_view c.in_ok-sections.sections.items) ss c.in-Ok.all.rest.now
-    (from_all c.in-Ok.all.ends c.in_ok-sections.sections.items c.in-Ok.all.rest.now c.in_ok-sections.ensures.listed)
-    (rw same at r.2) c.in_ok-sections.ensures.within w
+    same_sections (map section_view c.in_ok-sections-in-Ok.sections.items) ss c.in-Ok.all.rest.now
+    (from_all c.in-Ok.all.ends c.in_ok-sections-in-Ok.sections.items c.in-Ok.all.rest.now c.in_ok-sections-in-Ok.ensures.listed)
+    (rw same at r.2) c.in_ok-sections-in-Ok.ensures.within w
 
-pub returns-in-Ok-clause-no_header : goal.returns-in-Ok-clause-no_header
-returns-in-Ok-clause-no_header g c h = absurd (h c.in-Ok.all.rest.now c.in-Ok.ensures.begins)
+pub returns-in_ok-sections-in-Ok-clause-no_header : goal.returns-in_ok-sections-in-Ok-clause-no_header
+returns-in_ok-sections-in-Ok-clause-no_header g c h = absurd (h c.in-Ok.all.rest.now c.in-Ok.ensures.begins)
 
 pub returns-in-Err-clause-or_deep : goal.returns-in-Err-clause-or_deep
 returns-in-Err-clause-or_deep g c ss r = absurd (c.in-Err.ensures.fault.1 r.0 r.1)
 
-pub returns-in-Ok-in_err-sections-clause-or_deep : goal.returns-in-Ok-in_err-sections-clause-or_deep
-returns-in-Ok-in_err-sections-clause-or_deep g c ss r =
+pub returns-in_err-sections-in-Ok-clause-or_deep : goal.returns-in_err-sections-in-Ok-clause-or_deep
+returns-in_err-sections-in-Ok-clause-or_deep g c ss r =
     let p = err_from_is_err_and c.from_residual.result c.from_residual.ensures.1 in
     let same = same_behind c.args.bytes.now r.0 c.in-Ok.all.rest.now r.1 c.in-Ok.ensures.begins in
-    rw (p.1, p.2) (only_deep c.in-Ok.all.ends c.in-Ok.all.rest.now (fault_of_list c.in_err-sections.field-0.0) c.in_err-sections.ensures.fault ss (rw same at r.2))
+    rw (p.1, p.2) (only_deep c.in-Ok.all.ends c.in-Ok.all.rest.now (fault_of_list c.in_err-sections-in-Ok.field-0.0) c.in_err-sections-in-Ok.ensures.fault ss (rw same at r.2))
 
-pub returns-in-Ok-clause-or_deep : goal.returns-in-Ok-clause-or_deep
-returns-in-Ok-clause-or_deep g c ss r =
-    once Wide Wide c.args.bytes.now (map section_view c.in_ok-sections.sections.items) ss (
+pub returns-in_ok-sections-in-Ok-clause-or_deep : goal.returns-in_ok-sections-in-Ok-clause-or_deep
+returns-in_ok-sections-in-Ok-clause-or_deep g c ss r =
+    once Wide Wide c.args.bytes.now (map section_view c.in_ok-sections-in-Ok.sections.items) ss (
       c.in-Ok.all.rest.now,
       c.in-Ok.ensures.begins,
-      from_all c.in-Ok.all.ends c.in_ok-sections.sections.items
-          c.in-Ok.all.rest.now c.in_ok-sections.ensures.listed,
+      from_all c.in-Ok.all.ends c.in_ok-sections-in-Ok.sections.items
+          c.in-Ok.all.rest.now c.in_ok-sections-in-Ok.ensures.listed,
     ) r
 
-pub returns-in-Ok-in_err-sections-clause-stopped : goal.returns-in-Ok-in_err-sections-clause-stopped
-returns-in-Ok-in_err-sections-clause-stopped g c =
+pub returns-in_err-sections-in-Ok-clause-stopped : goal.returns-in_err-sections-in-Ok-clause-stopped
+returns-in_err-sections-in-Ok-clause-stopped g c =
     let p = err_from_is_err_and c.from_residual.result c.from_residual.ensures.1 in
-    rw (p.1, p.2) (c.in_err-sections.ensures.stopped c.args.bytes.now c.in-Ok.ensures.ends
+    rw (p.1, p.2) (c.in_err-sections-in-Ok.ensures.stopped c.args.bytes.now c.in-Ok.ensures.ends
     (header_leaves c.args.bytes.now c.in-Ok.all.rest.now c.in-Ok.ensures.begins))
 
-pub returns-in-Ok-in_err-sections-clause-fault : goal.returns-in-Ok-in_err-sections-clause-fault
-returns-in-Ok-in_err-sections-clause-fault g c =
+pub returns-in_err-sections-in-Ok-clause-fault : goal.returns-in_err-sections-in-Ok-clause-fault
+returns-in_err-sections-in-Ok-clause-fault g c =
     let p = err_from_is_err_and c.from_residual.result c.from_residual.ensures.1 in
-    rw (p.1, p.2) (fault_behind c.args.bytes.now c.in-Ok.all.rest.now (fault_of_list c.in_err-sections.field-0.0) c.in-Ok.ensures.begins
-    (rw c.in-Ok.ensures.ends at c.in_err-sections.ensures.fault))
+    rw (p.1, p.2) (fault_behind c.args.bytes.now c.in-Ok.all.rest.now (fault_of_list c.in_err-sections-in-Ok.field-0.0) c.in-Ok.ensures.begins
+    (rw c.in-Ok.ensures.ends at c.in_err-sections-in-Ok.ensures.fault))

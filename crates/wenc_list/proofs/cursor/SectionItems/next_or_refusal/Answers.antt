@@ -1,6 +1,6 @@
 use Rattle.std.proofs.Common.{refl, arith}
 use Rattle.wenc_list.specs.Items.{item_seen}
-use Rattle.wenc_list.proofs.Taken.{item_found, item_leaves, next_fault, behind_fault}
+use Rattle.wenc_list.proofs.Taken.{item_found, item_leaves, next_fault}
 use Rattle.wenc_list.proofs.cursor.SectionItems.next_or_refusal.Goals as goal
 
 pub returns-in-Ok-clause-taken : goal.returns-in-Ok-clause-taken
