@@ -117,7 +117,9 @@ fn options_of_names() {
     let of = |options: &[u8]| NameView::view_of(&[b"\x02\x01a", options].concat()).err();
     let from = |left, first, last| Some(refusal(left, Expected::From(first, last)));
     assert_eq!(of(b"\x00\x07"), Some(refusal(2, Expected::OptionCount)));
-    assert_eq!(of(b"\x04\x00\x00\x01\x00\x02\x00"), Some(refusal(7, Expected::Bits(2))));
+    assert_eq!(of(b"\x04\x00\x00\x01\x00\x02\x00"), Some(refusal(7, Expected::OptionCount)));
+    assert_eq!(of(b"\x80\x01\x00\x00"), Some(refusal(4, Expected::OptionCount)));
+    assert_eq!(of(b"\x81\x01\x00\x00"), Some(refusal(4, Expected::Bits(2))));
     assert_eq!(of(b"\x01\x03\x00"), from(2, 0, 2));
     assert_eq!(of(b"\x02\x02\x00\x02\x00"), from(4, 0, 1));
     assert_eq!(of(b"\x02\x01\x00\x01\x00"), from(2, 2, 2));
