@@ -68,7 +68,7 @@ fn causes_are_sentences() {
     let few = "needs 3 bytes or more from 0x2 on, where 2 are left";
     assert_eq!(of(2, Expected::Bytes(3)), few);
     let deep = Cause::Deep { place: 300 }.to_string();
-    assert_eq!(deep, "the type at 0x12c is in more than 100 others");
+    assert_eq!(deep, "the type at 0x12c is in 100 others");
 }
 
 /// Of an item's first byte it is said what item is expected.
