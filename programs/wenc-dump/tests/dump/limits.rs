@@ -84,6 +84,7 @@ fn section(id: u8, content: &[u8]) -> Vec<u8> {
 
 /// Types of any size are printed as they are read.
 #[test]
+#[cfg_attr(debug_assertions, ignore = "the limits are those of optimized code")]
 fn a_large_type() {
     let declared = b"\x01\x7f".repeat(600_000);
     let ty = [&[1, 0x42][..], &padded(600_000), &declared].concat();
@@ -91,6 +92,7 @@ fn a_large_type() {
 }
 
 #[test]
+#[cfg_attr(debug_assertions, ignore = "the limits are those of optimized code")]
 fn a_large_custom_section_and_what_is_around_it() {
     let custom = section(0, &[&[1, b'x'][..], &[7; 1 << 20]].concat());
     let nested = section(4, &component(&section(4, &component(&custom))));
@@ -98,6 +100,7 @@ fn a_large_custom_section_and_what_is_around_it() {
 }
 
 #[test]
+#[cfg_attr(debug_assertions, ignore = "the limits are those of optimized code")]
 fn long_names_of_a_core_module() {
     let name = [&padded(1 << 19)[..], &[b'n'; 1 << 19]].concat();
     let imports = section(2, &[&[1][..], &name, &name, &[0, 0]].concat());
@@ -107,6 +110,7 @@ fn long_names_of_a_core_module() {
 }
 
 #[test]
+#[cfg_attr(debug_assertions, ignore = "the limits are those of optimized code")]
 fn many_debug_names() {
     let mut names = DebugNames::new();
     names.set_component("n".repeat(1 << 18));
@@ -118,6 +122,7 @@ fn many_debug_names() {
 
 /// To find its cause, the bytes behind a fault are copied.
 #[test]
+#[cfg_attr(debug_assertions, ignore = "the limits are those of optimized code")]
 fn a_fault_before_many_bytes() {
     let imports = [&b"\x01\0\x01f\x09"[..], &[0; 1 << 20]].concat();
     let file = file("limits_fault", &section(10, &imports));
@@ -144,6 +149,7 @@ fn a_fault_before_many_bytes() {
 
 /// Types in types are printed one in the other.
 #[test]
+#[cfg_attr(debug_assertions, ignore = "the limits are those of optimized code")]
 fn deep_types() {
     let mut ty = vec![0x42, 0];
     for _ in 0..99 {
@@ -155,6 +161,7 @@ fn deep_types() {
 
 /// The other files are printed, and the status says the worst.
 #[test]
+#[cfg_attr(debug_assertions, ignore = "the limits are those of optimized code")]
 fn files_after_the_one_that_memory_ran_out_in() {
     let custom = section(0, &[&[1, b'x'][..], &[7; 1 << 20]].concat());
     let (large, bad) = (file("limits_first", &custom), file_of("limits_bad", b""));
