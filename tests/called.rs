@@ -1,6 +1,6 @@
 //! Each public function and method of the proved crates is called by a test of the proved calls
 //! (`tests/proved`) or by the facade, in a function that a test of the facade calls; and each law,
-//! which does nothing, by `proved_tests` or by another law. This reads the sources, as the build
+//! which does nothing, by a crate of proved facts or by another law. This reads the sources, as the build
 //! script erases them, the facade and the tests, and fails where one has no caller.
 //!
 //! It goes by names. A function is called where its name stands outside of a `use`; a method where
@@ -97,7 +97,9 @@ fn is_of(path: &Path, fronts: &[&str]) -> bool {
 fn each_public_function_is_called() {
     let mut sources = sources();
     let tests = files(&Path::new(env!("CARGO_MANIFEST_DIR")).join("tests/proved"));
-    let mut facts = files(&erased::folder().join("proved_tests"));
+    let proved = ["proved_parts", "proved_lists", "proved_tests"];
+    let mut facts: Vec<_> =
+        proved.iter().flat_map(|name| files(&erased::folder().join(name))).collect();
     let own = files(&erased::folder().join("wasm_encoder"));
     facts.extend(own.into_iter().filter(|(path, _)| path.starts_with("laws")));
     tests.iter().for_each(|(_, text)| sources.add_aliases(text));

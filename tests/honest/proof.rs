@@ -136,11 +136,13 @@ fn quoted_definitions_are_in_the_sources() {
     assert!(quoted > 0);
 }
 
-/// The callers that the pages of the crates show are those of `proved_tests`.
+/// The callers that the pages of the crates show are those of the crates of proved facts.
 #[test]
 fn callers_on_the_pages_are_proved_ones() {
     let crates = Path::new(env!("CARGO_MANIFEST_DIR")).join("crates");
-    let sources = folders().remove("proved_tests/src").expect("the sources of facts");
+    let mut folders = folders();
+    let sources = ["proved_parts/src", "proved_lists/src", "proved_tests/src"]
+        .map(|folder| folders.remove(folder).expect("the sources of facts"));
     let mut shown = 0;
     for entry in fs::read_dir(&crates).expect("the folder can be read") {
         let page = entry.expect("an entry").path().join("CALLING.md");
@@ -149,7 +151,7 @@ fn callers_on_the_pages_are_proved_ones() {
         for block in page.split("```rust\n").skip(1) {
             let (code, _) = block.split_once("```").expect("the block ends");
             let is_in = |text: &Vec<u8>| String::from_utf8_lossy(text).contains(code);
-            assert!(sources.values().any(is_in), "{code}");
+            assert!(sources.iter().flat_map(BTreeMap::values).any(is_in), "{code}");
             shown += 1;
         }
     }

@@ -31,7 +31,7 @@ pub const WAYS: [&str; 23] = [
     "method that is inlined",
 ];
 
-const CRATES: [&str; 15] = [
+const CRATES: [&str; 17] = [
     "wenc_base",
     "wenc_parts",
     "wenc_types",
@@ -45,6 +45,8 @@ const CRATES: [&str; 15] = [
     "wasm_encoder",
     "wenc",
     "rebuild",
+    "proved_parts",
+    "proved_lists",
     "proved_tests",
     "hex",
 ];

@@ -2,11 +2,11 @@
 //! answers: those of components from Rust's `wasm-encoder` 0.263.0; those of values, core types,
 //! modules and custom sections from the format's rows. `tests/real/shown.rs` reads each.
 
-use crate::proved::proved_tests::by_hand::by_hand;
-use crate::proved::proved_tests::examples::{
-    base, builder, canon, list, parts, program, sections, trees, types,
-};
-use crate::proved::proved_tests::wrapping::wrapped;
+use crate::proved::proved_lists::examples::list;
+use crate::proved::proved_parts::by_hand::by_hand;
+use crate::proved::proved_parts::examples::{base, builder, canon, parts, sections, trees, types};
+use crate::proved::proved_parts::wrapping::wrapped;
+use crate::proved::proved_tests::examples::{commands, program};
 use crate::proved::wasm_encoder::{
     Component, ComponentImportSection, ComponentTypeRef, ComponentTypeSection, ComponentValType,
     Encode, Fault, PrimitiveValType,
@@ -175,10 +175,10 @@ fn script() -> Result<Vec<u8>, Fault> {
 
 #[test]
 fn runs() {
-    let import = builder::command(Global).unwrap();
-    let (index, bytes) = builder::running(Global, import).unwrap();
+    let import = commands::command(Global).unwrap();
+    let (index, bytes) = commands::running(Global, import).unwrap();
     assert!(index == Some(0) && bytes.as_slice() == RUN);
-    let (bytes, refused) = builder::run(Global).unwrap();
+    let (bytes, refused) = commands::run(Global).unwrap();
     assert!(!refused && bytes.as_slice() == RUN);
     assert!(list::imports(Global, RUN).unwrap());
     let aliases = b"\0asm\x0d\0\x01\0\x06\x06\x02\x03\x02\x00\x00\x09";

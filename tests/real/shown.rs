@@ -134,8 +134,9 @@ fn bare(code: &str) -> String {
 
 #[test]
 fn doc_comments_show_the_proved_examples() {
-    let proved = files(&path("crates/proved_tests/src/examples"), "rt");
-    let proved: String = proved.iter().map(|file| bare(&read(file))).collect();
+    let proved = ["proved_parts", "proved_lists", "proved_tests"];
+    let proved = proved.map(|name| files(&path(&format!("crates/{name}/src/examples")), "rt"));
+    let proved: String = proved.iter().flatten().map(|file| bare(&read(file))).collect();
     let crates = std::fs::read_dir(path("crates")).expect("the crates are there");
     let sources = crates.map(|folder| folder.expect("it is told").path().join("src"));
     let sources = sources.filter(|sources| sources.exists());

@@ -18,8 +18,8 @@ use std::alloc::Allocator;
 use wasm_encoder::laws::{
     an_added_function_is_one_more, counts_never_fall, delimited, indices_are_no_primitives,
     named_indices_ascend, neighbours_differ, nested_runs, one_item_counts_once, one_list,
-    reads_once, sections_are_their_items, signed_text_in_words, unsigned_text_in_words,
-    what_is_added_is_contained, what_is_finished_has_some,
+    reads_once, sections_are_their_items, signed_text_in_words, texts_tell_values,
+    unsigned_text_in_words, what_is_added_is_contained, what_is_finished_has_some,
 };
 use wasm_encoder::{Built, Command, build};
 use wenc_base::{Encode, Fault};
@@ -59,6 +59,11 @@ pub fn imports_are_told()
 {
     delimited();
     reads_once();
+}
+
+/// Shows that two numbers are equal if their encodings are.
+pub fn numbers_are_told(one: &u32, other: &u32) {
+    texts_tell_values(one, other);
 }
 
 /// Adds an import to a section, which then contains its earlier imports and this one.

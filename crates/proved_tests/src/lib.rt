@@ -1,24 +1,16 @@
-//! Proved facts about calls and values: the examples of the doc comments, callers of the laws,
-//! properties of runs of commands, worked encodings, and types that another crate defines.
+//! Proved facts about commands, laws and scripts: examples of their doc comments, callers of the
+//! laws, and properties of runs of commands. `proved_parts` and `proved_lists` have those of the
+//! crates below.
 #![tactic(auto)]
 
 pub mod applied;
 pub mod built;
-pub mod by_hand;
 pub mod callers;
-pub mod concrete;
-pub mod cut;
-pub mod declared;
 pub mod encoders;
 pub mod examples;
 pub mod finished;
-pub mod holders;
 pub mod importing;
+pub mod lights;
 pub mod listed;
-pub mod read;
 pub mod rebuilt;
 pub mod runs;
-pub mod strangers;
-pub mod taken;
-pub mod values;
-pub mod wrapping;

@@ -2,7 +2,7 @@
 //! declarations count as.
 
 use super::{is, section_is};
-use crate::proved::proved_tests::strangers::own::Own;
+use crate::proved::proved_parts::strangers::own::Own;
 use crate::proved::tests::hex::digits;
 use crate::proved::wenc_base::{
     CompositeType, Fault, FuncType, GroupTree, Guarded, Module, NameMap, ProducersField,

@@ -1,7 +1,7 @@
 //! Holders with bytes in front of their members, and sections over them.
 
 use super::holder::{UNFINISHED, is_begun, is_whole};
-use crate::proved::proved_tests::holders::{
+use crate::proved::proved_parts::holders::{
     aliases, filled, functions, gone_back, over_four_bytes, unfinished_aliases,
 };
 use crate::proved::tests::sweeping::check;

@@ -1,6 +1,6 @@
 //! Values that are refused.
 
-use crate::proved::proved_tests::strangers::own::Item;
+use crate::proved::proved_parts::strangers::own::Item;
 use crate::proved::tests::sweeping::check;
 use crate::proved::wenc_base::{Encode, Fault, Tagged, encode_list};
 use crate::proved::wenc_parts::ComponentSection;

@@ -1,6 +1,6 @@
 //! Numbers, texts, lists, and values that are made of others.
 
-use crate::proved::proved_tests::strangers::own::{Light, write_all};
+use crate::proved::proved_parts::strangers::own::{Light, write_all};
 use crate::proved::tests::sweeping::{check, check_all};
 use crate::proved::wenc_base::{
     AbstractHeapType, ByRef, ByteTypes, Encode, Fault, HeapType, RefType, Short, Tagged, ValType,

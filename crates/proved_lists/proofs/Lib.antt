@@ -1,0 +1,2 @@
+mod Left
+pub mod ReadSo

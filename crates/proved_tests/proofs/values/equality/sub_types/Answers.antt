@@ -1,7 +1,0 @@
-use denote.Param.{param}
-use Rattle.std.proofs.lemmas.Bool.Decides.{Decides-at}
-use Rattle.proved_tests.proofs.Equalities.{subs}
-use Rattle.proved_tests.proofs.values.equality.sub_types.Goals as goal
-
-pub returns : goal.returns
-returns g c = Decides-at _ _ c.eq.ensures (subs (param 0 g.row.A) g.A.Allocator g.A.Allocator-dict g.A.Destruct-dict c.args.one.now c.args.other.now)
