@@ -2,7 +2,10 @@
 
 use super::component;
 use crate::proved::tests::refusing::Refusing;
-use crate::proved::wenc_list::{ListFault, SectionItems, Sections};
+use crate::proved::wenc_list::{
+    ListFault, ListRefusal, SectionItems, SectionRefusal, Sections, list, list_or_refusal,
+};
+use crate::proved::wenc_read::{Expected, NestedRefusal, Refusal};
 
 const BAD_ITEM: ListFault = ListFault::BadItem { place: 8 };
 
@@ -52,4 +55,50 @@ fn items() {
             assert_eq!(state(&items), (left, reached));
         }
     }
+}
+
+/// What a listing of these bytes fails with, and the fault that this is.
+fn fault<'a>(heap: &Refusing, bytes: &'a [u8]) -> (ListRefusal<'a>, ListFault) {
+    let refusal = list_or_refusal(heap, bytes).err().expect("it can't be listed");
+    assert_eq!(list(heap, bytes).err(), Some(refusal.fault()));
+    (refusal, refusal.fault())
+}
+
+#[test]
+fn listings() {
+    let heap = Refusing::new();
+    let found = fault(&heap, b"\0asm\x01\0\0\0");
+    assert!(matches!(found, (ListRefusal::Header, ListFault::NotAComponent { place: 0 })));
+
+    // a size past the end, and no count
+    let bytes = component(b"\x06\x02\0");
+    let (ListRefusal::Section { place: 8, refusal }, ListFault::BadSection { place: 8 }) =
+        fault(&heap, &bytes)
+    else {
+        panic!("a section that can't be read")
+    };
+    let expected = Refusal { left: 1, expected: Expected::Bytes(2) };
+    assert!(matches!(refusal, SectionRefusal::Frame(refusal) if refusal == expected));
+    let bytes = component(b"\x06\0\x07\0");
+    let (ListRefusal::Section { place: 8, refusal }, BAD_ITEM) = fault(&heap, &bytes) else {
+        panic!("a section without a count")
+    };
+    let SectionRefusal::Count(of, refusal) = refusal else { panic!("no count") };
+    assert_eq!((of.id, of.place, of.ends, of.left, of.rest), (6, 8, 10, 0, &b""[..]));
+    assert_eq!(refusal, Refusal { left: 0, expected: Expected::Bytes(1) });
+
+    // the second of three aliases
+    let bytes = component(b"\x06\x0b\x03\x03\x02\0\0\x03\x03\0\0\0\0");
+    let (ListRefusal::Item { count: 3, left, refusal }, BAD_ITEM) = fault(&heap, &bytes) else {
+        panic!("an item that can't be read")
+    };
+    assert_eq!((left.id, left.place, left.ends, left.left), (6, 8, 21, 2));
+    assert_eq!(left.reached(), 15);
+    let expected = Refusal { left: 5, expected: Expected::ExportOrOuter };
+    assert_eq!(refusal, NestedRefusal::Flat(expected));
+
+    heap.refuse_all();
+    let bytes = component(b"\x06\x01\0");
+    let found = fault(&heap, &bytes);
+    assert!(matches!(found, (ListRefusal::Memory, ListFault::Memory)));
 }
