@@ -348,8 +348,8 @@ static void walked(void) {
   wenc_free(&listing);
 }
 
-/* A component in another, listed; where the nested one isn't taken for want of memory, it is borrowed
- * then, and freed. */
+/* A component in another, listed; where the nested one isn't taken for want of memory, it is
+ * borrowed then, and freed. */
 static void worked(void) {
   wenc_handle outer = filled(), nested = filled();
   uint32_t index;

@@ -240,7 +240,7 @@ impl<'a> Sections<'a> {
     #[inline(never)]
     fn refused(&mut self, left: proved::Sections<'a>, refusal: SectionRefusal<'a>) -> ListFault {
         self.left = None;
-        ListFault::of_section(self.bytes, left.place(), refusal)
+        ListFault::of_section(self.bytes, left.ends, left.place(), refusal)
     }
 
     /// Returns what is in the sections whose ids are kept, up to the first fault.

@@ -90,18 +90,25 @@ impl ListFault {
         match refusal {
             ListRefusal::Memory => Self::NoMemory,
             ListRefusal::Header => Self::NotAComponent { place: 0, found: Found::of(bytes) },
-            ListRefusal::Section { place, refusal } => Self::of_section(bytes, place, refusal),
+            ListRefusal::Section { place, refusal } => {
+                Self::of_section(bytes, bytes.len(), place, refusal)
+            }
             ListRefusal::Item { count, left, refusal } => {
                 Self::of_item(bytes, count, left, refusal)
             }
         }
     }
 
-    /// Returns why no section is next at this byte offset.
-    pub(crate) fn of_section(bytes: &[u8], place: usize, refusal: SectionRefusal<'_>) -> Self {
+    /// Returns why no section is next at this byte offset of the sections up to that end.
+    pub(crate) fn of_section(
+        bytes: &[u8],
+        end: usize,
+        place: usize,
+        refusal: SectionRefusal<'_>,
+    ) -> Self {
         match refusal {
             SectionRefusal::Frame(refusal) => {
-                let cause = Some(Cause::new(bytes, bytes.len(), refusal));
+                let cause = Some(Cause::new(bytes, end, refusal));
                 Self::BadSection { place, cause }
             }
             SectionRefusal::Count(of, refusal) => {
