@@ -26,7 +26,7 @@ const PROGRAMS: [&str; 2] = ["wenc", "rebuild"];
 
 /// The crates that only tests use: proved callers, the examples of the documentation, and types as
 /// another crate defines them.
-const TESTS: [&str; 3] = ["proved_parts", "proved_lists", "proved_tests"];
+const TESTS: [&str; 4] = ["proved_parts", "proved_lists", "proved_tests", "proved_scripts"];
 
 /// The crate that `src/proved` replaces.
 const BY_HAND: [&str; 1] = ["hex"];

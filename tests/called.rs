@@ -97,7 +97,7 @@ fn is_of(path: &Path, fronts: &[&str]) -> bool {
 fn each_public_function_is_called() {
     let mut sources = sources();
     let tests = files(&Path::new(env!("CARGO_MANIFEST_DIR")).join("tests/proved"));
-    let proved = ["proved_parts", "proved_lists", "proved_tests"];
+    let proved = ["proved_parts", "proved_lists", "proved_tests", "proved_scripts"];
     let mut facts: Vec<_> =
         proved.iter().flat_map(|name| files(&erased::folder().join(name))).collect();
     let own = files(&erased::folder().join("wasm_encoder"));

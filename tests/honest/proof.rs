@@ -141,8 +141,8 @@ fn quoted_definitions_are_in_the_sources() {
 fn callers_on_the_pages_are_proved_ones() {
     let crates = Path::new(env!("CARGO_MANIFEST_DIR")).join("crates");
     let mut folders = folders();
-    let sources = ["proved_parts/src", "proved_lists/src", "proved_tests/src"]
-        .map(|folder| folders.remove(folder).expect("the sources of facts"));
+    let sources = ["proved_parts", "proved_lists", "proved_tests", "proved_scripts"]
+        .map(|name| folders.remove(&format!("{name}/src")).expect("the sources of facts"));
     let mut shown = 0;
     for entry in fs::read_dir(&crates).expect("the folder can be read") {
         let page = entry.expect("an entry").path().join("CALLING.md");

@@ -31,7 +31,7 @@ pub const WAYS: [&str; 23] = [
     "method that is inlined",
 ];
 
-const CRATES: [&str; 17] = [
+const CRATES: [&str; 18] = [
     "wenc_base",
     "wenc_parts",
     "wenc_types",
@@ -48,6 +48,7 @@ const CRATES: [&str; 17] = [
     "proved_parts",
     "proved_lists",
     "proved_tests",
+    "proved_scripts",
     "hex",
 ];
 

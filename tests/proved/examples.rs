@@ -6,7 +6,8 @@ use crate::proved::proved_lists::examples::list;
 use crate::proved::proved_parts::by_hand::by_hand;
 use crate::proved::proved_parts::examples::{base, builder, canon, parts, sections, trees, types};
 use crate::proved::proved_parts::wrapping::wrapped;
-use crate::proved::proved_tests::examples::{commands, program};
+use crate::proved::proved_scripts::examples::program;
+use crate::proved::proved_tests::examples::commands;
 use crate::proved::wasm_encoder::{
     Component, ComponentImportSection, ComponentTypeRef, ComponentTypeSection, ComponentValType,
     Encode, Fault, PrimitiveValType,

@@ -134,7 +134,7 @@ fn bare(code: &str) -> String {
 
 #[test]
 fn doc_comments_show_the_proved_examples() {
-    let proved = ["proved_parts", "proved_lists", "proved_tests"];
+    let proved = ["proved_parts", "proved_lists", "proved_tests", "proved_scripts"];
     let proved = proved.map(|name| files(&path(&format!("crates/{name}/src/examples")), "rt"));
     let proved: String = proved.iter().flatten().map(|file| bare(&read(file))).collect();
     let crates = std::fs::read_dir(path("crates")).expect("the crates are there");

@@ -2,4 +2,3 @@
 //! by what the function returns.
 
 pub mod commands;
-pub mod program;

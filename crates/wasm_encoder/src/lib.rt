@@ -6,7 +6,7 @@
 //! or a section, the number of bytes of a string or a section.
 //!
 //! In the examples `alloc` is an allocator that is `Copy`. Each is proved, with its imports, in
-//! `src/examples` of `crates/proved_parts`, `crates/proved_lists` or `crates/proved_tests`.
+//! `src/examples` of a crate `crates/proved_*`.
 #![tactic(auto)]
 
 pub mod command;

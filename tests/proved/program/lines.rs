@@ -3,7 +3,7 @@
 
 use super::outcome::expect;
 use super::vectors::{bad, words};
-use crate::proved::proved_tests::callers::accepted_text;
+use crate::proved::proved_scripts::callers::accepted_text;
 use crate::proved::wenc::line::command;
 use crate::shim::alloc::Global;
 use std::string::String;

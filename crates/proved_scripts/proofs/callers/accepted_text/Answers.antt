@@ -1,6 +1,6 @@
 use Rattle.std.proofs.Common.{Some, [], ap, refl}
 use Rattle.std.proofs.lemmas.Option.{same_Some}
-use Rattle.proved_tests.proofs.callers.accepted_text.Goals as goal
+use Rattle.proved_scripts.proofs.callers.accepted_text.Goals as goal
 
 pub returns-then-status-eq0 : goal.returns-then-status-eq0
 returns-then-status-eq0 c =
