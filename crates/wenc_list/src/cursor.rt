@@ -66,6 +66,7 @@ pub enum SectionRefusal<'a> {
 
 /// Returns the error with its place in these bytes.
 #[cold]
+#[inline(never)]
 fn placed(refusal: Refusal, bytes: &[u8]) -> Refusal
     ensures within { result.left ≤ length bytes.now }
     ensures kept { refusal.left ≤ length bytes.now → result ≡ refusal }
@@ -81,6 +82,7 @@ fn placed(refusal: Refusal, bytes: &[u8]) -> Refusal
 
 /// Returns the error of bytes that may nest, as `placed` does.
 #[cold]
+#[inline(never)]
 fn placed_nested(refusal: NestedRefusal, bytes: &[u8]) -> NestedRefusal
     ensures flaw { flaw_of result ≡ flaw_of refusal }
     ensures within { left_of result ≤ length bytes.now }

@@ -69,6 +69,7 @@ impl<'a, T: View<'a>> Iterator for ListOf<'a, T> {
     ghost next_gives = { λ a r b. GivesFirst T.view (list_view T.read a) r (list_view T.read b)
         × IfSome r T.is_counted × MatchOption r (b ≡ a) (λ _. a.left ≡ b.left + 1) };
 
+    #[inline]
     fn next(&mut self) -> Option<T> {
         if self.left == 0 {
             return None;

@@ -59,7 +59,7 @@ fn items() {
 
 /// What a listing of these bytes fails with, and the fault that this is.
 fn fault<'a>(heap: &Refusing, bytes: &'a [u8]) -> (ListRefusal<'a>, ListFault) {
-    let refusal = list_or_refusal(heap, bytes).err().expect("it can't be listed");
+    let refusal = list_or_refusal(heap, bytes).expect_err("it can't be listed");
     assert_eq!(list(heap, bytes).err(), Some(refusal.fault()));
     (refusal, refusal.fault())
 }
