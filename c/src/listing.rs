@@ -186,10 +186,10 @@ struct Written {
 impl fmt::Write for Written {
     fn write_str(&mut self, text: &str) -> fmt::Result {
         for byte in text.bytes() {
-            if self.len + 1 < self.size {
+            if self.len < self.size.saturating_sub(1) {
                 unsafe { self.text.add(self.len).write(byte as c_char) };
             }
-            self.len += 1;
+            self.len = self.len.saturating_add(1);
         }
         Ok(())
     }
