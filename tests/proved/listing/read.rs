@@ -1,12 +1,15 @@
-//! Numbers and types that bytes begin with.
+//! Numbers, types and sections that bytes begin with.
 
+use super::component;
 use crate::proved::tests::hex::bytes;
+use crate::proved::tests::refusing::Refusing;
 use crate::proved::wenc_decode::room_for;
-use crate::proved::wenc_list::{ProducersPart, ProducersParts};
+use crate::proved::wenc_list::{ListFault, ListedSection, ProducersPart, ProducersParts, list};
 use crate::proved::wenc_parts::{ComponentValType, ResultList};
 use crate::proved::wenc_read::{Expected, NestedRefusal, Refusal, flag_of, u64_of};
 use crate::proved::wenc_view::{TypeView, View, type_at};
 use std::fmt::Debug;
+use std::vec::Vec;
 
 /// Bytes, and the value that they begin with and how many of them it has, or none.
 type Row<T> = (&'static [u8], Option<(T, usize)>);
@@ -112,4 +115,34 @@ fn depth() {
     assert_eq!(type_at(1, &bytes), Err(NestedRefusal::TooDeep(6)));
     let refusal = Refusal { left: 0, expected: Expected::Bytes(1) };
     assert_eq!(type_at(2, &bytes[..6]), Err(NestedRefusal::from(refusal)));
+}
+
+/// The id, the byte offset and the number of items of a section.
+type Sections = &'static [(u8, usize, usize)];
+
+/// Sections, and what is listed of them, or where no section can be read.
+const SECTIONS: [(&str, Result<Sections, usize>); 7] = [
+    ("", Ok(&[])),
+    ("060100", Ok(&[(6, 8, 0)])),
+    ("0601000a06010001660100", Ok(&[(6, 8, 0), (10, 11, 1)])),
+    ("010109", Ok(&[(1, 8, 1)])),
+    ("06", Err(8)),
+    ("0601000c00", Err(11)),
+    ("00020261", Err(8)),
+];
+
+#[test]
+fn sections() {
+    for (sections, wanted) in SECTIONS {
+        let heap = Refusing::new();
+        let found = match list(&heap, &component(&bytes(sections))) {
+            Ok(listing) => {
+                let row = |of: &ListedSection<_>| (of.id, of.place, of.items.len());
+                Ok(listing.sections.iter().map(row).collect::<Vec<_>>())
+            }
+            Err(ListFault::BadSection { place }) => Err(place),
+            Err(fault) => panic!("{sections}: {fault:?}"),
+        };
+        assert_eq!(found.as_deref(), wanted.as_ref().map(|rows| &rows[..]), "{sections}");
+    }
 }
