@@ -34,8 +34,8 @@ pub enum Cause {
         /// The maximum number of its bits.
         bits: u8,
     },
-    /// There are too few bytes, for a text, for the members of a list or for what is next. The bytes
-    /// that are there may be wrong, too.
+    /// There are too few bytes, for a text, for the members of a list or for what is next. The
+    /// bytes that are there may be wrong, too.
     Few {
         /// The byte offset from which on they are needed.
         place: usize,

@@ -259,7 +259,7 @@ fn sections_may_have_another_size() {
     }
 }
 
-/// Of damages by a byte more or less most are told in one line.
+/// Most damages by a byte more or less are reported in one line.
 #[test]
 fn most_sizes_are_mended() {
     let mut lines = Vec::new();
