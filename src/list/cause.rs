@@ -62,7 +62,7 @@ impl Cause {
             (Expected::Bits(bits), _) => Self::Number { place, bits },
             (_, None) => Self::Few { place, needed: 1, len: 0 },
             (Expected::Utf8, Some(byte)) => Self::Text { place, byte },
-            (_, Some(byte)) => Self::Byte { place, byte, expected: Bytes::of(expected) },
+            (_, Some(byte)) => Self::Byte { place, byte, expected: Bytes(expected.ranges()) },
         }
     }
 
@@ -129,35 +129,7 @@ impl fmt::Display for Cause {
 #[derive(Clone, Copy, PartialEq, Eq, Hash)]
 pub struct Bytes([(u8, u8); 4]);
 
-/// A range without a byte.
-const NONE: (u8, u8) = (1, 0);
-
 impl Bytes {
-    fn of(expected: Expected) -> Self {
-        let one = |byte| (byte, byte);
-        Self(match expected {
-            Expected::From(first, last) => [(first, last), NONE, NONE, NONE],
-            Expected::Index => [(0, 0x3f), (0x80, 0xff), NONE, NONE],
-            Expected::CoreSort => [(0, 4), (0x10, 0x11), NONE, NONE],
-            Expected::CoreSpace => [(0, 4), (0x10, 0x12), NONE, NONE],
-            Expected::ExportOrOuter => [one(0), one(2), NONE, NONE],
-            Expected::OptionCount => [(1, 3), (0x81, 0x83), NONE, NONE],
-            Expected::Opcode => [(0, 6), (9, 0x2f), (0x40, 0x42), NONE],
-            Expected::SubType => [(0x4f, 0x50), (0x5e, 0x60), NONE, NONE],
-            Expected::Group => [(0x4e, 0x50), (0x5e, 0x60), NONE, NONE],
-            Expected::CoreType => [one(0), (0x4e, 0x50), (0x5e, 0x60), NONE],
-            Expected::RefType => [(0x63, 0x64), (0x69, 0x74), NONE, NONE],
-            Expected::ValType => [(0x63, 0x64), (0x69, 0x74), (0x7b, 0x7f), NONE],
-            Expected::StorageType => [(0x63, 0x64), (0x69, 0x74), (0x77, 0x78), (0x7b, 0x7f)],
-            Expected::HeapType => [(0, 0x3f), (0x69, 0x74), (0x80, 0xff), NONE],
-            Expected::TableLimits => [(0, 1), (4, 5), NONE, NONE],
-            Expected::ComponentValType => [(0, 0x3f), one(0x64), (0x73, 0xff), NONE],
-            Expected::Type => [(0x3f, 0x43), (0x63, 0x6b), (0x6d, 0x7f), NONE],
-            Expected::InstanceDecl => [(0, 2), one(4), NONE, NONE],
-            Expected::Bytes(_) | Expected::End | Expected::Utf8 | Expected::Bits(_) => [NONE; 4],
-        })
-    }
-
     /// Returns the ranges, which ascend.
     pub fn ranges(self) -> impl Iterator<Item = RangeInclusive<u8>> {
         self.0.into_iter().map(|(first, last)| first..=last).filter(|range| !range.is_empty())

@@ -8,9 +8,11 @@ ghost use Rattle.wenc_list.specs.Prelude.{section_view, AreWithin, ArePlaced, Is
 ghost use Rattle.wenc_list.specs.Prelude.{IsFaultHere, SectionItems, ListFault, ListedSection};
 ghost use Rattle.wenc_list.specs.declared.fault.ListFault.TheVariants.{Memory, TooDeep};
 
+mod of_expected;
 mod of_names;
 mod of_producers;
 
+pub use of_expected::expected_bytes_begin;
 pub use of_names::names_are_exact;
 pub use of_producers::parts_are_of_fields;
 use std::alloc::Allocator;

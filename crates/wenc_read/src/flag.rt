@@ -2,8 +2,9 @@
 ghost use Rattle.wenc_base.specs.Prelude.{read_flag};
 ghost use Rattle.wenc_read.specs.Prelude.{GivesAlways};
 
+use crate::expected::Expected;
 use crate::number::byte;
-use crate::refusal::{Expected, Refusal};
+use crate::refusal::Refusal;
 
 /// Reads a flag, a byte 0 or 1 (component model, binary format, "Canonical Definitions"). Fails
 /// if no such byte begins the bytes.

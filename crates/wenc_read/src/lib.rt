@@ -5,11 +5,13 @@
 //! value, the writer writes the shortest.
 #![tactic(auto)]
 
+pub mod expected;
 pub mod flag;
 pub mod laws;
 pub mod number;
 pub mod refusal;
 
+pub use expected::Expected;
 pub use flag::flag_of;
 pub use number::{byte, index_of, u32_of, u64_of};
-pub use refusal::{Expected, NestedRefusal, Refusal};
+pub use refusal::{NestedRefusal, Refusal};

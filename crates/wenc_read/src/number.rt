@@ -3,7 +3,8 @@ ghost use Rattle.std.specs.Prelude.{◌≡◌, ◌^◌, ◌≤◌, ◌<◌, ◌+
 ghost use Rattle.wenc_base.specs.Prelude.{read_groups, read_u32, read_u64, read_index, read_byte};
 ghost use Rattle.wenc_read.specs.Prelude.{GivesAlways};
 
-use crate::refusal::{Expected, Refusal};
+use crate::expected::Expected;
+use crate::refusal::Refusal;
 
 /// Reads the first byte. Fails if there is none.
 #[inline(always)]

@@ -1,56 +1,10 @@
 //! The errors of reading.
 ghost use Rattle.std.specs.Prelude.{◌≡◌};
-ghost use Rattle.wenc_read.specs.Prelude.{flaw_of};
+ghost use Rattle.wenc_read.specs.Prelude.{flaw_of, expected_at, expected_before, or_else};
+ghost use Rattle.wenc_read.specs.Prelude.{unless_between, unless_few, in_flat};
 ghost use Rattle.wenc_read.specs.declared.refusal.NestedRefusal.TheVariants.{Flat};
 
-/// What can be read at a place at which the bytes can't be read on.
-#[derive(Clone, Copy, Debug, PartialEq, Eq)]
-pub enum Expected {
-    /// So many bytes or more, where fewer are left.
-    Bytes(u32),
-    /// No byte.
-    End,
-    /// A character of a text.
-    Utf8,
-    /// A number of at most so many bits.
-    Bits(u8),
-    /// A byte from the first to the second of these.
-    From(u8, u8),
-    /// A byte of an index that is a signed number.
-    Index,
-    /// The sort of an alias of a core item, after `00`.
-    CoreSort,
-    /// `00` for an alias of an export, or `02` for one of an outer item.
-    ExportOrOuter,
-    /// The sort of a core item, after `00`, in a name section.
-    CoreSpace,
-    /// The number of options of a name, from 1 to 3.
-    OptionCount,
-    /// The opcode of a canonical function.
-    Opcode,
-    /// A core type.
-    SubType,
-    /// A core type or a recursion group.
-    Group,
-    /// A core type of a component.
-    CoreType,
-    /// A reference type.
-    RefType,
-    /// A value type of core modules.
-    ValType,
-    /// The type of a field of a core type.
-    StorageType,
-    /// A heap type.
-    HeapType,
-    /// The limits of a table.
-    TableLimits,
-    /// A value type.
-    ComponentValType,
-    /// A type.
-    Type,
-    /// A declaration of an instance type.
-    InstanceDecl,
-}
+use crate::expected::Expected;
 
 /// The error of reading a form that doesn't nest: the bytes don't begin with a value of the form.
 #[derive(Clone, Copy, Debug, PartialEq, Eq)]
@@ -64,7 +18,9 @@ pub struct Refusal {
 impl Refusal {
     /// Returns the error of bytes that should begin with something else.
     #[inline(always)]
-    pub fn at(bytes: &[u8], expected: Expected) -> Refusal {
+    pub fn at(bytes: &[u8], expected: Expected) -> Refusal
+        ensures { result ≡ expected_at bytes.now expected }
+    {
         Refusal {
             left: bytes.len(),
             expected,
@@ -74,7 +30,9 @@ impl Refusal {
     /// Returns the error of bytes that should begin with something else, from the byte before them
     /// on.
     #[inline(always)]
-    pub fn before(bytes: &[u8], expected: Expected) -> Refusal {
+    pub fn before(bytes: &[u8], expected: Expected) -> Refusal
+        ensures { result ≡ expected_before bytes.now expected }
+    {
         Refusal {
             left: bytes.len().saturating_add(1),
             expected,
@@ -84,21 +42,21 @@ impl Refusal {
     /// Returns the error of a form that may begin these bytes with other bytes too: if the first
     /// byte can't be read, this is expected in its place.
     #[cold]
-    pub fn or(self, bytes: &[u8], expected: Expected) -> Refusal {
-        match self.expected {
-            Expected::Bits(_) => self,
-            _ if self.left == bytes.len() => Refusal {
-                left: self.left,
-                expected,
-            },
-            _ => self,
+    pub fn or(self, bytes: &[u8], expected: Expected) -> Refusal
+        ensures { result ≡ or_else bytes.now expected self }
+    {
+        if self.left == bytes.len() && !self.expected.is_number() {
+            return Refusal::at(bytes, expected);
         }
+        self
     }
 
     /// Returns the error of a value in these bytes that begins with a byte from `first` to `last`:
     /// if another one is there, that is why.
     #[cold]
-    pub fn unless_from(self, first: u8, last: u8, bytes: &[u8]) -> Refusal {
+    pub fn unless_from(self, first: u8, last: u8, bytes: &[u8]) -> Refusal
+        ensures { result ≡ unless_between first last bytes.now self }
+    {
         match bytes {
             [byte, ..] if *byte < first || last < *byte => {
                 Refusal::at(bytes, Expected::From(first, last))
@@ -110,7 +68,9 @@ impl Refusal {
     /// Returns the error of so many values in these bytes, which take a byte or more each: if there
     /// are fewer bytes, that is why.
     #[cold]
-    pub fn of_many(self, bytes: &[u8], count: u32) -> Refusal {
+    pub fn of_many(self, bytes: &[u8], count: u32) -> Refusal
+        ensures { result ≡ unless_few count bytes.now self }
+    {
         if bytes.len() < count as usize {
             return Refusal::at(bytes, Expected::Bytes(count));
         }
@@ -131,7 +91,8 @@ impl NestedRefusal {
     /// Returns the error as `Refusal::or` does.
     #[cold]
     pub fn or(self, bytes: &[u8], expected: Expected) -> NestedRefusal
-        ensures { flaw_of result ≡ flaw_of self }
+        ensures flaw { flaw_of result ≡ flaw_of self }
+        ensures error { result ≡ in_flat (or_else bytes.now expected) self }
     {
         match self {
             NestedRefusal::Flat(refusal) => NestedRefusal::Flat(refusal.or(bytes, expected)),
@@ -142,7 +103,8 @@ impl NestedRefusal {
     /// Returns the error as `Refusal::of_many` does.
     #[cold]
     pub fn of_many(self, bytes: &[u8], count: u32) -> NestedRefusal
-        ensures { flaw_of result ≡ flaw_of self }
+        ensures flaw { flaw_of result ≡ flaw_of self }
+        ensures error { result ≡ in_flat (unless_few count bytes.now) self }
     {
         match self {
             NestedRefusal::Flat(refusal) => NestedRefusal::Flat(refusal.of_many(bytes, count)),
