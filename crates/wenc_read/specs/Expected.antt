@@ -77,8 +77,8 @@ abbrev pub is_in : List Range → ℕ → Bool
 is_in [] b = false
 is_in (range ∷ ranges) b = (nat_le range.0 b && nat_le b range.1) || is_in ranges b
 
--- The expected bytes are those with which a value can begin: nothing is read that begins with another
--- byte, and after each of them some bytes make it one that is.
+-- The expected bytes are those with which a value can begin: nothing is read that begins with
+-- another byte, and after each of them some bytes make a value.
 pub record BeginsWith {A : Type 0} (read : Reader A) (expected : Expected) : Type 0 where
   pub others_fail : (b : ℕ) (rest : List ℕ) (x : A × List ℕ) → read (b ∷ rest) ≡ Ok x
       → is_in (ranges_of expected) b ≡ true

@@ -3,8 +3,8 @@ ghost use Rattle.std.specs.Prelude.{ℕ, suc};
 ghost use Rattle.wenc_base.specs.reading.Entities.{read_unshared, table_of};
 ghost use Rattle.wenc_base.specs.declared.types.RefType.{RefType};
 ghost use Rattle.wenc_parts.specs.Prelude.{read_value_type, read_core_alias, read_export_or_outer};
-ghost use Rattle.wenc_parts.specs.declared.aliases.ComponentOuterAliasKind.{ComponentOuterAliasKind};
-ghost use Rattle.wenc_parts.specs.declared.exports.ComponentExportKind.{ComponentExportKind};
+ghost use Rattle.wenc_parts.specs.declared.aliases.ComponentOuterAliasKind as outer_kinds;
+ghost use Rattle.wenc_parts.specs.declared.exports.ComponentExportKind as kinds;
 ghost use Rattle.wenc_types.specs.Prelude.{read_type, read_core_type, read_instance_declaration};
 ghost use Rattle.wenc_canon.specs.Prelude.{read_canonical};
 ghost use Rattle.wenc_list.specs.Prelude.{read_core_sort};
@@ -24,6 +24,7 @@ pub fn expected_bytes_begin()
     ensures canonical { BeginsWith read_canonical expected.Opcode }
     ensures core_sort { BeginsWith read_core_alias expected.CoreSort }
     ensures core_space { BeginsWith read_core_sort expected.CoreSpace }
-    ensures alias { (kind : ComponentExportKind) (outer : ComponentOuterAliasKind)
+    ensures alias { (kind : kinds.ComponentExportKind)
+        (outer : outer_kinds.ComponentOuterAliasKind)
         → BeginsWith (read_export_or_outer kind outer) expected.ExportOrOuter }
 {}

@@ -1,6 +1,7 @@
 -- The bytes with which a value can begin, by the rows of its reader.
 use Rattle.std.proofs.Common.{◌≡◌, ◌<◌, ℕ, List, [], ◌∷◌, Bool, true, ◌&&◌, ◌||◌}
-use Rattle.std.proofs.Common.{Result, Ok, Err, refl, sym, subst, ◌∙◌, nat_eq, nat_lt, if◌then◌else◌, not, replicate, is_ok, inl, inr, arith}
+use Rattle.std.proofs.Common.{Result, Ok, Err, is_ok, refl, sym, subst, ◌∙◌, inl, inr, arith}
+use Rattle.std.proofs.Common.{nat_eq, nat_lt, not, if◌then◌else◌, replicate}
 use Rattle.std.proofs.lemmas.Bool.{agree_below, agree_below_at, and_parts, lt-ltb, le-ltb, cases_lt}
 use Rattle.wenc_base.specs.laws.Sound.{tested}
 use Rattle.wenc_base.specs.Readers.{Flaw, Bad, Reader, go_on, ◌>>=◌, nowhere, pick, choose}
@@ -30,7 +31,8 @@ picks ranges (row ∷ table) other rows h b rest x e = let parts =
     elim (tested b row.0) [
       | inl same ↦ subst (λ c. is_in ranges c ≡ true) (sym same.1) parts.0
       | inr other_row ↦
-          let step : pick (row ∷ table) other b rest ≡ pick table other b rest = rw (other_row, pick) refl in
+          let step : pick (row ∷ table) other b rest ≡ pick table other b rest =
+          rw (other_row, pick) refl in
           picks ranges table other parts.1 h b rest x (sym step ∙ e)
     ]
 
@@ -52,7 +54,8 @@ went_on (Err flaw) next y e = absurd cc
 pub then_fails : {A B : Type 0} {read : Reader A} {ranges : List Range} (next : A → Reader B)
     → OthersFail read ranges → OthersFail (read >>= next) ranges
 then_fails {read = read} next h = record {
-  fail = λ b rest x e. let found = went_on (read (b ∷ rest)) next x e in h.fail b rest found.0 found.1;
+  fail = λ b rest x e.
+      let found = went_on (read (b ∷ rest)) next x e in h.fail b rest found.0 found.1;
 }
 
 -- a byte of an index
@@ -83,7 +86,8 @@ pub index_fails : {ranges : List Range}
     → OthersFail read_index ranges
 index_fails {ranges = ranges} all = record {
   fail = λ b rest x e. let first = index_first b rest x e in
-      (and_parts _ _ (agree_below_at (λ c. begins_index c && is_in ranges c) begins_index 256 b all first.0
+      (and_parts _ _ (agree_below_at (λ c. begins_index c && is_in ranges c) begins_index 256 b all
+      first.0
       ∙ first.1)).1;
 }
 

@@ -24,7 +24,7 @@ instance_decls-loop-init t c = ([], at_start (read_instance_declaration (read_ty
 pub instance_decls-returns-in-Err : goal.instance_decls-returns-in-Err
 instance_decls-returns-in-Err t c =
     let read = read_instance_declaration (read_type c.args.depth_left) in
-    (rw c.of_many.ensures (stops (flaw_of c.in-Err.refusal) read c.loop.invariant.0 c.args.count c.loop.counter c.loop.rest.now
+    (rw c.of_many.ensures.flaw (stops (flaw_of c.in-Err.refusal) read c.loop.invariant.0 c.args.count c.loop.counter c.loop.rest.now
     (times read c.args.count c.args.bytes.now) c.loop-test.true c.in-Err.ensures.found c.loop.invariant.1))
 
 pub instance_decls-loop-preserved : goal.instance_decls-loop-preserved
@@ -63,7 +63,7 @@ component_decls-loop-init t c = ([], at_start (read_component_declaration (read_
 pub component_decls-returns-in-Err : goal.component_decls-returns-in-Err
 component_decls-returns-in-Err t c =
     let read = read_component_declaration (read_type c.args.depth_left) in
-    (rw c.of_many.ensures (stops (flaw_of c.in-Err.refusal) read c.loop.invariant.0 c.args.count c.loop.counter c.loop.rest.now
+    (rw c.of_many.ensures.flaw (stops (flaw_of c.in-Err.refusal) read c.loop.invariant.0 c.args.count c.loop.counter c.loop.rest.now
     (times read c.args.count c.args.bytes.now) c.loop-test.true c.in-Err.ensures.found c.loop.invariant.1))
 
 pub component_decls-loop-preserved : goal.component_decls-loop-preserved

@@ -110,4 +110,5 @@ alias_fails kind outer = choose_fails _ _ refl nowhere_fails
 
 pub returns-clause-alias : goal.returns-clause-alias
 unfolding choose read_groups text_at
-returns-clause-alias c kind outer = begins ExportOrOuter [] (alias_fails kind outer) (rw no_text refl)
+returns-clause-alias c kind outer =
+    begins ExportOrOuter [] (alias_fails kind outer) (rw no_text refl)
