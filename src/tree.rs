@@ -86,9 +86,9 @@ use proved::{
     HeapType, MemoryType, RefType, StorageType, StructType, SubType, TableType, TagType, ValType,
 };
 pub use proved::{
-    AliasTree, CanonTree, CaseTree, Command, ComponentDecl, CoreInstanceTree, CoreTypeTree,
-    DefinedTree, GroupTree, InstanceDecl, InstanceTree, ItemTree, ModuleDecl, NameOptions,
-    NameTree, Space, TypeTree,
+    AliasTree, CanonOf, CanonTree, CaseTree, Command, ComponentDecl, CoreInstanceTree,
+    CoreTypeTree, DefinedTree, GroupTree, InstanceDecl, InstanceTree, ItemTree, ModuleDecl,
+    NameOptions, NameTree, Space, TypeTree,
 };
 
 /// A component built from commands, and the index that each command returned.

@@ -36,10 +36,9 @@ pub const OF_TREES: &str = "Clone, Debug, PartialEq, Eq, Hash";
 pub const OF_COMPARED_TREES: &str = "Clone, Hash";
 
 /// Trees of items and of commands, whose values users of Rust compare, print and copy.
-pub const TREES: [&str; 23] = [
+pub const TREES: [&str; 22] = [
     "AliasTree",
     "Built",
-    "CanonTree",
     "CaseTree",
     "Command",
     "ComponentDecl",
@@ -67,7 +66,7 @@ pub const DERIVED_TOO: [(&str, &str); 36] = [
     ("AbstractHeapType", "Hash"),
     ("Alias", "Debug, Hash, PartialEq, Eq"),
     ("ArrayType", "Hash"),
-    ("CanonView", "Debug, PartialEq, Eq, Hash"),
+    ("CanonOf", "Hash"),
     ("CanonicalOption", "Hash"),
     ("CaseView", "Debug, PartialEq, Eq, Hash"),
     ("ComponentDeclView", "Debug, PartialEq, Eq, Hash"),

@@ -53,10 +53,9 @@ const CRATES: [&str; 18] = [
 ];
 
 /// Trees, which a user compares, hashes, prints and copies.
-pub const TREES: [&str; 23] = [
+pub const TREES: [&str; 22] = [
     "AliasTree",
     "Built",
-    "CanonTree",
     "CaseTree",
     "Command",
     "ComponentDecl",
@@ -84,7 +83,7 @@ pub const DERIVED_TOO: [(&str, &str); 36] = [
     ("AbstractHeapType", "Hash"),
     ("Alias", "Debug, Hash, PartialEq, Eq"),
     ("ArrayType", "Hash"),
-    ("CanonView", "Debug, PartialEq, Eq, Hash"),
+    ("CanonOf", "Hash"),
     ("CanonicalOption", "Hash"),
     ("CaseView", "Debug, PartialEq, Eq, Hash"),
     ("ComponentDeclView", "Debug, PartialEq, Eq, Hash"),

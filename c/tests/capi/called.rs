@@ -159,7 +159,7 @@ fn instance(handle: *mut Handle, debug_name: &Option<String>, instance: &Instanc
 }
 
 fn canon(handle: *mut Handle, debug_name: &Option<String>, canon: &CanonTree) -> Done {
-    use CanonTree::*;
+    use wenc::tree::CanonOf::*;
     let pairs_of = |options: &[CanonicalOption]| pairs(options.iter().map(|of| option(*of)));
     match canon {
         Lift { core_func, ty, options } => {

@@ -139,7 +139,7 @@ pub fn field(CoreFieldType { element_type, mutable }: CoreFieldType) -> (u32, u3
 /// The number of a builtin with options, its first argument, which it needn't take, and the
 /// options.
 pub fn builtin_with(canon: &CanonTree) -> Option<(u32, u32, &[CanonicalOption])> {
-    use CanonTree::*;
+    use wenc::tree::CanonOf::*;
     Some(match canon {
         StreamRead { ty, options } => (1, *ty, options),
         StreamWrite { ty, options } => (2, *ty, options),
@@ -153,7 +153,7 @@ pub fn builtin_with(canon: &CanonTree) -> Option<(u32, u32, &[CanonicalOption])>
 
 /// The number of a builtin, and its two arguments: one that it doesn't take is anything.
 pub fn builtin(canon: &CanonTree) -> Option<(u32, u32, u32)> {
-    use CanonTree::*;
+    use wenc::tree::CanonOf::*;
     let numbers = match *canon {
         ResourceNew(ty) => (1, ty, 77),
         ResourceDrop(ty) => (2, ty, 77),
@@ -182,7 +182,7 @@ pub fn builtin(canon: &CanonTree) -> Option<(u32, u32, u32)> {
 }
 
 fn plain_builtin(canon: &CanonTree) -> Option<u32> {
-    use CanonTree::*;
+    use wenc::tree::CanonOf::*;
     Some(match canon {
         TaskCancel => 4,
         ThreadYield => 6,

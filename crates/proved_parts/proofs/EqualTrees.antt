@@ -7,7 +7,7 @@ use Rattle.std.specs.Bool.{Decides, beq}
 use Rattle.std.specs.Cmp.{booleans_Decides, unsigned_Decides}
 use Rattle.std.specs.Cmp.Lexicographic.{pointwise}
 use Rattle.std.specs.Option.{option_eq}
-use Rattle.std.specs.declared.alloc.Allocator.{Ghosts}
+use Rattle.std.specs.declared.cmp.PartialEq.{Ghosts}
 use denote.Enum.Compared.{Each, by}
 use denote.Enum.Declared.{Choice}
 use denote.RattleType.{RattleType}
@@ -18,13 +18,13 @@ use Rattle.wenc_base.specs.declared.types.ValType.{ValType}
 use Rattle.wenc_base.specs.contracts.types.ValTypePartialEq.TheImpl.{eq-value as core_eq'}
 use Rattle.wenc_parts.specs.declared.types.ComponentValType.{ComponentValType}
 use Rattle.wenc_parts.specs.contracts.types.ComponentValTypePartialEq.TheImpl.{eq-value as value_eq'}
-use Rattle.wenc_sections.specs.CanonTrees.{canon_view}
+use Rattle.wenc_sections.specs.CanonTrees.{canon_of}
 use Rattle.wenc_canon.specs.Canonicals as canon
 use Rattle.wenc_canon.specs.Canonicals.{Field, Index, Options, Flag, Zero, CoreType, Results, Value, Values, row, Canonical, Lift, Lower, OfBuiltin}
-use Rattle.wenc_sections.specs.declared.canon_tree.CanonTree.{CanonTree}
+use Rattle.wenc_sections.specs.declared.canon_tree.CanonOf.{CanonOf}
 use Rattle.wenc_canon.specs.declared.canonicals.CanonicalOption.{CanonicalOption}
-use Rattle.wenc_sections.specs.contracts.canon_tree.CanonTree.{enum}
-use Rattle.wenc_sections.specs.contracts.canon_tree.CanonTreePartialEq.TheImpl.{eq-value}
+use Rattle.wenc_sections.specs.contracts.canon_tree.CanonOf.{enum}
+use Rattle.wenc_sections.specs.contracts.canon_tree.CanonOfPartialEq.TheImpl.{eq-value}
 use Rattle.wenc_canon.specs.contracts.canonicals.CanonicalOptionPartialEq.TheImpl.{eq-value as option_eq'}
 
 -- the byte that a canonical function begins with
@@ -115,7 +115,7 @@ answers None (Some u) = (λ e. absurd cc, λ e. absurd cc)
 answers (Some t) None = (λ e. absurd cc, λ e. absurd cc)
 answers (Some t) (Some u) = Decides-like _ (λ e. cc) (λ e. cc) (value_types t u)
 
-lists : (xs ys : List CanonicalOption) → Decides (pointwise option_eq'.it xs ys) (xs ≡ ys)
+pub lists : (xs ys : List CanonicalOption) → Decides (pointwise option_eq'.it xs ys) (xs ≡ ys)
 lists [] [] = (λ e. refl, λ e. refl)
 lists [] (y ∷ ys) = (λ e. absurd cc, λ e. absurd cc)
 lists (x ∷ xs) [] = (λ e. absurd cc, λ e. absurd cc)
@@ -164,50 +164,30 @@ memory_row c f x y = Decides-like _ (λ e. ap c e) (λ e. same_number x y (ap se
 flag_row : (c : Bool → Canonical) → ((b : Bool) → tree_fields_of (c b) ≡ Told b ∷ []) → (x y : Bool) → Decides (beq x y) (c x ≡ c y)
 flag_row c f x y = Decides-like _ (λ e. ap c e) (λ e. same_told x y (ap first (common (c x) (c y) _ _ (f x) (f y) e))) (booleans_Decides x y)
 
-options_row : (c : List CanonicalOption → Canonical) → ((os : List CanonicalOption) → tree_fields_of (c os) ≡ Chosen os ∷ [])
-    → (x y : List CanonicalOption) → Decides (pointwise option_eq'.it x y) (c x ≡ c y)
-options_row c f x y = Decides-like _ (λ e. ap c e) (λ e. same_chosen x y (ap first (common (c x) (c y) _ _ (f x) (f y) e))) (lists x y)
-
 -- two fields
-module _ {T U : Type 0} (one : T → GivenTree) (two : U → GivenTree) (same_one : (x y : T) → one x ≡ one y → x ≡ y)
+module _ {T U V : Type 0} (one : T → GivenTree) (two : U → GivenTree) (same_one : (x y : T) → one x ≡ one y → x ≡ y)
     (same_two : (x y : U) → two x ≡ two y → x ≡ y)
-    (eq : T → T → Bool) (fq : U → U → Bool) (eqs : (x y : T) → Decides (eq x y) (x ≡ y)) (fqs : (x y : U) → Decides (fq x y) (x ≡ y)) where
-  two_rows : (c : T → U → Canonical) → ((t : T) (u : U) → tree_fields_of (c t u) ≡ one t ∷ two u ∷ []) → (t : T) (u : U) (v : T) (w : U)
-      → Decides (eq t v && fq u w) (c t u ≡ c v w)
+    (eq : T → T → Bool) (eqs : (x y : T) → Decides (eq x y) (x ≡ y)) (sees : V → U) (fq : V → V → Bool)
+    (fqs : (x y : V) → Decides (fq x y) (sees x ≡ sees y)) where
+  two_rows : (c : T → U → Canonical) → ((t : T) (u : U) → tree_fields_of (c t u) ≡ one t ∷ two u ∷ []) → (t : T) (u : V) (v : T) (w : V)
+      → Decides (eq t v && fq u w) (c t (sees u) ≡ c v (sees w))
   two_rows c f t u v w =
       Decides-like _ (λ e. let p = e.0 in let q = e.1 in cc)
-      (λ e. let same = common (c t u) (c v w) _ _ (f t u) (f v w) e in (same_one t v (ap first same), same_two u w (ap second same)))
+      (λ e. let same = common (c t (sees u)) (c v (sees w)) _ _ (f t (sees u)) (f v (sees w)) e in
+      (same_one t v (ap first same), same_two (sees u) (sees w) (ap second same)))
       (Decides-and _ _ (eqs t v) (fqs u w))
 
 indices_row : (c : ℕ → ℕ → Canonical) → ((m n : ℕ) → tree_fields_of (c m n) ≡ Number m ∷ Number n ∷ []) → (m n k l : ℕ)
     → Decides (nat_eq m k && nat_eq n l) (c m n ≡ c k l)
-indices_row = two_rows Number Number same_number same_number nat_eq nat_eq unsigned_Decides unsigned_Decides
+indices_row = two_rows Number Number same_number same_number nat_eq unsigned_Decides (λ n. n) nat_eq unsigned_Decides
 
 index_and_flag_row : (c : ℕ → Bool → Canonical) → ((n : ℕ) (b : Bool) → tree_fields_of (c n b) ≡ Number n ∷ Told b ∷ [])
     → (n : ℕ) (b : Bool) (k : ℕ) (d : Bool) → Decides (nat_eq n k && beq b d) (c n b ≡ c k d)
-index_and_flag_row = two_rows Number Told same_number same_told nat_eq beq unsigned_Decides booleans_Decides
+index_and_flag_row = two_rows Number Told same_number same_told nat_eq unsigned_Decides (λ b. b) beq booleans_Decides
 
 type_and_index_row : (c : ValType → ℕ → Canonical) → ((t : ValType) (n : ℕ) → tree_fields_of (c t n) ≡ Core t ∷ Number n ∷ [])
     → (t : ValType) (n : ℕ) (u : ValType) (k : ℕ) → Decides (core_eq'.it t u && nat_eq n k) (c t n ≡ c u k)
-type_and_index_row = two_rows Core Number same_core same_number core_eq'.it nat_eq core_types unsigned_Decides
-
-index_and_options_row : (c : ℕ → List CanonicalOption → Canonical)
-    → ((n : ℕ) (os : List CanonicalOption) → tree_fields_of (c n os) ≡ Number n ∷ Chosen os ∷ [])
-    → (n : ℕ) (os : List CanonicalOption) (k : ℕ) (ps : List CanonicalOption) → Decides (nat_eq n k && pointwise option_eq'.it os ps)
-    (c n os ≡ c k ps)
-index_and_options_row = two_rows Number Chosen same_number same_chosen nat_eq (pointwise option_eq'.it) unsigned_Decides lists
-
-results_and_options_row : (c : Option ComponentValType → List CanonicalOption → Canonical)
-    → ((r : Option ComponentValType) (os : List CanonicalOption) → tree_fields_of (c r os) ≡ Answer r ∷ Chosen os ∷ [])
-    → (r : Option ComponentValType) (os : List CanonicalOption) (s : Option ComponentValType) (ps : List CanonicalOption)
-    → Decides (option_eq value_eq'.it r s && pointwise option_eq'.it os ps) (c r os ≡ c s ps)
-results_and_options_row = two_rows Answer Chosen same_answer same_chosen (option_eq value_eq'.it) (pointwise option_eq'.it) answers lists
-
-lifted_row : (f t : ℕ) (os : List CanonicalOption) (g u : ℕ) (ps : List CanonicalOption)
-    → Decides (nat_eq f g && (nat_eq t u && pointwise option_eq'.it os ps)) (Lift f os t ≡ Lift g ps u)
-lifted_row f t os g u ps =
-    Decides-like _ (λ e. let p = e.0 in let q = e.1.0 in let r = e.1.1 in cc) (λ e. (cc, (cc, cc)))
-    (Decides-and _ _ (unsigned_Decides f g) (Decides-and _ _ (unsigned_Decides t u) (lists os ps)))
+type_and_index_row = two_rows Core Number same_core same_number core_eq'.it core_types (λ n. n) nat_eq unsigned_Decides
 
 -- ---- the whole
 
@@ -221,35 +201,60 @@ abbrev row_at : (Fs : List Part) {test : Parts Fs → Parts Fs → Bool} {seen :
     → Variant opcode_of Fs test seen n
 row_at Fs k is from tells = record { k = k; is = is; from = from; tells = tells }
 
-module _ (A : RattleType) (al : Ghosts A.Denot) where
+-- where the options are seen as lists, and their test tells whether two are seen alike
+module _ (O : RattleType) (os : Ghosts O.Denot) (d : Dict) (sees : O.Denot → List CanonicalOption)
+    (tells : (x y : O.Denot) → Decides (os.eq x y) (sees x ≡ sees y)) where
+  options_row : (c : List CanonicalOption → Canonical) → ((xs : List CanonicalOption) → tree_fields_of (c xs) ≡ Chosen xs ∷ [])
+      → (x y : O.Denot) → Decides (os.eq x y) (c (sees x) ≡ c (sees y))
+  options_row c f x y = Decides-like _ (λ e. ap c e)
+      (λ e. same_chosen (sees x) (sees y) (ap first (common (c (sees x)) (c (sees y)) _ _ (f (sees x)) (f (sees y)) e))) (tells x y)
+
+  index_and_options_row : (c : ℕ → List CanonicalOption → Canonical)
+      → ((n : ℕ) (xs : List CanonicalOption) → tree_fields_of (c n xs) ≡ Number n ∷ Chosen xs ∷ [])
+      → (n : ℕ) (x : O.Denot) (k : ℕ) (y : O.Denot) → Decides (nat_eq n k && os.eq x y) (c n (sees x) ≡ c k (sees y))
+  index_and_options_row = two_rows Number Chosen same_number same_chosen nat_eq unsigned_Decides sees os.eq tells
+
+  results_and_options_row : (c : Option ComponentValType → List CanonicalOption → Canonical)
+      → ((r : Option ComponentValType) (xs : List CanonicalOption) → tree_fields_of (c r xs) ≡ Answer r ∷ Chosen xs ∷ [])
+      → (r : Option ComponentValType) (x : O.Denot) (s : Option ComponentValType) (y : O.Denot)
+      → Decides (option_eq value_eq'.it r s && os.eq x y) (c r (sees x) ≡ c s (sees y))
+  results_and_options_row =
+      two_rows Answer Chosen same_answer same_chosen (option_eq value_eq'.it) answers sees os.eq tells
+
+  lifted_row : (f t : ℕ) (x : O.Denot) (g u : ℕ) (y : O.Denot)
+      → Decides (nat_eq f g && (nat_eq t u && os.eq x y)) (Lift f (sees x) t ≡ Lift g (sees y) u)
+  lifted_row f t x g u y =
+      Decides-like _ (λ e. let p = e.0 in let q = e.1.0 in let r = e.1.1 in cc) (λ e. (cc, (cc, cc)))
+      (Decides-and _ _ (unsigned_Decides f g) (Decides-and _ _ (unsigned_Decides t u) (tells x y)))
+
   abbrev Parts_of : List (List Part)
-  Parts_of = (enum A al).parts
+  Parts_of = (enum O).parts
 
   abbrev seen : Choice Parts_of → Canonical
-  seen c = canon_view ((enum A al).make c)
+  seen c = canon_of sees ((enum O).make c)
 
-  pub trees : (d e : Dict) (a b : CanonTree A.Denot) → Decides ((eq-value A al d e).it a b) (canon_view a ≡ canon_view b)
-  trees d e a b =
-      let same : Decides ((eq-value A al d e).it a b) (seen ((enum A al).as_values a) ≡ seen ((enum A al).as_values b)) =
+  pub trees : (a b : CanonOf O.Denot) → Decides ((eq-value O os d).it a b) (canon_of sees a ≡ canon_of sees b)
+  trees a b =
+      let same : Decides ((eq-value O os d).it a b) (seen ((enum O).as_values a) ≡ seen ((enum O).as_values b)) =
       by_decides opcode_of Parts_of _ seen 0 (
-      row_at _ 0x00 (λ x. refl) (omega arith) (λ x y. lifted_row x.0 x.1.0 x.1.1.0.items y.0 y.1.0 y.1.1.0.items) then
-      row_at _ 0x01 (λ x. refl) (omega arith) (λ x y. index_and_options_row (λ n os. Lower n os) (λ n os. refl) x.0 x.1.0.items y.0 y.1.0.items) then
+      row_at _ 0x00 (λ x. refl) (omega arith) (λ x y. lifted_row x.0 x.1.0 x.1.1.0 y.0 y.1.0 y.1.1.0) then
+      row_at _ 0x01 (λ x. refl) (omega arith) (λ x y. index_and_options_row (λ n os. Lower n os) (λ n os. refl) x.0 x.1.0 y.0 y.1.0) then
       row_at _ 0x02 (λ x. refl) (omega arith) (λ x y. index_row (OfBuiltin canon.ResourceNew) (λ n. refl) x.0 y.0) then
       row_at _ 0x03 (λ x. refl) (omega arith) (λ x y. index_row (OfBuiltin canon.ResourceDrop) (λ n. refl) x.0 y.0) then
       row_at _ 0x04 (λ x. refl) (omega arith) (λ x y. index_row (OfBuiltin canon.ResourceRep) (λ n. refl) x.0 y.0) then
       row_at _ 0x05 (λ x. refl) (omega arith) (λ x y. (λ e. refl, λ e. refl)) then
       row_at _ 0x06 (λ x. refl) (omega arith) (λ x y. flag_row (OfBuiltin canon.SubtaskCancel) (λ b. refl) x.0 y.0) then
       row_at _ 0x09 (λ x. refl) (omega arith) (λ x y. results_and_options_row (λ r os. OfBuiltin canon.TaskReturn (r, os))
-      (λ r os. refl) x.0 x.1.0.items y.0 y.1.0.items) then
+      (λ r os. refl) x.0 x.1.0 y.0 y.1.0) then
       row_at _ 0x0a (λ x. refl) (omega arith) (λ x y. type_and_index_row (λ t n. OfBuiltin canon.ContextGet (t, n)) (λ t n. refl) x.0 x.1.0 y.0 y.1.0) then
       row_at _ 0x0b (λ x. refl) (omega arith) (λ x y. type_and_index_row (λ t n. OfBuiltin canon.ContextSet (t, n)) (λ t n. refl) x.0 x.1.0 y.0 y.1.0) then
       row_at _ 0x0c (λ x. refl) (omega arith) (λ x y. (λ e. refl, λ e. refl)) then
       row_at _ 0x0d (λ x. refl) (omega arith) (λ x y. (λ e. refl, λ e. refl)) then
       row_at _ 0x0e (λ x. refl) (omega arith) (λ x y. index_row (OfBuiltin canon.StreamNew) (λ n. refl) x.0 y.0) then
       row_at _ 0x0f (λ x. refl) (omega arith) (λ x y. index_and_options_row (λ n os. OfBuiltin canon.StreamRead (n, os))
-      (λ n os. refl) x.0 x.1.0.items y.0 y.1.0.items) then
+      (λ n os. refl) x.0 x.1.0 y.0 y.1.0) then
       row_at _ 0x10 (λ x. refl) (omega arith) (λ x y. index_and_options_row (λ n os. OfBuiltin canon.StreamWrite (n, os))
-      (λ n os. refl) x.0 x.1.0.items y.0 y.1.0.items) then
+      (λ n os. refl) x.0 x.1.0 y.0 y.1.0) then
       row_at _ 0x11 (λ x. refl) (omega arith) (λ x y. index_and_flag_row (λ n b. OfBuiltin canon.StreamCancelRead (n, b))
       (λ n b. refl) x.0 x.1.0 y.0 y.1.0) then
       row_at _ 0x12 (λ x. refl) (omega arith) (λ x y. index_and_flag_row (λ n b. OfBuiltin canon.StreamCancelWrite (n, b))
@@ -258,17 +263,17 @@ module _ (A : RattleType) (al : Ghosts A.Denot) where
       row_at _ 0x14 (λ x. refl) (omega arith) (λ x y. index_row (OfBuiltin canon.StreamDropWritable) (λ n. refl) x.0 y.0) then
       row_at _ 0x15 (λ x. refl) (omega arith) (λ x y. index_row (OfBuiltin canon.FutureNew) (λ n. refl) x.0 y.0) then
       row_at _ 0x16 (λ x. refl) (omega arith) (λ x y. index_and_options_row (λ n os. OfBuiltin canon.FutureRead (n, os))
-      (λ n os. refl) x.0 x.1.0.items y.0 y.1.0.items) then
+      (λ n os. refl) x.0 x.1.0 y.0 y.1.0) then
       row_at _ 0x17 (λ x. refl) (omega arith) (λ x y. index_and_options_row (λ n os. OfBuiltin canon.FutureWrite (n, os))
-      (λ n os. refl) x.0 x.1.0.items y.0 y.1.0.items) then
+      (λ n os. refl) x.0 x.1.0 y.0 y.1.0) then
       row_at _ 0x18 (λ x. refl) (omega arith) (λ x y. index_and_flag_row (λ n b. OfBuiltin canon.FutureCancelRead (n, b))
       (λ n b. refl) x.0 x.1.0 y.0 y.1.0) then
       row_at _ 0x19 (λ x. refl) (omega arith) (λ x y. index_and_flag_row (λ n b. OfBuiltin canon.FutureCancelWrite (n, b))
       (λ n b. refl) x.0 x.1.0 y.0 y.1.0) then
       row_at _ 0x1a (λ x. refl) (omega arith) (λ x y. index_row (OfBuiltin canon.FutureDropReadable) (λ n. refl) x.0 y.0) then
       row_at _ 0x1b (λ x. refl) (omega arith) (λ x y. index_row (OfBuiltin canon.FutureDropWritable) (λ n. refl) x.0 y.0) then
-      row_at _ 0x1c (λ x. refl) (omega arith) (λ x y. options_row (OfBuiltin canon.ErrorContextNew) (λ os. refl) x.0.items y.0.items) then
-      row_at _ 0x1d (λ x. refl) (omega arith) (λ x y. options_row (OfBuiltin canon.ErrorContextDebugMessage) (λ os. refl) x.0.items y.0.items) then
+      row_at _ 0x1c (λ x. refl) (omega arith) (λ x y. options_row (OfBuiltin canon.ErrorContextNew) (λ os. refl) x.0 y.0) then
+      row_at _ 0x1d (λ x. refl) (omega arith) (λ x y. options_row (OfBuiltin canon.ErrorContextDebugMessage) (λ os. refl) x.0 y.0) then
       row_at _ 0x1e (λ x. refl) (omega arith) (λ x y. (λ e. refl, λ e. refl)) then
       row_at _ 0x1f (λ x. refl) (omega arith) (λ x y. (λ e. refl, λ e. refl)) then
       row_at _ 0x20 (λ x. refl) (omega arith) (λ x y. memory_row (λ n. OfBuiltin canon.WaitableSetWait (tt, n)) (λ n. refl) x.0 y.0) then
@@ -291,7 +296,7 @@ module _ (A : RattleType) (al : Ghosts A.Denot) where
       row_at _ 0x41 (λ x. refl) (omega arith) (λ x y. indices_row (λ m n. OfBuiltin canon.ThreadSpawnIndirect (m, n)) (λ m n. refl) x.0 x.1.0 y.0 y.1.0) then
       row_at _ 0x42 (λ x. refl) (omega arith) (λ x y. (λ e. refl, λ e. refl)) then
       tt
-      ) ((enum A al).as_values a) ((enum A al).as_values b) in
-      let P : CanonTree A.Denot → CanonTree A.Denot → Type 0 = λ v w. Decides ((eq-value A al d e).it a b) (canon_view v ≡ canon_view w) in
-      subst (λ (w : CanonTree A.Denot). P a w) ((enum A al).eta b)
-      (subst (λ (v : CanonTree A.Denot). P v ((enum A al).make ((enum A al).as_values b))) ((enum A al).eta a) same)
+      ) ((enum O).as_values a) ((enum O).as_values b) in
+      let P : CanonOf O.Denot → CanonOf O.Denot → Type 0 = λ v w. Decides ((eq-value O os d).it a b) (canon_of sees v ≡ canon_of sees w) in
+      subst (λ (w : CanonOf O.Denot). P a w) ((enum O).eta b)
+      (subst (λ (v : CanonOf O.Denot). P v ((enum O).make ((enum O).as_values b))) ((enum O).eta a) same)

@@ -32,7 +32,7 @@ pub use wenc_parts::{
     NameOptions, NameTree, PrimitiveValType, TypeBounds,
 };
 pub use wenc_sections::{
-    CanonTree, ComponentAliasSection, ComponentExportSection, ComponentImportSection,
+    CanonOf, CanonTree, ComponentAliasSection, ComponentExportSection, ComponentImportSection,
     ComponentInstanceSection, ComponentNameSection, ComponentStartSection, ComponentTypeSection,
     CoreInstanceTree, CoreTypeSection, InstanceSection, InstanceTree, ModuleSection,
     NestedComponentSection,

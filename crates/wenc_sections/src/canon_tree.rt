@@ -21,9 +21,13 @@ use wenc_parts::{ComponentValType, ResultList};
 /// let drop: CanonTree = CanonTree::ResourceDrop(3);
 /// drop.encode(&mut sink)?;
 /// ```
+pub type CanonTree<A = Global> = CanonOf<Vec<CanonicalOption, A>>;
+
+/// A canonical function, whose options are an `O`: a `CanonTree` owns them, a `CanonView` borrows
+/// them. A `use` of its variants names `CanonOf`, not an alias.
 #[derive(Drop)]
-#[derive_where(PartialEq, Eq, Debug)]
-pub enum CanonTree<A: Allocator = Global> {
+#[derive(Clone, Copy, Debug, PartialEq, Eq)]
+pub enum CanonOf<O> {
     /// `canon lift`: lifts a core function to a component function of this type.
     Lift {
         /// The index of the core function.
@@ -31,14 +35,14 @@ pub enum CanonTree<A: Allocator = Global> {
         /// The index of the component function's type.
         ty: u32,
         /// The options, in order.
-        options: Vec<CanonicalOption, A>,
+        options: O,
     },
     /// `canon lower`: lowers a component function to a core function.
     Lower {
         /// The index of the component function.
         func: u32,
         /// The options, in order.
-        options: Vec<CanonicalOption, A>,
+        options: O,
     },
     /// `resource.new`: creates an owned handle to a resource of this type.
     ResourceNew(u32),
@@ -56,7 +60,7 @@ pub enum CanonTree<A: Allocator = Global> {
         /// The type of the result, if there is one.
         ty: Option<ComponentValType>,
         /// The options, in order.
-        options: Vec<CanonicalOption, A>,
+        options: O,
     },
     /// `context.get`: reads a slot of the current task, with this value type.
     ContextGet {
@@ -83,14 +87,14 @@ pub enum CanonTree<A: Allocator = Global> {
         /// The index of the type.
         ty: u32,
         /// The options, in order.
-        options: Vec<CanonicalOption, A>,
+        options: O,
     },
     /// `stream.write`: writes to a stream of this type.
     StreamWrite {
         /// The index of the type.
         ty: u32,
         /// The options, in order.
-        options: Vec<CanonicalOption, A>,
+        options: O,
     },
     /// `stream.cancel-read`: cancels a read from a stream of this type.
     StreamCancelRead {
@@ -117,14 +121,14 @@ pub enum CanonTree<A: Allocator = Global> {
         /// The index of the type.
         ty: u32,
         /// The options, in order.
-        options: Vec<CanonicalOption, A>,
+        options: O,
     },
     /// `future.write`: writes to a future of this type.
     FutureWrite {
         /// The index of the type.
         ty: u32,
         /// The options, in order.
-        options: Vec<CanonicalOption, A>,
+        options: O,
     },
     /// `future.cancel-read`: cancels a read from a future of this type.
     FutureCancelRead {
@@ -145,9 +149,9 @@ pub enum CanonTree<A: Allocator = Global> {
     /// `future.drop-writable`: drops the writable end of a future of this type.
     FutureDropWritable(u32),
     /// `error-context.new`: creates an error context with a message.
-    ErrorContextNew(Vec<CanonicalOption, A>),
+    ErrorContextNew(O),
     /// `error-context.debug-message`: returns the message of an error context.
-    ErrorContextDebugMessage(Vec<CanonicalOption, A>),
+    ErrorContextDebugMessage(O),
     /// `error-context.drop`: drops an error context.
     ErrorContextDrop,
     /// `waitable-set.new`: creates a set of waitables.

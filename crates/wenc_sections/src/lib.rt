@@ -24,7 +24,7 @@ pub mod start;
 pub mod types;
 
 pub use aliases::ComponentAliasSection;
-pub use canon_tree::CanonTree;
+pub use canon_tree::{CanonOf, CanonTree};
 pub use components::NestedComponentSection;
 pub use counted::{Counted, EncoderKind};
 pub use exports::ComponentExportSection;

@@ -4,9 +4,9 @@ use Rattle.std.specs.Prelude.{Vec}
 use Rattle.wenc_base.specs.declared.types.ValType.{ValType}
 use Rattle.wenc_sections.specs.CanonTrees.{canon_view}
 use Rattle.wenc_canon.specs.Canonicals.{builtin_name}
-use Rattle.wenc_sections.specs.declared.canon_tree.CanonTree.{CanonTree}
+use Rattle.wenc_sections.specs.declared.canon_tree.CanonOf.{CanonOf}
 use Rattle.wenc_canon.specs.declared.canonicals.CanonicalOption.{CanonicalOption}
-use Rattle.wenc_sections.specs.declared.canon_tree.CanonTree.TheVariants as trees
+use Rattle.wenc_sections.specs.declared.canon_tree.CanonOf.TheVariants as trees
 use Rattle.wenc_builder.specs.Enters.{Enters}
 use Rattle.wenc_builder.specs.Entry.{Entry, canonical_entry, canonical_tree_entry}
 use Rattle.wenc_builder.proofs.builder.ComponentBuilder.canonical_tree.Goals as goal
@@ -18,7 +18,7 @@ pub returns-in-ContextSet : goal.returns-in-ContextSet
 returns-in-ContextSet g c = rw c.in-ContextSet.is c.context_set.ensures
 
 -- what is provided and has no slot has its own name
-own : {A : Type 0} (t : CanonTree A) (debug_name : Option (List ℕ))
+own : {A : Type 0} (t : CanonOf (Vec CanonicalOption A)) (debug_name : Option (List ℕ))
     → ((f ty : ℕ) (options : Vec CanonicalOption A) → t ≡ trees.Lift f ty options → ⊥)
     → ((f : ℕ) (options : Vec CanonicalOption A) → t ≡ trees.Lower f options → ⊥) → ((ty : ValType) (n : ℕ) → t ≡ trees.ContextGet ty n → ⊥)
     → ((ty : ValType) (n : ℕ) → t ≡ trees.ContextSet ty n → ⊥) → canonical_tree_entry debug_name (canon_view t)
