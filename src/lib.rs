@@ -104,6 +104,7 @@ extern crate alloc;
 #[cfg(test)]
 extern crate std;
 
+mod adapters;
 mod collections;
 mod component;
 mod core;
@@ -113,15 +114,14 @@ mod core_items;
 mod core_sections;
 #[cfg(feature = "reader")]
 mod cursor;
+#[cfg(feature = "reader")]
+mod debug_names;
 mod encode;
 mod encoders;
 mod eq_by_bytes;
 mod error;
 #[cfg(feature = "reader")]
 mod list;
-mod lists;
-#[cfg(feature = "reader")]
-mod names;
 #[cfg(feature = "reader")]
 mod producers;
 mod proved;
@@ -145,12 +145,12 @@ pub use core_items::{CoreItem, CoreItems};
 pub use core_sections::{CoreSection, CoreSections, ModuleFault};
 #[cfg(feature = "reader")]
 pub use cursor::{Items, NestedSections, OutOfRange, SectionReader, Sections, Trees};
+#[cfg(feature = "reader")]
+pub use debug_names::{DebugName, DebugNames, NamesFault, NamesReader};
 pub use encode::{Encode, encoding_size};
 pub use error::{Error, Unsupported};
 #[cfg(feature = "reader")]
 pub use list::{Bytes, Cause, Definitions, Found, ListFault, ListedSection, Listing, Unread, list};
-#[cfg(feature = "reader")]
-pub use names::{DebugName, DebugNames, NamesFault, NamesReader};
 #[cfg(feature = "reader")]
 pub use producers::{Producer, ProducersFault, ProducersReader};
 pub use raw::RawSection;

@@ -7,8 +7,8 @@
 //! has fewer files: there the links alone are checked.
 
 #[cfg(in_repository)]
-#[path = "pages/names.rs"]
-mod names;
+#[path = "pages/declared_names.rs"]
+mod declared_names;
 
 use std::collections::BTreeSet;
 use std::{fs, path::Path};

@@ -10,6 +10,7 @@
 extern crate alloc;
 
 pub mod arguments;
+pub mod component_types;
 pub mod core_types;
 pub mod items;
 pub mod last_error;
@@ -19,7 +20,6 @@ mod numbers;
 pub mod rows;
 pub mod sections;
 mod session;
-pub mod types;
 pub mod walk;
 
 use alloc::boxed::Box;

@@ -6,7 +6,7 @@ mod life;
 
 mod definitions;
 
-mod types;
+mod type_items;
 
 mod functions;
 

@@ -4,10 +4,10 @@ mod builtins;
 
 pub(crate) use builtins::builtins;
 
+use crate::adapters::List;
 use crate::collections::{add_whole, adding_whole, collections};
 use crate::component::{ComponentValType, sections};
 use crate::core::ValType;
-use crate::lists::List;
 use crate::proved::wasm_encoder::{AddsBuiltin, AddsSlot};
 use crate::twins::twins;
 

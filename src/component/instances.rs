@@ -1,9 +1,9 @@
 //! Instances of core modules and of components, and their sections.
 
+use crate::adapters::{List, named, named_items};
 use crate::collections::{add_whole, adding_whole, collections};
 use crate::component::sections;
 use crate::encode::encode;
-use crate::lists::{List, named, named_items};
 use crate::proved::wasm_encoder as proved;
 use crate::twins::twins;
 use crate::{ComponentExportKind, ComponentExternName, ExportKind};

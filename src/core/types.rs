@@ -12,7 +12,7 @@ pub use encoder::CoreTypeEncoder;
 pub use values::{AbstractHeapType, HeapType, RefType, ValType};
 
 use crate::Error;
-use crate::lists::{List, is_array};
+use crate::adapters::{List, is_array};
 use crate::proved::wasm_encoder as proved;
 use crate::proved::wenc_base::{ByteTypes, Fault};
 use crate::shim::alloc::Global;
@@ -78,7 +78,7 @@ impl<T: Filler> Converted<T> {
 
     /// Converts the values, calls `each` with each of them, and returns them. Fails with the first
     /// error. Compiled for arrays by their type, and once for other lists, as
-    /// [`with_list`](crate::lists::with_list) does.
+    /// [`with_list`](crate::adapters::with_list) does.
     // In line, the compiler unrolls it for arrays.
     #[inline(always)]
     fn extend_with<L: IntoIterator>(

@@ -4,13 +4,13 @@
 
 pub mod alloc;
 pub mod borrow;
+#[cfg(any(feature = "reader", script, test))]
+mod borrowed_lists;
 pub mod boxed;
 pub mod convert;
 #[cfg(any(script, test))]
 pub mod hex;
 pub mod iter;
-#[cfg(any(feature = "reader", script, test))]
-mod lists;
 mod macros;
 pub mod string;
 pub mod vec;

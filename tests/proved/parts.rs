@@ -1,7 +1,7 @@
 //! What all else is made of: values, maps of names and holders; what they are written as, and each
 //! request for memory refused in turn.
 
-mod names;
+mod name_maps;
 mod values;
 
 // Those that count with lengths that only 64 bits hold.

@@ -1,7 +1,7 @@
 //! The program: scripts, listings, streams that fail, and runs that want memory.
 
 mod lines;
-mod lists;
+mod listings;
 mod memory;
 mod outcome;
 mod pieces;

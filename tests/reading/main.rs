@@ -8,6 +8,7 @@ mod core_sections;
 #[path = "../real/corpus.rs"]
 mod corpus;
 mod cursor;
+mod debug_names;
 #[cfg(not(target_family = "wasm"))]
 mod deep;
 mod faults;
@@ -15,7 +16,6 @@ mod groups;
 mod indices;
 mod large;
 mod listing;
-mod names;
 mod nested;
 mod nodes;
 mod out_of_range;

@@ -1,8 +1,8 @@
 //! Items as nodes.
 
 use crate::component;
-use wenc::tree::Node;
-use wenc::{CoreItem, CoreSections, ExportKind, list};
+use wenc::tree::{CoreFuncType, CoreValType, Node, Vec as List};
+use wenc::{CoreItem, CoreSections, ExportKind, Sections, list};
 
 /// What is printed of a node, in single quotes.
 fn shown(node: Node) -> String {
@@ -93,4 +93,32 @@ fn items_of_core_modules() {
              'index': Index { space: CoreGlobals, scope: Component(0), index: 4 }})",
         ],
     );
+}
+
+/// The lengths in bytes that the elements of the list in a node have.
+fn lengths(node: Node) -> Vec<Option<usize>> {
+    let mut found = Vec::new();
+    match node {
+        Node::Variant(_, child) => return lengths(child.node()),
+        Node::List(list) => list.for_each(|child| found.push(child.encoded_len())),
+        _ => {}
+    }
+    found
+}
+
+#[test]
+fn lengths_of_borrowed_elements() {
+    let bytes = component(b"\x07\x0b\x01\x42\x02\x02\x03\x02\0\x09\x01\x6b\x79");
+    let view = Sections::new(&bytes).expect("it has a header").items().next();
+    let (_, view) = view.expect("there is an item").expect("it is read");
+    assert_eq!(lengths(view.node()), [Some(5), Some(3)]);
+    let mut items = list(&bytes).expect("it is a component").into_items();
+    assert_eq!(lengths(items.next().expect("there is an item").node()), [None, None]);
+}
+
+#[test]
+fn function_types_of_lists() {
+    let [params, results] = [CoreValType::I32, CoreValType::F64].map(|ty| List::from(vec![ty]));
+    let ty = CoreFuncType::from_lists(params, results);
+    assert_eq!((ty.params(), ty.results()), (&[CoreValType::I32][..], &[CoreValType::F64][..]));
 }

@@ -10,12 +10,12 @@
 
 mod again;
 mod corpus;
+mod debug_names;
 mod docs;
 mod examples;
 mod features;
 mod indices;
 mod interfaces;
-mod names;
 mod random;
 mod shown;
 mod toolchain;

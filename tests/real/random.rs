@@ -2,7 +2,7 @@
 //! used by later calls where only an item of its kind and type is valid.
 
 mod canonicals;
-mod types;
+mod typed_items;
 
 use crate::corpus;
 use wenc::*;

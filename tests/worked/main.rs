@@ -14,7 +14,7 @@ mod sections;
 #[allow(dead_code, reason = "some are for others")]
 #[path = "../common/seen.rs"]
 mod seen;
-mod types;
+mod type_sections;
 mod values;
 
 use runs::hex;

@@ -13,9 +13,9 @@ use wenc::tree::{
 };
 use wenc::{CanonicalOption, ComponentTypeRef, ModuleArg};
 use wenc_capi::arguments::{Flag, Name, Pair, Part, Text};
+use wenc_capi::component_types::*;
 use wenc_capi::items::*;
 use wenc_capi::sections::wenc_custom_section;
-use wenc_capi::types::*;
 use wenc_capi::{Handle, Status};
 
 /// The index that a call puts out, or its status.

@@ -10,10 +10,10 @@ use wenc::tree::{
     GroupTree, InstanceDecl, ModuleDecl, Space, String,
 };
 use wenc_capi::arguments::{Entity, Flag, Pair, Subtype};
+use wenc_capi::component_types::wenc_type;
 use wenc_capi::core_types::*;
 use wenc_capi::items::wenc_alias_outer;
 use wenc_capi::life::{wenc_count, wenc_len};
-use wenc_capi::types::wenc_type;
 use wenc_capi::{Handle, Status};
 
 /// A type whose declarations are counted beside it.

@@ -4,6 +4,7 @@ use crate::refuse::requested;
 use std::ffi::CStr;
 use std::{mem, ptr, slice};
 use wenc_capi::arguments::{Entity, Flag, IndexName, Name, Pair, Part, Producer, Subtype, Text};
+use wenc_capi::component_types::*;
 use wenc_capi::core_types::*;
 use wenc_capi::items::*;
 use wenc_capi::last_error::{ErrorRow, wenc_last_error};
@@ -11,7 +12,6 @@ use wenc_capi::life::*;
 use wenc_capi::listing::*;
 use wenc_capi::rows::ItemRow;
 use wenc_capi::sections::*;
-use wenc_capi::types::*;
 use wenc_capi::{Handle, Status};
 
 const NO: Flag = Flag(0);

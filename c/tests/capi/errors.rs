@@ -5,13 +5,13 @@ use std::collections::BTreeSet;
 use std::ffi::CStr;
 use std::ptr;
 use wenc_capi::arguments::{Flag, IndexName, Pair, Part, Text};
+use wenc_capi::component_types::*;
 use wenc_capi::core_types::*;
 use wenc_capi::items::*;
 use wenc_capi::last_error::wenc_last_error;
 use wenc_capi::life::*;
 use wenc_capi::listing::*;
 use wenc_capi::sections::*;
-use wenc_capi::types::*;
 use wenc_capi::{Handle, Status};
 
 const HEADER: &str = include_str!("../../wenc.h");

@@ -9,9 +9,9 @@ use crate::size::text;
 use std::ptr;
 use wenc::tree::Space;
 use wenc_capi::arguments::{IndexName, Producer};
+use wenc_capi::component_types::wenc_type_own;
 use wenc_capi::items::*;
 use wenc_capi::sections::*;
-use wenc_capi::types::wenc_type_own;
 use wenc_capi::{Handle, Status};
 
 /// A component with this call in a builder and by hand, which has these bytes behind its header.

@@ -10,11 +10,11 @@ use wenc::tree::{AliasTree, Command, NameOptions, NameTree};
 use wenc::view::ItemView;
 use wenc::{ComponentTypeRef, SectionReader, Sections};
 use wenc_capi::arguments::{Name, Text};
+use wenc_capi::component_types::wenc_type;
 use wenc_capi::items::*;
 use wenc_capi::life::{wenc_bytes, wenc_count, wenc_finish, wenc_len};
 use wenc_capi::listing::*;
 use wenc_capi::rows::{ItemRow, SectionRow};
-use wenc_capi::types::wenc_type;
 use wenc_capi::walk::*;
 use wenc_capi::{Handle, Status};
 

@@ -1,9 +1,9 @@
 //! The builder's calls for builtins.
 
+use crate::adapters::with_list;
 use crate::component::canonicals::builtins;
 use crate::component::{CanonicalOption, ComponentBuilder, ComponentValType};
 use crate::core::ValType;
-use crate::lists::with_list;
 use crate::proved::wasm_encoder::{AddsBuiltin, AddsSlot};
 use crate::twins::twins;
 

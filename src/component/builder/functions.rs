@@ -1,7 +1,7 @@
 //! The builder's calls for functions between a component and its core modules.
 
+use crate::adapters::with_list;
 use crate::component::{CanonicalOption, ComponentBuilder};
-use crate::lists::with_list;
 use crate::twins::twins;
 
 /// Lifted and lowered functions: each call adds one, optionally with a debug name, and returns its

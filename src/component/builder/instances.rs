@@ -1,8 +1,8 @@
 //! The builder's calls for instances of core modules and of components.
 
+use crate::adapters::{Name, named_items, with_list};
 use crate::component::{ComponentBuilder, ComponentExportKind, ComponentExternName, ModuleArg};
 use crate::core::ExportKind;
-use crate::lists::{Name, named_items, with_list};
 use crate::proved::wasm_encoder::ComponentExternName as ProvedName;
 use crate::twins::twins;
 

@@ -2,8 +2,8 @@
 
 use super::{ComponentValType, PrimitiveValType};
 use crate::Error;
+use crate::adapters::{Labelled, List, is_array};
 use crate::encoders::{encoders, on};
-use crate::lists::{Labelled, List, is_array};
 #[cfg(feature = "reader")]
 use crate::tree::DefinedTree;
 use crate::twins::twins;
@@ -39,7 +39,7 @@ encoders! {
     ComponentDefinedTypeEncoder by DefinedBy over ComponentTypeSection;
 }
 
-/// Makes a call with a list, as [`with_list`](crate::lists::with_list) does, but compiled for arrays
+/// Makes a call with a list, as [`with_list`](crate::adapters::with_list) does, but compiled for arrays
 /// only over the builder: with each parent it would be compiled four times.
 macro_rules! define {
     ($self:ident.$name:ident, $array:ty: $list:expr => $item:ty) => {{

@@ -1,7 +1,7 @@
 //! The encoder of function types.
 
+use crate::adapters::{Labelled, List, is_array};
 use crate::encoders::{encoders, on};
-use crate::lists::{Labelled, List, is_array};
 use crate::proved::wasm_encoder::FuncStage;
 use crate::twins::twins;
 use crate::{ComponentValType, Error};

@@ -79,16 +79,16 @@ macro_rules! with_list {
         fn listed$(<$generic: $bound>)?(
             builder: &mut $crate::ComponentBuilder,
             $($arg: $ty,)*
-            list: $crate::lists::List<'_, $item>,
+            list: $crate::adapters::List<'_, $item>,
         ) -> Result<u32, $crate::Error> {
             Ok(builder.0.$name($($arg,)* list)?)
         }
 
         let mut list = $list;
-        if const { $crate::lists::is_array::<$array>() } {
+        if const { $crate::adapters::is_array::<$array>() } {
             return Ok($self.0.$name($($arg,)* list)?);
         }
-        listed($self, $($arg,)* $crate::lists::List(&mut list))
+        listed($self, $($arg,)* $crate::adapters::List(&mut list))
     }};
 }
 
