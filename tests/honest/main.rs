@@ -14,7 +14,6 @@ mod eraser;
 mod lexer;
 mod proof;
 mod reader;
-mod sha256;
 
 use lexer::{Token, lex};
 use reader::{DERIVED_TOO, NARROWED, TREES, WAYS, compare, read};

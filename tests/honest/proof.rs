@@ -1,11 +1,12 @@
 //! `PROOF` tells of the sources that the crate is made of: their digests are those that `sha256sum`
-//! gave.
+//! gives.
 
 use crate::erased;
-use crate::sha256::sha256;
 use std::collections::{BTreeMap, HashSet};
 use std::fs;
-use std::path::Path;
+use std::io::Write;
+use std::path::{Path, PathBuf};
+use std::process::{Command, Stdio};
 
 /// The digests that `PROOF` has, by the folder.
 fn told() -> BTreeMap<&'static str, &'static str> {
@@ -29,10 +30,20 @@ fn gather(crate_folder: &Path, at: &str, found: &mut BTreeMap<String, Vec<u8>>) 
     }
 }
 
-/// The digest of what `sha256sum` prints of files.
-fn digest(files: &BTreeMap<String, Vec<u8>>) -> String {
-    let lines = files.iter().map(|(path, bytes)| format!("{}  {path}\n", sha256(bytes)));
-    sha256(lines.collect::<String>().as_bytes())
+/// What `sha256sum` prints of these files of a folder, or of this text if there are none.
+fn sha256sum<'a>(folder: &Path, files: impl Iterator<Item = &'a String>, text: &[u8]) -> String {
+    let mut sums = Command::new("sha256sum");
+    sums.args(files).current_dir(folder).stdin(Stdio::piped()).stdout(Stdio::piped());
+    let mut sums = sums.spawn().expect("`sha256sum` is here");
+    sums.stdin.take().expect("a pipe").write_all(text).expect("it is read");
+    let output = sums.wait_with_output().expect("it ends");
+    assert!(output.status.success());
+    String::from_utf8(output.stdout).expect("a text")
+}
+
+/// The digest of a text.
+fn digest(text: &[u8]) -> String {
+    sha256sum(Path::new("."), [].into_iter(), text)[..64].to_owned()
 }
 
 /// Each folder of proved sources that is here, with its files: in the repository all, in a package
@@ -53,13 +64,21 @@ fn folders() -> BTreeMap<String, BTreeMap<String, Vec<u8>>> {
     found
 }
 
+/// The folder of the crate whose `src`, `specs`, `proofs` or `must-fail` this is.
+fn crate_of(part: &str) -> PathBuf {
+    let part = Path::new(env!("CARGO_MANIFEST_DIR")).join("crates").join(part);
+    part.parent().expect("the crate's").to_owned()
+}
+
 #[test]
+#[cfg_attr(target_family = "wasm", ignore = "there are no other programs")]
 fn sources_are_the_proved_ones() {
     let told = told();
     let folders = folders();
     for (at, files) in &folders {
         let wanted = told.get(at.as_str()).unwrap_or_else(|| panic!("PROOF has no {at}"));
-        assert_eq!(digest(files), *wanted, "{at} was changed after it was proved");
+        let sums = sha256sum(&crate_of(at), files.keys(), b"");
+        assert_eq!(digest(sums.as_bytes()), *wanted, "{at} was changed after it was proved");
     }
     // Of each crate that Rust was made of there was a digest.
     let mut made = 0;
@@ -75,17 +94,17 @@ fn sources_are_the_proved_ones() {
 }
 
 #[test]
+#[cfg_attr(target_family = "wasm", ignore = "there are no other programs")]
 fn a_changed_source_has_another_digest() {
     let at = "wenc_base/src";
     let files = folders().remove(at).expect("the sources of wenc_base");
-    for path in files.keys() {
-        let mut changed = files.clone();
-        changed.get_mut(path).expect("a file").push(b' ');
-        assert_ne!(digest(&changed), told()[at], "{path}");
-        let mut moved = files.clone();
-        let bytes = moved.remove(path).expect("a file");
-        moved.insert(format!("{path}_"), bytes);
-        assert_ne!(digest(&moved), told()[at], "{path}");
+    let sums = sha256sum(&crate_of(at), files.keys(), b"");
+    for (line, (path, bytes)) in sums.lines().zip(&files) {
+        let changed = digest(&[bytes, &b" "[..]].concat());
+        for other in [format!("{changed}  {path}"), format!("{line}_")] {
+            let sums = sums.replace(line, &other);
+            assert_ne!(digest(sums.as_bytes()), told()[at], "{path}");
+        }
     }
 }
 
@@ -156,19 +175,4 @@ fn callers_on_the_pages_are_proved_ones() {
         }
     }
     assert_eq!(shown, 10);
-}
-
-#[test]
-fn digests_are_those_of_the_standard() {
-    for (text, wanted) in [
-        (&b""[..], "e3b0c44298fc1c149afbf4c8996fb92427ae41e4649b934ca495991b7852b855"),
-        (b"abc", "ba7816bf8f01cfea414140de5dae2223b00361a396177a9cb410ff61f20015ad"),
-        (
-            b"abcdbcdecdefdefgefghfghighijhijkijkljklmklmnlmnomnopnopq",
-            "248d6a61d20638b8e5c026930c3e6039a33ce45964ff2167f6ecedd419db06c1",
-        ),
-        (&[b'a'; 1_000_000], "cdc76e5c9914fb9281a1c7e284d73e67f1809a48a497200e046d39ccc7112cd0"),
-    ] {
-        assert_eq!(sha256(text), wanted);
-    }
 }
