@@ -1,5 +1,5 @@
-//! What building costs. Names and a module are made before the time is taken; what is printed is how
-//! many bytes came, how long it took, and the hash of the bytes, which are upstream's.
+//! What building costs. Names and a module are made before the time is taken; what is printed is
+//! how many bytes came, how long it took, and the hash of the bytes, which are upstream's.
 //!
 //! `cargo bench --offline --bench builder -- N` makes N rounds of seven calls, each of which opens
 //! another section; with a word after N

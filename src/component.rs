@@ -231,7 +231,7 @@ impl TryFrom<u8> for ComponentSectionId {
     }
 }
 
-/// The error of converting a `u8` that is no section's id to a [`ComponentSectionId`] or a
+/// The error of converting a `u8` that isn't a section's id to a [`ComponentSectionId`] or a
 /// [`SectionId`](crate::SectionId).
 ///
 /// ```

@@ -74,9 +74,9 @@ impl<'a> Sections<'a> {
     }
 
     /// Returns the sections from this byte offset on, or `None` if it exceeds the number of bytes.
-    /// So a place in a component can be kept as a number: [`offset`](Self::offset), or an end of a
-    /// section's [`range`](SectionReader::range). Neither the header nor the sections before it are
-    /// read; from any other offset on, other sections are read, or an error is returned.
+    /// A position in a component can thus be saved as a number: [`offset`](Self::offset), or an end
+    /// of a section's [`range`](SectionReader::range). Neither the header nor the sections before
+    /// it are read; from any other offset on, other sections are read, or an error is returned.
     ///
     /// ```
     /// use wenc::{ListFault, Sections};
@@ -200,17 +200,17 @@ impl<'a> Sections<'a> {
         NestedSections::new(self, limit)
     }
 
-    /// Returns the indices that are out of range: those of which the space has too few before the
-    /// item, in the component or the type that the index is of (component model, explainer, "Index
-    /// Spaces"). The items of components that are nested up to `limit` deep are included. An outer
-    /// alias out of the outermost component is out of range.
+    /// Returns the indices that are out of range: those that aren't less than the number of indices
+    /// that their space has before the item, in the component or the type that the index belongs to
+    /// (component model, explainer, "Index Spaces"). The items of components that are nested up to
+    /// `limit` deep are included. An outer alias out of the outermost component is out of range.
     ///
     /// Each comes with the byte offset of its item. A valid component has none; nothing else is
     /// checked. A recursion group defines an index for each of its types, to which they may refer.
     ///
     /// The iterator ends after an error, which is that of a section or of an item, or
-    /// [`ListFault::NoMemory`]: memory is taken for each depth of components, and for the indices of
-    /// one item that are out of range.
+    /// [`ListFault::NoMemory`]: it allocates for each depth of components, and for the indices of one
+    /// item that are out of range.
     ///
     /// ```
     /// use wenc::tree::{Scope, Space};

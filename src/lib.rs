@@ -34,7 +34,7 @@
 //! values of [`view`], without allocating. Each section can be written again byte for byte
 //! ([`SectionReader`]) or item by item ([`ItemSection`]). To renumber what was read,
 //! `ItemTree::indices_mut` visits each index that an item contains; `Sections::out_of_range` finds
-//! those that aren't there.
+//! those that are out of range.
 //!
 //! # What is proved
 //!

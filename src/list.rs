@@ -99,7 +99,7 @@ impl ListFault {
         }
     }
 
-    /// Returns why no section is next at this byte offset of the sections up to that end.
+    /// Returns why no section can be read at this byte offset, in sections that end at `end`.
     pub(crate) fn of_section(
         bytes: &[u8],
         end: usize,
@@ -122,7 +122,7 @@ impl ListFault {
         }
     }
 
-    /// Returns why no item is next where this is left of a section with so many items.
+    /// Returns why no item can be read next, given what is left of a section with `count` items.
     pub(crate) fn of_item(
         bytes: &[u8],
         count: u32,

@@ -106,8 +106,8 @@ pub struct Built {
 ///
 /// # Errors
 ///
-/// [`NoMemory`](Error::NoMemory) for the builder or the results, or the error of a type that can't be
-/// encoded; no further command runs then.
+/// [`NoMemory`](Error::NoMemory) for the builder or the results, or the error of a type that can't
+/// be encoded; no further command runs then.
 ///
 /// ```
 /// use wenc::tree::{Command, String, build};

@@ -76,8 +76,8 @@ macro_rules! twins {
         }
 
         #[doc = concat!(
-            "Does what [`", stringify!($name), "`](Self::", stringify!($name), ") does, but returns \
-             an error instead of panicking."
+            "Does what [`", stringify!($name), "`](Self::", stringify!($name), ") does, but \
+             returns an error instead of panicking."
         )]
         ///
         /// # Errors

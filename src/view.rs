@@ -4,16 +4,16 @@
 //!
 //! A type `..View<'a>` borrows its strings and its lists from the bytes that were read, and is
 //! `Copy`. The type of the same name in [`tree`](crate::tree), mostly a `..Tree`, owns them, and
-//! can be changed and written: so [`ItemView`] and [`ItemTree`],
+//! can be changed and written, as [`ItemView`] and [`ItemTree`],
 //! [`ComponentDeclView`] and [`ComponentDecl`](crate::tree::ComponentDecl). What an
 //! [`AliasTree`](crate::tree::AliasTree) owns, an [`Alias`](crate::Alias) borrows, as in upstream's
 //! API. Types without strings and lists are the same in both.
 //!
-//! The iterators over items, [`Items`](crate::Items), return views. The whole item was then read
-//! once, and its errors found, but of each list only the number of members and the place of the
-//! first were kept. A list is an iterator, which reads its members when they are asked for. So
-//! nothing here takes memory. A member that is asked for twice is read twice; so are the
-//! declarations of a type in a type, once more for each type around them.
+//! The iterators over items, [`Items`](crate::Items), return views. By then the whole item has been
+//! read once and its errors found, but of each list only the number of members and the position of
+//! the first are kept. A list is an iterator that reads its members on demand, so that nothing here
+//! allocates. A member that is requested twice is read twice, and the declarations of a nested type
+//! once more for each type around it.
 //!
 //! [`to_tree`](ItemView::to_tree) copies a value; [`node`](ItemView::node) has its fields and its
 //! indices, without a copy.

@@ -13,7 +13,7 @@ mod declared_names;
 use std::collections::BTreeSet;
 use std::{fs, path::Path};
 
-/// What is made, or the reader's own.
+/// Files that are generated, or the reader's own.
 const MADE: [&str; 4] = ["crates/wenc_program/out/wenc_program", "first.c", "released", "target/c"];
 
 /// What a word in backquotes ends with that names a file.
@@ -86,7 +86,7 @@ impl Tree {
     }
 }
 
-/// The lines of a page that are in no fenced block.
+/// The lines of a page outside of fenced blocks.
 fn outside_of_code(text: &str) -> impl Iterator<Item = &str> {
     let mut is_code = false;
     text.lines().filter(move |line| {
@@ -170,7 +170,7 @@ fn below(page: &str, path: &str) -> String {
     own.to_owned() + &parts.join("/")
 }
 
-/// A path for each choice of what stands in its braces.
+/// A path for each choice in its braces.
 fn choices(path: &str) -> Vec<String> {
     let parts = path.split_once('{').and_then(|(front, rest)| {
         let (choice, end) = rest.split_once('}')?;

@@ -53,7 +53,7 @@ macro_rules! builtin {
     };
 }
 
-/// Makes that for a number of `enum wenc_function_with`.
+/// Makes the call for a number of `enum wenc_function_with`.
 macro_rules! builtin_with {
     ($to:ident, $function:ident, $first:ident, $options:ident) => {
         match $function {
@@ -68,7 +68,7 @@ macro_rules! builtin_with {
     };
 }
 
-/// Makes that for a number of `enum wenc_context_function`.
+/// Makes the call for a number of `enum wenc_context_function`.
 macro_rules! slot {
     ($to:ident, $function:ident, $ty:ident, $slot:ident) => {
         match $function {

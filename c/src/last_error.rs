@@ -5,13 +5,13 @@ use core::ffi::{CStr, c_char};
 use core::ptr;
 use core::sync::atomic::{AtomicU32, Ordering};
 
-/// Why the last call failed that did, of those by one handle.
+/// Why the last failed call of a handle failed.
 #[derive(Default)]
 pub(crate) struct LastError {
-    /// Of a call that may change what the handle owns.
+    /// The error of a call that may change what the handle owns.
     of_change: Option<Refused>,
-    /// Of a call that only reads, if that was the last: the status, and from the second byte on the
-    /// number of the argument. Several threads make such calls at a time.
+    /// The error of a call that only reads, if that was the last one: the status, and from the
+    /// second byte on the number of the argument. Several threads may make such calls at once.
     of_read: AtomicU32,
 }
 

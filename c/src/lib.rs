@@ -70,7 +70,7 @@ impl<S: Into<Status>> From<S> for Refused {
 }
 
 impl Refused {
-    /// An argument that may not be what it is.
+    /// An argument whose value isn't allowed.
     fn bad(argument: &'static CStr) -> Self {
         Self::from(Status::BadArgument).of(argument)
     }
@@ -142,7 +142,7 @@ pub struct Owned {
     last_error: LastError,
 }
 
-/// Begins what a handle owns, which owns nothing yet. If it does, that is recorded.
+/// Creates what a handle is to own. Fails, and records that, if the handle owns something already.
 unsafe fn begin(handle: *mut Handle, make: impl FnOnce() -> Result<Session>) -> Result<()> {
     let handle = unsafe { handle.as_mut() }.ok_or(Status::NoHandle)?;
     if let Some(owned) = unsafe { handle.at.as_mut() } {

@@ -175,7 +175,7 @@ fn fault_at(bytes: &[u8], section: usize) -> Option<ListFault> {
     }
 }
 
-/// A text of C, of so many bytes with the 0 that ends it.
+/// A string of C with a capacity in bytes, which includes the final 0.
 struct Written {
     text: *mut c_char,
     size: usize,

@@ -25,7 +25,7 @@ impl SectionRow {
         Self { items: usize::try_from(section.count()).unwrap_or(usize::MAX), ..row }
     }
 
-    /// Describes a section with so many bytes of content, whose items aren't counted.
+    /// Describes a section with this many bytes of content, whose items aren't counted.
     pub(crate) fn unread(range: Range<usize>, content: usize, id: u8) -> Self {
         let (place, len) = (range.start, range.len());
         Self { place, len, content: range.end - content, items: 0, id: id.into() }

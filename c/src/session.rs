@@ -70,7 +70,7 @@ macro_rules! declared {
 }
 
 impl Session {
-    /// Returns why a call fails that this session doesn't take.
+    /// Returns why this session doesn't accept the call.
     pub(crate) fn refusal(&self) -> Refused {
         let status = match self {
             Self::Finished(_) => Status::Finished,

@@ -1,7 +1,7 @@
 //! The walk over a component: cursors in the caller's memory, which borrow the component's bytes.
 //!
 //! Whatever a cursor contains, its offsets are checked against the number of bytes before they are
-//! used. So a cursor that was changed by its owner reads something else, or fails.
+//! used: a cursor that its owner has changed reads something else, or fails.
 
 use crate::arguments::{Text, list};
 use crate::rows::{ItemRow, SectionRow};

@@ -4,8 +4,8 @@ use crate::random::Random;
 use std::fs;
 use std::path::Path;
 
-/// Components that upstream's builder wrote, each in a line, in hexadecimal. Together they have each
-/// kind of item, type and builtin.
+/// Components that upstream's builder wrote, each in a line, in hexadecimal. Together they have
+/// each kind of item, type and builtin.
 const UPSTREAM: &str = include_str!("upstream.txt");
 
 /// The number of bytes before the first section.

@@ -101,7 +101,11 @@ impl ComponentInstanceSection {
     twins! {
         /// Instantiates a component. Each argument is the name of an import, and the kind and the
         /// index of the item supplied for it.
-        fn instantiate | try_instantiate<A, S>(&mut self, component_index: u32, args: A) -> &mut Self
+        fn instantiate | try_instantiate<A, S>(
+            &mut self,
+            component_index: u32,
+            args: A,
+        ) -> &mut Self
         where {
             A: IntoIterator<Item = (S, ComponentExportKind, u32)>,
             A::IntoIter: ExactSizeIterator,

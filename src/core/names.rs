@@ -5,8 +5,8 @@ use crate::eq_by_bytes::eq_by_bytes;
 use crate::twins::twins;
 
 collections! {
-    /// Names of items by their indices, in the order of the calls ([WebAssembly 3.0, appendix, "Name
-    /// Maps"][maps]). The standard requires ascending indices; this isn't checked.
+    /// Names of items by their indices, in the order of the calls ([WebAssembly 3.0, appendix,
+    /// "Name Maps"][maps]). The standard requires ascending indices; this isn't checked.
     ///
     /// [maps]: https://webassembly.github.io/spec/core/appendix/custom.html#name-maps
     ///

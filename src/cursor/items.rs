@@ -28,14 +28,14 @@ impl<'a> Items<'a> {
         Self { bytes, left: Some(left), count: left.left }
     }
 
-    /// Returns so many items of a section with this id, whose bytes are these of a component, or
-    /// `None` if they aren't within its bytes, or are more than one module or component. The id,
-    /// from 0 to 11, is that of a [`SectionReader`](crate::SectionReader) or a
-    /// [`ComponentSectionId`].
+    /// Returns `count` items of a section with this id, which are in this range of a component's
+    /// bytes. Returns `None` if the range isn't within the bytes, or if `count` is more than one
+    /// for a module or a component. The id, from 0 to 11, is that of a
+    /// [`SectionReader`](crate::SectionReader) or a [`ComponentSectionId`].
     ///
-    /// So a place in a section can be kept as numbers, those of [`left`](Self::left). With other
-    /// numbers other items are read, or an error is returned, in which the place of the section is
-    /// that of the first of these bytes.
+    /// A position in a section can thus be saved as the numbers that [`left`](Self::left) returns.
+    /// With other numbers, other items are read, or an error is returned, in which the byte offset
+    /// of the section is the start of the range.
     ///
     /// ```
     /// use wenc::view::ItemView;

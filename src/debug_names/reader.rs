@@ -55,9 +55,9 @@ impl<'a> NamesReader<'a> {
     }
 
     /// Returns the names from this byte offset of the data on, or `None` if it exceeds the number
-    /// of bytes. A subsection begins there, or `within` one a name, with the subsection's space and
-    /// the number of its names that are left: as [`left`](Self::left) says. Elsewhere other names
-    /// are read, or an error is returned.
+    /// of bytes. A subsection begins there or, with `within`, a name inside a subsection, given as
+    /// the subsection's space and the number of its names that are left. [`left`](Self::left)
+    /// returns both. From any other offset on, other names are read, or an error is returned.
     pub fn at(data: &'a [u8], place: usize, within: Option<(Space, u32)>) -> Option<Self> {
         let within = within.filter(|(_, left)| *left > 0);
         Some(Self { data, rest: Some(data.get(place..)?), within })
@@ -85,8 +85,7 @@ impl<'a> NamesReader<'a> {
         Some((self.data.len() - self.rest?.len(), self.within))
     }
 
-    /// Returns the next name and the bytes after it. Names of which there are none and subsections
-    /// with other ids are skipped.
+    /// Takes the next name from `rest`. Empty subsections and those with unknown ids are skipped.
     fn take(&mut self, rest: &mut &'a [u8]) -> Result<Option<DebugName<'a>>, Refusal> {
         loop {
             if let Some((space, left)) = self.within {

@@ -66,7 +66,7 @@ impl Cause {
         }
     }
 
-    /// Returns the cause with so many bytes before its byte offset.
+    /// Returns the cause with its byte offset increased by `by`.
     #[must_use]
     pub fn moved(mut self, by: usize) -> Self {
         match &mut self {
@@ -90,8 +90,8 @@ impl Cause {
         }
     }
 
-    /// Returns the byte in place of which an item at this byte offset is expected, or `None` where
-    /// the bytes end; `None` also where the item's first byte isn't wrong.
+    /// Returns the byte that is found where an item is expected at this byte offset, `Some(None)`
+    /// if the bytes end there, and `None` if the item's first byte isn't wrong.
     pub(super) fn at_first(&self, item: usize) -> Option<Option<u8>> {
         match *self {
             Self::Byte { place, byte, .. } if place == item => Some(Some(byte)),

@@ -1,5 +1,5 @@
-//! What users expect of borrowed lists, by their members, and what the derives of types that contain
-//! lists need.
+//! What users expect of borrowed lists, by their members, and what the derives of types that
+//! contain lists need.
 
 use crate::proved::wenc_view::{ComponentDecls, InstanceDecls, ListOf, View};
 use core::fmt;

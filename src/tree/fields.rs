@@ -91,7 +91,7 @@ fn one(space: impl Into<Space>) -> Option<(Space, u32)> {
     Some((space.into(), 1))
 }
 
-/// Returns the indices in which a group with so many core types is defined.
+/// Returns the space and the number of the indices that a group of `len` core types defines.
 fn group(len: impl TryInto<u32>) -> Option<(Space, u32)> {
     Some((Space::CoreTypes, len.try_into().unwrap_or(u32::MAX)))
 }

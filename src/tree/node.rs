@@ -162,8 +162,8 @@ impl Node<'_> {
         }
     }
 
-    /// Returns the first value within variants and options that is none. So the stack that types in
-    /// types take is that of their lists.
+    /// Returns the first value inside variants and options that is neither. Nested types thus take
+    /// stack for their lists only.
     #[inline(never)]
     fn innermost(self) -> Self {
         let mut node = self;
@@ -261,7 +261,7 @@ impl<'a> List<'a> {
     }
 
     /// Calls a function with each element, in order. Those of a borrowed item are read one by one,
-    /// and each is there during the call.
+    /// and each exists during the call only.
     pub fn for_each(self, mut visit: impl FnMut(Child<'_>)) {
         let _ = self.each_child(&mut |child| {
             visit(child);

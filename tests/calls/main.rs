@@ -1,5 +1,5 @@
-//! Each call that adds an item, by a table: what it has to do is said once, in bytes that are put
-//! together from the format, and tried in all ways and in all places.
+//! Each call that adds an item, by a table: the bytes that it has to write are stated once, from
+//! the format's standard, and compared in all ways to make the call and in all places.
 #![cfg(feature = "reader")]
 #![allow(unsafe_code, reason = "a global allocator is unsafe")]
 #![allow(clippy::type_complexity)]

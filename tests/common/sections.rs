@@ -1,6 +1,6 @@
-//! Worked components: their sections, and what is listed of them.
+//! Worked components: their sections, and how they are listed.
 
-/// What a listing is to be. The bytes are those that an encoder writes.
+/// The expected listing of sections, whose bytes are those that an encoder writes.
 pub struct Row<'a> {
     /// The sections, in hexadecimal.
     pub sections: &'a str,

@@ -1,4 +1,4 @@
-//! Whether a borrowed item is an owned one.
+//! Whether a borrowed item equals an owned one.
 
 use std::fmt::Debug;
 use wenc::ComponentExternName;
@@ -11,7 +11,7 @@ use wenc::view::{
     InstanceView, ItemView, ModuleDeclView, NameView, TypeView,
 };
 
-/// Whether the borrowed item is the owned one.
+/// Whether the borrowed item equals the owned one.
 pub fn is_same(view: ItemView<'_>, tree: &ItemTree) -> bool {
     view.indices() == tree.indices()
         && match (view, tree) {

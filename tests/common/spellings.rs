@@ -1,6 +1,6 @@
-//! Spellings that an encoder does not write, and that are read all the same.
+//! Encodings that are read but that no encoder writes.
 
-/// Sections, and the same as an encoder writes them.
+/// Sections, each with the one that an encoder writes for it.
 pub const ROWS: &[(&str, &str)] = &[
     // Sizes, counts and indices that are padded.
     ("0a8a8080800081808080000101660100", "0a06010001660100"),
@@ -19,14 +19,14 @@ pub const ROWS: &[(&str, &str)] = &[
     ("0a0701000176028000", "0a06010001760200"),
     // Heap types that are indices.
     ("030e01600263808080800064c0800000", "0309016002630064c00000"),
-    // Abstract references that may be null, as one byte.
+    // Nullable abstract references, as one byte.
     (
         "031001600c74737271706f6e6d6c6b6a6900",
         "031a01600c6374637363726371706f636e636d636c636b636a636900",
     ),
     ("030a015001030174016e0000", "030b01500103017401636e0000"),
     ("0704013f6e00", "0705013f636e00"),
-    // Those of functions and of what is outside, in their long form.
+    // Those of functions and of external references, in their long form.
     ("0309015f02637000636f01", "0307015f0270006f01"),
     // Names of imports and exports that begin with `01`.
     ("0a06010101660100", "0a06010001660100"),

@@ -1,4 +1,4 @@
-//! What holds of builders as values: refusals, threads, what isn't whole.
+//! Builders as values: lengths that are too large, threads, unfinished items.
 
 use wenc::*;
 
@@ -9,7 +9,7 @@ fn builder() -> ComponentBuilder {
     ComponentBuilder::default()
 }
 
-/// Pages of zeros that nobody looks at take no memory.
+/// Pages of zeros that are never read take no memory.
 #[cfg(target_pointer_width = "64")]
 #[test]
 fn what_is_too_large_is_refused() {
@@ -85,7 +85,7 @@ mod threads {
     use super::*;
     use std::thread;
 
-    /// So many functions.
+    /// A component with this many functions.
     fn functions(number: u32) -> ComponentBuilder {
         let mut b = builder();
         for i in 0..number {

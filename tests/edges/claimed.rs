@@ -1,5 +1,5 @@
-//! Iterators that claim another length than they have: each value is encoded, and their number is
-//! that of the values.
+//! Iterators that report a wrong length: each value is encoded, and the encoded count is the number
+//! of values.
 
 use crate::text;
 use crate::unsupported::{field, sub};
@@ -8,7 +8,7 @@ use wenc::{
     ModuleType, RefType, StorageType, ValType,
 };
 
-/// An iterator that claims this length, until its end.
+/// An iterator that reports this length until it ends.
 struct Claiming<I>(usize, I);
 
 impl<I: Iterator> Iterator for Claiming<I> {
@@ -29,7 +29,7 @@ impl<I: Iterator> ExactSizeIterator for Claiming<I> {}
 /// memory suffices.
 const CLAIMED: [usize; 7] = [0, 1, 3, 100, 1 << 40, isize::MAX as usize, usize::MAX];
 
-/// By each parent, whatever is claimed.
+/// With each parent and each reported length.
 fn is_encoded(write: impl Fn(CoreTypeEncoder<'_>, usize), wanted: &[u8]) {
     for claimed in CLAIMED {
         let mut section = CoreTypeSection::new();
@@ -49,7 +49,8 @@ fn values(ty: ValType, len: usize, claimed: usize) -> Claiming<impl Iterator<Ite
     Claiming(claimed, std::iter::repeat_n(ty, len))
 }
 
-/// Among them about as many as are converted without an allocation, which no claim changes.
+/// The numbers of values include those around the number that is converted without an allocation,
+/// which doesn't depend on the reported length.
 #[test]
 fn functions() {
     for (params, results) in [(0, 0), (3, 3), (9, 8), (7, 20)] {

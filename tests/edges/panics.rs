@@ -1,11 +1,11 @@
-//! Names and types that panic where they are converted, and calls without an iterator: afterwards
-//! all is as it was, or unfinished. `calls` has iterators that panic.
+//! Names and types that panic when they are converted, in calls without an iterator: afterwards the
+//! receiver is unchanged, or unfinished. `calls` has iterators that panic.
 
 use crate::panics;
 use crate::refused::NAME;
 use wenc::*;
 
-/// What is fine, or panics where it is converted.
+/// A value that is converted, or panics when it is.
 #[derive(Clone, Copy)]
 enum Given {
     Fine,
@@ -71,7 +71,7 @@ fn builder() -> ComponentBuilder {
     b
 }
 
-/// The builder is as it was, and goes on.
+/// The builder is unchanged, and can be used further.
 fn goes_on(mut b: ComponentBuilder) {
     let mut wanted = builder();
     for b in [&mut b, &mut wanted] {
@@ -125,8 +125,8 @@ fn builders() {
     }
 }
 
-/// Some parameters may be written, so nothing ends the type. Where none came, they are
-/// passed again.
+/// Some parameters may have been written, so no call ends the type. If none were, the call can be
+/// repeated.
 #[test]
 fn parameters() {
     let mut b = builder();
@@ -144,7 +144,7 @@ fn parameters() {
     assert_eq!(b.finish(), wanted.finish());
 }
 
-/// After each call, which panics, the section or type is as it was, and takes an item.
+/// After each call, which panics, the section or type is unchanged and accepts an item.
 fn leave_it<S: Clone + Default + PartialEq>(calls: &[fn(&mut S)], add: fn(&mut S)) {
     for call in calls {
         let mut section = S::default();

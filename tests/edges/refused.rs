@@ -1,6 +1,6 @@
-//! Each of the system's allocations refused in turn, while components are built and listed: the
-//! call fails and changes nothing, and succeeds when it is made once more. Nothing ends the
-//! program. `calls` has each call that adds an item.
+//! Each allocation fails in turn while components are built and listed: the call fails and changes
+//! nothing, and succeeds when it is repeated. Nothing ends the program. `calls` has each call that
+//! adds an item.
 
 mod cursors;
 mod reading;
@@ -14,7 +14,7 @@ use wenc::*;
 struct Refusals(u32);
 
 impl Refusals {
-    /// Makes the call, and once more where memory is refused.
+    /// Makes the call, and repeats it if an allocation fails.
     #[track_caller]
     fn call<T>(&mut self, mut call: impl FnMut() -> Result<T, Error>) -> T {
         match call() {
@@ -27,8 +27,8 @@ impl Refusals {
         }
     }
 
-    /// Makes a call that begins a type and ends it: where it is refused, the type is given up, and
-    /// it is made once more.
+    /// Makes a call that begins a type and ends it. If it fails, the type is discarded and the call
+    /// repeated.
     #[track_caller]
     fn ty(
         &mut self,
@@ -43,8 +43,8 @@ impl Refusals {
     }
 }
 
-/// Does the work with no request refused, then with each in turn: what comes of it is the same, and
-/// is returned, and one call fails.
+/// Does the work with no failing allocation, then with each allocation failing in turn. One call
+/// fails then, and the result, which is returned, is always the same.
 fn each_is_refused<T: PartialEq>(least: u32, work: impl Fn(&mut Refusals) -> T) -> T {
     let wanted = work(&mut Refusals::default());
     for n in 0.. {
@@ -152,8 +152,8 @@ fn is_made_of_items(bytes: &[u8]) {
     assert!(made == bytes);
 }
 
-/// Appends a section with the request number `n` refused. Returns whether there was one, whether it
-/// failed, and whether there is more than the header.
+/// Appends a section, with the allocation number `n` failing. Returns whether there was such an
+/// allocation, whether the call failed, and whether there is more than the header.
 macro_rules! appended {
     ($whole:ident, $n:expr) => {{
         let (mut whole, raw) = ($whole::new(), RawSection { id: 0, data: NAME.as_bytes() });
@@ -163,7 +163,7 @@ macro_rules! appended {
     }};
 }
 
-/// What is empty is made or refused; a section is appended whole or not at all.
+/// An empty value is created, or the call fails; a section is appended as a whole or not at all.
 #[test]
 fn components_and_modules_are_made_by_hand() {
     assert_eq!(refusing(0, Component::try_new), (Err(Error::NoMemory), true));
@@ -174,7 +174,7 @@ fn components_and_modules_are_made_by_hand() {
     assert_eq!([1, 2].map(|n| appended!(Module, n)), wanted);
 }
 
-/// Each item of the component is added by a command, and at last all of it as a nested component.
+/// Each item of the component is added by a command, and finally the whole as a nested component.
 fn is_made_by_commands(bytes: &[u8]) {
     let commands = || {
         let sections = list(bytes).expect("it is a component").sections.into_iter();
@@ -199,7 +199,7 @@ fn is_made_by_commands(bytes: &[u8]) {
     assert!(made == expected);
 }
 
-/// Room for a section's id is asked for by itself. Where it alone is refused, nothing else is.
+/// Room for a section's id is reserved separately. If only that fails, no other allocation does.
 #[test]
 fn a_section_comes_without_room_for_its_id() {
     let mut imports = ComponentImportSection::new();
@@ -220,8 +220,8 @@ fn a_section_comes_without_room_for_its_id() {
     assert_eq!(module.as_slice(), wanted);
 }
 
-/// Sections and values of this crate are written to the sink itself: where that has room, nothing
-/// is asked for.
+/// Sections and values of this crate are written to the sink itself: if that has room, nothing is
+/// allocated.
 #[test]
 fn own_sections_are_written_in_place() {
     let (module, nested) = (Module::new(), Component::new());
@@ -266,7 +266,7 @@ fn own_sections_are_written_in_place() {
     assert!(sink.ends_with(&[&[2, 1, b'a', 1, b'b', 2][..], &list, &list, &[1, 0x73]].concat()));
 }
 
-/// A refused command adds nothing, and the ones after it run.
+/// A command that fails adds nothing, and the commands after it still run.
 #[test]
 fn commands_are_run() {
     let import = |of| tree::Command::Import { name: NAME.into(), ty: ComponentTypeRef::Func(of) };

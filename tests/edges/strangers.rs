@@ -1,5 +1,5 @@
-//! A user's `encode` writes to a sink of its own: whatever it does there, and where it panics or
-//! fails, what was encoded before it stays as it is.
+//! A user's `encode` writes to a sink of its own: whatever it does there, and also if it panics or
+//! fails, the bytes encoded before it are unchanged.
 
 use crate::panics;
 use std::mem::take;
@@ -55,7 +55,7 @@ sections! { Stranger Globals }
 /// One that is well-behaved.
 const OWN: Stranger = Stranger(|sink| sink.extend([1, 5]));
 
-/// One that removes all, writes something else, and panics.
+/// One that removes all bytes, writes others, and panics.
 const SPOILER: Stranger = Stranger(|sink| {
     sink.clear();
     sink.push(98);
@@ -110,8 +110,8 @@ const PANICKING: [Stranger; 6] = [
     }),
 ];
 
-/// A way in which this crate calls a user's `encode`: what is in front of the stranger's bytes, how
-/// often these come, and the call.
+/// A way in which this crate calls a user's `encode`: the bytes before the stranger's, how often
+/// the stranger's are encoded, and the call.
 type Way = (&'static [u8], usize, fn(Stranger, &mut Vec<u8>));
 
 const WAYS: [Way; 8] = [
@@ -125,8 +125,8 @@ const WAYS: [Way; 8] = [
     (&[1, 1, 1], 1, |stranger, sink| [[Some(stranger)].as_slice()].as_slice().encode(sink)),
 ];
 
-/// A component and a module with a section in front of the stranger and behind it, if that doesn't
-/// panic.
+/// A component and a module with a section before the stranger and, if the stranger doesn't panic,
+/// one after it.
 fn around(stranger: Stranger) -> [Vec<u8>; 2] {
     let (mut component, mut module) = (Component::new(), Module::new());
     component.section(&OWN);

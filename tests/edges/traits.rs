@@ -12,7 +12,8 @@ fn imports(name: &str) -> ComponentImportSection {
     section
 }
 
-/// Values that were made alike are equal and print the same, and others aren't and don't.
+/// Values with the same content are equal and print the same; others are not equal and print
+/// differently.
 fn is_of_content<T: PartialEq + Debug>(
     alike: [T; 2],
     others: impl IntoIterator<Item = T>,
@@ -50,7 +51,7 @@ fn types_are_compared_and_printed_by_content() {
     assert_eq!(format!("{:?}", ModuleType::new()), "ModuleType { bytes: [80, 0] }");
     assert_eq!(format!("{:?}", ComponentType::new()), "ComponentType { bytes: [65, 0] }");
 
-    // One that isn't finished has no bytes, and is equal to none.
+    // An unfinished one has no bytes, and isn't equal to any.
     let mut begun = own(1);
     assert_eq!(format!("{:?}", begun.ty()), "ComponentTypeEncoder { .. }");
     assert_ne!(begun, begun.clone());
@@ -88,7 +89,7 @@ fn components_and_modules_are_compared() {
     assert_ne!(raw, RawSection { id: 1, ..raw });
 }
 
-/// A builder of types that are each encoded once is what a hash of trees is for.
+/// Trees can be hashed, so that a caller can encode each type once.
 #[test]
 fn trees_have_hashes() {
     let list = |ty: PrimitiveValType| -> TypeTree {
@@ -143,7 +144,8 @@ fn ids_of_sections() {
          CanonicalFunction Start Import Export",
     );
     are_ids::<SectionId>(
-        "Custom Type Import Function Table Memory Global Export Start Element Code Data DataCount Tag",
+        "Custom Type Import Function Table Memory Global Export Start Element Code Data DataCount \
+         Tag",
     );
     assert_eq!(UnknownSectionId(255).to_string(), "no section has the id 255");
 }

@@ -1,5 +1,5 @@
-//! The order of calls for a type of functions: a call out of turn panics, with `try_` it fails, and
-//! writes nothing.
+//! The order of the calls that encode a function type: a call out of turn panics or, with `try_`,
+//! fails, and writes nothing.
 
 use crate::{panics, text};
 use wenc::{
@@ -8,7 +8,8 @@ use wenc::{
 
 const PARAMS: [(&str, PrimitiveValType); 1] = [("a", PrimitiveValType::U8)];
 
-/// Makes this call, and that of upstream's name if it is out of turn. Returns whether it isn't.
+/// Makes this call, and the one with upstream's name if it is out of turn. Returns whether the call
+/// is in turn.
 fn is_in_turn(ty: &mut ComponentFuncTypeEncoder<'_>, call: u32) -> bool {
     let answer = match call {
         0 => ty.try_async(true).map(drop),
@@ -54,7 +55,7 @@ fn each_order() {
             ended += 1;
         }
     }
-    // Those with a call of `params` and one of `result` behind it.
+    // Those with a call of `params` and a later call of `result`.
     assert_eq!(ended, 131);
 }
 
@@ -64,7 +65,7 @@ fn the_message_says_the_order() {
     ComponentTypeSection::new().function().result(None);
 }
 
-/// What is begun is forgotten: rustc warns.
+/// rustc warns of an encoder that isn't used.
 #[test]
 #[deny(unfulfilled_lint_expectations)]
 fn forgotten() {

@@ -1,4 +1,4 @@
-//! What isn't of WebAssembly 3.0: it is refused when it is encoded, and leaves no byte.
+//! Core types that aren't in WebAssembly 3.0: encoding them fails and writes nothing.
 
 use crate::text;
 use std::panic::{AssertUnwindSafe, catch_unwind};
@@ -76,7 +76,7 @@ fn values() {
     }
 }
 
-/// What stands in a composite type beside its kind, one by one.
+/// The properties of a composite type besides its kind, one by one.
 fn extended() -> [(CompositeType, Unsupported); 3] {
     let plain = composite(function());
     [
@@ -133,7 +133,7 @@ fn types_of_entities() {
     assert_eq!(text(&ty), b"\x50\x01\x03\x01f\0\0");
 }
 
-/// The call is refused by each parent, which is unfinished then, and leaves no byte.
+/// The call fails with each parent, which is then unfinished, and writes nothing.
 fn refuses(part: Unsupported, write: fn(CoreTypeEncoder<'_>) -> Result<(), Error>) {
     let mut section = CoreTypeSection::new();
     let (mut component, mut instance) = (ComponentType::new(), InstanceType::new());

@@ -1,5 +1,5 @@
-//! Public calls with memory for all that they ask for, each against bytes in hexadecimal: those
-//! that no call of the facade makes.
+//! Public calls that no call of the facade makes, each against bytes in hexadecimal. No allocation
+//! fails.
 
 mod members;
 mod parents;

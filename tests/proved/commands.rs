@@ -1,4 +1,4 @@
-//! Commands, at once and one by one, with each growth of the whole refused in turn.
+//! Commands, run together and one by one, with each allocation failing in turn.
 
 use crate::proved::tests::refusing::Refusing;
 use crate::proved::tests::sweeping::REFUSED;
@@ -7,22 +7,21 @@ use crate::proved::wasm_encoder::{Command, Fault, build, list};
 use crate::shim::alloc::Global;
 use std::vec::Vec;
 
-/// What a command is to answer: an index, none, or a fault.
+/// What a command should return: an index, none, or a fault.
 type Answer = Result<Option<u32>, Fault>;
 
-/// A section with one item, of whose command is asked, and the number of its index space.
+/// A section with one item, which the command adds, and the number of its index space.
 type Item = (&'static [u8], usize);
 
-/// Commands, and whether some growth is that of the one in the middle, at once and one by one.
+/// Commands, and whether the one in the middle allocates, run together and one by one.
 struct Case {
     items: &'static [Item],
     are_refused: [bool; 2],
 }
 
 impl Case {
-    /// The answers and the bytes after the header, where the command at this place is refused, if
-    /// one is. What is refused adds nothing and takes no index. Both aliases stand in one section
-    /// where they are left.
+    /// The results and the bytes after the header if the command at this position fails, which then
+    /// adds nothing and takes no index. Without it, both aliases are in one section.
     fn wanted(&self, refused: Option<usize>) -> (Vec<Answer>, Vec<u8>) {
         let (mut counts, mut answers, mut left) = ([0; 13], Vec::new(), Vec::new());
         for (place, (section, space)) in self.items.iter().enumerate() {
@@ -39,7 +38,7 @@ impl Case {
     }
 }
 
-/// What runs commands, and returns their answers and the component.
+/// A function that runs commands, and returns their results and the component.
 type Run = fn(&Refusing, &[Command]) -> Result<(Vec<Answer>, Vec<u8>), Fault>;
 
 fn at_once(heap: &Refusing, commands: &[Command]) -> Result<(Vec<Answer>, Vec<u8>), Fault> {
@@ -66,7 +65,7 @@ fn command(section: &[u8]) -> Command {
 /// The function that the first instance exports.
 const FUNCTION: Item = (b"\x06\x06\x01\x01\x00\x00\x01f", 8);
 
-/// The type 1 of the component that this one stands in.
+/// Type 1 of the enclosing component.
 const OUTER_TYPE: Item = (b"\x06\x05\x01\x03\x02\x00\x01", 12);
 
 /// Both.
@@ -81,8 +80,8 @@ const IMPORT: Item = (
 
 const RECORD: Item = (b"\x07\x09\x01\x72\x02\x01\x61\x7f\x01\x62\x7f", 12);
 
-/// Growth number `n` is refused, where there is one: that of the command at a place, or of the
-/// whole.
+/// Runs the commands with allocation number `n` failing, if there is one. Then one command fails,
+/// or the whole run.
 fn refuse(
     heap: &Refusing,
     run: Run,
@@ -105,9 +104,9 @@ fn refuse(
     place.map(Some)
 }
 
-/// What is refused adds nothing, and those after it run all the same. Where the opening of a record
-/// is refused, so is the command; where the rest of the type is, so is the whole, but one by one
-/// the command, which is given up: the alias takes its index.
+/// A command that fails adds nothing, and those after it still run. If opening a record fails, so
+/// does the command; if encoding the rest of the type fails, so does the whole run, or if run one
+/// by one only the command, whose type is discarded: the alias takes its index.
 const CASES: &[Case] = &[
     Case { items: &[FUNCTION, IMPORT, OUTER_TYPE], are_refused: [true; 2] },
     Case { items: &[RECORD], are_refused: [true; 2] },

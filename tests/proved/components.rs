@@ -1,5 +1,5 @@
-//! Components, and types with declarations: each request of what adds to them and of their copies
-//! refused in turn.
+//! Components, types with declarations, modules and names: each allocation of what adds to them,
+//! and of their copies, fails in turn.
 
 use super::refusing::Refusing;
 use super::sweeping::{TEXT, refused_in_turn, sweep_encode};
@@ -9,7 +9,7 @@ use crate::proved::wenc_types::{ComponentType, InstanceType, ModuleType};
 use crate::shim::borrow::CowStr;
 use crate::shim::string::String;
 
-/// With up to eight sections of one byte there, the room ends at each place.
+/// After up to eight sections of one byte, growth is needed at each place.
 #[test]
 fn components_are_swept() {
     let heap = Refusing::new();

@@ -1,5 +1,5 @@
-//! The examples of the doc comments and the proved callers, run. Expected bytes are outside
-//! answers: those of components from Rust's `wasm-encoder` 0.263.0; those of values, core types,
+//! The examples of the doc comments and the proved callers, run. Expected bytes come from
+//! elsewhere: those of components from Rust's `wasm-encoder` 0.263.0; those of values, core types,
 //! modules and custom sections from the format's rows. `tests/real/shown.rs` reads each.
 
 use crate::proved::proved_lists::examples::list;

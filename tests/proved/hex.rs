@@ -10,7 +10,7 @@ pub fn digits(bytes: &[u8]) -> String {
     bytes.iter().map(|byte| format!("{byte:02x}")).collect()
 }
 
-/// The bytes that these digits say.
+/// The bytes with these digits.
 pub fn bytes(digits: &str) -> Vec<u8> {
     decode(Global, digits).unwrap().into()
 }

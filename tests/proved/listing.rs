@@ -1,5 +1,5 @@
-//! The lister and other readers on each machine: what they say of worked and of damaged components,
-//! what a failed call leaves, and what `build` makes. `tests/reading` has the others.
+//! The lister and other readers: what they return for worked and for damaged components, the state
+//! after a failed call, and what `build` makes. `tests/reading` has the others.
 
 pub mod built;
 #[cfg(feature = "reader")]
@@ -24,8 +24,8 @@ fn component(sections: &[u8]) -> Vec<u8> {
     [b"\0asm\x0d\0\x01\0", sections].concat()
 }
 
-/// Reads the component as a listing, by owned items and by borrowed ones: these are the same, or
-/// all end with the same fault, which comes once.
+/// Reads the component as a listing, as owned items and as borrowed ones: they are the same, or all
+/// end with the same fault, which is returned once.
 #[cfg(feature = "reader")]
 #[track_caller]
 fn read(bytes: &[u8]) -> Result<crate::Listing, crate::ListFault> {

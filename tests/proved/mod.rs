@@ -1,6 +1,6 @@
 //! Tests of the proved calls themselves, which no user of the crate sees: those that no call of the
-//! facade makes, values that no component has, and sweeps in which each request for memory is
-//! refused in turn. `tests/calls` has the others.
+//! facade makes, values that no component has, and sweeps in which each allocation fails in turn.
+//! `tests/calls` has the others.
 
 // Tables of rows have long types.
 #![allow(clippy::type_complexity)]

@@ -1,5 +1,5 @@
-//! What all else is made of: values, maps of names and holders; what they are written as, and each
-//! request for memory refused in turn.
+//! Values, maps of names and holders, of which everything else is made: their bytes, and each
+//! allocation failing in turn.
 
 mod name_maps;
 mod values;

@@ -1,4 +1,4 @@
-//! The program: scripts, listings, streams that fail, and runs that want memory.
+//! The program: scripts, listings, streams that fail, and runs that run out of memory.
 
 mod lines;
 mod listings;

@@ -1,12 +1,12 @@
-//! An allocator that refuses requests by a plan. A request is each growth of a collection, and is
-//! refused before the system is asked.
+//! An allocator that fails requests as planned. Each growth of a collection is a request, which
+//! fails before the system is called.
 
 use crate::shim::alloc::Allocator;
 use crate::shim::alloc::sealed::Sealed;
 use std::cell::Cell;
 use std::{fmt, ptr};
 
-/// An allocator that refuses some requests, and passes the others on. A `&` to it is an allocator.
+/// An allocator that fails some requests and passes the others on. A `&` to it is an allocator.
 pub struct Refusing {
     nth: Cell<Option<u64>>,
     always: Cell<bool>,

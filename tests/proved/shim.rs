@@ -1,5 +1,6 @@
-//! The shim against what the pages of Rattle's library say: what each call does, that it answers
-//! each refusal and leaves its collection as it was, and that it asks only where room is missing.
+//! The shim against the documentation of Rattle's library: what each call does, that it returns an
+//! error for each failed allocation and leaves its collection unchanged, and that it allocates only
+//! without room.
 
 use super::refusing::Refusing;
 use crate::proved::hex::{self, FromHexError};
@@ -74,7 +75,7 @@ fn a_vector_does_what_its_calls_say() {
     assert_eq!(Vec::from(vec![1, 2]).into_iter().rev().collect::<RustVec<_>>(), [2, 1]);
 }
 
-/// No machine has these: they are refused before the system is asked, and nothing ends the program.
+/// Sizes that no machine has: they fail before the system is called, and nothing ends the program.
 #[test]
 fn sizes_that_no_memory_has() {
     assert!(Vec::<u8>::with_capacity(Global, usize::MAX).is_err());

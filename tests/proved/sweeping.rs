@@ -1,21 +1,21 @@
-//! Calls that have each of their requests for memory refused in turn. A refused request has to be
-//! answered with want of memory and change nothing, and the same call has to succeed afterwards.
+//! Calls with each of their allocations failing in turn: the call has to return the error and
+//! change nothing, and has to succeed when it is repeated.
 
 use super::refusing::Refusing;
 use crate::proved::wenc_base::{Encode, Fault};
 use crate::shim::alloc::AllocError;
 use crate::shim::vec::Vec;
 
-/// What a refused request is answered with.
+/// The error of a failed allocation.
 pub const REFUSED: Fault = Fault::Memory(AllocError);
 
-/// More bytes than a first growth has room for.
+/// More bytes than the first growth has room for.
 pub const TEXT: &[u8] = &[1, 2, 3, 4, 5, 6, 7, 8, 9, 10, 11, 12, 13, 14, 15, 16, 17, 18, 19, 20];
 
 const START: &[u8] = &[1, 2, 3];
 
-/// Makes a call with each of its requests refused in turn, until it succeeds: what it gives then,
-/// and how many requests there are.
+/// Makes a call with each of its allocations failing in turn, until it succeeds. Returns its result
+/// and the number of allocations.
 pub fn refused_in_turn<T>(heap: &Refusing, mut call: impl FnMut() -> Result<T, Fault>) -> (T, u64) {
     for n in 1..20 {
         heap.refuse_nth(n);
@@ -29,8 +29,8 @@ pub fn refused_in_turn<T>(heap: &Refusing, mut call: impl FnMut() -> Result<T, F
     panic!("each of 19 requests was refused");
 }
 
-/// Encodes the value to a sink that has no room left, with each request refused in turn, of which
-/// there is at least one.
+/// Encodes the value to a sink that has no room left, with each allocation failing in turn. There
+/// is at least one.
 pub fn sweep_encode<E: Encode>(value: &E) -> std::vec::Vec<u8> {
     let heap = Refusing::new();
     let mut sink = Vec::from_slice(&heap, START).unwrap();
@@ -43,8 +43,8 @@ pub fn sweep_encode<E: Encode>(value: &E) -> std::vec::Vec<u8> {
     sink.strip_prefix(START).unwrap().to_vec()
 }
 
-/// The value is written as this, whichever request was refused before. One without bytes makes
-/// none.
+/// The value is encoded as these bytes, whichever allocation failed before. An empty encoding
+/// allocates nothing.
 pub fn check<E: Encode>(value: &E, wanted: &[u8]) {
     if wanted.is_empty() {
         let heap = Refusing::new();
@@ -57,7 +57,7 @@ pub fn check<E: Encode>(value: &E, wanted: &[u8]) {
     }
 }
 
-/// Each of these is written as what stands beside it.
+/// Each of these values is encoded as the bytes next to it.
 pub fn check_all<E: Encode>(rows: &[(E, &[u8])]) {
     rows.iter().for_each(|(value, wanted)| check(value, wanted));
 }

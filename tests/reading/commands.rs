@@ -1,4 +1,4 @@
-//! Commands that are refused, and their lists and texts.
+//! Commands that fail, and their lists and texts.
 
 use crate::{component, name, text};
 use wenc::tree::{self, Command};
@@ -15,7 +15,7 @@ fn a_refused_command_changes_nothing() {
     assert_eq!((builder.component_count(), builder.func_count()), (0, 0));
     assert_eq!(builder.command(&import()), Ok(Some(0)));
 
-    // An encoder of its own that a user dropped is the user's to give up.
+    // A type whose encoder the user dropped is the user's to discard.
     drop(builder.type_defined(None));
     let ty = tree::TypeTree::Instance(vec![].into());
     let ty = Command::Type { debug_name: None, ty };

@@ -1,4 +1,4 @@
-//! Types in one another, made by hand: each call has the stack that the pages promise.
+//! Deeply nested types, made by hand: each call fits in the stack that the documentation states.
 
 use std::hash::{DefaultHasher, Hash, Hasher};
 use std::mem::forget;
@@ -6,13 +6,13 @@ use std::thread;
 use wenc::tree::{Command, ComponentDecl, DefinedTree, InstanceDecl, ItemTree, TypeTree, build};
 use wenc::{ComponentBuilder, ComponentSectionId, ComponentTypeSection, Encode, ItemSection};
 
-/// As deep as the pages say that it fits.
+/// The depth that fits, by the documentation.
 const DEPTH: usize = 1_000;
 
 /// The stack of a main thread.
 const USUAL: usize = 8 << 20;
 
-/// What all but nodes that are printed take of it, if the code is optimized.
+/// The part of it that everything but printing nodes takes, if the code is optimized.
 const SMALL: usize = if cfg!(debug_assertions) { USUAL } else { 1 << 20 };
 
 fn of_instances() -> ItemTree {

@@ -1,5 +1,5 @@
-//! What is large or deep is read in steps that grow as it does. The bytes that are requested are
-//! counted, and by the square no test would end within the time that the gate gives to all.
+//! Large and deep components are read in linear time and memory. The requested bytes are counted,
+//! and in quadratic time no test would end within the time limit of the gate.
 
 use crate::refuse::requested;
 use std::collections::BTreeMap;
@@ -13,7 +13,7 @@ fn number(number: usize) -> [u8; 4] {
     [0, 1, 2, 3].map(byte)
 }
 
-/// So many components in one another, the innermost with these sections.
+/// Components nested this deep, the innermost with these sections.
 fn deep(depth: usize, sections: &[u8]) -> Vec<u8> {
     let inner = Component::HEADER.len() + sections.len();
     let front = |out| {
@@ -24,7 +24,7 @@ fn deep(depth: usize, sections: &[u8]) -> Vec<u8> {
     fronts.chain(Component::HEADER).chain(sections.iter().copied()).collect()
 }
 
-/// An outer alias of a type, so many components out.
+/// An outer alias of a type, this many components further out.
 fn alias(out: u8, index: u8) -> [u8; 7] {
     [0x06, 0x05, 0x01, 0x03, 0x02, out, index]
 }
@@ -83,7 +83,7 @@ fn outer_indices_are_visited_up_to_a_hundred_deep() {
     assert_eq!(visit(100, 101, 99).0, too_deep);
 }
 
-/// A component with so many imports of functions, each without a name.
+/// A component with this many imports of functions, with empty names.
 fn imports(count: usize) -> Vec<u8> {
     let imports = b"\0\0\x01\0".repeat(count);
     let front = [&[0x0a][..], &number(4 + imports.len()), &number(count)].concat();

@@ -1,4 +1,4 @@
-//! What is found in a component and in a core module, and written again.
+//! Reading components and core modules, and writing what was read.
 #![cfg(feature = "reader")]
 #![allow(unsafe_code, reason = "a global allocator is unsafe")]
 
@@ -61,7 +61,7 @@ fn nested(sections: &[u8]) -> Vec<u8> {
     section(4, &component(sections))
 }
 
-/// The bytes of these digits, between which spaces may stand.
+/// The bytes with these hexadecimal digits, which spaces may separate.
 fn bytes(hexadecimal: &str) -> Vec<u8> {
     let digits = hexadecimal.replace(' ', "");
     let byte = |at| u8::from_str_radix(&digits[at..at + 2], 16).expect("two digits");

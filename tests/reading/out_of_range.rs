@@ -199,7 +199,7 @@ fn many() {
     }
 }
 
-/// What comes behind an item that can't be read is unknown.
+/// After an item that can't be read, no index is out of range.
 #[test]
 fn unknown_counts() {
     let bytes = component(&section(7, b"\x01\x70\x09"));

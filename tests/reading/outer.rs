@@ -29,7 +29,7 @@ fn aliases(indices: [u8; 4]) -> Vec<u8> {
     .concat()
 }
 
-/// An instance type with an outer alias of a type, so many scopes out.
+/// An instance type with an outer alias of a type, this many scopes further out.
 fn ty(count: u8, index: u8) -> Vec<u8> {
     [&[0x07, 0x08, 0x01, 0x42, 0x01, 0x02][..], &[0x03, 0x02, count, index]].concat()
 }
@@ -37,7 +37,7 @@ fn ty(count: u8, index: u8) -> Vec<u8> {
 /// A section whose size has a byte more than it needs.
 const PADDED: &[u8] = b"\x06\x81\x00\x00";
 
-/// What is seen, where each index in the component around it is raised by this.
+/// The visited indices, with those of the enclosing component increased by this.
 fn raise(item: &mut ItemTree, by: u32) -> Vec<Seen> {
     let mut seen = Vec::new();
     let visited = item.outer_indices_mut(1, |used| {

@@ -1,4 +1,4 @@
-//! Readers that begin at a place in a component, or go on from one.
+//! Readers that begin at a byte offset of a component, or continue from one.
 
 use crate::component;
 use wenc::tree::Space;

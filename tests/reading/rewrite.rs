@@ -77,7 +77,7 @@ fn items_are_written_anew() {
     }
 }
 
-/// Sections whose size or number of items is padded, and the same with these written anew.
+/// Sections whose size or count is padded, and the same sections encoded again.
 const PADDED_IN_FRONT: [(&str, &str); 2] =
     [("0a8a8080800081808080000101660100", "0a06010101660100"), ("018080808000", "0100")];
 
@@ -223,7 +223,7 @@ fn parts_of_items_encode_themselves() {
     ]);
 }
 
-/// Each encoder ends a type by its tree, whatever its parent is.
+/// Each encoder encodes a type given as a tree, with each parent.
 #[test]
 fn encoders_take_trees() {
     let list = || DefinedTree::List(PrimitiveValType::U8.into());
@@ -252,7 +252,8 @@ fn encoders_take_trees() {
     assert_eq!(builder.finish(), of_digits("070502707d707d0303015000"));
 }
 
-/// An item of each kind stands in a section of its id alone. What is one item has just one.
+/// An item can only be added to a section with its id, and a section without a count takes one
+/// item.
 #[test]
 fn items_stand_in_their_sections_alone() {
     let listing = list(&of_digits(EACH_KIND.sections)).expect("it is listed");

@@ -51,7 +51,7 @@ fn modules_in_instances() {
     expect(ItemTree::Type(tree), &indices.collect::<Vec<Seen>>());
 }
 
-/// A type in a type in a type, and after them what stands further out again.
+/// A type in a type in a type, followed by declarations of the outer ones.
 #[test]
 fn each_type_is_a_scope() {
     let export = |index| InstanceDecl::Export { name: name("e"), ty: Ref::Func(index) };

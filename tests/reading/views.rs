@@ -112,7 +112,7 @@ fn items_and_their_parts_are_copied() {
     }
 }
 
-/// A list has all of its members, where its number of them has one byte, and two, and three.
+/// A list has all of its members if their count has one byte, two and three.
 #[test]
 fn lists_are_as_long_as_they_say() {
     for len in [0, 1, 127, 128, 16_383, 16_384] {
@@ -152,7 +152,7 @@ fn lists_are_read_on() {
     });
 }
 
-/// A list has one member fewer after each, and none comes after the last, as often as it is asked.
+/// A list gets shorter with each member, and returns `None` after the last, however often.
 macro_rules! ends {
     ($list:expr, $len:literal) => {{
         let mut list = $list;
@@ -186,7 +186,7 @@ fn lists_end() {
     });
 }
 
-/// Values are equal if their members are, however they are spelled.
+/// Values are equal if their members are, however they are encoded.
 #[test]
 fn values_are_compared() {
     let mut found = HashSet::new();

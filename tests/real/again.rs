@@ -1,4 +1,4 @@
-//! The corpus listed, and made again in each way.
+//! The corpus, listed and built again in each way.
 
 use crate::{corpus, features, random};
 use wenc::tree::{Command, ItemTree, build};

@@ -7,7 +7,7 @@ use crate::toolchain::{Linker, linker};
 use std::path::{Path, PathBuf};
 use wenc::Component;
 
-/// An example, with the file where it stands and its line there.
+/// An example, with its file and line.
 pub struct Example {
     pub place: String,
     pub code: String,
@@ -114,7 +114,7 @@ fn components(code: &str) -> Vec<Vec<u8>> {
     found
 }
 
-/// Why the validator refuses this component, but for what it says of every start.
+/// Why the validator rejects this component, except for what it reports for every start.
 pub fn told_but_of_starts(linker: &Linker, component: &[u8]) -> Option<String> {
     let start = "component cannot have more than one start function";
     linker.refuses(component).filter(|told| !told.starts_with(start))

@@ -1,4 +1,4 @@
-//! Features that upstream's validator knows, in one component, and what it refuses.
+//! Features that upstream's validator knows, in one component, and what it rejects.
 
 use crate::corpus;
 use crate::interfaces::*;

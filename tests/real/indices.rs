@@ -1,6 +1,7 @@
-//! Indices of real components: none is out of range, and each that is raised to the number of those
-//! in its space is found, as upstream's validator finds it. With items in front of all others,
-//! whose indices are moved, a component is valid; without these again it has its bytes.
+//! Indices of real components: none is out of range, and each is found if it is raised to the
+//! number of indices in its space, as upstream's validator finds it. With items inserted before all
+//! others, whose indices are moved, a component is still valid; with these removed again, it has
+//! its bytes.
 
 use crate::again::{built, items};
 use crate::corpus;

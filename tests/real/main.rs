@@ -1,5 +1,5 @@
-//! Real components: what a linker that others wrote makes is read and made again, and what this
-//! crate makes is given to that linker, which decodes and validates it.
+//! Real components: those of another linker are read and built again, and those of this crate are
+//! passed to that linker, which decodes and validates them.
 //!
 //! `corpus/wasm` has components that `wasm-component-ld` of Rust's toolchain made, of the worlds in
 //! `corpus/wit` and the C in `corpus/c`; `corpus/make` makes them once more, with the objects in

@@ -1,4 +1,4 @@
-//! Random components that are valid by construction, many in one: each index that a call answers is
+//! Random components that are valid by construction, many in one: each index that a call returns is
 //! used by later calls where only an item of its kind and type is valid.
 
 mod canonicals;
@@ -52,7 +52,7 @@ struct Scope {
     components: Vec<u32>,
     core_modules: Vec<u32>,
     core_functions: Vec<u32>,
-    /// Core functions that take a text and answer one.
+    /// Core functions that take a text and return one.
     texts: Vec<u32>,
     memories: Vec<u32>,
     reallocs: Vec<u32>,

@@ -6,17 +6,17 @@ use wenc::*;
 
 const STRING: PrimitiveValType = PrimitiveValType::String;
 
-/// A text of so many bytes, most of them of letters that take two.
+/// A text with this length in bytes, mostly of letters that take two.
 fn text(size: usize) -> String {
     ["é".repeat(size / 2), "a".repeat(size % 2)].concat()
 }
 
-/// So many bytes.
+/// This many bytes.
 fn data(size: usize) -> Vec<u8> {
     (0..size).map(|at| at as u8).collect()
 }
 
-/// Adds definitions with this debug name, and lists of so many members.
+/// Adds definitions with this debug name, and lists with this many members.
 fn add_definitions(b: &mut ComponentBuilder, name: &str, n: usize) {
     let index = n as u32;
     let mut instance = InstanceType::new();
@@ -37,7 +37,7 @@ fn add_definitions(b: &mut ComponentBuilder, name: &str, n: usize) {
     b.core_type(None).1.core().function(vec![ValType::I32; n], vec![ValType::I64; n]);
 }
 
-/// Adds items with this debug name, and lists of so many members.
+/// Adds items with this debug name, and lists with this many members.
 fn add_items(b: &mut ComponentBuilder, name: &str, n: usize) {
     let index = n as u32;
     b.core_module_raw(Some(name), &data(n));

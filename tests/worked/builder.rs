@@ -55,7 +55,7 @@ fn exported_option() -> InstanceType {
     ty
 }
 
-/// Instance types in one another, so many around an empty one.
+/// Nested instance types, this many around an empty one.
 fn nested(around: u32) -> InstanceType {
     (0..around).fold(InstanceType::new(), |inner, _| {
         let mut outer = InstanceType::new();

@@ -18,13 +18,13 @@ use wenc_capi::items::*;
 use wenc_capi::sections::wenc_custom_section;
 use wenc_capi::{Handle, Status};
 
-/// The index that a call puts out, or its status.
+/// The index that a call writes, or its status.
 pub type Done = Result<u32, Status>;
 
 /// What an index is before the call.
 pub const UNTOUCHED: u32 = 0xdead_beef;
 
-/// Makes a call that puts out an index.
+/// Makes a call that writes an index.
 macro_rules! called {
     ($call:ident($($arg:expr),*)) => {{
         let mut index = $crate::called::UNTOUCHED;

@@ -1,4 +1,4 @@
-//! Why components can't be read: of damaged ones C says what Rust says.
+//! Why components can't be read: for damaged ones, C returns what Rust returns.
 
 use super::edges::{EMPTY, Held};
 use std::collections::BTreeMap;
@@ -21,10 +21,10 @@ fn sentence(bytes: &[u8], section: usize) -> String {
     String::from_utf8(text).expect("it is UTF-8")
 }
 
-/// What C says of a fault: the status, the section, the sentence, and where the walk stays.
+/// What C returns for a fault: the status, the section, the sentence, and where the walk stays.
 type Told = (Status, usize, String, Option<usize>);
 
-/// What a walk says that goes on behind each section that can't be read.
+/// The faults of a walk that continues after each section that can't be read.
 fn walked(bytes: &[u8]) -> Vec<Told> {
     let (mut walk, mut told): (Walk, _) = (unsafe { mem::zeroed() }, Vec::new());
     let status = unsafe { wenc_walk_begin(&mut walk, bytes.as_ptr(), bytes.len()) };
@@ -111,7 +111,7 @@ fn content(bytes: &[u8], section: usize) -> Option<usize> {
     (raw.id == 0).then_some(range.end - raw.data.len())
 }
 
-/// What a walk should say of a fault.
+/// What a walk should return for a fault.
 fn told(bytes: &[u8], fault: ListFault) -> Told {
     let (status, section, unread, _) = parts(fault);
     let next = match unread {
@@ -122,7 +122,7 @@ fn told(bytes: &[u8], fault: ListFault) -> Told {
     (status, section, fault.to_string(), next)
 }
 
-/// What is read at once has the first of the faults.
+/// Reading the whole component returns the first of the faults.
 fn is_listed_so(bytes: &[u8], first: Option<ListFault>) {
     let (mut listing, mut row) = (Held::nothing(), UnreadPart::default());
     let status = unsafe { wenc_list(listing.at(), bytes.as_ptr(), bytes.len(), &mut row) };
@@ -146,7 +146,7 @@ fn is_listed_so(bytes: &[u8], first: Option<ListFault>) {
     assert_eq!(sentence(bytes, row.section), fault.to_string());
 }
 
-/// Counts the faults of these bytes by their causes, of which C says what Rust says.
+/// Counts the faults of these bytes by their causes, which are the same in C and in Rust.
 fn compare(bytes: &[u8], counts: &mut BTreeMap<&str, usize>) {
     let faults = faults(bytes);
     is_listed_so(bytes, faults.first().copied());
@@ -232,7 +232,8 @@ fn causes_are_those_of_rust() {
     assert!(counts["byte"] > 2_000 && counts["number"] > 50, "{counts:?}");
 }
 
-/// A place that is no section's is read on from, as in Rust, or there is no sentence.
+/// Reading continues from an offset at which no section begins, as in Rust, or there is no
+/// sentence.
 #[test]
 fn any_place_is_taken() {
     let component = b"\0asm\x0d\0\x01\0\x07\x05\x01\x40\0\x01\0\x0a\x06\x01\0\x01f\x09\0";
@@ -252,7 +253,8 @@ fn any_place_is_taken() {
     assert_eq!(said, 14);
 }
 
-/// Nothing is said of bytes that can't be there, and none are a component without a header.
+/// There is no sentence for a range out of bounds, and empty bytes are a component without a
+/// header.
 #[test]
 fn bytes_that_are_none() {
     let said = |bytes, len| {

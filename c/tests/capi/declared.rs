@@ -30,12 +30,12 @@ impl Types {
         Self { held: calmly(|| Held::types(kind)), spaces, counts: [0; 13], len: 0 }
     }
 
-    /// Declares something, and compares the index that is put out: 0 where none is counted.
+    /// Declares something, and compares the index that is written: 0 if such items aren't counted.
     fn add(&mut self, space: Space, declare: impl Fn(*mut Handle) -> Done) -> Result<(), Status> {
         let (at, count) = (self.held.at(), &mut self.counts[space.number()]);
         let answer = declare(at);
         if answer.is_err() {
-            // Nothing is left, so it is declared when the call is made once more.
+            // Nothing was declared, and the call succeeds when it is repeated.
             assert_eq!(calmly(|| declare(at)), Ok(*count));
         }
         assert_eq!(answer?, *count);
@@ -131,7 +131,7 @@ fn done(status: Status) -> Result<(), Status> {
     if status == Status::Done { Ok(()) } else { Err(status) }
 }
 
-/// What isn't used of it is anything.
+/// Fields that aren't used have arbitrary values.
 fn entity(ty: &CoreEntityType) -> Entity {
     let [no, yes] = [Flag(0), Flag(1)];
     let flag = |is_set| if is_set { Flag(2) } else { no };

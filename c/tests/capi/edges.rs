@@ -1,4 +1,4 @@
-//! What the header says of NULL, of numbers that stand for nothing, and of handles.
+//! NULL, unknown numbers and handles, as the header describes them.
 
 use crate::refuse::requested;
 use std::ffi::CStr;
@@ -216,7 +216,7 @@ pub const A: *const u8 = b"a".as_ptr();
 /// No UTF-8.
 pub const BAD: *const u8 = b"\xff".as_ptr();
 const BAD_TEXT: Text = Text { at: BAD, len: 1 };
-/// So many pairs have more bytes than there are.
+/// This many pairs would exceed the address space.
 const MOST: usize = usize::MAX / size_of::<Pair>();
 
 const fn part(name: *const u8, kind: u32) -> Part {
@@ -227,7 +227,7 @@ const fn pair(kind: u32) -> Pair {
     Pair { kind, number: 0 }
 }
 
-/// Members, of which the last has a kind that there isn't, or a name that is none.
+/// Members, the last of which has an unknown kind, or a name that isn't UTF-8.
 pub const PARTS: *const Part = [part(A, 0), part(A, 9)].as_ptr();
 pub const TEXTS: *const Part = [part(A, 0), part(A, 0), part(BAD, 0)].as_ptr();
 /// A type, none, and a reference that isn't one of a value.
@@ -266,7 +266,7 @@ fn wrong_arguments_of_imports_and_exports_are_named() {
     ] {
         blames! { at: 5 c"name" [0] wenc_import_named(at, &name, 2, 0, OUT); }
     }
-    // The last failure is told of also behind a call that succeeds.
+    // The last failure is still reported after a call that succeeds.
     assert_eq!((import(at), last_error(at)), ((Status::Done, 0), (5, Some(c"name"), 0)));
     assert_eq!(unsafe { wenc_finish(at, ptr::null_mut(), ptr::null_mut()) }, Status::Done);
     blames! { at:
@@ -513,7 +513,7 @@ fn what_is_not_read_is_put_out() {
     assert_eq!(listed(nothing.at(), EMPTY, 8), (Status::BadArgument, [0; 4]));
 }
 
-/// What is written of why the section at this place can't be read, into so many bytes.
+/// The sentence on why the section at this offset can't be read, written to a buffer of this size.
 fn said(bytes: &[u8], section: usize, size: usize) -> (usize, Vec<u8>) {
     let mut text = [1; 120];
     let at = text.as_mut_ptr().cast();

@@ -209,7 +209,7 @@ fn each_call_has_its_row() {
     assert_eq!(in_rows, named);
 }
 
-/// An error that no row has.
+/// An error that isn't in any row.
 fn plant(handle: *mut Handle) {
     let status = unsafe { wenc_custom_section(handle, BAD, 1, EMPTY, 0) };
     assert_eq!(status, Status::Malformed);
@@ -235,7 +235,7 @@ fn each_call_is_told_of() {
     }
 }
 
-/// What fails before it, by a call that only reads or by another one, is left by one that succeeds.
+/// A call that succeeds keeps the error of a call before it, whether that only reads or not.
 #[test]
 fn calls_that_succeed_leave_it() {
     let mut builder = Held::builder();
@@ -299,7 +299,7 @@ fn threads_read_at_a_time() {
     });
 }
 
-/// What is too large by itself is named. None of it is read.
+/// An argument that is too large by itself is named. It isn't read.
 #[cfg(target_pointer_width = "64")]
 #[test]
 fn what_is_too_large_is_named() {

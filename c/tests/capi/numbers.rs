@@ -1,4 +1,4 @@
-//! What the header calls values of Rust, said here once more.
+//! The header's numbers for values of Rust, stated independently of the library.
 
 use wenc::tree::{
     CanonTree, CoreFieldType, CoreHeapType, CoreRefType, CoreStorageType, CoreValType,
@@ -31,7 +31,7 @@ pub fn value(ty: ComponentValType) -> (u32, u32) {
     }
 }
 
-/// The number of what isn't there isn't used.
+/// A number that isn't used.
 pub fn maybe_value(ty: Option<ComponentValType>) -> (u32, u32) {
     ty.map_or((0, 99), value)
 }

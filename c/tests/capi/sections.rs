@@ -1,4 +1,4 @@
-//! Sections that no row of the table has: of debug names, of producers, raw ones; and components in
+//! Sections that aren't in the table: of debug names, of producers, raw ones; and components in
 //! components.
 
 use crate::bytes;

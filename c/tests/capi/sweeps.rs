@@ -20,7 +20,7 @@ use wenc_capi::listing::*;
 use wenc_capi::rows::ItemRow;
 use wenc_capi::sections::*;
 
-/// Those that C has: of a named export of an instance it has plain names alone.
+/// The rows that C has: it has plain names only for the exports of an instance.
 fn of_c() -> impl Iterator<Item = Call> {
     calls().into_iter().filter(|call| {
         let command = (call.command)(None, &Size::small(1));
@@ -106,7 +106,7 @@ fn requests_refused(row: &Call, front: usize) -> usize {
     are_refused.count()
 }
 
-/// A section by hand has none of what is refused, and takes it when the call is made once more.
+/// A section by hand is unchanged when a call fails, and accepts the item when it is repeated.
 #[test]
 fn each_is_refused_by_hand() {
     let size = Size { text: text(70), ..Size::new(128, 40, 0, 50) };
@@ -137,7 +137,7 @@ fn component_of(mut section: Held) -> Held {
     component
 }
 
-/// A component of so many of these items, by a builder in Rust.
+/// A component with this item repeated, by a builder in Rust.
 fn built(row: &Call, items: u32, size: &Size) -> Vec<u8> {
     let mut b = ComponentBuilder::default();
     (0..items).for_each(|_| _ = row.builds[0](&mut b, None, size).expect("there is memory"));
@@ -178,7 +178,7 @@ fn with_items(row: &Call, size: &Size) -> Held {
     section
 }
 
-/// Reads a component. What has a request refused is no listing.
+/// Reads a component. There is no listing if an allocation fails.
 fn listed(bytes: &[u8], row: &Call) -> Held {
     let mut listing = Held::nothing();
     let at = listing.at();

@@ -55,7 +55,7 @@ fn done(status: Status) -> Result<(), Status> {
     if status == Status::Done { Ok(()) } else { Err(status) }
 }
 
-/// A text that was written, until its bytes are gone.
+/// A text that was written, while its bytes exist.
 fn text(text: Text) -> Option<&'static str> {
     if text.at.is_null() {
         assert_eq!(text.len, 0);
@@ -178,7 +178,7 @@ fn a_walk_goes_on_behind_what_it_cannot_read() {
     }
     assert_eq!(next_section(&mut walk).err(), Some(Status::BadSection));
     assert_eq!(walk.next_section, 14);
-    // The items before are as they were.
+    // The items before it are unchanged.
     assert_eq!(next_item(&mut walk).err(), Some(Status::BadItem));
     let mut skipped: SectionRow = unsafe { mem::zeroed() };
     assert_eq!(unsafe { wenc_walk_skip(&mut walk, &mut skipped) }, Status::Done);
@@ -259,7 +259,7 @@ fn bad_arguments_of_walks() {
     assert!(read > 10);
 }
 
-/// Results are left out where the pointer is NULL.
+/// A result isn't written if its pointer is NULL.
 #[test]
 fn a_walk_without_results() {
     let mut walk = begun(COMPONENT);

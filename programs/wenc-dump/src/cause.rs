@@ -19,7 +19,7 @@ pub enum Cause {
     Start {
         /// The byte offset of the first.
         place: usize,
-        /// The first of them, and zeros.
+        /// The first of them, padded with zeros.
         bytes: [u8; 8],
         /// How many there are, up to 8.
         len: usize,

@@ -19,7 +19,7 @@ impl Contents {
     }
 
     /// Returns what is reported of a custom section with this name in a core module, where debug
-    /// names are encoded otherwise.
+    /// names are encoded differently.
     pub fn of_core(name: &str) -> Self {
         if name == ProducersReader::SECTION { Self::Producers } else { Self::Other }
     }

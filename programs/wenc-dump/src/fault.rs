@@ -28,7 +28,7 @@ pub enum Fault {
     NoName(usize, Option<Cause>),
     /// A section with a wrong size.
     Size(Misfit),
-    /// The component at this byte offset, which is nested in that many others.
+    /// The component at this byte offset, which is nested this deep.
     TooDeep(usize, usize),
     /// Debug names, from this byte offset on, and why.
     Names(usize, Cause),

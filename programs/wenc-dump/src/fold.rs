@@ -18,9 +18,9 @@ pub type Names<'a> = &'a [DebugNames];
 /// bits is read from up to 10 bytes, and a character from up to 4.
 const COLUMN: usize = 16;
 
-/// Returns whether the node fits in that many columns. Looks no further than they reach, and not at
-/// all at a node that was read from too many bytes: so what is large isn't read once for each level
-/// around it.
+/// Returns whether the node fits in this many columns. Looks no further than they reach, and not at
+/// all at a node that was read from too many bytes: what is large thus isn't read once for each
+/// level around it.
 fn fits(node: &Node, encoded_len: Option<usize>, names: Names, columns: usize) -> bool {
     encoded_len.is_none_or(|len| len / COLUMN <= columns)
         && Text::within(columns, &mut io::sink()).flat(node, names).is_ok()

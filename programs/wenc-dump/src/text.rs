@@ -67,7 +67,7 @@ impl<'o, W: Write> Text<'o, W> {
         Self { out, style, depth: 0, columns: 0, most: usize::MAX }
     }
 
-    /// Creates a writer of text without colours, which fails after so many columns of a line.
+    /// Creates a writer of text without colours, which fails after this many columns of a line.
     pub(super) fn within(most: usize, out: &'o mut W) -> Self {
         Self { most, ..Self::new(out, Style::default()) }
     }

@@ -37,7 +37,7 @@ fn named(&(space, scope, index): &Seen) -> Option<String> {
     }
 }
 
-/// A section of the names of these indices, of those that are so many components out.
+/// A section with the names of those of these indices that are this many components further out.
 fn names_section(indices: &[Seen], out: u32) -> ComponentNameSection {
     let mut names = DebugNames::new();
     for seen in indices.iter().filter(|(_, scope, _)| *scope == Scope::Component(out)) {
@@ -46,7 +46,8 @@ fn names_section(indices: &[Seen], out: u32) -> ComponentNameSection {
     ComponentNameSection::from(&names)
 }
 
-/// What is printed of the item after its own index, in a component in another, where both have names.
+/// What is printed of the item after its own index, in a component in another, where both have
+/// names.
 fn printed(item: &ItemTree, indices: &[Seen]) -> String {
     let mut inner = build(&[Command::from(item.clone())]).expect("there is memory").bytes;
     names_section(indices, 0).append_to_component(&mut inner);

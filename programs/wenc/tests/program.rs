@@ -19,7 +19,7 @@ fn wenc<A: AsRef<OsStr>>(args: impl IntoIterator<Item = A>) -> Command {
     command
 }
 
-/// Runs the program with this input. It may end before it has read that.
+/// Runs the program with this input, which it may not read to the end.
 fn run(command: &mut Command, input: &[u8]) -> Output {
     let mut child = command.spawn().expect("the program stands there");
     let mut stdin = child.stdin.take().expect("it is a pipe");

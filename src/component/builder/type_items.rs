@@ -78,7 +78,8 @@ impl ComponentBuilder {
         ///
         /// let mut builder = ComponentBuilder::default();
         /// let (ty, mut encoder) = builder.type_function(None);
-        /// encoder.params([("name", PrimitiveValType::String)]).result(Some(PrimitiveValType::U32.into()));
+        /// let result = Some(PrimitiveValType::U32.into());
+        /// encoder.params([("name", PrimitiveValType::String)]).result(result);
         /// assert_eq!(ty, 0);
         /// assert_eq!(builder.finish()[8..], *b"\x07\x0b\x01\x40\x01\x04name\x73\0\x79");
         /// ```

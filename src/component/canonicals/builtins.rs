@@ -126,8 +126,8 @@ macro_rules! builtins {
                 /// `thread.spawn-ref`: creates a thread that calls a function of this core type.
                 thread_spawn_ref | try_thread_spawn_ref (ty: u32) or (ty_index: u32);
 
-                /// `thread.spawn-indirect`: creates a thread that calls a function of this core type
-                /// in this table.
+                /// `thread.spawn-indirect`: creates a thread that calls a function of this core
+                /// type in this table.
                 thread_spawn_indirect | try_thread_spawn_indirect (ty: u32, table: u32)
                     or (ty_index: u32, table_index: u32);
 

@@ -39,8 +39,8 @@ encoders! {
     ComponentDefinedTypeEncoder by DefinedBy over ComponentTypeSection;
 }
 
-/// Makes a call with a list, as [`with_list`](crate::adapters::with_list) does, but compiled for arrays
-/// only over the builder: with each parent it would be compiled four times.
+/// Makes a call with a list, as [`with_list`](crate::adapters::with_list) does, but compiled for
+/// arrays only over the builder: with each parent it would be compiled four times.
 macro_rules! define {
     ($self:ident.$name:ident, $array:ty: $list:expr => $item:ty) => {{
         fn listed(by: DefinedBy<'_>, list: List<'_, $item>) -> Result<(), Error> {

@@ -5,8 +5,8 @@ use crate::collections::collections;
 use crate::twins::twins;
 
 collections! {
-    /// The type of an instance: its exports, and the types that these need ([component model, binary
-    /// format, "Type Definitions"][types]).
+    /// The type of an instance: its exports, and the types that these need ([component model,
+    /// binary format, "Type Definitions"][types]).
     ///
     /// [types]: https://github.com/WebAssembly/component-model/blob/main/design/mvp/Binary.md#type-definitions
     ///

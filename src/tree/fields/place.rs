@@ -67,7 +67,7 @@ impl<'s> Scopes<'s> {
         Self(Around::Components(components))
     }
 
-    /// Returns these with a type within, which has so many indices.
+    /// Returns these scopes with one more inside: a type that has this many indices of each space.
     pub(in crate::tree) fn inner(&'s self, counts: IndexCounts) -> Self {
         Self(Around::Type(counts, self))
     }

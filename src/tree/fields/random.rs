@@ -75,7 +75,7 @@ impl Random for u8 {
     }
 }
 
-/// As many numbers of each length as of another.
+/// Numbers of each length, all lengths equally likely.
 impl Random for u32 {
     fn random(choices: &mut Choices) -> Self {
         (choices.below(1 << 31) as u32) << 1 >> choices.below(32)
@@ -159,7 +159,7 @@ fn component(item: &ItemTree) -> List<u8> {
     component.finish()
 }
 
-/// Options of a name of which none is there are written as no options.
+/// A name whose options are all absent is written as a name without options.
 fn has_empty_options(item: &ItemTree) -> bool {
     let empty: NameOptions =
         NameOptions { implements: None, version_suffix: None, external_id: None };

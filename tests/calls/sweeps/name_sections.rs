@@ -1,5 +1,5 @@
-//! Sections of debug names and of producers by hand: at each size, and with each request refused in
-//! turn.
+//! Sections of debug names and of producers, built by hand: at each size, and with each allocation
+//! failing in turn.
 
 use crate::bytes;
 use crate::format::{Model, NAMED, list, sized};
@@ -96,8 +96,8 @@ fn other_subsections() {
     }
 }
 
-/// Makes the call, and once more where it was refused: the value then has these bytes. Returns how
-/// many requests were refused.
+/// Makes the call, and repeats it if an allocation fails: the value then has these bytes. Returns
+/// how many allocations failed.
 fn sweep<T>(
     start: &dyn Fn() -> T,
     call: &dyn Fn(&mut T) -> Done,
@@ -149,7 +149,7 @@ fn refused_names() {
     assert!(requests >= 9 * 15, "{requests}");
 }
 
-/// A list with a member more.
+/// A list with one more member.
 fn longer(before: &[u8], member: &[u8]) -> Vec<u8> {
     bytes![i32::from(before[0]) + 1, &before[1..], member]
 }

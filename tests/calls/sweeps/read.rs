@@ -1,5 +1,5 @@
-//! Each item is read as the value that its command has, and written and built again; and the
-//! indices that it has are visited.
+//! Each item is read as the value in its command, encoded and built again, and its indices are
+//! visited.
 
 use super::{is_made, same};
 use crate::call::{Call, Seen};

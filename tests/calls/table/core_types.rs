@@ -214,7 +214,7 @@ fn seen_in_value(ty: &ValType) -> Option<u32> {
 
 type Bytes = Box<dyn Fn(&Size) -> Vec<u8>>;
 
-/// A core type by each that has an encoder of one, as a value too.
+/// A core type in each parent of its encoder, and given as a value.
 fn row(
     name: String,
     write: impl Fn(ComponentCoreTypeEncoder<'_>, &Size) -> Done + Copy + 'static,
@@ -246,7 +246,7 @@ fn row(
     }
 }
 
-/// Outside of module types what begins as they do has a byte before it.
+/// Outside of module types, a type that would begin as they do has a prefix.
 fn guarded(bytes: Vec<u8>) -> Vec<u8> {
     if bytes[0] == 0x50 { bytes![0x00, bytes] } else { bytes }
 }

@@ -1,4 +1,4 @@
-//! Types of instances and components, which declare what other rows have.
+//! Instance types and component types, which declare the items of other rows.
 
 use crate::bytes;
 use crate::call::{Call, Seen, Types};
@@ -8,7 +8,7 @@ use std::rc::Rc;
 use wenc::tree::{Command, ComponentDecl, InstanceDecl, Scope, Space, TypeTree};
 use wenc::{ComponentTypeEncoder, Error};
 
-/// A scope that is seen from around the type.
+/// A scope as seen from outside the type.
 fn around((space, scope, index): Seen) -> Seen {
     let scope = match scope {
         Scope::Component(0) => Scope::Type(1),
@@ -37,7 +37,7 @@ fn in_instance(declaration: ComponentDecl) -> InstanceDecl {
     declaration
 }
 
-/// A type that declares the item, by this way of declaring it.
+/// A type that declares the item in this way.
 struct Of {
     call: Call,
     way: usize,
@@ -148,7 +148,7 @@ fn row(call: Call, way: usize) -> Call {
     }
 }
 
-/// The rows whose items types declare here, each by one of its ways.
+/// The rows whose items are declared here, each in one of its ways.
 fn declared() -> Vec<(Call, usize)> {
     let values = super::values::calls().into_iter();
     let values = values.filter(|call| ["record", "own", "function"].contains(&&*call.name));

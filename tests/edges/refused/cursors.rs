@@ -1,12 +1,12 @@
-//! Cursors and comparisons with each request for memory refused in turn.
+//! Cursors and comparisons, with each allocation failing in turn.
 
 use super::{GRANTED, NAME, SINCE, calmly, refusing};
 use std::fmt::{self, Debug, Write};
 use std::panic::{AssertUnwindSafe, catch_unwind};
 use wenc::*;
 
-/// The iterator's values with each request for memory refused in turn: the one of that request is
-/// this error, and is the last. There are so many requests.
+/// The iterator's values with each allocation failing in turn: the value that needs it is this
+/// error, and is the last. There are this many allocations.
 fn each_is_refused<I, T, E>(start: impl Fn() -> I, no_memory: E, requests: u32)
 where
     I: Iterator<Item = Result<T, E>>,
@@ -35,7 +35,7 @@ fn core_modules() {
     assert_eq!((items, is_refused), (2, false));
 }
 
-/// So many components in one another.
+/// Components nested this deep.
 fn nested(count: usize) -> Vec<u8> {
     let inner = (count > 1).then(|| nested(count - 1));
     let section = inner.map(|inner| [&[4, inner.len() as u8], &inner[..]].concat());
@@ -69,7 +69,7 @@ fn indices_out_of_range() {
     }
 }
 
-/// What is printed, and not kept.
+/// A writer that discards what is printed.
 struct Nowhere;
 
 impl Write for Nowhere {
@@ -78,8 +78,8 @@ impl Write for Nowhere {
     }
 }
 
-/// What a call returns of which request `n` is refused, or why it panics, and whether that request
-/// came.
+/// What a call returns or panics with if its allocation number `n` fails, and whether it has such
+/// an allocation.
 fn refused<T>(n: u32, call: impl Fn() -> T) -> (Result<T, Option<String>>, bool) {
     GRANTED.set(Some(n));
     let result = catch_unwind(AssertUnwindSafe(call));
@@ -100,7 +100,7 @@ fn headers() {
     assert_eq!(refused(1, Module::new), (Ok(Module::new()), false));
 }
 
-/// What compares or prints by the bytes panics where these can't be had.
+/// Comparing or printing by the bytes panics if these can't be allocated.
 #[test]
 fn contents() {
     let mut imports = ComponentImportSection::new();

@@ -1,4 +1,4 @@
-//! What reads components and debug names, and visits indices.
+//! Reading components and debug names, and visiting indices.
 
 use super::{GRANTED, NAME, calmly, each_is_refused};
 use std::fmt::Debug;
@@ -44,7 +44,7 @@ fn names_are_found() {
     assert_eq!(listed, found);
 }
 
-/// Names of more items than a first growth makes room for, by indices that descend.
+/// Names of more items than the first allocation has room for, in descending order of indices.
 #[test]
 fn names_are_read() {
     let mut map = NameMap::new();
@@ -181,7 +181,7 @@ fn outer_indices_are_visited() {
     });
     assert_eq!(changed, nested(1));
 
-    // without a change a component isn't encoded again, and memory for that isn't missed
+    // an unchanged component isn't encoded again, and that memory isn't needed
     for n in 0.. {
         let mut item = nested(0);
         GRANTED.set(Some(n));

@@ -1,4 +1,4 @@
-//! Borrowed items, while every request for memory is refused.
+//! Borrowed items, while every allocation fails.
 
 use super::GRANTED;
 use crate::corpus;
@@ -10,7 +10,7 @@ use wenc::tree::{ItemTree, Space, UsedIndex};
 use wenc::view::ItemView;
 use wenc::*;
 
-/// The corpus's components, and one of each row of sections that aren't spelled as an encoder does.
+/// The corpus's components, and one for each row of sections that no encoder writes.
 fn components() -> Vec<Vec<u8>> {
     let bytes = |digits: &str| -> Vec<u8> {
         let byte = |at| u8::from_str_radix(&digits[at..at + 2], 16).expect("two digits");
@@ -24,7 +24,7 @@ fn components() -> Vec<Vec<u8>> {
 /// section, up to the first fault, and that.
 type Found<'a> = (Vec<(u8, ItemView<'a>)>, Option<ListFault>);
 
-/// Finds them, and asks for each member of each list.
+/// Reads them, with each member of each list.
 fn walk<'a>(bytes: &'a [u8], (items, fault): &mut Found<'a>) -> Result<(), ListFault> {
     let sections = Sections::new(bytes)?;
     let mut members = DefaultHasher::new();
@@ -45,7 +45,7 @@ fn walk<'a>(bytes: &'a [u8], (items, fault): &mut Found<'a>) -> Result<(), ListF
     Space::ALL.into_iter().try_for_each(|space| sections.index_count(space).map(drop))
 }
 
-/// A walk asks for no memory, and finds what a walk over owned items does.
+/// A walk doesn't allocate, and finds what a walk over owned items does.
 #[test]
 fn nothing_is_asked_for() {
     let (mut walked, mut ids) = (0, [0; 12]);
@@ -83,8 +83,8 @@ fn indices_of(tree: &mut ItemTree) -> Vec<UsedIndex> {
     indices
 }
 
-/// Expects that the indices of borrowed items and their nodes ask for no memory, and are those of
-/// owned items. Returns the number of items and of indices.
+/// Expects that the indices and nodes of borrowed items don't allocate and equal those of owned
+/// items. Returns the number of items and of indices.
 fn expect_indices(bytes: &[u8]) -> (usize, usize) {
     let sections = Sections::new(bytes).expect("a component").nested(8);
     let sections = sections.map_while(Result::ok).map(|(_, section)| section);
@@ -105,7 +105,7 @@ fn expect_indices(bytes: &[u8]) -> (usize, usize) {
     found
 }
 
-/// Indices and nodes ask for no memory, and are those of owned items.
+/// Indices and nodes don't allocate, and equal those of owned items.
 #[test]
 fn indices_are_those_of_owned_items() {
     let found = components().into_iter().map(|bytes| expect_indices(&bytes));
@@ -113,7 +113,7 @@ fn indices_are_those_of_owned_items() {
     assert!(items > 1500 && indices > 2700, "{items} {indices}");
 }
 
-/// So do those of types as deep as they are read.
+/// The same holds for types that are as deep as can be read.
 #[test]
 fn indices_in_deep_types_are_those_of_owned_ones() {
     // at each depth, an outer alias of a type of the component, and of the type around it

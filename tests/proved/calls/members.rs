@@ -1,4 +1,4 @@
-//! Parts of items, canonical functions by their rows, sections of a stranger's own, and what
+//! Parts of items, canonical functions by their rows, sections of a user's own, and which items
 //! declarations count as.
 
 use super::{is, section_is};

@@ -6,8 +6,8 @@ use crate::shim::alloc::Global;
 use std::str::from_utf8;
 use std::vec::Vec;
 
-/// The items have, one after the other, the indices that these answers tell, and no others: the
-/// next one in its space each. A custom section has none.
+/// The items define, one after the other, the indices in these results, and no others: each the
+/// next in its space. A custom section defines none.
 fn are_answered(listing: &Listing, answers: &[u128]) {
     let mut counts = [0u128; 13];
     let mut rest = answers;
@@ -25,9 +25,9 @@ fn are_answered(listing: &Listing, answers: &[u128]) {
     assert!(rest.is_empty() && listing.counts == counts);
 }
 
-/// The component that is printed here is listed with the items and the counts of the accepted
-/// commands, whose answers stand in front of it. A refused command's answer is no number, nor is
-/// one of names.
+/// The component that is printed here is listed with the items and the counts of the commands that
+/// succeeded, whose results are printed before it. The result of a command that failed isn't a
+/// number, nor is that of one for names.
 pub fn is_listed(printed: &[u8]) {
     let text = from_utf8(printed).unwrap().trim_end();
     let (lines, component) = text.rsplit_once('\n').unwrap_or(("", text));

@@ -1,4 +1,4 @@
-//! Why bytes can't be read: the place, what is there and the sentence.
+//! Why bytes can't be read: the byte offset, what is found there and the sentence.
 
 use super::refusals::refusal;
 use crate::proved::wenc_read::Expected;
@@ -71,7 +71,7 @@ fn causes_are_sentences() {
     assert_eq!(deep, "the type at 0x12c is in 100 others");
 }
 
-/// Of an item's first byte it is said what item is expected.
+/// For an item's first byte, the message names the item that is expected.
 #[test]
 fn first_bytes_of_items() {
     let byte = |place| {

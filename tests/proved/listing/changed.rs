@@ -1,6 +1,5 @@
-//! Worked components that are cut, or have a byte changed: no such bytes are too bad to be
-//! answered, and no two that differ in one byte are read as the same, but for the first byte of a
-//! name.
+//! Worked components that are cut, or have a byte changed: reading them returns, and no two that
+//! differ in one byte are read as the same, except for the first byte of a name.
 
 use super::sections::{EACH_KIND, ROWS, Row};
 use super::{component, read};
@@ -9,11 +8,11 @@ use crate::{ListFault, Listing};
 use std::collections::HashMap;
 use std::format;
 
-/// How many bytes are read as others, as the same, and not.
+/// How many changed bytes are read as other items, as the same ones, and not at all.
 type Answers = [u32; 3];
 
-/// A front of a component is read where a section begins after it, and is else refused at the
-/// section that is cut, which begins at this place.
+/// A prefix of a component is read if it ends where a section does, and otherwise fails at the
+/// section that is cut, which begins at this byte offset.
 fn is_cut(front: &[u8], begin: usize) {
     let place = match read(front) {
         Ok(_) => front.len(),

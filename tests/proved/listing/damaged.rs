@@ -1,5 +1,5 @@
-//! Bytes that can't be read: by each reader, with their fault, and with each request for memory
-//! refused in turn.
+//! Bytes that can't be read: by each reader, with their fault, and with each allocation failing in
+//! turn.
 
 use super::sections::ROWS;
 use super::{component, read};
@@ -28,14 +28,14 @@ const ITEMS: &[(u8, &str)] = &[
     (8, "07 08 30 3f00 43 ff"),
     (10, "0301660100"),
     (11, "040167010000"),
-    // Sorts and kinds that are none, or not there.
+    // Sorts and kinds that are unknown or missing.
     (2, "010101660500 00000101661100"),
     (5, "0000010166001200"),
     (6, "000501000166 001000000166 001001000166 001200000166 01020000 02020000 05020000"),
     (6, "0101000166 000000000166 0000020000"),
     (10, "0001660600 000166000000"),
     (11, "00016700100000"),
-    // Options of a name that do not ascend, are none of the three, or are not there.
+    // Options of a name that don't ascend, are unknown, or are missing.
     (10, "0201610202000001690100 020161020001690001690100 020161010301690100"),
     (10, "0201610400000100020002000100 020161000100"),
     // Names that are longer than what is left, or not UTF-8.
@@ -48,25 +48,24 @@ const ITEMS: &[(u8, &str)] = &[
     (8, "0602 110002 068000"),
     (10, "0001740302"),
     (11, "0001670100020100"),
-    // Bytes that are always `00`, or `01`, but are not here.
+    // Bytes that have to be `00`, or `01`, and aren't.
     (3, "5001030165040100"),
     (7, "710101610001 7101016100 40000101 40000200"),
     (8, "0001010000 01010000 0c01 0c8000 200100 2901 2d01 09010100"),
-    // A final type written as if it extended another, guards that are wanting, and such as are too
-    // many.
+    // A final type written as if it extended another, and prefixes that are missing or too many.
     (3, "4f00600000 00600000 00005000600000 004f0100600000 4e01005000600000 4e014e00"),
     (3, "500101005000600000 5001015000"),
     // Declarations that are none.
     (3, "50010400 50010210020000 50010211010000 50010301650500"),
     (7, "410105 4201030001690500 420101"),
-    // Value types, composite types and limits that are none.
+    // Unknown value types, composite types and limits.
     (3, "60016800 60017800 6001636800 610000 500103016d020800 500103017401700200"),
     (3, "50010301740170030000 5001030174017f0000 500103016d020100"),
-    // Options of a canonical function that are none.
+    // Unknown options of a canonical function.
     (8, "000000010a00 1c0103"),
 ];
 
-/// Items with a count of 4294967295 in front of nothing.
+/// Items with a count of 4294967295 before the end of the bytes.
 const UNFILLED: &[(u8, &str)] = &[
     // Arguments and exports of instances.
     (2, "0000ffffffff0f 01ffffffff0f"),
@@ -99,15 +98,15 @@ const fn behind(place: usize) -> Option<Unread> {
     Some(Unread::Behind { place })
 }
 
-/// Sections, each word some, with the place of the first that can't be read, and what of it; none
-/// where its id, its size or the name of a custom section is bad.
+/// Sections, several in each word, with the byte offset of the first that can't be read and its
+/// unread part; `None` if its id, its size or the name of a custom section is bad.
 const SECTIONS: &[(usize, Option<Unread>, &str)] = &[
-    // An id that is none, a size that is no number, or past the end.
+    // An unknown id, a size that isn't a number or extends past the end.
     (8, None, "0c00 0c ff0100 06 0680 0681808080800000 068080808010 06ffffffff1f 060501"),
     (8, None, "01ffffffff0f 060200 06808080808000"),
     // Custom sections without a name.
     (8, None, "0000 00020561 000201ff 000180 000781808080800061"),
-    // The first section that is not read decides.
+    // The first section that can't be read counts.
     (8, None, "000006020109"),
     (11, None, "0601000c00"),
     (12, None, "010001000109"),
@@ -139,14 +138,14 @@ const SECTIONS: &[(usize, Option<Unread>, &str)] = &[
     (11, behind(16), "0601000904000000000b00"),
 ];
 
-/// The number that begins the bytes, and how many of them it has.
+/// The number at the beginning of the bytes, and its length.
 fn number(bytes: &[u8]) -> (usize, usize) {
     let len = bytes.iter().position(|byte| *byte < 0x80).expect("it ends") + 1;
     let add = |number, byte: &u8| number << 7 | usize::from(byte & 0x7f);
     (bytes[..len].iter().rev().fold(0, add), len)
 }
 
-/// The fault is that the section at this place can't be read, in that this part, and its cause is
+/// The fault is that this part of the section at this byte offset can't be read, and its cause is
 /// in that part.
 fn is_fault(fault: ListFault, bytes: &[u8], place: usize, unread: Option<Unread>) {
     let (begin, end) = match unread {
@@ -175,7 +174,7 @@ fn is_fault(fault: ListFault, bytes: &[u8], place: usize, unread: Option<Unread>
     }
 }
 
-/// What the cause says of these bytes is so.
+/// The cause is true of these bytes.
 fn is_so(cause: Cause, bytes: &[u8], part: Range<usize>) {
     let (from, len) = (cause.place(), part.len());
     match cause {
@@ -195,7 +194,7 @@ fn is_so(cause: Cause, bytes: &[u8], part: Range<usize>) {
     }
 }
 
-/// The same part, so many bytes further on.
+/// The same part, this many bytes further on.
 fn moved(unread: Unread, by: usize) -> Unread {
     match unread {
         Unread::Count { place } => Unread::Count { place: place + by },
@@ -204,8 +203,8 @@ fn moved(unread: Unread, by: usize) -> Unread {
     }
 }
 
-/// Each reader says that this part of the section at this place can't be read; in a component
-/// around it, that part there.
+/// Each reader returns that this part of the section at this byte offset can't be read, also inside
+/// a component around it.
 fn is_told(sections: &[u8], place: usize, unread: Option<Unread>) {
     let bytes = component(sections);
     let fault = read(&bytes).expect_err("it can't be read");
@@ -224,7 +223,7 @@ fn is_told(sections: &[u8], place: usize, unread: Option<Unread>) {
     is_fault(found.expect("a fault"), &outer, place + 10, unread);
 }
 
-/// Each request of the listing is refused in turn. Returns how many there are.
+/// Each allocation of the listing fails in turn. Returns how many there are.
 fn requests(bytes: &[u8]) -> u64 {
     let heap = Refusing::new();
     let is_refused = |n: &u64| {
@@ -268,7 +267,7 @@ fn sections() {
     assert_eq!(told, 59);
 }
 
-/// Memory is asked for the section's one item, and for no more.
+/// Memory is allocated for the section's one item, and for no more.
 #[test]
 fn great_counts() {
     let mut told = 0;
@@ -282,8 +281,8 @@ fn great_counts() {
     assert_eq!(requests(&component(&bytes("0305ffffffff0f"))), 0);
 }
 
-/// Types in one another: what stands around another, how often, the innermost, and whether they
-/// are read.
+/// Nested types: the bytes around each, the depth, the innermost type, and whether they can be
+/// read.
 const DEEP: [(&[u8], usize, &[u8], bool); 7] = [
     (b"\x42\x01\x01", 99, b"\x42\x00", true),
     (b"\x41\x01\x01", 99, b"\x41\x00", true),
@@ -312,7 +311,7 @@ fn deep_types() {
     }
 }
 
-/// Worked components are listed as stands beside them.
+/// Worked components are listed as their rows say.
 #[test]
 fn worked_components() {
     for row in ROWS {

@@ -1,4 +1,4 @@
-//! The bytes that are expected where an item can't be read on are those with which it can be.
+//! The bytes that are expected where reading an item fails are those with which it continues.
 
 use super::component;
 use crate::proved::tests::hex::bytes;
@@ -7,10 +7,10 @@ use std::collections::HashSet;
 use std::string::{String, ToString};
 use std::vec::Vec;
 
-/// Zeros behind the bytes that are tried.
+/// Zeros after the bytes that are tried.
 const BEHIND: [u8; 16] = [0; 16];
 
-/// The bytes in front of one in items, each a word, `_` for none, with the id of their section.
+/// The bytes before the one that is tried, each item a word, `_` for none, with the section's id.
 const FRONTS: [(u8, &str); 16] = [
     (2, "_ 00000100 010100"),
     (3, "_ 00 4e01 4e014f 4f 5001 5e 5e7f 5f01 5f017f 6001 600163 600164 600163c0 600164c080"),
@@ -48,8 +48,8 @@ fn place_in(cause: Cause) -> (usize, Option<Bytes>) {
     }
 }
 
-/// Of all bytes in one place those with which the others can be read on are those that are expected
-/// there. Returns these.
+/// Of all bytes in one place, those with which reading continues are those that are expected there.
+/// Returns them.
 fn is_so(place: usize, stop: impl Fn(u8) -> Option<(usize, Option<Bytes>)>) -> String {
     let mut goes_on = Vec::new();
     let mut told = HashSet::new();

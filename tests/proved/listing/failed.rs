@@ -1,4 +1,5 @@
-//! A failed call takes nothing: made once more, it fails as before, or there is memory now.
+//! A failed call consumes nothing: repeated, it fails as before, or succeeds if there is memory
+//! now.
 
 use super::component;
 use crate::proved::tests::refusing::Refusing;
@@ -57,7 +58,7 @@ fn items() {
     }
 }
 
-/// What a listing of these bytes fails with, and the fault that this is.
+/// The error of a listing of these bytes, and the fault that it is converted to.
 fn fault<'a>(heap: &Refusing, bytes: &'a [u8]) -> (ListRefusal<'a>, ListFault) {
     let refusal = list_or_refusal(heap, bytes).expect_err("it can't be listed");
     assert_eq!(list(heap, bytes).err(), Some(refusal.fault()));

@@ -1,4 +1,4 @@
-//! Numbers, types and sections that bytes begin with.
+//! Numbers, types and sections at the beginning of bytes.
 
 use super::component;
 use crate::proved::tests::hex::bytes;
@@ -11,7 +11,7 @@ use crate::proved::wenc_view::{TypeView, View, type_at};
 use std::fmt::Debug;
 use std::vec::Vec;
 
-/// Bytes, and the value that they begin with and how many of them it has, or none.
+/// Bytes, with the value at their beginning and its length, if it can be read.
 type Row<T> = (&'static [u8], Option<(T, usize)>);
 
 const FLAGS: [Row<bool>; 5] = [
@@ -40,7 +40,7 @@ const RESULTS: [Row<ResultList>; 4] = [
     (b"\x00", None),
 ];
 
-/// Each of these bytes is read as what stands beside it.
+/// Each of these bytes is read as the value next to it.
 fn are<T: Copy + PartialEq + Debug>(
     rows: &[Row<T>],
     read: impl Fn(&'static [u8]) -> Result<(T, &'static [u8]), Refusal>,
@@ -66,7 +66,7 @@ fn texts(part: ProducersPart<'static>) -> (&'static str, Option<&'static str>) {
     }
 }
 
-/// Cut anywhere, producers have the whole parts before that. Then nothing changes any more.
+/// Producers that are cut have the complete parts before the cut, and then end.
 #[test]
 fn producers() {
     const DATA: &[u8] = b"\x02\x03sdk\x02\x01A\x011\x01B\x012\x01e\0";

@@ -1,4 +1,4 @@
-//! Where readers stop, and what they expect there.
+//! The byte at which readers stop, and what they expect there.
 
 use crate::proved::wenc_read::{
     Expected, NestedRefusal, Refusal, byte, flag_of, index_of, u32_of, u64_of,
@@ -35,7 +35,7 @@ fn other_beginnings() {
     assert_eq!(NestedRefusal::TooDeep(3).or(b"abc", more), NestedRefusal::TooDeep(3));
 }
 
-/// A first byte that isn't one of these is why.
+/// The cause is a first byte that isn't one of these.
 #[test]
 fn first_bytes() {
     let within = refusal(1, Expected::Bytes(5));
@@ -47,7 +47,7 @@ fn first_bytes() {
     assert_eq!(within.unless_from(2, 4, b""), within);
 }
 
-/// More values than there are bytes are why.
+/// The cause is that there are more values than bytes.
 #[test]
 fn counts() {
     let of = refusal(1, Expected::Type);
@@ -59,7 +59,8 @@ fn counts() {
     assert_eq!(NestedRefusal::TooDeep(3).of_many(b"", 9), NestedRefusal::TooDeep(3));
 }
 
-/// A number that is too large or too long is refused at its first byte, others where they stop.
+/// For a number that is too large or too long, the cause is at its first byte; for others, where
+/// they stop.
 #[test]
 fn numbers() {
     let bits = |left, bits| Some(refusal(left, Expected::Bits(bits)));
@@ -84,7 +85,7 @@ fn flags_and_texts() {
     let flag = Some(refusal(3, Expected::From(0, 1)));
     assert_eq!(flag_of(b"\x02\x00\x01").err(), flag);
     assert_eq!(<Option<u32>>::view_of(b"\x02\x00\x01").err(), flag);
-    // a byte that begins no character, and two characters that aren't whole
+    // a byte that begins no character, and two incomplete characters
     for text in [&b"\x03a\xffb\x07"[..], b"\x03a\xc3b\x07", b"\x03a\xe2\x82\x07"] {
         assert_eq!(text_of(text).err(), Some(refusal(3, Expected::Utf8)));
     }
@@ -92,7 +93,7 @@ fn flags_and_texts() {
     assert_eq!(text_of(b"\x80").err(), Some(refusal(0, Expected::Bytes(1))));
 }
 
-/// A list that says more members than there are bytes is refused at its first one.
+/// For a list whose count exceeds the bytes, the cause is at its first member.
 #[test]
 fn lists_of_too_many() {
     let of = |bytes| <ListOf<'_, u32>>::view_of(bytes).err();
@@ -111,7 +112,7 @@ fn lists_of_too_many() {
     }
 }
 
-/// Options of a name ascend, so each leaves room for those behind it; there are one to three.
+/// Options of a name ascend, so that each limits those after it; there are one to three.
 #[test]
 fn options_of_names() {
     let of = |options: &[u8]| NameView::view_of(&[b"\x02\x01a", options].concat()).err();

@@ -25,8 +25,8 @@ fn end_with_list<T: Encode + Copy>(to: &mut Holder, lead: &[u8], list: &[T]) -> 
     to.end_with_list(lead, list.iter().copied())
 }
 
-/// It is finished, with so many members. Its section, which has less than 128 bytes after its size
-/// and less than 128 members, is this; its list is what follows the size, and its bytes are
+/// It is finished, with `count` members. It encodes to this section, which has less than 128 bytes
+/// after its size and less than 128 members; its list is what follows the size, and its bytes are
 /// what follows the count.
 pub fn is_whole(holder: &Holder, count: u32, section: &[u8]) {
     assert!(holder.is_finished() && !holder.is_opened() && holder.len() == count);
@@ -37,8 +37,8 @@ pub fn is_whole(holder: &Holder, count: u32, section: &[u8]) {
     assert_eq!(holder.as_slice(), &section[2..]);
 }
 
-/// A member is being written, of which there is the lead alone or more. Neither a section nor a
-/// list of members comes of it.
+/// A member is being written, of which the lead is there, or more. Neither a section nor a list can
+/// be encoded.
 pub fn is_begun(holder: &Holder, count: u32, body: &[u8], is_opened: bool) {
     assert!(!holder.is_finished() && holder.is_opened() == is_opened);
     assert_eq!(holder.len(), count);
@@ -86,9 +86,9 @@ fn members() {
 
 const ONE: &[u8] = &[0x02, 0x01, 0xaa];
 
-// Each of these has a part that is refused, some after parts that were written. The first refusal
-// that is met is answered, and the holder is as it was. With a member that is being written nothing
-// can be added, nor opened.
+// Each of these has a part that can't be encoded, some after parts that were written. The first
+// error is returned, and the holder is unchanged. While a member is being written, none can be
+// added or opened.
 #[test]
 fn refused_members() {
     let mut holder = Holder::new(Global);
@@ -113,7 +113,7 @@ fn refused_members() {
     is_begun(to, 2, &[0xaa, 1], true);
 }
 
-// A piece that is refused, in part or as a whole, leaves the member as it was.
+// A piece that can't be encoded, in part or as a whole, leaves the member unchanged.
 #[test]
 fn refused_pieces() {
     let mut holder = Holder::new(Global);

@@ -1,4 +1,4 @@
-//! Holders with bytes in front of their members, and sections over them.
+//! Holders with bytes before their members, and sections over them.
 
 use super::holder::{UNFINISHED, is_begun, is_whole};
 use crate::proved::proved_parts::holders::{
@@ -10,10 +10,10 @@ use crate::proved::wenc_canon::AddsBuiltin;
 use crate::proved::wenc_parts::{Alias, ComponentOuterAliasKind};
 use crate::shim::alloc::Global;
 
-/// What the holder has after the bytes in front.
+/// What the holder has after the bytes before its members.
 const OVER: &[u8] = &[0x03, 0x01, 0x03, 0x00];
 
-/// It is made of these bytes, so many of which are kept, and so many members.
+/// It is made of these bytes, `kept` of which are kept, and `count` members.
 fn has_parts(holder: Holder, bytes: &[u8], kept: usize, count: u32) -> bool {
     let parts = holder.into_parts();
     (parts.0.as_slice(), parts.1, parts.2, parts.3) == (bytes, kept, count, true)
@@ -32,7 +32,7 @@ fn behind_bytes() {
     assert!(has_parts(holder, &[0xcc, 0x03, 0x00, 0x2a], 1, 2));
 }
 
-// What comes next is the first member after what is kept. What is unfinished isn't kept.
+// The next member is the first after the bytes that are kept. An unfinished one isn't kept.
 #[test]
 fn all_are_kept() {
     let mut holder = over_four_bytes(Global).unwrap();
@@ -74,7 +74,7 @@ fn over_bytes() {
     holder.cut_back(0, 0);
     is_whole(&holder, 0, &[0x01, 0x00]);
     assert_eq!(holder.kept(), [0xcc].as_slice());
-    // As many members as can be counted, of which all have no bytes.
+    // As many members as can be counted, all without bytes.
     let (bytes, kept, _, _) = holder.into_parts();
     let mut holder = Holder::over(bytes, kept, u32::MAX);
     assert_eq!(holder.add_encoded(&42u32), Err(Fault::TooMany));
@@ -84,7 +84,7 @@ fn over_bytes() {
 const OUTER_TYPE: Alias<'static> =
     Alias::Outer { kind: ComponentOuterAliasKind::Type, count: 0, index: 1 };
 
-// In a section's bytes none is that is kept.
+// A section's bytes don't include those that are kept.
 #[test]
 fn under_sections() {
     let mut section = aliases(Global).unwrap();

@@ -6,7 +6,7 @@ use crate::shim::alloc::Global;
 
 const TWO: &[u8] = &[0x02, 0x05, 0x01, 0x61, 0x01, 0x01, 0x62];
 
-// In an order that isn't that of the indices. A copy goes its own way.
+// In another order than that of the indices. A copy is independent.
 #[test]
 fn names() {
     let mut names = NameMap::new(Global);
@@ -20,7 +20,7 @@ fn names() {
     names.append(1, "b").unwrap();
     check(&names, TWO);
     check(&other, TWO);
-    // Of 128 names the count has two bytes.
+    // The count of 128 names has two bytes.
     for idx in 2..127 {
         other.append(idx, "").unwrap();
     }

@@ -1,4 +1,4 @@
-//! Values that are refused.
+//! Values that can't be encoded.
 
 use crate::proved::proved_parts::strangers::own::Item;
 use crate::proved::tests::sweeping::check;
@@ -14,7 +14,7 @@ const ENDED: Item = Item { is_open: false };
 /// More than a count can be.
 pub const LARGE: usize = 4294967296;
 
-/// It is refused, and the sink stays as it was.
+/// It can't be encoded, and the sink is unchanged.
 fn is_refused<T: Encode>(value: &T, fault: Fault) {
     let mut sink = Vec::from(vec![0x99]);
     assert_eq!(value.encode(&mut sink), Err(fault));
@@ -33,8 +33,8 @@ const BEGUN: &[(usize, Option<Item>)] = &[(1, Some(OPEN)), (LARGE, None)];
 
 const LATE: &[(usize, Option<Item>)] = &[(LARGE, Some(OPEN)), (1, None)];
 
-// Before what stands in front, and before a section's id. The first refusal that is met is
-// answered. The second value of an iterator is refused after the text of the first.
+// Before the bytes that precede it, and before a section's id. The first error is returned. The
+// second value of an iterator fails after the text of the first.
 #[test]
 fn refusals() {
     is_refused(&OPEN, Fault::Unfinished);

@@ -1,5 +1,5 @@
-//! Members of a holder that are begun: what is refused until they are ended, or given up, and each
-//! growth of what is written at them.
+//! Members of a holder that are begun: calls that fail until the member is ended or discarded, and
+//! each allocation of what is written to it.
 
 use crate::proved::tests::refusing::Refusing;
 use crate::proved::tests::sweeping::{REFUSED, TEXT};
@@ -12,7 +12,7 @@ type Heaped<'h> = Holder<&'h Refusing>;
 /// What a member is opened with.
 const LEADS: [&[u8]; 2] = [&[], &[0x10]];
 
-/// A holder with so many members of one byte, and one that is opened.
+/// A holder with this many members of one byte, and one that is opened.
 fn opened<'h>(heap: &'h Refusing, members: usize, lead: &[u8]) -> Heaped<'h> {
     heap.refuse_none();
     let mut holder = Holder::new(heap);
@@ -29,8 +29,8 @@ fn is_unfinished(holder: &Heaped<'_>, bytes: &[u8], is_opened: bool) {
     assert_eq!((holder.len(), holder.as_slice()), (2, bytes));
 }
 
-/// What grows or encodes is refused for what is unfinished, whatever else is wrong, and asks for no
-/// memory.
+/// Calls that add or encode fail since a member is unfinished, whatever else is wrong, and don't
+/// allocate.
 fn refuses(heap: &Refusing, holder: &mut Heaped<'_>) {
     let too_many = 4294967296usize;
     heap.refuse_all();
@@ -54,7 +54,7 @@ fn refuses(heap: &Refusing, holder: &mut Heaped<'_>) {
     heap.refuse_none();
 }
 
-/// The member is given up, once, without memory, and another is added.
+/// The member is discarded, once, without allocating, and another is added.
 fn is_given_up(heap: &Refusing, holder: &mut Heaped<'_>) {
     heap.refuse_all();
     assert!(holder.discard_unfinished() && holder.is_finished() && !holder.is_opened());
@@ -67,7 +67,7 @@ fn is_given_up(heap: &Refusing, holder: &mut Heaped<'_>) {
     assert_eq!(sink.as_slice(), [0x03, 0x02, 0xaa, 0x2a]);
 }
 
-/// The copy is unfinished too. Refused memory, there is none.
+/// The copy is unfinished too. If the allocation fails, there is none.
 fn copied<'h>(heap: &'h Refusing, holder: &Heaped<'h>) -> Heaped<'h> {
     heap.refuse_nth(1);
     assert_eq!(holder.try_clone().err(), Some(REFUSED));
@@ -100,7 +100,7 @@ fn members_that_are_not_ended() {
 /// A call, and what it writes.
 type Call = (fn(&mut Heaped<'_>) -> Result<(), Fault>, &'static [u8]);
 
-/// Calls at a member, one after the other, and at last one that adds another.
+/// Calls on a member, one after the other, and finally one that adds another.
 const CALLS: [Call; 8] = [
     (|to| to.append(&[3]), b"\x03"),
     (|to| to.append_encoded(&("f", 128u32)), b"\x01f\x80\x01"),
@@ -129,8 +129,8 @@ const ENDS: [Call; 4] = [
     (finished, b""),
 ];
 
-/// Growth number `n` of these calls is refused. The call that is refused leaves what there was, and
-/// is made again. Answers which it is, where there is such a growth.
+/// Makes these calls with allocation number `n` failing. The call that fails changes nothing, and
+/// is repeated. Returns which one it is, if there is such an allocation.
 fn refused(heap: &Refusing, members: usize, lead: &[u8], calls: &[Call], n: u64) -> Option<usize> {
     let mut holder = opened(heap, members, lead);
     let mut bytes = [&[0xaa; 16][..members], lead].concat();
@@ -153,7 +153,7 @@ fn refused(heap: &Refusing, members: usize, lead: &[u8], calls: &[Call], n: u64)
     refused
 }
 
-/// Each call that writes is refused: with up to 16 members there, the room ends at each place.
+/// Each call that writes fails: after up to 16 members, growth is needed at each place.
 #[test]
 fn refused_growths() {
     let heap = Refusing::new();

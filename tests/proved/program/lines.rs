@@ -1,5 +1,5 @@
-//! Lines of scripts that say nothing: each word with one word too many, one too few, a number past
-//! its range, and a flag that is none.
+//! Lines of scripts that can't be parsed: each word with one word too many, one too few, a number
+//! out of range, and an unknown flag.
 
 use super::outcome::expect;
 use super::vectors::{bad, words};

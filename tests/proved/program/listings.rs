@@ -1,4 +1,4 @@
-//! The use `list`: what is printed of components, and of texts that say none.
+//! The command `list`: what is printed for components, and for texts that aren't components.
 
 use super::outcome::{End, USAGE, expect};
 use super::worked::{LISTED, UNLISTED, hex};
@@ -47,7 +47,7 @@ fn texts_are_listed() {
     }
 }
 
-/// Whether the program says this of the fault.
+/// Whether the program prints this for the fault.
 fn is_said(fault: ListFault, said: &str) -> bool {
     let (name, place) = match fault {
         ListFault::NotAComponent { place } => ("NotAComponent", place),
@@ -59,7 +59,7 @@ fn is_said(fault: ListFault, said: &str) -> bool {
     said == format!("{name} at {place}\n")
 }
 
-/// `list_text` answers what the program prints, or why it prints nothing.
+/// `list_text` returns what the program prints, or why it prints nothing.
 #[test]
 fn texts_are_listed_by_a_call() {
     for (text, _, out, err) in texts() {
@@ -75,7 +75,7 @@ fn texts_are_listed_by_a_call() {
     }
 }
 
-/// Arguments that are no use of the program.
+/// Arguments that the program rejects.
 const OTHERS: &[&[&str]] = &[
     &["x"],
     &[""],

@@ -15,22 +15,22 @@ const WITHOUT: &[(&[&str], &[u8], End)] = &[
     (&["list"], b"0061736d0d000100", UNLISTED),
 ];
 
-/// A run that has each of its requests refused in turn.
+/// A run with each of its allocations failing in turn.
 struct Sweep {
     args: &'static [&'static str],
     text: &'static [u8],
-    /// How it ends where none is refused.
+    /// How it ends if none fails.
     whole: End,
-    /// How it ends where one is, at least so often.
+    /// How it ends if one fails, at least this often.
     refused: End,
     refusals: u8,
-    /// How else it may end then, at least so often.
+    /// How else it may end then, at least this often.
     other: End,
     others: u8,
 }
 
 const SWEEPS: &[Sweep] = &[
-    // The command itself answers `Memory` where its item has no room, and the run goes on.
+    // The command itself returns `Memory` if there is no room for its item, and the run continues.
     Sweep {
         args: &[],
         text: b"import an-interface-with-a-long-name func 0\n",
@@ -86,7 +86,7 @@ const SWEEPS: &[Sweep] = &[
     },
 ];
 
-/// Each request is refused in turn, until none is left.
+/// Each allocation fails in turn, until none is left.
 fn refuse_each(heap: &Refusing, row: &Sweep) {
     let (mut refused, mut other) = (0u8, 0u8);
     for n in 1..200 {

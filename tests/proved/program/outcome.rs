@@ -44,8 +44,8 @@ fn words(args: &[&str]) -> Vec<String> {
 }
 
 /// Runs the program, where there is a `heap` with its memory, but for the names of the commands.
-/// Each read and write moves at most so many bytes. The calls with these numbers fail, of the
-/// input, the output and the standard error.
+/// Each read and write moves at most `step` bytes. The calls with these numbers fail, of the input,
+/// the output and the standard error.
 pub fn run_program<'a>(
     heap: Option<&Refusing>,
     args: &[&str],

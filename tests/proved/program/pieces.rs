@@ -1,4 +1,4 @@
-//! Calls of which no run shows all: lines of answers, and the number of reads.
+//! Calls that no run covers in full: lines of results, and the number of reads.
 
 use super::streams::Source;
 use crate::proved::wasm_encoder::Fault;

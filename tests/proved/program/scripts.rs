@@ -1,4 +1,4 @@
-//! Scripts are run, and translated by a call: worked rows and outside answers.
+//! Scripts are run, and translated by a call: worked rows, with bytes from elsewhere.
 
 use super::outcome::{End, expect};
 use super::vectors::{all, bad};
@@ -12,7 +12,7 @@ use crate::shim::vec::Vec;
 use std::format;
 use std::string::String;
 
-/// What the script is translated to is what its run prints, or tells the bad line.
+/// The script's translation is what its run prints, or the number of the bad line.
 fn is_translated(script: &[u8], (status, out, err): End) {
     match translate(Global, Global, Vec::from(script.to_vec())) {
         Ok(printout) => {

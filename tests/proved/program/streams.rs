@@ -1,10 +1,9 @@
-//! What a run reads and writes: each call is counted, moves few bytes, and fails where it is told
-//! to.
+//! The streams of a run: each call is counted, moves few bytes, and fails as planned.
 
 use std::io::{self, ErrorKind, Read, Write};
 use std::vec::Vec;
 
-/// Gives a text, at most `step` bytes a read. The read with the number `failing` fails.
+/// Returns a text, at most `step` bytes a read. The read with the number `failing` fails.
 pub struct Source<'a> {
     pub rest: &'a [u8],
     pub step: usize,
@@ -39,7 +38,7 @@ impl Sink {
         Sink { text: Vec::new(), step, calls: 0, failing }
     }
 
-    /// This was written. Where it is nothing, there was no call.
+    /// This was written. If it is empty, there was no call.
     pub fn has(&self, text: &[u8]) -> bool {
         self.text == text && (self.calls == 0) == text.is_empty()
     }

@@ -24,8 +24,9 @@ const FAILING: &[(&[&str], &[u8], Stream, usize)] = &[
     (&["list"], b"x", Stream::Report, 8),
 ];
 
-/// The run fails. Each call moves at most so many bytes. The calls with these numbers fail, and so
-/// many come, of the input, the output and the standard error; 0 reads are any number.
+/// The run fails. Each call moves at most `step` bytes. The calls with the numbers in `failing`
+/// fail, and `calls` are made in all, of the input, the output and the standard error; 0 stands for
+/// any number of reads.
 fn fails(args: &[&str], text: &[u8], step: usize, failing: [usize; 3], calls: [usize; 3]) {
     let ran = run_program(None, args, text, step, failing);
     let [reads, writes, reports] = calls;

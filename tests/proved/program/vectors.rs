@@ -1,5 +1,4 @@
-//! Scripts, and what has to come out of them: outside answers, made with the Rust crate
-//! `wasm-encoder` 0.263.0.
+//! Scripts and their expected output, which was made with the Rust crate `wasm-encoder` 0.263.0.
 
 #[path = "vectors/bad.rs"]
 pub mod bad;
@@ -24,7 +23,7 @@ const fn run(status: u8, script: &'static [u8], out: &'static [u8]) -> Vector {
     Vector { status, script, out }
 }
 
-/// Those of which each line can be read.
+/// Those whose lines can all be parsed.
 pub fn all() -> impl Iterator<Item = &'static Vector> {
     [edges::VECTORS, short::VECTORS, long::VECTORS, words::VECTORS].into_iter().flatten()
 }

@@ -12,7 +12,7 @@ impl Maker<'_> {
         Some([encoding, Memory(memory), Realloc(self.random.of(&scope.reallocs)?)])
     }
 
-    /// A function of a core function that takes a text and answers one.
+    /// A function lifted from a core function that takes a text and returns one.
     pub(super) fn lifted(&mut self, b: &mut ComponentBuilder, scope: &mut Scope) {
         let Some(text) = self.random.of(&scope.texts) else { return };
         let Some(function) = self.random.of(&scope.function_types) else { return };

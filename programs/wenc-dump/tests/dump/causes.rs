@@ -9,7 +9,7 @@ use std::ops::Range;
 use wenc::{ComponentSection, Encode, ListFault, RawSection, Sections, Unread, list};
 use wenc_dump::Terminal;
 
-/// One in so many damages is tried. Programs that aren't optimized are slow.
+/// One in this many kinds of damage is tried. Programs that aren't optimized are slow.
 const STEP: usize = if cfg!(debug_assertions) { 9 } else { 3 };
 
 /// Runs the program on these bytes, where there is no terminal.
@@ -43,7 +43,7 @@ fn long_texts_are_looked_at() {
     }
 }
 
-/// A list with this tag before it, of so many members of these bytes.
+/// A list after this tag, with this many members of these bytes.
 fn list_of(tag: &[u8], number: usize, member: &[u8]) -> Vec<u8> {
     let mut item = tag.to_vec();
     number.encode(&mut item);
@@ -88,7 +88,7 @@ fn causes_in_long_items_are_those_in_short_ones() {
     }
 }
 
-/// After a long name, the expected bytes are named, too.
+/// The expected bytes are named also after a long name.
 #[test]
 fn long_names_are_passed_over() {
     for size in [3, 128, 2_000, 10_000] {
@@ -145,7 +145,7 @@ fn file_of(sections: &[u8]) -> Vec<u8> {
     if sections.starts_with(b"\0asm") { sections.to_vec() } else { component(sections) }
 }
 
-/// Kinds of damage, each with a file and what is said of it.
+/// Kinds of damage, each with a file and its message.
 const KINDS: [(&[u8], &str); 26] = [
     // a name of an import, of a nested item, and of a custom section
     (
@@ -321,7 +321,7 @@ fn causes_are_in_what_the_reader_names() {
     assert!(compared > 100 && compared > faults / 2, "{compared} of {faults}");
 }
 
-/// Each item that was cut needs more bytes: as many as are left, and more.
+/// An item that is cut needs more bytes than are left.
 #[test]
 fn items_that_are_cut_need_bytes() {
     let mut cut = 0;

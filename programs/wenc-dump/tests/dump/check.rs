@@ -4,7 +4,7 @@ use crate::corpus::{corpus, names};
 use crate::values::Value;
 use crate::{FUNCTION, FUNCTION_TEXT, component, dump, expect, expect_of, file};
 
-/// A type, and items with indices of which there are too few.
+/// A type, and items with indices that are out of range.
 fn sections() -> Vec<u8> {
     // an instance type with a list of its type 1, an outer alias of type 1, one of type 0 two
     // further out, and an export of its type 2, which the second alias defines
@@ -90,7 +90,7 @@ fn json_has_them_at_their_items() {
     assert_eq!(plain.status.code(), Some(0));
 }
 
-/// Behind an item that isn't read, nothing is known of the indices, but of those in other scopes.
+/// After an item that can't be read, indices aren't checked, except for those in other scopes.
 #[test]
 fn indices_after_a_fault_are_not_marked() {
     let bad = b"\x07\x02\x01\x01";

@@ -31,7 +31,7 @@ pub fn names() -> Vec<String> {
     names
 }
 
-/// The lines of what is printed and their digest, with what is said of the component.
+/// The number of printed lines and their digest, with the messages for the component.
 fn line(name: &str, output: &Output) -> String {
     let lines = output.stdout.iter().filter(|byte| **byte == b'\n').count();
     let err = String::from_utf8_lossy(&output.stderr);
@@ -60,7 +60,7 @@ fn the_corpus() {
     assert_eq!((lines.lines().count(), stored.lines().count(), faults), (46, 46, 6));
 }
 
-/// No line that can be folded is longer than 100 columns: what is, is one text or one name.
+/// No line that can be folded is longer than 100 columns: a longer one is one text or one name.
 #[test]
 fn lines_are_folded() {
     for name in names() {

@@ -50,7 +50,7 @@ fn producers_in_json() {
     expect_of(&["--json"], &path, &out, None);
 }
 
-/// What is read before a fault is printed.
+/// Parts before a fault are printed.
 #[test]
 fn bad_producers_are_a_fault() {
     let mut bytes = PRODUCERS.to_vec();

@@ -1,4 +1,4 @@
-//! What is printed in front of a fault, and what is said of it.
+//! What is printed before a fault, and its message.
 
 use crate::corpus::corpus;
 use crate::{component, dump, expect, expect_of, file_of};
@@ -82,7 +82,7 @@ bad item 0 at 0x20: the bytes end at 0x20";
 /// is read; one that is cut.
 const BAD_SECTIONS: &[u8] = b"\0asm\x01\0\0\0\x01\0\x41\0\0\x01\x07\x03\x02\0\0\x0b\x01\0\x01\x7f";
 
-/// What follows the module is printed too.
+/// The sections after the module are printed too.
 #[test]
 fn sections_of_core_modules_in_components_are_faults() {
     let out = "\
@@ -161,7 +161,7 @@ const FAULTY_TEXT: &str = "\
     0x4d: 06 05 01
 ";
 
-/// A section that isn't read is followed by the next, as long as they are framed.
+/// After a section that can't be read, the next is printed if it has a size within bounds.
 #[test]
 fn what_follows_a_fault_is_printed() {
     let bad = "\
@@ -175,7 +175,7 @@ bad section at 0x4d: needs 5 bytes or more from 0x4f on, where 1 is left";
     expect("goes_on", FAULTY, FAULTY_TEXT, Some(bad));
 }
 
-/// All items in front of them were read.
+/// All items before them were read.
 #[test]
 fn indices_behind_bytes_behind_items_are_known() {
     let out = "\
@@ -259,7 +259,7 @@ fn sections_may_have_another_size() {
     }
 }
 
-/// Most damages by a byte more or less are reported in one line.
+/// Most insertions and removals of a byte are reported in one line.
 #[test]
 fn most_sizes_are_mended() {
     let mut lines = Vec::new();

@@ -35,7 +35,7 @@ impl Random {
         if self.below(2) == 0 { self.below(0x13) as u8 } else { self.below(0x100) as u8 }
     }
 
-    /// Bytes with a few damages behind a header.
+    /// Bytes after a header, damaged in a few places.
     fn damaged(&mut self, mut bytes: Vec<u8>) -> Vec<u8> {
         for _ in 0..=self.below(3) {
             let at = 8 + self.below(bytes.len() - 7);
@@ -128,7 +128,7 @@ fn part_of(bytes: &[u8], fault: ListFault) -> (usize, usize) {
     (part, sections.next_raw().map_or(bytes.len(), |(range, _)| range.end))
 }
 
-/// What is said of the bytes is so, as far as `list` says it, too.
+/// The messages for the bytes agree with the fault of `list`.
 fn is_so(bytes: &[u8]) -> u8 {
     let run = |options: &[&str]| crate::run(options, bytes, Terminal::default());
     let is_read = is_component_read(bytes, 0);

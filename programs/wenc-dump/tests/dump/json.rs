@@ -5,7 +5,7 @@ use crate::{FUNCTION, PROGRAM, dump, file, file_of};
 use std::path::Path;
 use std::process::Command;
 
-/// The file is printed so, with its name in front, and with this status.
+/// The file is printed like this, after its name, and with this status.
 fn expect(options: &[&str], file: &Path, status: i32, out: &str) {
     let output = dump(&[&["--json"], options].concat(), file);
     let name = file.to_str().expect("it is text");
@@ -122,7 +122,7 @@ fn core_modules() {
     expect(&[], &file("json_unread", sections), 1, out);
 }
 
-/// All that is open is closed in front of a fault.
+/// All open parts are closed before a fault.
 #[test]
 fn faults() {
     let nested = b"\x04\x0c\0asm\x0d\0\x01\0\x06\x02\x01\x09";
@@ -182,7 +182,7 @@ fn texts_are_escaped() {
     assert_eq!(value.at("fault").at("place"), &Value::Null);
 }
 
-/// Controls, what turns the order of a line around, and what ends a line.
+/// Control characters, those that change the direction of text, and line breaks.
 #[test]
 fn what_changes_a_terminal_is_escaped() {
     let controls = ('\0'..='\x1f').chain('\x7f'..='\u{9f}');

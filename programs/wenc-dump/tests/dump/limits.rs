@@ -1,4 +1,4 @@
-//! Memory that is limited: the program says that it ran out, and has a status for that.
+//! Limited memory: the program reports that memory ran out, and has a status for that.
 
 use crate::values::Value;
 use crate::{PROGRAM, component, file, file_of};
@@ -13,14 +13,14 @@ const STEP: usize = 64;
 /// How many steps the program asks for when it starts and doesn't need for an empty file, at most.
 const UNUSED: usize = 5;
 
-/// Runs the program with so many KiB of memory.
+/// Runs the program with this many KiB of memory.
 fn limited(kib: usize, options: &[&str], file: &Path) -> Output {
     let mut shell = Command::new("sh");
     shell.args(["-c", "ulimit -v \"$0\" && exec \"$@\"", &kib.to_string(), PROGRAM]);
     shell.args(options).arg(file).output().expect("the shell is there")
 }
 
-/// The first limit in which the program starts.
+/// The least limit under which the program starts.
 fn least() -> usize {
     let empty = file("limits_empty", b"");
     let mut limits = (1024..1 << 20).step_by(STEP);
@@ -52,7 +52,7 @@ fn sweep(file: &Path) -> (usize, usize) {
     (refusals[0].min(refusals[1]), refusals[0].max(refusals[1]))
 }
 
-/// Expects that memory runs out in so many limits, at least.
+/// Expects that memory runs out under at least this many limits.
 fn expect_refusals(file: &Path, wanted: usize) {
     let (least, _) = sweep(file);
     assert!(least >= wanted, "{}: {least}", file.display());
@@ -159,7 +159,7 @@ fn deep_types() {
     expect_its_bytes(&file("limits_deep", &section(7, &[&[1][..], &ty].concat())));
 }
 
-/// The other files are printed, and the status says the worst.
+/// The other files are printed, and the status is that of the worst fault.
 #[test]
 #[cfg_attr(debug_assertions, ignore = "the limits are those of optimized code")]
 fn files_after_the_one_that_memory_ran_out_in() {

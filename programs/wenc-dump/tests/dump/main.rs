@@ -76,7 +76,7 @@ fn expect(name: &str, sections: &[u8], out: &str, err: Option<&str>) {
     expect_of(&[], &file(name, sections), out, err);
 }
 
-/// The file is printed so, and these lines are said of it, each with its path in front.
+/// The file is printed like this, with these messages, each after its path.
 fn expect_of(options: &[&str], file: &Path, out: &str, err: Option<&str>) {
     let output = dump(options, file);
     let name = file.display();

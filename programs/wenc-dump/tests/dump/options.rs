@@ -78,7 +78,7 @@ fn some_sections_are_printed() {
     expect_run(&["--section=start", "--json", "-"], &component, (0, json, ""));
 }
 
-/// What is in a section that is printed is printed; of others only faults are told.
+/// The contents of selected sections are printed; of the others, only faults are reported.
 #[test]
 fn sections_are_those_of_the_file() {
     let nested = b"\x04\x13\0asm\x0d\0\x01\0\x06\x01\0\0\x02\x01x\x06\x02\x01\x09";
@@ -234,7 +234,7 @@ fn names_of_files_are_escaped() {
     assert_eq!(output.status.code(), Some(1));
 }
 
-/// A writer whose reader leaves after so many bytes.
+/// A writer whose reader closes after this many bytes.
 struct Left(usize);
 
 impl Write for Left {
@@ -279,7 +279,7 @@ fn a_closed_pipe_ends_it_quietly() {
     assert_eq!((output.status.code(), output.stderr.len()), (Some(0), 0));
 }
 
-/// A device that is full takes no byte.
+/// A full device accepts no byte.
 #[cfg(target_os = "linux")]
 #[test]
 fn a_write_that_fails_has_a_message() {

@@ -1,4 +1,4 @@
-//! What is printed of large and of deep components is at most so many times their size.
+//! The output for large and for deep components is bounded by a multiple of their size.
 
 use crate::{dump, file_of};
 use wenc::tree::Space;
@@ -7,7 +7,7 @@ use wenc::{
     NestedComponentSection, PrimitiveValType,
 };
 
-/// This component, in so many others.
+/// This component, nested this deep.
 fn nested(mut component: Component, depth: usize) -> Vec<u8> {
     for _ in 0..depth {
         let mut outer = Component::new();
@@ -62,7 +62,7 @@ fn thousands_of_nested_components_are_printed_to_the_limit() {
     }
 }
 
-/// So many times the size of the component, at most.
+/// The maximum size of the output, as a multiple of the component's.
 const TIMES: usize = 150;
 
 fn expect_linear(name: &str, component: &[u8]) {
@@ -101,7 +101,7 @@ fn large_types_are_linear() {
     expect_linear("large_type", &nested(component, 99));
 }
 
-/// One name of 50,000 letters, of a type to which 50,000 others refer.
+/// A name of 50,000 letters, of a type that 50,000 others use.
 #[test]
 fn long_names_are_linear() {
     let mut types = ComponentTypeSection::new();

@@ -258,7 +258,7 @@ fn printed(sections: &[u8], options: &[&str], has_colours: bool) -> (String, u8)
     (out, status)
 }
 
-/// Names and texts have a colour, the points behind a name that is cut have none.
+/// Names and texts have a colour, the dots after a name that is cut have none.
 #[test]
 fn names_texts_and_places_have_colours() {
     let (long, cut) = ("n".repeat(81), "n".repeat(80));

@@ -3,7 +3,7 @@
 use std::path::{Path, PathBuf};
 use std::process::Command;
 
-/// The commands of a page, each with the lines after it.
+/// The commands on a page, each with the lines after it.
 fn examples(page: &str) -> Vec<(String, String)> {
     let page = page.replace("\\-", "-").replace("\\e", "\\");
     let mut examples: Vec<(String, String)> = Vec::new();
