@@ -1,4 +1,5 @@
--- Derived equality is true exactly where the values are the same: a lemma for each type, from its parts up.
+-- Derived equality is true exactly where the values are the same: a lemma for each type, from its
+-- parts up.
 use Rattle.std.proofs.Common.{arith, ◌≡◌, refl, ap, Bool, ◌&&◌, ℕ, List, [], ◌∷◌, map, Option, nat_eq}
 use Rattle.std.proofs.lemmas.Bool.Decides.{Decides-and, Decides-like}
 use Rattle.std.proofs.lemmas.Grind.{common_steps}

@@ -34,7 +34,8 @@ function_is_one_more law h ps answer types fits answers c =
     subst (λ (d : HolderState). Contains def_type (member_ended d) (types ++ function ps answer ∷ [])) (sym once)
     (law h (function ps answer) types (fits, answers) c)
 
--- A function type that was written in two parts, its parameters and then what it answers, is one type more.
+-- A function type that was written in two parts, its parameters and then what it answers, is one
+-- type more.
 pub function_written : {S : Type 0} → EndedTypeIsOneMore → (steps : S → Option (Bor (List ℕ) × ComponentValType) → S → Type 0) (values : S)
     (h parent mid new last : HolderState) (stage : FuncStage) (answer : Option ComponentValType)
     (outcome : Result (Unit {0}) Fault) (R : List ℕ → Fault → Type 0) → parent ≡ member_begun h [] → stage ≡ Start

@@ -1,6 +1,6 @@
 //! Proved facts about commands and laws: examples of their doc comments, callers of the laws, and
-//! properties of runs of commands. `proved_parts` and `proved_lists` have those of the crates below,
-//! `proved_scripts` those of `wenc`.
+//! properties of runs of commands. `proved_parts` and `proved_lists` have those of the crates
+//! below, `proved_scripts` those of `wenc`.
 #![tactic(auto)]
 
 pub mod applied;

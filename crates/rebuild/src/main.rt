@@ -5,8 +5,8 @@
 //! custom section. Of a nested component the commands are run too, up to a depth; where it can't be
 //! listed, or is deeper, its bytes are added.
 //!
-//! The exit status is 0, also if a command was refused. Otherwise nothing is printed, and it is 2 if
-//! memory ran out or `build` failed, 3 if the component can't be listed, 4 if a read or a write
+//! The exit status is 0, also if a command was refused. Otherwise nothing is printed, and it is 2
+//! if memory ran out or `build` failed, 3 if the component can't be listed, 4 if a read or a write
 //! failed.
 #![tactic(auto)]
 

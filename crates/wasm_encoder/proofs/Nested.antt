@@ -39,7 +39,8 @@ component_view {A} n inner =
 
 -- ---- its commands
 
--- Those so far were accepted: what is left leads to what all lead to, and has the causes that all have.
+-- Those so far were accepted: what is left leads to what all lead to, and has the causes that all
+-- have.
 pub record InnerSo (all left : Commands) (s : State) : Type 0 where
   pub so_far : List Entry
   pub held : Holds s so_far

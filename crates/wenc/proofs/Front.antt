@@ -91,7 +91,8 @@ last_line bytes text last is_whole front no_more no_end =
     let whole = rw no_more at front in
     rw (none_behind bytes text whole.0, append-nil) (parted_whole 10 last (omega arith))
 
--- a text is cut at its first LF: what stands behind it is a text, which is shorter, and the line in front is read first
+-- a text is cut at its first LF: what stands behind it is a text, which is shorter, and the line in
+-- front is read first
 pub next_line : (last line behind more : List ℕ) → (line ≡ before_first (λ b. eqb b 10) last) × (behind ≡ after_first (λ b. eqb b 10) last)
     × (position_or_len (λ b. eqb b 10) last < length last)
     → IsUtf8 last → IsUtf8 behind × (length behind < length last) × (parted 10 (last ++ more) ≡ line ∷ parted 10 (behind ++ more))

@@ -12,8 +12,8 @@ use Rattle.wenc_list.specs.Items.{section_view}
 use Rattle.wenc_list.specs.Listing.{AreWithin, ArePlaced, count_of_sections, IsFaultOf}
 use Rattle.wenc.specs.Listed.{text_bytes, listing_text, bad_text, fault_line}
 
--- The text says bytes, of which this listing has the sections with their places, no type deeper than
--- 100, and the counts.
+-- The text says bytes, of which this listing has the sections with their places, no type deeper
+-- than 100, and the counts.
 pub record IsListingOf {A : Type 0} (text : List ℕ) (listing : Listing A) : Type 0 where
   pub bytes : List ℕ
   pub says : text_bytes text ≡ Some bytes

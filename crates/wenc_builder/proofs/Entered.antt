@@ -29,7 +29,8 @@ pub record IsEntry (old : State) (x : Entry) (after : Content) (indices : Option
   pub content : after ≡ with_entry old.settled x
   pub defined : defines x.item ≡ indices
 
--- This entry's item is collected in the section with this id, takes one index in this space, and has this name or none.
+-- This entry's item is collected in the section with this id, takes one index in this space, and
+-- has this name or none.
 pub record IsNewItemOf (x : Entry) (id : ℕ) (space : Space) (name : Option (List ℕ)) : Type 0 where
   pub section : collected x.item ≡ Some id
   pub defined : defines x.item ≡ Some (record { space = space; number = 1 })
