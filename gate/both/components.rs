@@ -1,5 +1,6 @@
 //! Components for `rebuild` and `wenc list`, some of them damaged.
 
+use crate::hex::bytes;
 use crate::random::Random;
 use std::fs;
 use std::path::Path;
@@ -18,11 +19,7 @@ const TOO_MANY_VALUES: &[u8] = b"\x09\x07\0\0\xff\xff\xff\xff\x0f\
 
 /// The components that upstream's builder wrote.
 pub fn upstream() -> Vec<Vec<u8>> {
-    let byte = |digits: &[u8]| {
-        let digits = std::str::from_utf8(digits).expect("digits are ASCII");
-        u8::from_str_radix(digits, 16).expect("two digits")
-    };
-    UPSTREAM.lines().map(|line| line.as_bytes().chunks(2).map(byte).collect()).collect()
+    UPSTREAM.lines().map(bytes).collect()
 }
 
 /// The components that other tools wrote.

@@ -13,6 +13,8 @@
 //! two different results is kept.
 
 mod components;
+#[path = "../../tests/common/hex.rs"]
+mod hex;
 mod listings;
 mod random;
 mod scripts;

@@ -10,6 +10,8 @@ mod converted;
 #[allow(dead_code, reason = "some are for others")]
 #[path = "../real/corpus.rs"]
 mod corpus;
+#[path = "../common/hex.rs"]
+mod hex;
 mod panics;
 #[path = "../common/refuse.rs"]
 mod refuse;

@@ -13,6 +13,8 @@ mod debug_names;
 mod deep;
 mod faults;
 mod groups;
+#[path = "../common/hex.rs"]
+mod hex;
 mod indices;
 mod large;
 mod listing;
@@ -39,6 +41,7 @@ mod views;
 #[path = "../common/visited.rs"]
 mod visited;
 
+use hex::bytes;
 use indices::{expect, here};
 use visited::Seen;
 use wenc::tree::{NameTree, String as Text};
@@ -59,13 +62,6 @@ fn section(id: u8, content: &[u8]) -> Vec<u8> {
 /// A component section with a component with these sections.
 fn nested(sections: &[u8]) -> Vec<u8> {
     section(4, &component(sections))
-}
-
-/// The bytes with these hexadecimal digits, which spaces may separate.
-fn bytes(hexadecimal: &str) -> Vec<u8> {
-    let digits = hexadecimal.replace(' ', "");
-    let byte = |at| u8::from_str_radix(&digits[at..at + 2], 16).expect("two digits");
-    (0..digits.len()).step_by(2).map(byte).collect()
 }
 
 fn text(text: &str) -> Text {

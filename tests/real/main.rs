@@ -14,6 +14,8 @@ mod debug_names;
 mod docs;
 mod examples;
 mod features;
+#[path = "../common/hex.rs"]
+mod hex;
 mod indices;
 mod interfaces;
 mod random;

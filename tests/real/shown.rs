@@ -4,6 +4,7 @@
 //! Other tests compare what an example makes with the literal that is read here.
 
 use crate::docs::{examples, files, literal, told_but_of_starts};
+use crate::hex::bytes;
 use crate::toolchain::linker;
 use std::fs::read_to_string;
 use std::path::{Path, PathBuf};
@@ -26,12 +27,7 @@ fn hexadecimal(text: &str) -> Vec<Vec<u8>> {
     let header: String = Component::HEADER.iter().map(|byte| format!("{byte:02x}")).collect();
     let words = text.split(|letter: char| !letter.is_ascii_hexdigit());
     let found = words.filter(|word| word.starts_with(&header));
-    found.map(|digits| digits.as_bytes().chunks(2).map(byte).collect()).collect()
-}
-
-fn byte(digits: &[u8]) -> u8 {
-    let digits = std::str::from_utf8(digits).expect("they are digits");
-    u8::from_str_radix(digits, 16).expect("two of them")
+    found.map(bytes).collect()
 }
 
 /// The rows of a source that say which bytes an example writes, by the example's name.

@@ -1,6 +1,7 @@
 //! Why components can't be read: for damaged ones, C returns what Rust returns.
 
 use super::edges::{EMPTY, Held};
+use super::random::Random;
 use std::collections::BTreeMap;
 use std::{fs, mem, ptr};
 use wenc::view::ItemView;
@@ -178,19 +179,6 @@ fn components() -> Vec<Vec<u8>> {
         components.push(bytes);
     }
     components
-}
-
-/// Random numbers.
-struct Random(u64);
-
-impl Random {
-    /// A number below this one.
-    fn below(&mut self, end: usize) -> usize {
-        self.0 ^= self.0 >> 12;
-        self.0 ^= self.0 << 25;
-        self.0 ^= self.0 >> 27;
-        (self.0.wrapping_mul(0x2545_f491_4f6c_dd1d) >> 33) as usize % end
-    }
 }
 
 /// The bytes, damaged at this place.

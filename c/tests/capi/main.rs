@@ -14,6 +14,8 @@ mod errors;
 #[path = "../../../tests/calls/format.rs"]
 mod format;
 mod numbers;
+#[path = "../../../tests/common/random.rs"]
+mod random;
 #[path = "../../../tests/common/refuse.rs"]
 mod refuse;
 mod sections;

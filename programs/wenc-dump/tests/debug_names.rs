@@ -1,11 +1,14 @@
 //! The debug names that follow the indices of an item, in each form that contains an index.
 
+#[path = "../../../tests/common/hex.rs"]
+mod hex;
 #[path = "../../../tests/reading/scopes.rs"]
 mod scopes;
 #[allow(dead_code, reason = "some is for others")]
 #[path = "../../../tests/common/sections.rs"]
 mod sections;
 
+use hex::bytes;
 use wenc::tree::{Command, ItemTree, NameTree, Scope, Space, String as Text, build};
 use wenc::{
     Component, ComponentNameSection, ComponentSection, ComponentSectionId, DebugNames, RawSection,
@@ -82,12 +85,6 @@ fn expect(item: ItemTree, indices: &[Seen]) {
             assert!(follows.iter().any(|follows| text.contains(follows)), "{text}");
         }
     }
-}
-
-/// The bytes of these digits.
-fn bytes(digits: &str) -> Vec<u8> {
-    let byte = |at| u8::from_str_radix(&digits[at..at + 2], 16).expect("two digits");
-    (0..digits.len()).step_by(2).map(byte).collect()
 }
 
 #[test]

@@ -2,6 +2,7 @@
 
 use super::GRANTED;
 use crate::corpus;
+use crate::hex::bytes;
 use crate::seen::is_same;
 use crate::spellings::ROWS;
 use std::hash::{DefaultHasher, Hash, Hasher};
@@ -12,10 +13,6 @@ use wenc::*;
 
 /// The corpus's components, and one for each row of sections that no encoder writes.
 fn components() -> Vec<Vec<u8>> {
-    let bytes = |digits: &str| -> Vec<u8> {
-        let byte = |at| u8::from_str_radix(&digits[at..at + 2], 16).expect("two digits");
-        (0..digits.len()).step_by(2).map(byte).collect()
-    };
     let rows = ROWS.iter().map(|(wide, _)| [&Component::HEADER[..], &bytes(wide)].concat());
     corpus::components().into_iter().map(|(_, bytes)| bytes).chain(rows).collect()
 }

@@ -2,6 +2,7 @@
 
 use crate::component;
 use crate::corpus::corpus;
+use crate::random::Random;
 use crate::values::Value;
 use std::fs;
 use wenc::view::ItemView;
@@ -14,18 +15,7 @@ use wenc_dump::Terminal;
 /// How many components are damaged. Programs that aren't optimized are slow.
 const COMPONENTS: usize = if cfg!(debug_assertions) { 1_000 } else { 20_000 };
 
-/// Random numbers.
-struct Random(u64);
-
 impl Random {
-    /// A number below this one.
-    fn below(&mut self, end: usize) -> usize {
-        self.0 ^= self.0 >> 12;
-        self.0 ^= self.0 << 25;
-        self.0 ^= self.0 >> 27;
-        (self.0.wrapping_mul(0x2545_f491_4f6c_dd1d) >> 33) as usize % end
-    }
-
     fn one_of<'a, T>(&mut self, values: &'a [T]) -> &'a T {
         &values[self.below(values.len())]
     }

@@ -14,6 +14,8 @@ mod limits;
 #[path = "../../../wenc/tests/program/manual.rs"]
 mod manual;
 mod options;
+#[path = "../../../../tests/common/random.rs"]
+mod random;
 mod size;
 mod text;
 mod values;
