@@ -1,5 +1,5 @@
-//! Each path that a page names is there, and each heading to which a link leads: in the repository,
-//! and in the package for Rust. `releasing/test` tests the links of all packages.
+//! Each path that a page names is there, and each heading to which a link leads. `gate/package`
+//! tests the links of the package for Rust, and `releasing/test` those of all packages.
 //!
 //! A page names a path in a link, relative to itself, or in backquotes: relative to itself, to the
 //! repository or to `crates`, or by its end, where what stands before it is known. In backquotes
@@ -46,22 +46,6 @@ impl Tree {
                     wanted.iter().zip(&names[front..]).all(|(part, name)| fits(part, name))
                 })
             })
-    }
-
-    /// The files of this tree for which this holds, with their folders and headings.
-    fn only(&self, is_in: impl Fn(&str) -> bool) -> Self {
-        let mut part = Self::default();
-        for path in &self.0 {
-            let file = path.split('#').next().unwrap_or(path);
-            let inside = format!("{path}/");
-            let is_folder =
-                self.0.range(inside.clone()..).next().is_some_and(|next| next.starts_with(&inside));
-            if !is_folder && is_in(file) {
-                part.add(file, "");
-                part.0.insert(path.clone());
-            }
-        }
-        part
     }
 
     /// The links of a page that lead to nothing.
@@ -114,37 +98,6 @@ fn is_match(pattern: &str, name: &str) -> bool {
     pattern.split_once('*').map_or(pattern == name, |(front, end)| {
         name.strip_prefix(front).is_some_and(|rest| rest.ends_with(end))
     })
-}
-
-/// Whether a path is what a pattern stands for, with any folders for a `**`.
-fn covers(pattern: &[&str], path: &[&str]) -> bool {
-    match (pattern, path) {
-        (["**"], _) => !path.is_empty(),
-        (["**", rest @ ..], _) => (0..=path.len()).any(|from| covers(rest, &path[from..])),
-        ([part, rest @ ..], [name, inner @ ..]) => is_match(part, name) && covers(rest, inner),
-        _ => pattern.is_empty() && path.is_empty(),
-    }
-}
-
-/// Whether a path is in what a list of patterns includes: by the last that stands for it, unless
-/// that begins with a `!`.
-fn includes(patterns: &[String], path: &str) -> bool {
-    let path: Vec<&str> = path.split('/').collect();
-    let is_of = |pattern: &&String| {
-        let parts: Vec<&str> = pattern.trim_start_matches(['!', '/']).split('/').collect();
-        covers(&parts, &path)
-    };
-    patterns.iter().rfind(is_of).is_some_and(|pattern| !pattern.starts_with('!'))
-}
-
-/// The patterns of `include` in `Cargo.toml`.
-#[cfg(in_repository)]
-fn of_package(manifest: &str) -> Vec<String> {
-    let list = manifest.split_once("\ninclude = [\n").and_then(|(_, rest)| rest.split_once("\n]"));
-    let (list, _) = list.expect("the package says what it includes");
-    let patterns =
-        list.lines().filter_map(|line| line.trim().strip_prefix('"')?.strip_suffix("\","));
-    patterns.map(str::to_owned).collect()
 }
 
 /// The pages that `releasing/make` lays in the tarball.
@@ -248,20 +201,6 @@ fn each_path_on_a_page_is_there() {
     assert!(count > 250, "only {count} paths");
 }
 
-#[cfg(in_repository)]
-#[test]
-fn each_link_stays_in_the_package() {
-    let (tree, pages) = gathered();
-    let patterns = of_package(include_str!("../Cargo.toml"));
-    let part = tree.only(|path| includes(&patterns, path));
-    let mut count = 0;
-    for (page, text) in pages.iter().filter(|(page, _)| includes(&patterns, page)) {
-        assert_eq!(part.dead_links(page, text), [""; 0], "{page}");
-        count += 1;
-    }
-    assert!(count >= 20, "only {count} pages");
-}
-
 /// The tarball has a first page of its own. On the others a link that leads out of it is a text.
 #[cfg(in_repository)]
 #[test]
@@ -270,21 +209,6 @@ fn the_first_page_of_the_tarball_leads_to_the_others() {
     let mut links = named(include_str!("../releasing/README.md.in")).0;
     links.sort();
     assert_eq!(links, pages);
-}
-
-#[test]
-fn a_part_has_what_its_patterns_stand_for() {
-    let mut tree = Tree::default();
-    for path in ["a/b/c/d.rs", "a/b.rs", "a/b.md", "PROOF", "e/f/g.md"] {
-        tree.add(path, "# H\n");
-    }
-    let patterns = ["/a/**/*.rs", "PROOF", "/e/**", "!/e/f/**"].map(str::to_owned);
-    let part = tree.only(|path| includes(&patterns, path));
-    let wanted = ["PROOF", "a", "a/b", "a/b.rs", "a/b/c", "a/b/c/d.rs"];
-    assert_eq!(part.0, wanted.map(str::to_owned).into());
-    let part = tree.only(|path| includes(&["/a/*.md".to_owned()], path));
-    assert_eq!(part.0, ["a", "a/b.md", "a/b.md#h"].map(str::to_owned).into());
-    assert_eq!(part.dead_links("a/b.md", "[h](#h) [i](#i) [p](../PROOF)"), ["#i", "../PROOF"]);
 }
 
 #[test]
