@@ -12,10 +12,13 @@ use crate::proved::wenc_builder::ComponentBuilder;
 use crate::proved::wenc_canon::{
     AddsSlotRow, CanonicalFunctionSection, CanonicalOption, NotCancellable, rows, rows::Row,
 };
-use crate::proved::wenc_parts::{Alias, ComponentExportKind, ComponentValType, ResultList};
+use crate::proved::wenc_parts::{
+    Alias, ComponentExportKind, ComponentExternName, ComponentValType, ResultList,
+};
 use crate::proved::wenc_sections::{NamesOf, Space};
 use crate::proved::wenc_types::counts::{Counts, IndexSpace, space_of_alias, space_of_kind};
 use crate::shim::alloc::Global;
+use crate::shim::string::String;
 use crate::shim::vec::Vec;
 
 const ROWS: [Row; 3] = [rows::STREAM_READ, rows::RESOURCE_DROP, rows::CONTEXT_GET];
@@ -61,6 +64,16 @@ fn parts() {
     let mut data = Vec::new(Global);
     producers.encode_data(&mut data).unwrap();
     assert_eq!(digits(&data), "010373646b0101610131");
+    assert_eq!(Section::id(&producers), 0);
+    is(&field.try_clone().unwrap(), "0101610131");
+}
+
+#[test]
+fn names_that_are_owned() {
+    let text = String::from_str(Global, "a").unwrap();
+    is(&&text, "0161");
+    is(&ComponentExternName::from(&text), "000161");
+    is(&ComponentExternName::from(text), "000161");
 }
 
 #[test]

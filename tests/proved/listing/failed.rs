@@ -7,6 +7,8 @@ use crate::proved::wenc_list::{
     ListFault, ListRefusal, SectionItems, SectionRefusal, Sections, list, list_or_refusal,
 };
 use crate::proved::wenc_read::{Expected, NestedRefusal, Refusal};
+use crate::shim::alloc::AllocError;
+use std::string::ToString;
 
 const BAD_ITEM: ListFault = ListFault::BadItem { place: 8 };
 
@@ -102,4 +104,19 @@ fn listings() {
     let bytes = component(b"\x06\x01\0");
     let found = fault(&heap, &bytes);
     assert!(matches!(found, (ListRefusal::Memory, ListFault::Memory)));
+}
+
+#[test]
+fn faults_are_printed() {
+    assert_eq!(ListFault::from(AllocError), ListFault::Memory);
+    let place = 8;
+    for (fault, printed) in [
+        (ListFault::Memory, "Memory"),
+        (ListFault::NotAComponent { place }, "NotAComponent at 8"),
+        (ListFault::BadSection { place }, "BadSection at 8"),
+        (BAD_ITEM, "BadItem at 8"),
+        (ListFault::TooDeep { place }, "TooDeep at 8"),
+    ] {
+        assert_eq!(fault.to_string(), printed);
+    }
 }
