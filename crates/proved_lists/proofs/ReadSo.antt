@@ -4,22 +4,22 @@ use Rattle.std.proofs.lemmas.Bool.{cases_lt}
 use Rattle.wenc_base.specs.Piece.{Form, Wide}
 use Rattle.wenc_base.specs.Readers.{Bad, Deep, Reader}
 use Rattle.wenc_read.specs.Exact.{IsExactAt}
-use Rattle.wenc_read.specs.Gives.{GivesAlways, flaw_of}
+use Rattle.wenc_read.specs.Gives.{Gives, flaw_of}
 use Rattle.wenc_read.specs.declared.refusal.NestedRefusal.{NestedRefusal}
 use Rattle.wenc_read.specs.declared.refusal.NestedRefusal.TheVariants.{Flat, TooDeep}
 use Rattle.wenc_read.specs.declared.refusal.Refusal.{Refusal}
 use Rattle.wenc_types.specs.ComponentTypes.{DefType, def_type, depth}
 use Rattle.wenc_types.specs.reading.ComponentTypes.{read_type}
-use Rattle.wenc_view.specs.Gives.{GivesNestedAlways}
+use Rattle.wenc_view.specs.Gives.{GivesNested}
 
 -- ---- what doesn't nest
 
 module _ {X A : Type 0} {form : Form A} {read : Reader A} {bytes : List ℕ} (exact : IsExactAt form read bytes) (view : X → A × List ℕ) where
-  pub always_read : (r : Result X Refusal) → GivesAlways view r (read bytes) → IfOk r (λ x. (form (view x).0).Reads Wide bytes (view x).1)
-  always_read (Ok x) g = exact.given_is_read (view x).0 (view x).1 g
-  always_read (Err e) g = tt
+  pub what_is_read : (r : Result X Refusal) → Gives view r (read bytes) → IfOk r (λ x. (form (view x).0).Reads Wide bytes (view x).1)
+  what_is_read (Ok x) g = exact.given_is_read (view x).0 (view x).1 g
+  what_is_read (Err e) g = tt
 
-  pub none_at_all : (r : Result X Refusal) → GivesAlways view r (read bytes) → IfErr r (λ e. (v : A) (rest : List ℕ) → (form v).Reads Wide bytes rest → ⊥)
+  pub none_at_all : (r : Result X Refusal) → Gives view r (read bytes) → IfErr r (λ e. (v : A) (rest : List ℕ) → (form v).Reads Wide bytes rest → ⊥)
   none_at_all (Ok x) g = tt
   none_at_all (Err e) g = λ v rest r. (let found = exact.read_is_given v rest r in absurd cc)
 
@@ -27,7 +27,7 @@ module _ {X A : Type 0} {form : Form A} {read : Reader A} {bytes : List ℕ} (ex
 
 pub type_given : {X : Type 0} (levels : ℕ) (bytes : List ℕ)
     → ((t : DefType) (rest : List ℕ) → read_type levels bytes ≡ Ok (t, rest) → (depth t ≤ levels) × (def_type t).Reads Wide bytes rest)
-    → (view : X → DefType × List ℕ) (r : Result X NestedRefusal) → GivesNestedAlways view r (read_type levels bytes)
+    → (view : X → DefType × List ℕ) (r : Result X NestedRefusal) → GivesNested view r (read_type levels bytes)
     → IfOk r (λ x. (depth (view x).0 ≤ levels) × (def_type (view x).0).Reads Wide bytes (view x).1)
 type_given levels bytes given view (Ok x) g = given (view x).0 (view x).1 g
 type_given levels bytes given view (Err e) g = tt
@@ -36,7 +36,7 @@ module _ {X : Type 0} (levels : ℕ) (bytes : List ℕ)
     (found : (t : DefType) (rest : List ℕ) → depth t ≤ levels → (def_type t).Reads Wide bytes rest → read_type levels bytes ≡ Ok (t, rest))
     (deeper : (t : DefType) (rest : List ℕ) → levels < depth t → (def_type t).Reads Wide bytes rest → read_type levels bytes ≡ Err Deep)
     (view : X → DefType × List ℕ) where
-  pub no_type : (r : Result X NestedRefusal) → GivesNestedAlways view r (read_type levels bytes)
+  pub no_type : (r : Result X NestedRefusal) → GivesNested view r (read_type levels bytes)
       → IfErr r (λ e. flaw_of e ≡ Bad → (t : DefType) (rest : List ℕ) → (def_type t).Reads Wide bytes rest → ⊥)
   no_type (Ok x) g = tt
   no_type (Err (TooDeep left)) g = λ e. absurd cc
@@ -46,7 +46,7 @@ module _ {X : Type 0} (levels : ℕ) (bytes : List ℕ)
         | inr le ↦ (let is = found t rest le r in absurd cc)
       ]
 
-  pub too_deep : (r : Result X NestedRefusal) → GivesNestedAlways view r (read_type levels bytes)
+  pub too_deep : (r : Result X NestedRefusal) → GivesNested view r (read_type levels bytes)
       → IfErr r (λ e. flaw_of e ≡ Deep → (t : DefType) (rest : List ℕ) → (def_type t).Reads Wide bytes rest → levels < depth t)
   too_deep (Ok x) g = tt
   too_deep (Err (Flat e)) g = λ e. absurd cc

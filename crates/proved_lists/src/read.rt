@@ -6,7 +6,7 @@ ghost use Rattle.wenc_base.specs.Readers.{Bad, Deep};
 ghost use Rattle.wenc_list.specs.Prelude.{names_view, parts_left, producers_parts};
 ghost use Rattle.wenc_list.specs.Prelude.{subsection_by_id};
 ghost use Rattle.wenc_parts.specs.Prelude.{AliasOf, alias, alias_view};
-ghost use Rattle.wenc_read.specs.Prelude.{GivesAlways, flaw_of};
+ghost use Rattle.wenc_read.specs.Prelude.{Gives, flaw_of};
 ghost use Rattle.wenc_sections.specs.Prelude.{Subsection};
 ghost use Rattle.wenc_types.specs.Prelude.{DefType, def_type, depth};
 ghost use Rattle.wenc_view.specs.Prelude.{type_seen};
@@ -21,7 +21,7 @@ use wenc_view::{TypeView, View, type_at};
 
 /// Reads two numbers, one after the other. Returns them and the bytes after them.
 pub fn two_numbers(bytes: &[u8]) -> Result<((u32, u32), &[u8]), Refusal>
-    ensures { GivesAlways (λ x. (x.0.0 ∷ x.0.1 ∷ [], x.1.now)) result (times read_u32 2 bytes.now) }
+    ensures { Gives (λ x. (x.0.0 ∷ x.0.1 ∷ [], x.1.now)) result (times read_u32 2 bytes.now) }
 {
     let (first, rest) = u32_of(bytes)?;
     let (second, rest) = u32_of(rest)?;

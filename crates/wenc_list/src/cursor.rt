@@ -9,7 +9,7 @@ ghost use Rattle.wenc_list.specs.Prelude.{IsFaultHere, HasNoHeader, fault_of_con
 ghost use Rattle.wenc_list.specs.Prelude.{fault_of_items};
 ghost use Rattle.wenc_list.specs.Prelude.{fault_of_section, left_of, IsPlacedIn, IsCountless};
 ghost use Rattle.wenc_list.specs.declared.fault.ListFault.TheVariants.{Memory, NotAComponent};
-ghost use Rattle.wenc_read.specs.Prelude.{GivesAlways, flaw_of};
+ghost use Rattle.wenc_read.specs.Prelude.{Gives, flaw_of};
 
 use crate::fault::ListFault;
 use crate::item::ItemTree;
@@ -132,7 +132,7 @@ pub(crate) fn section_fault(refusal: SectionRefusal<'_>, place: usize) -> ListFa
 #[inline(always)]
 pub(crate) fn counted(id: u8, content: &[u8]) -> Result<(u32, &[u8]), Refusal>
     requires { id ≤ 11 }
-    ensures { GivesAlways (λ x. (x.0, x.1.now)) result (read_count id content.now) }
+    ensures { Gives (λ x. (x.0, x.1.now)) result (read_count id content.now) }
 {
     match id {
         0 => Ok((1, content)),

@@ -5,8 +5,8 @@ ghost use Rattle.wenc_list.specs.Prelude.{read_core_instance_item, read_core_typ
 ghost use Rattle.wenc_list.specs.Prelude.{read_instance_item, read_alias_item, read_type_item};
 ghost use Rattle.wenc_list.specs.Prelude.{read_canonical_item, read_import_item, read_export_item};
 ghost use Rattle.wenc_list.specs.Prelude.{read_item_in, item_seen, IsCountedItem};
-ghost use Rattle.wenc_read.specs.Prelude.{GivesAlways};
-ghost use Rattle.wenc_view.specs.Prelude.{GivesNestedAlways};
+ghost use Rattle.wenc_read.specs.Prelude.{Gives};
+ghost use Rattle.wenc_view.specs.Prelude.{GivesNested};
 
 use crate::item_view::ItemView;
 use crate::sections::are_bytes;
@@ -23,7 +23,7 @@ const DEPTH: u32 = 100;
 /// Reads a core instance.
 #[inline(always)]
 fn core_instance(bytes: &[u8]) -> Result<(ItemView<'_>, &[u8]), Refusal>
-    ensures found { GivesAlways (λ x. (item_seen x.0, x.1.now)) result
+    ensures found { Gives (λ x. (item_seen x.0, x.1.now)) result
         (read_core_instance_item bytes.now) }
     ensures counted { IfOk result (λ x. IsCountedItem x.0) }
 {
@@ -34,7 +34,7 @@ fn core_instance(bytes: &[u8]) -> Result<(ItemView<'_>, &[u8]), Refusal>
 /// Reads a core type.
 #[inline(always)]
 fn core_type(bytes: &[u8]) -> Result<(ItemView<'_>, &[u8]), Refusal>
-    ensures found { GivesAlways (λ x. (item_seen x.0, x.1.now)) result
+    ensures found { Gives (λ x. (item_seen x.0, x.1.now)) result
         (read_core_type_item bytes.now) }
     ensures counted { IfOk result (λ x. IsCountedItem x.0) }
 {
@@ -45,7 +45,7 @@ fn core_type(bytes: &[u8]) -> Result<(ItemView<'_>, &[u8]), Refusal>
 /// Reads an instance.
 #[inline(always)]
 fn instance(bytes: &[u8]) -> Result<(ItemView<'_>, &[u8]), Refusal>
-    ensures found { GivesAlways (λ x. (item_seen x.0, x.1.now)) result
+    ensures found { Gives (λ x. (item_seen x.0, x.1.now)) result
         (read_instance_item bytes.now) }
     ensures counted { IfOk result (λ x. IsCountedItem x.0) }
 {
@@ -56,7 +56,7 @@ fn instance(bytes: &[u8]) -> Result<(ItemView<'_>, &[u8]), Refusal>
 /// Reads an alias.
 #[inline(always)]
 fn alias(bytes: &[u8]) -> Result<(ItemView<'_>, &[u8]), Refusal>
-    ensures found { GivesAlways (λ x. (item_seen x.0, x.1.now)) result (read_alias_item bytes.now) }
+    ensures found { Gives (λ x. (item_seen x.0, x.1.now)) result (read_alias_item bytes.now) }
     ensures counted { IfOk result (λ x. IsCountedItem x.0) }
 {
     let (alias, rest) = Alias::view_of(bytes)?;
@@ -66,7 +66,7 @@ fn alias(bytes: &[u8]) -> Result<(ItemView<'_>, &[u8]), Refusal>
 /// Reads a type.
 #[inline(always)]
 fn ty(bytes: &[u8]) -> Result<(ItemView<'_>, &[u8]), NestedRefusal>
-    ensures found { GivesNestedAlways (λ x. (item_seen x.0, x.1.now)) result
+    ensures found { GivesNested (λ x. (item_seen x.0, x.1.now)) result
         (read_type_item 100 bytes.now) }
     ensures counted { IfOk result (λ x. IsCountedItem x.0) }
 {
@@ -77,7 +77,7 @@ fn ty(bytes: &[u8]) -> Result<(ItemView<'_>, &[u8]), NestedRefusal>
 /// Reads a canonical function.
 #[inline(always)]
 fn canon(bytes: &[u8]) -> Result<(ItemView<'_>, &[u8]), Refusal>
-    ensures found { GivesAlways (λ x. (item_seen x.0, x.1.now)) result
+    ensures found { Gives (λ x. (item_seen x.0, x.1.now)) result
         (read_canonical_item bytes.now) }
     ensures counted { IfOk result (λ x. IsCountedItem x.0) }
 {
@@ -88,7 +88,7 @@ fn canon(bytes: &[u8]) -> Result<(ItemView<'_>, &[u8]), Refusal>
 /// Reads an import.
 #[inline(always)]
 fn import(bytes: &[u8]) -> Result<(ItemView<'_>, &[u8]), Refusal>
-    ensures found { GivesAlways (λ x. (item_seen x.0, x.1.now)) result
+    ensures found { Gives (λ x. (item_seen x.0, x.1.now)) result
         (read_import_item bytes.now) }
     ensures counted { IfOk result (λ x. IsCountedItem x.0) }
 {
@@ -100,7 +100,7 @@ fn import(bytes: &[u8]) -> Result<(ItemView<'_>, &[u8]), Refusal>
 /// Reads an export.
 #[inline(always)]
 fn export(bytes: &[u8]) -> Result<(ItemView<'_>, &[u8]), Refusal>
-    ensures found { GivesAlways (λ x. (item_seen x.0, x.1.now)) result
+    ensures found { Gives (λ x. (item_seen x.0, x.1.now)) result
         (read_export_item bytes.now) }
     ensures counted { IfOk result (λ x. IsCountedItem x.0) }
 {
@@ -127,7 +127,7 @@ fn raw(bytes: &[u8]) -> &[u8]
 
 /// Reads a custom section, which takes all bytes.
 fn custom(content: &[u8]) -> Result<(ItemView<'_>, &[u8]), Refusal>
-    ensures found { GivesAlways (λ x. (item_seen x.0, x.1.now)) result
+    ensures found { Gives (λ x. (item_seen x.0, x.1.now)) result
         (read_item_in 100 0 content.now) }
     ensures counted { IfOk result (λ x. IsCountedItem x.0) }
 {
@@ -138,7 +138,7 @@ fn custom(content: &[u8]) -> Result<(ItemView<'_>, &[u8]), Refusal>
 
 /// Reads a core module, which takes all bytes.
 fn module(content: &[u8]) -> Result<(ItemView<'_>, &[u8]), Refusal>
-    ensures found { GivesAlways (λ x. (item_seen x.0, x.1.now)) result
+    ensures found { Gives (λ x. (item_seen x.0, x.1.now)) result
         (read_item_in 100 1 content.now) }
     ensures counted { IfOk result (λ x. IsCountedItem x.0) }
 {
@@ -147,7 +147,7 @@ fn module(content: &[u8]) -> Result<(ItemView<'_>, &[u8]), Refusal>
 
 /// Reads a nested component, which takes all bytes.
 fn component(content: &[u8]) -> Result<(ItemView<'_>, &[u8]), Refusal>
-    ensures found { GivesAlways (λ x. (item_seen x.0, x.1.now)) result
+    ensures found { Gives (λ x. (item_seen x.0, x.1.now)) result
         (read_item_in 100 4 content.now) }
     ensures counted { IfOk result (λ x. IsCountedItem x.0) }
 {
@@ -156,7 +156,7 @@ fn component(content: &[u8]) -> Result<(ItemView<'_>, &[u8]), Refusal>
 
 /// Reads a start function.
 fn start(bytes: &[u8]) -> Result<(ItemView<'_>, &[u8]), Refusal>
-    ensures found { GivesAlways (λ x. (item_seen x.0, x.1.now)) result
+    ensures found { Gives (λ x. (item_seen x.0, x.1.now)) result
         (read_item_in 100 9 bytes.now) }
     ensures counted { IfOk result (λ x. IsCountedItem x.0) }
 {
@@ -176,7 +176,7 @@ fn start(bytes: &[u8]) -> Result<(ItemView<'_>, &[u8]), Refusal>
 #[inline(never)]
 fn alone(id: u8, content: &[u8]) -> Result<(ItemView<'_>, &[u8]), Refusal>
     requires { (id ≡ 0) ⊎ ((id ≡ 1) ⊎ ((id ≡ 4) ⊎ (id ≡ 9))) }
-    ensures found { GivesAlways (λ x. (item_seen x.0, x.1.now)) result
+    ensures found { Gives (λ x. (item_seen x.0, x.1.now)) result
         (read_item_in 100 id content.now) }
     ensures counted { IfOk result (λ x. IsCountedItem x.0) }
 {
@@ -192,7 +192,7 @@ fn alone(id: u8, content: &[u8]) -> Result<(ItemView<'_>, &[u8]), Refusal>
 /// bytes after it.
 #[inline(always)]
 pub(crate) fn item_in(id: u8, bytes: &[u8]) -> Result<(ItemView<'_>, &[u8]), NestedRefusal>
-    ensures found { GivesNestedAlways (λ x. (item_seen x.0, x.1.now)) result
+    ensures found { GivesNested (λ x. (item_seen x.0, x.1.now)) result
         (read_item_in 100 id bytes.now) }
     ensures counted { IfOk result (λ x. IsCountedItem x.0) }
 {

@@ -6,7 +6,7 @@ ghost use Rattle.wenc_list.specs.Prelude.{names_view, read_part, read_core_sort,
 ghost use Rattle.wenc_list.specs.Prelude.{read_item_names, read_names_in, read_names};
 ghost use Rattle.wenc_list.specs.Prelude.{item_name_view, read_item_name, item_name_sound};
 ghost use Rattle.wenc_list.specs.Prelude.{IsCountedNames};
-ghost use Rattle.wenc_read.specs.Prelude.{GivesAlways, exact_by};
+ghost use Rattle.wenc_read.specs.Prelude.{Gives, exact_by};
 
 use wenc_read::{Expected, Refusal, byte, u32_of};
 use wenc_sections::Space;
@@ -74,7 +74,7 @@ pub fn behind_module_header(bytes: &[u8]) -> Option<&[u8]>
 /// bytes (WebAssembly 3.0, binary format, "Sections"). Returns its id, its content, and the bytes
 /// after it. Fails if there is no id or size, or the size exceeds the remaining bytes.
 pub fn part_of(bytes: &[u8]) -> Result<((u8, &[u8]), &[u8]), Refusal>
-    ensures { GivesAlways (λ x. ((x.0.0, x.0.1.now), x.1.now)) result (read_part bytes.now) }
+    ensures { Gives (λ x. ((x.0.0, x.0.1.now), x.1.now)) result (read_part bytes.now) }
 {
     let (id, rest) = byte(bytes)?;
     let (size, rest) = u32_of(rest)?;
@@ -89,7 +89,7 @@ pub fn part_of(bytes: &[u8]) -> Result<((u8, &[u8]), &[u8]), Refusal>
 /// Reads the kind of a core item, after its first byte, as an index space.
 #[tactic(auto, unfolding(wenc_base::specs::Readers::choose))]
 fn core_space_of(bytes: &[u8]) -> Result<(Space, &[u8]), Refusal>
-    ensures { GivesAlways (λ x. (x.0, x.1.now)) result (read_core_sort bytes.now) }
+    ensures { Gives (λ x. (x.0, x.1.now)) result (read_core_sort bytes.now) }
 {
     match byte(bytes)? {
         (0x00, rest) => Ok((Space::CoreFuncs, rest)),
@@ -107,7 +107,7 @@ fn core_space_of(bytes: &[u8]) -> Result<(Space, &[u8]), Refusal>
 /// Reads a kind of items, as its index space.
 #[tactic(auto, unfolding(wenc_base::specs::Readers::choose))]
 fn space_of(bytes: &[u8]) -> Result<(Space, &[u8]), Refusal>
-    ensures { GivesAlways (λ x. (x.0, x.1.now)) result (read_sort bytes.now) }
+    ensures { Gives (λ x. (x.0, x.1.now)) result (read_sort bytes.now) }
 {
     match byte(bytes)? {
         (0x00, rest) => core_space_of(rest),
@@ -122,7 +122,7 @@ fn space_of(bytes: &[u8]) -> Result<(Space, &[u8]), Refusal>
 
 /// Reads the component's own name, which takes all of the content.
 fn component_name(content: &[u8]) -> Result<&str, Refusal>
-    ensures { GivesAlways (λ s. s.now) result (done read_name content.now) }
+    ensures { Gives (λ s. s.now) result (done read_name content.now) }
 {
     let (name, rest) = text_of(content)?;
     if rest.is_empty() {
@@ -134,7 +134,7 @@ fn component_name(content: &[u8]) -> Result<&str, Refusal>
 
 /// Reads names of items in one index space, which take all of the content.
 fn item_names(content: &[u8]) -> Result<Names<'_>, Refusal>
-    ensures found { GivesAlways names_view result (done read_item_names content.now) }
+    ensures found { Gives names_view result (done read_item_names content.now) }
     ensures counted { IfOk result IsCountedNames }
 {
     let (space, rest) = space_of(content)?;
@@ -148,7 +148,7 @@ fn item_names(content: &[u8]) -> Result<Names<'_>, Refusal>
 
 /// Reads the content of a subsection with this id.
 fn names_in(id: u8, content: &[u8]) -> Result<Names<'_>, Refusal>
-    ensures found { GivesAlways names_view result (read_names_in id content.now) }
+    ensures found { Gives names_view result (read_names_in id content.now) }
     ensures counted { IfOk result IsCountedNames }
 {
     match id {
@@ -170,7 +170,7 @@ fn names_in(id: u8, content: &[u8]) -> Result<Names<'_>, Refusal>
 /// let (names, rest) = names_of(data)?;
 /// ```
 pub fn names_of(bytes: &[u8]) -> Result<(Names<'_>, &[u8]), Refusal>
-    ensures found { GivesAlways (λ x. (names_view x.0, x.1.now)) result (read_names bytes.now) }
+    ensures found { Gives (λ x. (names_view x.0, x.1.now)) result (read_names bytes.now) }
     ensures counted { IfOk result (λ x. IsCountedNames x.0) }
 {
     let ((id, content), rest) = part_of(bytes)?;

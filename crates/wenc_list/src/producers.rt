@@ -4,7 +4,7 @@ ghost use Rattle.wenc_list.specs.Prelude.{IsMalformed, IsNoPart, part_seen, part
 ghost use Rattle.wenc_list.specs.Prelude.{tool_seen, with_part, AreSpent, HasTakenPart, IsNoNumber};
 ghost use Rattle.wenc_base.specs.Prelude.{Wide, u32 as number};
 ghost use Rattle.wenc_base.specs.laws.Sections.{read_producer};
-ghost use Rattle.wenc_read.specs.Prelude.{GivesAlways};
+ghost use Rattle.wenc_read.specs.Prelude.{Gives};
 
 use wenc_read::{Expected, Refusal, u32_of};
 use wenc_view::text_of;
@@ -32,7 +32,7 @@ pub struct ProducersParts<'a> {
 
 /// Reads the name of a tool and its version.
 fn tool_of(bytes: &[u8]) -> Result<((&str, &str), &[u8]), Refusal>
-    ensures { GivesAlways (λ x. (tool_seen x.0, x.1.now)) result (read_producer bytes.now) }
+    ensures { Gives (λ x. (tool_seen x.0, x.1.now)) result (read_producer bytes.now) }
 {
     let (name, rest) = text_of(bytes)?;
     let (version, rest) = text_of(rest)?;

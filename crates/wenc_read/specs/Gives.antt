@@ -10,7 +10,7 @@ abbrev pub flaw_of : NestedRefusal → Flaw
 flaw_of (Flat refusal) = Bad
 flaw_of (TooDeep left) = Deep
 
--- What was returned, seen by view, is what the reader finds: nothing is allocated.
-abbrev pub GivesAlways : {X A : Type 0} → (X → A) → Result X Refusal → Result A Flaw → Type 0
-GivesAlways view (Ok x) found = found ≡ Ok (view x)
-GivesAlways view (Err refusal) found = found ≡ Err Bad
+-- What was returned, seen by view, is what the reader finds.
+abbrev pub Gives : {X A : Type 0} → (X → A) → Result X Refusal → Result A Flaw → Type 0
+Gives view (Ok x) found = found ≡ Ok (view x)
+Gives view (Err refusal) found = found ≡ Err Bad

@@ -1,6 +1,6 @@
 //! Flags.
 ghost use Rattle.wenc_base.specs.Prelude.{read_flag};
-ghost use Rattle.wenc_read.specs.Prelude.{GivesAlways};
+ghost use Rattle.wenc_read.specs.Prelude.{Gives};
 
 use crate::expected::Expected;
 use crate::number::byte;
@@ -10,7 +10,7 @@ use crate::refusal::Refusal;
 /// if no such byte begins the bytes.
 #[tactic(auto, unfolding(wenc_base::specs::Readers::choose))]
 pub fn flag_of(bytes: &[u8]) -> Result<(bool, &[u8]), Refusal>
-    ensures { GivesAlways (λ x. (x.0, x.1.now)) result (read_flag bytes.now) }
+    ensures { Gives (λ x. (x.0, x.1.now)) result (read_flag bytes.now) }
 {
     match byte(bytes)? {
         (0, rest) => Ok((false, rest)),

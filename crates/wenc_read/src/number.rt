@@ -1,7 +1,7 @@
 //! Numbers.
 ghost use Rattle.std.specs.Prelude.{◌≡◌, ◌^◌, ◌≤◌, ◌<◌, ◌+◌, ◌-◌, ◌*◌};
 ghost use Rattle.wenc_base.specs.Prelude.{read_groups, read_u32, read_u64, read_index, read_byte};
-ghost use Rattle.wenc_read.specs.Prelude.{GivesAlways};
+ghost use Rattle.wenc_read.specs.Prelude.{Gives};
 
 use crate::expected::Expected;
 use crate::refusal::Refusal;
@@ -9,7 +9,7 @@ use crate::refusal::Refusal;
 /// Reads the first byte. Fails if there is none.
 #[inline(always)]
 pub fn byte(bytes: &[u8]) -> Result<(u8, &[u8]), Refusal>
-    ensures { GivesAlways (λ x. (x.0, x.1.now)) result (read_byte bytes.now) }
+    ensures { Gives (λ x. (x.0, x.1.now)) result (read_byte bytes.now) }
 {
     match bytes {
         [] => Err(Refusal::at(bytes, Expected::Bytes(1))),
@@ -29,7 +29,7 @@ fn too_long(bytes: &[u8], before: usize, expected: Expected) -> Refusal {
 #[tactic(auto, unfolding(wenc_base::specs::reading::Numbers::read_groups))]
 fn short_groups(top: u8, room: u8, bytes: &[u8]) -> Result<(u32, &[u8]), Refusal>
     requires { top ≤ 128 }
-    ensures { GivesAlways (λ x. (x.0, x.1.now)) result (read_groups top (2 ^ 32) room bytes.now) }
+    ensures { Gives (λ x. (x.0, x.1.now)) result (read_groups top (2 ^ 32) room bytes.now) }
 {
     let (first, rest) = byte(bytes)?;
     if first < top {
@@ -51,7 +51,7 @@ fn short_groups(top: u8, room: u8, bytes: &[u8]) -> Result<(u32, &[u8]), Refusal
 /// Reads a number of 64 bits, whose last byte comes after at most `room` others.
 #[tactic(auto, unfolding(wenc_base::specs::reading::Numbers::read_groups))]
 fn long_groups(room: u8, bytes: &[u8]) -> Result<(u64, &[u8]), Refusal>
-    ensures { GivesAlways (λ x. (x.0, x.1.now)) result (read_groups 128 (2 ^ 64) room bytes.now) }
+    ensures { Gives (λ x. (x.0, x.1.now)) result (read_groups 128 (2 ^ 64) room bytes.now) }
 {
     let (first, rest) = byte(bytes)?;
     if first < 128 {
@@ -83,7 +83,7 @@ fn joined(low: u8, high: u32) -> u32
 #[inline(always)]
 fn short_number(top: u8, bytes: &[u8]) -> Result<(u32, &[u8]), Refusal>
     requires { top ≤ 128 }
-    ensures { GivesAlways (λ x. (x.0, x.1.now)) result (read_groups top (2 ^ 32) 4 bytes.now) }
+    ensures { Gives (λ x. (x.0, x.1.now)) result (read_groups top (2 ^ 32) 4 bytes.now) }
 {
     match bytes {
         [first, rest @ ..] if *first < top => Ok((u32::from(*first), rest)),
@@ -102,7 +102,7 @@ fn short_number(top: u8, bytes: &[u8]) -> Result<(u32, &[u8]), Refusal>
 /// with none of at most 5 bytes.
 #[inline(always)]
 pub fn u32_of(bytes: &[u8]) -> Result<(u32, &[u8]), Refusal>
-    ensures { GivesAlways (λ x. (x.0, x.1.now)) result (read_u32 bytes.now) }
+    ensures { Gives (λ x. (x.0, x.1.now)) result (read_u32 bytes.now) }
 {
     short_number(128, bytes)
 }
@@ -110,7 +110,7 @@ pub fn u32_of(bytes: &[u8]) -> Result<(u32, &[u8]), Refusal>
 /// Reads a number of 64 bits (WebAssembly 3.0, binary format, "Integers"). Fails if the bytes begin
 /// with none of at most 10 bytes.
 pub fn u64_of(bytes: &[u8]) -> Result<(u64, &[u8]), Refusal>
-    ensures { GivesAlways (λ x. (x.0, x.1.now)) result (read_u64 bytes.now) }
+    ensures { Gives (λ x. (x.0, x.1.now)) result (read_u64 bytes.now) }
 {
     long_groups(9, bytes)
 }
@@ -119,7 +119,7 @@ pub fn u64_of(bytes: &[u8]) -> Result<(u64, &[u8]), Refusal>
 /// 3.0, binary format, "Heap Types"). Fails if the bytes begin with none of at most 5 bytes.
 #[inline(always)]
 pub fn index_of(bytes: &[u8]) -> Result<(u32, &[u8]), Refusal>
-    ensures { GivesAlways (λ x. (x.0, x.1.now)) result (read_index bytes.now) }
+    ensures { Gives (λ x. (x.0, x.1.now)) result (read_index bytes.now) }
 {
     short_number(64, bytes)
 }

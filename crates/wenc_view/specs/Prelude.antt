@@ -31,7 +31,7 @@ pub use Rattle.wenc_base.specs.declared.types.storage.FieldType.{FieldType}
 pub use Rattle.wenc_base.specs.declared.types.storage.StorageType.{StorageType}
 pub use Rattle.wenc_parts.specs.declared.exports.ComponentExportKind.{ComponentExportKind}
 pub use Rattle.wenc_parts.specs.declared.instances.ModuleArg.{ModuleArg}
-pub use Rattle.wenc_view.specs.Gives.{GivesNestedAlways}
+pub use Rattle.wenc_view.specs.Gives.{GivesNested}
 pub use Rattle.wenc_view.specs.Types.{type_seen, instance_declaration_seen}
 pub use Rattle.wenc_view.specs.Types.{component_declaration_seen, IsCountedType}
 pub use Rattle.wenc_view.specs.Types.{IsCountedInstanceDecl, IsCountedComponentDecl}

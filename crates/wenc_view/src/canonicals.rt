@@ -8,7 +8,7 @@ ghost use Rattle.wenc_canon.specs.Prelude.{read_canonical, canonical_sound, cano
 ghost use Rattle.wenc_view.specs.Prelude.{read_zero, stream_rows, future_rows, error_context_rows};
 ghost use Rattle.wenc_view.specs.Prelude.{thread_rows, forward_rows, read_ty_and_options};
 ghost use Rattle.wenc_view.specs.Prelude.{read_waited_memory, CanonicalOption as Value'};
-ghost use Rattle.wenc_read.specs.Prelude.{GivesAlways, exact_by};
+ghost use Rattle.wenc_read.specs.Prelude.{Gives, exact_by};
 ghost use Rattle.wenc_view.specs.Prelude.{canon_seen, list_view, IsCounted, IsCountedCanon};
 
 use crate::lists::ListOf;
@@ -69,7 +69,7 @@ impl<'a> View<'a> for CanonicalOption {
 /// Reads the byte `00`.
 #[tactic(auto, unfolding(wenc_base::specs::Readers::choose))]
 fn zero(bytes: &[u8]) -> Result<((), &[u8]), Refusal>
-    ensures { GivesAlways (λ x. (tt, x.1.now)) result (read_zero bytes.now) }
+    ensures { Gives (λ x. (tt, x.1.now)) result (read_zero bytes.now) }
 {
     match byte(bytes)? {
         (0x00, rest) => Ok(((), rest)),
@@ -80,7 +80,7 @@ fn zero(bytes: &[u8]) -> Result<((), &[u8]), Refusal>
 /// Reads a lifted core function, after its opcode.
 #[tactic(auto, unfolding(wenc_base::specs::Readers::choose))]
 fn lifted(bytes: &[u8]) -> Result<(CanonView<'_>, &[u8]), Refusal>
-    ensures found { GivesAlways (λ x. (canon_seen x.0, x.1.now)) result (read_lifted bytes.now) }
+    ensures found { Gives (λ x. (canon_seen x.0, x.1.now)) result (read_lifted bytes.now) }
     ensures counted { IfOk result (λ x. IsCountedCanon x.0) }
 {
     match byte(bytes)? {
@@ -102,7 +102,7 @@ fn lifted(bytes: &[u8]) -> Result<(CanonView<'_>, &[u8]), Refusal>
 /// Reads a lowered component function, after its opcode.
 #[tactic(auto, unfolding(wenc_base::specs::Readers::choose))]
 fn lowered(bytes: &[u8]) -> Result<(CanonView<'_>, &[u8]), Refusal>
-    ensures found { GivesAlways (λ x. (canon_seen x.0, x.1.now)) result (read_lowered bytes.now) }
+    ensures found { Gives (λ x. (canon_seen x.0, x.1.now)) result (read_lowered bytes.now) }
     ensures counted { IfOk result (λ x. IsCountedCanon x.0) }
 {
     match byte(bytes)? {
@@ -118,7 +118,7 @@ fn lowered(bytes: &[u8]) -> Result<(CanonView<'_>, &[u8]), Refusal>
 /// Reads the index of a type, and options.
 #[inline(always)]
 fn ty_and_options(bytes: &[u8]) -> Result<(u32, ListOf<'_, CanonicalOption>, &[u8]), Refusal>
-    ensures found { GivesAlways (λ x. ((x.0, list_view read_canonical_option x.1), x.2.now)) result
+    ensures found { Gives (λ x. ((x.0, list_view read_canonical_option x.1), x.2.now)) result
         (read_ty_and_options bytes.now) }
     ensures counted { IfOk result (λ x. IsCounted read_canonical_option x.1) }
 {
@@ -130,7 +130,7 @@ fn ty_and_options(bytes: &[u8]) -> Result<(u32, ListOf<'_, CanonicalOption>, &[u
 /// Reads the byte `00` and the index of a memory.
 #[inline(always)]
 fn waited_memory(bytes: &[u8]) -> Result<(u32, &[u8]), Refusal>
-    ensures { GivesAlways (λ x. ((tt, x.0), x.1.now)) result (read_waited_memory bytes.now) }
+    ensures { Gives (λ x. ((tt, x.0), x.1.now)) result (read_waited_memory bytes.now) }
 {
     let (_, rest) = zero(bytes)?;
     u32::view_of(rest)
@@ -218,7 +218,7 @@ macro_rules! returning {
 /// Reads a canonical function, after its opcode: the fields of its row. The rows before those of
 /// streams are here.
 fn function(opcode: u8, bytes: &[u8]) -> Result<(CanonView<'_>, &[u8]), Refusal>
-    ensures found { GivesAlways (λ x. (canon_seen x.0, x.1.now)) result
+    ensures found { Gives (λ x. (canon_seen x.0, x.1.now)) result
         (pick rows nowhere opcode bytes.now) }
     ensures counted { IfOk result (λ x. IsCountedCanon x.0) }
 {
@@ -241,7 +241,7 @@ fn function(opcode: u8, bytes: &[u8]) -> Result<(CanonView<'_>, &[u8]), Refusal>
 
 /// Reads the fields of a row, from those of streams on.
 fn of_stream(opcode: u8, bytes: &[u8]) -> Result<(CanonView<'_>, &[u8]), Refusal>
-    ensures found { GivesAlways (λ x. (canon_seen x.0, x.1.now)) result
+    ensures found { Gives (λ x. (canon_seen x.0, x.1.now)) result
         (pick stream_rows nowhere opcode bytes.now) }
     ensures counted { IfOk result (λ x. IsCountedCanon x.0) }
 {
@@ -259,7 +259,7 @@ fn of_stream(opcode: u8, bytes: &[u8]) -> Result<(CanonView<'_>, &[u8]), Refusal
 
 /// Reads the fields of a row, from those of futures on.
 fn of_future(opcode: u8, bytes: &[u8]) -> Result<(CanonView<'_>, &[u8]), Refusal>
-    ensures found { GivesAlways (λ x. (canon_seen x.0, x.1.now)) result
+    ensures found { Gives (λ x. (canon_seen x.0, x.1.now)) result
         (pick future_rows nowhere opcode bytes.now) }
     ensures counted { IfOk result (λ x. IsCountedCanon x.0) }
 {
@@ -278,7 +278,7 @@ fn of_future(opcode: u8, bytes: &[u8]) -> Result<(CanonView<'_>, &[u8]), Refusal
 /// Reads the fields of a row, from those of error contexts on: of these, waitable sets and
 /// backpressure.
 fn of_error_context(opcode: u8, bytes: &[u8]) -> Result<(CanonView<'_>, &[u8]), Refusal>
-    ensures found { GivesAlways (λ x. (canon_seen x.0, x.1.now)) result
+    ensures found { Gives (λ x. (canon_seen x.0, x.1.now)) result
         (pick error_context_rows nowhere opcode bytes.now) }
     ensures counted { IfOk result (λ x. IsCountedCanon x.0) }
 {
@@ -299,7 +299,7 @@ fn of_error_context(opcode: u8, bytes: &[u8]) -> Result<(CanonView<'_>, &[u8]), 
 
 /// Reads the fields of a row, from those of threads on.
 fn of_thread(opcode: u8, bytes: &[u8]) -> Result<(CanonView<'_>, &[u8]), Refusal>
-    ensures found { GivesAlways (λ x. (canon_seen x.0, x.1.now)) result
+    ensures found { Gives (λ x. (canon_seen x.0, x.1.now)) result
         (pick thread_rows nowhere opcode bytes.now) }
     ensures counted { IfOk result (λ x. IsCountedCanon x.0) }
 {
@@ -318,7 +318,7 @@ fn of_thread(opcode: u8, bytes: &[u8]) -> Result<(CanonView<'_>, &[u8]), Refusal
 
 /// Reads the fields of one of the last rows: forwarding, and spawned threads.
 fn of_forward(opcode: u8, bytes: &[u8]) -> Result<(CanonView<'_>, &[u8]), Refusal>
-    ensures found { GivesAlways (λ x. (canon_seen x.0, x.1.now)) result
+    ensures found { Gives (λ x. (canon_seen x.0, x.1.now)) result
         (pick forward_rows nowhere opcode bytes.now) }
     ensures counted { IfOk result (λ x. IsCountedCanon x.0) }
 {

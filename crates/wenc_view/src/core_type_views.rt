@@ -1,7 +1,7 @@
 //! Core types in a component: recursion groups with guards, and module types.
 ghost use Rattle.std.specs.Prelude.{IfOk};
 ghost use Rattle.wenc_view.specs.Prelude.{read_guarded, IsCountedModuleDecl, IsCountedCoreType};
-ghost use Rattle.wenc_read.specs.Prelude.{GivesAlways, exact_by};
+ghost use Rattle.wenc_read.specs.Prelude.{Gives, exact_by};
 ghost use Rattle.wenc_view.specs.Prelude.{module_declaration_seen, core_type_seen};
 ghost use Rattle.wenc_types.specs.Prelude.{read_outer_type, ModuleDeclaration, module_declaration};
 ghost use Rattle.wenc_types.specs.Prelude.{read_module_declaration, module_declaration_sound};
@@ -56,7 +56,7 @@ pub enum CoreTypeView<'a> {
 /// Reads an alias of an enclosing component's type, after its first byte.
 #[tactic(auto, unfolding(wenc_base::specs::Readers::choose))]
 fn outer_type(bytes: &[u8]) -> Result<(ModuleDeclView<'_>, &[u8]), Refusal>
-    ensures found { GivesAlways (λ x. (module_declaration_seen x.0, x.1.now)) result
+    ensures found { Gives (λ x. (module_declaration_seen x.0, x.1.now)) result
         (read_outer_type (λ d. d) bytes.now) }
     ensures counted { IfOk result (λ x. IsCountedModuleDecl x.0) }
 {
@@ -113,7 +113,7 @@ impl<'a> View<'a> for ModuleDeclView<'a> {
 /// Reads a type that isn't final, after its guard.
 #[tactic(auto, unfolding(wenc_base::specs::Readers::choose))]
 fn guarded(bytes: &[u8]) -> Result<(CoreTypeView<'_>, &[u8]), Refusal>
-    ensures found { GivesAlways (λ x. (core_type_seen x.0, x.1.now)) result
+    ensures found { Gives (λ x. (core_type_seen x.0, x.1.now)) result
         (read_guarded bytes.now) }
     ensures counted { IfOk result (λ x. IsCountedCoreType x.0) }
 {

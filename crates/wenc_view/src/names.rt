@@ -3,7 +3,7 @@ ghost use Rattle.std.specs.Prelude.{◌≡◌, ◌≤◌};
 ghost use Rattle.wenc_parts.specs.Prelude.{ExternName, extern_name, extern_name_sound};
 ghost use Rattle.wenc_parts.specs.Prelude.{extern_name_lawful, option_number, with_option};
 ghost use Rattle.wenc_parts.specs.Prelude.{read_name_option, read_extern_name};
-ghost use Rattle.wenc_read.specs.Prelude.{GivesAlways, exact_by};
+ghost use Rattle.wenc_read.specs.Prelude.{Gives, exact_by};
 ghost use Rattle.wenc_view.specs.Prelude.{name_seen, option_seen, read_options};
 
 use crate::view::{View, text_of};
@@ -64,7 +64,7 @@ fn with<'a>(option: NameOptionView<'a>, name: NameView<'a>) -> NameView<'a>
 /// Reads an option of a name.
 #[tactic(auto, unfolding(wenc_base::specs::Readers::choose))]
 fn option_of(bytes: &[u8]) -> Result<(NameOptionView<'_>, &[u8]), Refusal>
-    ensures { GivesAlways (λ x. (option_seen x.0, x.1.now)) result (read_name_option bytes.now) }
+    ensures { Gives (λ x. (option_seen x.0, x.1.now)) result (read_name_option bytes.now) }
 {
     match byte(bytes)? {
         (0x00, rest) => {
@@ -101,7 +101,7 @@ fn options_from<'a>(
     bytes: &'a [u8],
 ) -> Result<(NameView<'a>, &'a [u8]), Refusal>
     requires { least ≤ 3 }
-    ensures { GivesAlways (λ x. (name_seen x.0, x.1.now)) result
+    ensures { Gives (λ x. (name_seen x.0, x.1.now)) result
         (read_options name.now least count bytes.now) }
 {
     if count == 0 {

@@ -2,12 +2,12 @@
 //! depth.
 ghost use Rattle.std.specs.Prelude.{◌≡◌, ◌+◌, ◌≤◌, IfOk, IfSome, MatchOption};
 ghost use Rattle.wenc_base.specs.Prelude.{times};
-ghost use Rattle.wenc_read.specs.Prelude.{GivesAlways};
+ghost use Rattle.wenc_read.specs.Prelude.{Gives};
 ghost use Rattle.wenc_types.specs.Prelude.{read_imported, read_exported};
 ghost use Rattle.wenc_types.specs.Prelude.{read_component_declaration, read_instance_declaration};
 ghost use Rattle.wenc_types.specs.Prelude.{read_type, read_component_type, read_instance_type};
 ghost use Rattle.wenc_types.specs.Prelude.{read_resource_type, read_signature, FunctionType};
-ghost use Rattle.wenc_view.specs.Prelude.{GivesNestedAlways, GivesFirst, members_of, type_seen};
+ghost use Rattle.wenc_view.specs.Prelude.{GivesNested, GivesFirst, members_of, type_seen};
 ghost use Rattle.wenc_view.specs.Prelude.{instance_declaration_seen, component_declaration_seen};
 ghost use Rattle.wenc_view.specs.Prelude.{component_members, instance_members, type_nests};
 ghost use Rattle.wenc_view.specs.Prelude.{instance_declaration_nests, component_declaration_nests};
@@ -107,7 +107,7 @@ pub enum ComponentDeclView<'a> {
 /// Reads a function type, after its first byte.
 #[inline(always)]
 fn function_type(is_async: bool, bytes: &[u8]) -> Result<(TypeView<'_>, &[u8]), Refusal>
-    ensures found { GivesAlways (λ x. (type_seen x.0, x.1.now)) result
+    ensures found { Gives (λ x. (type_seen x.0, x.1.now)) result
         (read_signature is_async FunctionType bytes.now) }
     ensures flat { IfOk result (λ x. type_nests x.0 ≡ 0) }
     ensures counted { IfOk result (λ x. IsCountedType x.0) }
@@ -124,7 +124,7 @@ fn function_type(is_async: bool, bytes: &[u8]) -> Result<(TypeView<'_>, &[u8]), 
 
 /// Reads a resource type, after its first byte.
 fn resource_type(bytes: &[u8]) -> Result<(TypeView<'_>, &[u8]), Refusal>
-    ensures found { GivesAlways (λ x. (type_seen x.0, x.1.now)) result
+    ensures found { Gives (λ x. (type_seen x.0, x.1.now)) result
         (read_resource_type bytes.now) }
     ensures flat { IfOk result (λ x. type_nests x.0 ≡ 0) }
     ensures counted { IfOk result (λ x. IsCountedType x.0) }
@@ -147,7 +147,7 @@ pub fn type_at<'a>(
     depth_left: u32,
     bytes: &'a [u8],
 ) -> Result<(TypeView<'a>, &'a [u8]), NestedRefusal>
-    ensures found { GivesNestedAlways (λ x. (type_seen x.0, x.1.now)) result
+    ensures found { GivesNested (λ x. (type_seen x.0, x.1.now)) result
         (read_type depth_left bytes.now) }
     ensures within { IfOk result (λ x. type_nests x.0 ≤ depth_left) }
     ensures counted { IfOk result (λ x. IsCountedType x.0) }
@@ -171,7 +171,7 @@ fn component_type<'a>(
     depth_left: u32,
     bytes: &'a [u8],
 ) -> Result<(TypeView<'a>, &'a [u8]), NestedRefusal>
-    ensures found { GivesNestedAlways (λ x. (type_seen x.0, x.1.now)) result
+    ensures found { GivesNested (λ x. (type_seen x.0, x.1.now)) result
         (read_component_type depth_left bytes.now) }
     ensures within { IfOk result (λ x. type_nests x.0 ≤ depth_left) }
     ensures counted { IfOk result (λ x. IsCountedType x.0) }
@@ -196,7 +196,7 @@ fn instance_type<'a>(
     depth_left: u32,
     bytes: &'a [u8],
 ) -> Result<(TypeView<'a>, &'a [u8]), NestedRefusal>
-    ensures found { GivesNestedAlways (λ x. (type_seen x.0, x.1.now)) result
+    ensures found { GivesNested (λ x. (type_seen x.0, x.1.now)) result
         (read_instance_type depth_left bytes.now) }
     ensures within { IfOk result (λ x. type_nests x.0 ≤ depth_left) }
     ensures counted { IfOk result (λ x. IsCountedType x.0) }
@@ -222,7 +222,7 @@ fn component_decls<'a>(
     count: u32,
     bytes: &'a [u8],
 ) -> Result<&'a [u8], NestedRefusal>
-    ensures { GivesNestedAlways
+    ensures { GivesNested
         (λ rest. (
           members_of (read_component_declaration (read_type depth_left)) count bytes.now,
           rest.now,
@@ -246,7 +246,7 @@ fn instance_decls<'a>(
     count: u32,
     bytes: &'a [u8],
 ) -> Result<&'a [u8], NestedRefusal>
-    ensures { GivesNestedAlways
+    ensures { GivesNested
         (λ rest. (
           members_of (read_instance_declaration (read_type depth_left)) count bytes.now,
           rest.now,
@@ -270,7 +270,7 @@ fn component_decl<'a>(
     depth_left: u32,
     bytes: &'a [u8],
 ) -> Result<(ComponentDeclView<'a>, &'a [u8]), NestedRefusal>
-    ensures found { GivesNestedAlways (λ x. (component_declaration_seen x.0, x.1.now)) result
+    ensures found { GivesNested (λ x. (component_declaration_seen x.0, x.1.now)) result
         (read_component_declaration (read_type depth_left) bytes.now) }
     ensures within { IfOk result (λ x. component_declaration_nests x.0 ≤ depth_left) }
     ensures counted { IfOk result (λ x. IsCountedComponentDecl x.0) }
@@ -291,7 +291,7 @@ fn instance_decl<'a>(
     depth_left: u32,
     bytes: &'a [u8],
 ) -> Result<(InstanceDeclView<'a>, &'a [u8]), NestedRefusal>
-    ensures found { GivesNestedAlways (λ x. (instance_declaration_seen x.0, x.1.now)) result
+    ensures found { GivesNested (λ x. (instance_declaration_seen x.0, x.1.now)) result
         (read_instance_declaration (read_type depth_left) bytes.now) }
     ensures within { IfOk result (λ x. instance_declaration_nests x.0 ≤ depth_left) }
     ensures counted { IfOk result (λ x. IsCountedInstanceDecl x.0) }
@@ -316,7 +316,7 @@ fn instance_decl<'a>(
 
 /// Reads an import declaration, after its first byte.
 fn imported(bytes: &[u8]) -> Result<(ComponentDeclView<'_>, &[u8]), Refusal>
-    ensures found { GivesAlways (λ x. (component_declaration_seen x.0, x.1.now)) result
+    ensures found { Gives (λ x. (component_declaration_seen x.0, x.1.now)) result
         (read_imported bytes.now) }
     ensures flat { IfOk result (λ x. component_declaration_nests x.0 ≡ 0) }
     ensures counted { IfOk result (λ x. IsCountedComponentDecl x.0) }
@@ -328,7 +328,7 @@ fn imported(bytes: &[u8]) -> Result<(ComponentDeclView<'_>, &[u8]), Refusal>
 
 /// Reads an export declaration, after its first byte.
 fn exported(bytes: &[u8]) -> Result<(InstanceDeclView<'_>, &[u8]), Refusal>
-    ensures found { GivesAlways (λ x. (instance_declaration_seen x.0, x.1.now)) result
+    ensures found { Gives (λ x. (instance_declaration_seen x.0, x.1.now)) result
         (read_exported bytes.now) }
     ensures flat { IfOk result (λ x. instance_declaration_nests x.0 ≡ 0) }
     ensures counted { IfOk result (λ x. IsCountedInstanceDecl x.0) }

@@ -3,7 +3,7 @@ ghost use Rattle.std.specs.Prelude.{⊤, IfOk};
 ghost use Rattle.wenc_base.specs.Prelude.{Form, Reader, read_u32, u32 as number, u32_sound};
 ghost use Rattle.wenc_base.specs.Prelude.{u32_lawful, read_name, name as name_form, name_sound};
 ghost use Rattle.wenc_base.specs.Prelude.{name_lawful};
-ghost use Rattle.wenc_read.specs.Prelude.{IsExact, GivesAlways, exact_by};
+ghost use Rattle.wenc_read.specs.Prelude.{IsExact, Gives, exact_by};
 
 use std::str::Utf8Error;
 use wenc_read::{Expected, Refusal, byte, flag_of, u32_of};
@@ -44,7 +44,7 @@ pub trait View<'a>: Sized + Copy {
     ///
     /// Fails if no value begins the bytes.
     fn view_of(bytes: &'a [u8]) -> Result<(Self, &'a [u8]), Refusal>
-        ensures found { GivesAlways (λ x. (view x.0, x.1.now)) result (read bytes.now) }
+        ensures found { Gives (λ x. (view x.0, x.1.now)) result (read bytes.now) }
         ensures counted { IfOk result (λ x. is_counted x.0) };
 }
 
@@ -86,7 +86,7 @@ fn not_utf8(len: usize, after: &[u8], error: Utf8Error) -> Refusal {
 #[tactic(auto, unfolding(wenc_base::specs::reading::Forms::text_at))]
 #[inline(always)]
 pub fn text_of(bytes: &[u8]) -> Result<(&str, &[u8]), Refusal>
-    ensures { GivesAlways (λ x. (x.0.now, x.1.now)) result (read_name bytes.now) }
+    ensures { Gives (λ x. (x.0.now, x.1.now)) result (read_name bytes.now) }
 {
     let (size, rest) = u32_of(bytes)?;
     let len = size as usize;
