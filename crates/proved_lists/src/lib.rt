@@ -5,5 +5,6 @@
 pub mod cut;
 pub mod equality;
 pub mod examples;
+pub mod expected;
 pub mod read;
 pub mod taken;
