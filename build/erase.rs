@@ -24,6 +24,8 @@
 //! as code. `tests/honest` compares that with the Rust, with a lexer of its own, and knows the same
 //! list.
 
+#[path = "erase/allocators.rs"]
+mod allocators;
 #[path = "erase/antt.rs"]
 mod antt;
 #[path = "erase/attributes.rs"]
@@ -33,7 +35,7 @@ mod known;
 #[path = "erase/lexer.rs"]
 mod lexer;
 
-use known::{ALLOCATING, HANDED, KEYWORDS, NARROWED, PLAIN};
+use known::{ALLOCATING, HANDED, INLINED, KEYWORDS, MAKING, NARROWED, PLAIN};
 use lexer::{Kind, Token, tokens};
 use std::borrow::Cow;
 
@@ -146,6 +148,7 @@ impl<'a> Eraser<'a> {
             }
         }
         self.examples()?;
+        self.allocators();
         let mut i = 0;
         while i < self.code.len() {
             let is_left_out = self.becomes[self.code[i]].is_empty();
@@ -167,7 +170,7 @@ impl<'a> Eraser<'a> {
         match self.at(i) {
             "Drop" => self.bound(i)?,
             "fn" if self.at(i + 1) == "main" => self.put(i, "pub fn"),
-            "fn" if self.is_inlined(i) => self.put(i, "#[inline] fn"),
+            word @ ("fn" | "pub") if self.is_inlined(i) => self.put(i, format!("#[inline] {word}")),
             "mod" if self.is_taken(self.at(i + 1)) => {
                 return Err((self.line(i), "a module with the name of a crate"));
             }
@@ -183,9 +186,7 @@ impl<'a> Eraser<'a> {
             "clone" if self.is_method(i) => self.put(i, "try_clone"),
             "Clone" => return Err((self.line(i), "a `Clone` that is no bound")),
             "clone" => return Err((self.line(i), "a `clone` that is no method")),
-            method if self.before(i, 1) == "." && ALLOCATING.contains(&method) => {
-                self.put(i, format!("{method}_using"));
-            }
+            call if self.is_allocating(i) => self.put(i, format!("{call}_using")),
             "!" if self.is_word(i.wrapping_sub(1)) => self.macro_call(i)?,
             "use" if self.at(i + 1) == "thiserror" => {
                 if !self.stands(i, "use thiserror : : Error ;") {
@@ -211,6 +212,13 @@ impl<'a> Eraser<'a> {
         ["fn", "."].contains(&self.before(i, 1)) && self.at(i + 1) == "("
     }
 
+    /// Returns whether the word is the name of a call that takes an allocator in Rattle only.
+    fn is_allocating(&self, i: usize) -> bool {
+        let is_made = self.goes_on(i) && ["Vec", "String"].contains(&self.before(i, 3));
+        is_made && MAKING.contains(&self.at(i))
+            || self.is_method(i) && ALLOCATING.contains(&self.at(i))
+    }
+
     /// Returns whether the word continues a path.
     fn goes_on(&self, i: usize) -> bool {
         self.before(i, 1) == ":" && self.before(i, 2) == ":"
@@ -228,13 +236,19 @@ impl<'a> Eraser<'a> {
         owners.next().is_some_and(|j| NARROWED.contains(&(self.owner(j), name)))
     }
 
-    /// Returns whether a method begins here that encodes a type, and that has no attribute in Rust.
+    /// Returns whether a function begins here that is inlined, and that has no attribute in Rust.
     fn is_inlined(&self, i: usize) -> bool {
         let is_left = |j: &usize| !self.becomes[self.code[*j]].is_empty();
         let last = (0..i).rev().find(is_left).map_or("", |j| self.at(j));
-        let is_method = self.at(i + 1) == "encode" && ["{", "}", ";"].contains(&last);
+        let name = match (self.at(i), self.at(i + 1)) {
+            ("fn", name) => name,
+            ("pub", "fn") => self.at(i + 2),
+            ("pub", "(") if self.at(i + 4) == "fn" => self.at(i + 5),
+            _ => "",
+        };
         let mut words = (0..i).rev().map(|j| self.at(j));
-        is_method && words.find(|word| ["impl", "trait"].contains(word)) == Some("impl")
+        let block = words.find(|word| ["impl", "trait"].contains(word));
+        INLINED.contains(&name) && ["{", "}", ";", ""].contains(&last) && block != Some("trait")
     }
 
     /// Returns the name of the type whose members are in an `impl` or a `struct`, or of the trait.

@@ -34,7 +34,8 @@ const BY_HAND: [&str; 1] = ["hex"];
 /// The lints to allow: the sources have checks of their own, not all of their calls are used by the
 /// facade, some names are for contracts only, and erasing leaves empty lines and braces.
 const ALLOWED: &str = "#[allow(clippy::all, dead_code, missing_docs, unused_braces)]\n\
-     #[allow(unused_imports, unused_variables)]\n";
+     #[allow(unused_imports, unused_variables)]\n\
+     #[cfg_attr(not(test), warn(clippy::disallowed_methods))]\n";
 
 fn main() {
     let words: Vec<String> = std::env::args().skip(1).collect();

@@ -2,8 +2,7 @@
 
 use crate::ComponentValType;
 use crate::proved::wenc_base::{self as proved, Fault};
-use crate::shim::alloc::Allocator;
-use crate::shim::vec::Vec as ProvedVec;
+use alloc::vec::Vec;
 use core::ops::Range;
 
 /// A user's name, adapted to the proved code.
@@ -11,7 +10,7 @@ pub(crate) struct Name<S>(S);
 
 impl<S: AsRef<str>> proved::Encode for Name<S> {
     #[inline]
-    fn encode<A: Allocator>(&self, sink: &mut ProvedVec<u8, A>) -> Result<(), Fault> {
+    fn encode(&self, sink: &mut Vec<u8>) -> Result<(), Fault> {
         proved::Encode::encode(&self.0.as_ref(), sink)
     }
 }

@@ -3,10 +3,11 @@
 use crate::proved::wenc_list::part_of;
 use crate::proved::wenc_sections::names::NAMES_LABEL;
 use crate::proved::wenc_view::text_of;
+use crate::shim::alloc::{AllocError, Global};
+use crate::shim::string::StringUsing;
 use crate::tree::{ItemTree, Space};
 use crate::twins::twins;
 use crate::{Cause, ComponentNameSection, ComponentSectionId, Error, NameMap, SectionItem};
-use alloc::collections::TryReserveError;
 use alloc::string::String;
 use by_index::ByIndex;
 use core::fmt;
@@ -114,10 +115,12 @@ impl DebugNames {
     }
 
     /// Adds a name to those that were read before it.
-    fn add(&mut self, DebugName { item, name }: DebugName<'_>) -> Result<(), TryReserveError> {
+    fn add(&mut self, DebugName { item, name }: DebugName<'_>) -> Result<(), AllocError> {
         match item {
             Some((space, index)) => self.items[space.number()].add(index, name)?,
-            None if self.component.is_none() => self.component = Some(owned(name)?),
+            None if self.component.is_none() => {
+                self.component = Some(String::from_str(Global, name)?)
+            }
             None => {}
         }
         Ok(())
@@ -190,14 +193,6 @@ impl From<&DebugNames> for ComponentNameSection {
         }
         section
     }
-}
-
-/// Copies a text. Fails if the allocation fails.
-fn owned(text: &str) -> Result<String, TryReserveError> {
-    let mut copy = String::new();
-    copy.try_reserve_exact(text.len())?;
-    copy.push_str(text);
-    Ok(copy)
 }
 
 /// Why debug names can't be read.

@@ -2,11 +2,10 @@
 
 use crate::Error;
 use crate::proved::wenc_base::{self as proved, Fault};
-use crate::shim::alloc::Allocator;
-use crate::shim::vec::Vec as ProvedVec;
+use crate::shim::alloc::Global;
+use crate::shim::vec::VecUsing;
 use alloc::vec::Vec;
 use core::cell::Cell;
-use core::mem::take;
 
 /// A value with an encoding in the binary format. Your own types can implement it, for sections of
 /// your own: when such a value is appended to a component, or is in a list or an `Option`, it
@@ -78,54 +77,44 @@ macro_rules! encode_or_panic {
 
 pub(crate) use encode_or_panic;
 
-/// A sink that was taken from its owner and is given back on drop, truncated to what it had before
-/// if a user's `Encode` panicked.
-struct Taken<'a> {
-    owner: &'a mut Vec<u8>,
-    bytes: ProvedVec<u8>,
+/// A sink that is truncated on drop to what it had before if a user's `Encode` panicked.
+struct Written<'a> {
+    sink: &'a mut Vec<u8>,
     start: usize,
     is_written: bool,
 }
 
-impl Drop for Taken<'_> {
+impl Drop for Written<'_> {
     #[inline]
     fn drop(&mut self) {
         if !self.is_written {
-            self.bytes.truncate(self.start);
+            self.sink.truncate(self.start);
         }
-        *self.owner = take(&mut self.bytes.inner);
     }
 }
 
-/// Passes a vector of std to the proved code, which appends to it or leaves it unchanged.
+/// Passes a vector to the proved code, which appends to it or leaves it unchanged.
 #[inline]
 pub(crate) fn append<E>(
     sink: &mut Vec<u8>,
-    write: impl FnOnce(&mut ProvedVec<u8>) -> Result<(), E>,
+    write: impl FnOnce(&mut Vec<u8>) -> Result<(), E>,
 ) -> Result<(), E> {
     let start = sink.len();
-    let bytes = take(sink).into();
-    let mut taken = Taken { owner: sink, bytes, start, is_written: false };
-    write(&mut taken.bytes)?;
-    taken.is_written = true;
+    let mut written = Written { sink, start, is_written: false };
+    write(written.sink)?;
+    written.is_written = true;
     Ok(())
 }
 
 /// Appends the encoding of a value of the proved code, which never panics on its way.
 #[inline]
 pub(crate) fn append_proved<T: proved::Encode>(sink: &mut Vec<u8>, value: &T) -> Result<(), Error> {
-    let mut bytes = ProvedVec::from(take(sink));
-    let result = value.encode(&mut bytes);
-    *sink = bytes.into();
-    Ok(result?)
+    Ok(value.encode(sink)?)
 }
 
 /// Returns a vector of these bytes.
 pub(crate) fn copied(bytes: [u8; 8]) -> Result<Vec<u8>, Error> {
-    let mut copy = Vec::new();
-    copy.try_reserve_exact(bytes.len()).map_err(|_| Error::NoMemory)?;
-    copy.extend(bytes);
-    Ok(copy)
+    Vec::from_slice(Global, &bytes).map_err(|_| Error::NoMemory)
 }
 
 /// Adapts a value with [`Encode`] to the proved code. A user's implementation gets a sink of its
@@ -150,7 +139,7 @@ impl Own {
     pub(crate) fn append(
         &self,
         sink: &mut Vec<u8>,
-        write: impl FnOnce(&mut ProvedVec<u8>) -> Result<(), Fault>,
+        write: impl FnOnce(&mut Vec<u8>) -> Result<(), Fault>,
     ) -> Result<(), Error> {
         append(sink, write).map_err(|fault| self.error.take().unwrap_or(fault.into()))
     }
@@ -165,15 +154,15 @@ impl Own {
 
 impl<T: Encode + ?Sized> proved::Encode for Foreign<'_, T> {
     #[inline]
-    fn encode<A: Allocator>(&self, sink: &mut ProvedVec<u8, A>) -> Result<(), Fault> {
+    fn encode(&self, sink: &mut Vec<u8>) -> Result<(), Fault> {
         let refused = |error| self.own.refused(error);
         if self.value.appends().0 {
-            return self.value.try_encode(&mut sink.inner).map_err(refused);
+            return self.value.try_encode(sink).map_err(refused);
         }
         let mut own = self.own.sink.take();
         own.clear();
         self.value.try_encode(&mut own).map_err(refused)?;
-        sink.extend_from_slice(&own)?;
+        sink.extend_from_slice_using(&own)?;
         self.own.sink.set(own);
         Ok(())
     }

@@ -2,12 +2,11 @@
 
 use crate::error::or_panic;
 use crate::proved::wenc_base::{Encode, Fault};
-use crate::shim::alloc::Global;
-use crate::shim::vec::Vec;
+use alloc::vec::Vec;
 
 /// Returns the bytes of a value, or `None` while it is unfinished.
 pub(crate) fn encoded(value: &impl Encode) -> Option<Vec<u8>> {
-    let mut bytes = Vec::new(Global);
+    let mut bytes = Vec::new();
     match value.encode(&mut bytes) {
         Err(Fault::Unfinished) => None,
         result => {

@@ -99,6 +99,7 @@
 #![forbid(unsafe_code)]
 #![deny(missing_docs)]
 #![warn(clippy::missing_errors_doc, clippy::missing_panics_doc)]
+#![cfg_attr(not(test), warn(clippy::disallowed_methods))]
 
 extern crate alloc;
 #[cfg(test)]
@@ -130,6 +131,8 @@ mod raw;
 mod rewrite;
 // Without `reader`, parts of it aren't used.
 #[cfg_attr(not(feature = "reader"), allow(dead_code, unused_imports))]
+// It reserves first what it then calls.
+#[allow(clippy::disallowed_methods)]
 mod shim;
 #[cfg(feature = "reader")]
 pub mod tree;

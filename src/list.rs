@@ -259,7 +259,7 @@ impl core::error::Error for ListFault {}
 /// assert_eq!(listing.sections.len(), 2);
 /// let section = &listing.sections[1];
 /// assert_eq!((section.id, section.place), (10, 15));
-/// let name = wenc::tree::String::from("f").into();
+/// let name = "f".into();
 /// assert_eq!(section.items[0], ItemTree::Import { name, ty: ComponentTypeRef::Func(0) });
 /// assert_eq!(listing.counts, [0, 0, 0, 0, 0, 0, 0, 0, 1, 0, 0, 0, 1]);
 ///

@@ -2,13 +2,13 @@
 //! on the preconditions of their contracts, which nothing checks here.
 
 #[cfg(test)]
-mod for_tests;
+pub(crate) mod for_tests;
 #[cfg(test)]
 pub use crate::shim::hex;
 // The published package leaves them out.
 #[cfg(all(test, has_tests))]
 #[path = "../tests/proved/mod.rs"]
-mod tests;
+pub(crate) mod tests;
 
 /// The items of `wasm_encoder` that the facade uses, without those that read.
 #[cfg(not(any(feature = "reader", test)))]

@@ -8,7 +8,6 @@ use crate::list::ListedSection;
 use crate::proved::wasm_encoder as proved;
 use crate::proved::wenc_base::{Encode as _, Fault, Holder, Verbatim};
 use crate::shim::alloc::Global;
-use crate::shim::vec::Vec as ProvedVec;
 use crate::tree::ItemTree;
 use crate::view::ItemView;
 use alloc::vec::Vec;
@@ -119,7 +118,7 @@ pub(crate) mod sealed {
 /// [definitions]: https://github.com/WebAssembly/component-model/blob/main/design/mvp/Binary.md#component-definitions
 ///
 /// ```
-/// use wenc::tree::{ItemTree, String};
+/// use wenc::tree::ItemTree;
 /// use wenc::view::ItemView;
 /// use wenc::{Component, ItemSection, Sections};
 ///
@@ -130,7 +129,7 @@ pub(crate) mod sealed {
 /// for item in section.items() {
 ///     match item? {
 ///         (_, ItemView::Import { name, ty }) if name.name == "a" => {
-///             imports.item(&ItemTree::Import { name: String::from("file").into(), ty })?
+///             imports.item(&ItemTree::Import { name: "file".into(), ty })?
 ///         }
 ///         (place, _) => imports.raw(&bytes[place])?,
 ///     };
@@ -244,7 +243,7 @@ impl ItemSection {
     }
 
     /// Appends the bytes after the id.
-    fn append(&self, sink: &mut ProvedVec<u8>) -> Result<(), Fault> {
+    fn append(&self, sink: &mut Vec<u8>) -> Result<(), Fault> {
         if !self.is_one_item() {
             return self.items.encode_section(sink);
         }

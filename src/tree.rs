@@ -1,12 +1,9 @@
 //! Items of a component as values, which [`list`](crate::list) returns and [`build`] takes.
 //!
 //! Needs the feature `reader`. Import what is used, or `tree` itself, but not `tree::*`, which
-//! would replace std's `String`, `Vec` and `Box` by those of this module.
+//! would replace std's `Box` by the [`Box`] of this module.
 //!
-//! They own their strings and lists in the types [`String`], [`Vec`] and [`Box`] of this module,
-//! which are std's with a `push` that can fail, since the proved code must not abort. `From`
-//! converts from and to std's without copying. Their parameter `A` is always [`Global`], the only
-//! `Allocator` there is: a bound by that trait always holds.
+//! They own their strings and lists in std's `String` and `Vec`.
 //!
 //! Types that were read are at most 100 deep. A tree that is made by hand may be deeper, and what
 //! copies, compares, encodes, prints or drops it, or visits its indices, takes stack for each type
@@ -26,11 +23,11 @@
 //! [`Encode`](crate::Encode).
 //!
 //! ```
-//! use wenc::tree::{Command, ItemTree, NameTree, String, TypeTree, Vec, build};
+//! use wenc::tree::{Command, ItemTree, NameTree, TypeTree, build};
 //! use wenc::{ComponentExportKind, ComponentTypeRef, list};
 //!
-//! let name = |text: &str| NameTree::from(String::from(text));
-//! let ty = TypeTree::Func { is_async: false, params: [].into(), result: None };
+//! let name = |text: &str| NameTree::from(text);
+//! let ty = TypeTree::Func { is_async: false, params: vec![], result: None };
 //! let built = build(&[
 //!     Command::Type { debug_name: None, ty },
 //!     Command::Import { name: name("f"), ty: ComponentTypeRef::Func(0) },
@@ -64,11 +61,11 @@ mod space;
 
 use crate::Error;
 use crate::proved::wasm_encoder as proved;
+use crate::shim::alloc::{AllocError, Global};
+use crate::shim::iter::CollectUsing;
+use alloc::vec::Vec;
 
-pub use crate::shim::alloc::{AllocError, AllocFailed, Global};
 pub use crate::shim::boxed::Box;
-pub use crate::shim::string::String;
-pub use crate::shim::vec::Vec;
 pub use fields::{IndexCounts, Scopes};
 pub use indices::{IndexUse, OuterFault, Scope};
 pub use node::{Child, Fields, List, Node, UsedIndex};
@@ -96,9 +93,9 @@ pub use proved::{
 pub struct Built {
     /// For each command, the index of its item, or its error. Custom sections and names have no
     /// index.
-    pub answers: alloc::vec::Vec<Result<Option<u32>, Error>>,
+    pub answers: Vec<Result<Option<u32>, Error>>,
     /// The bytes of the component.
-    pub bytes: alloc::vec::Vec<u8>,
+    pub bytes: Vec<u8>,
 }
 
 /// Runs commands in order on a new builder, and finishes it. A command that fails adds nothing, and
@@ -110,18 +107,17 @@ pub struct Built {
 /// be encoded; no further command runs then.
 ///
 /// ```
-/// use wenc::tree::{Command, String, build};
+/// use wenc::tree::{Command, build};
 ///
 /// let name = String::from("x");
-/// let built = build(&[Command::AppendNames, Command::Custom { name, data: vec![7].into() }])?;
+/// let built = build(&[Command::AppendNames, Command::Custom { name, data: vec![7] }])?;
 /// assert_eq!(built.answers, [Ok(None), Ok(None)]);
 /// assert_eq!(built.bytes, b"\0asm\x0d\0\x01\0\0\x03\x01x\x07");
 /// # Ok::<(), wenc::Error>(())
 /// ```
 pub fn build(commands: &[Command]) -> Result<Built, Error> {
     let proved::Built { answers, bytes } = proved::build(Global, commands)?;
-    let mut results = alloc::vec::Vec::new();
-    results.try_reserve_exact(answers.len()).map_err(|_| Error::NoMemory)?;
-    results.extend(answers.into_iter().map(|result| result.map_err(Error::from)));
-    Ok(Built { answers: results, bytes: bytes.into() })
+    let answers = answers.into_iter().map(|result| result.map_err(Error::from));
+    let answers = answers.collect_using(Global).map_err(|_| Error::NoMemory)?;
+    Ok(Built { answers, bytes })
 }

@@ -1,8 +1,46 @@
 //! The closed lists of the eraser: the names that it knows.
 
-/// Methods that take an allocator in Rattle, but not in Rust's library, which has them on the same
-/// types.
-pub const ALLOCATING: [&str; 1] = ["collect"];
+/// Methods that take or return an allocator in Rattle, or can fail there, but not in Rust's library,
+/// which has them on the same types.
+pub const ALLOCATING: [&str; 6] =
+    ["allocator", "collect", "extend_from_slice", "insert", "push", "try_reserve"];
+
+/// Functions of `Vec` and `String` that take an allocator in Rattle only.
+pub const MAKING: [&str; 2] = ["new", "with_capacity"];
+
+/// Functions that become `#[inline]`.
+pub const INLINED: [&str; 30] = [
+    "add_slot_row",
+    "alias",
+    "alias_export",
+    "append_list",
+    "as_slice",
+    "component",
+    "component_raw",
+    "core_alias_export",
+    "core_module_raw",
+    "core_type",
+    "custom_section",
+    "defined_type",
+    "encode",
+    "encode_bytes",
+    "encode_number",
+    "end_member",
+    "export",
+    "finish_member",
+    "function",
+    "import",
+    "keep_in_room",
+    "open",
+    "open_apart",
+    "put_number_over",
+    "ty",
+    "type_component",
+    "type_defined",
+    "type_function",
+    "type_instance",
+    "type_resource",
+];
 
 /// Macros that take an allocator after `in`, and that the shim defines.
 pub const HANDED: [&str; 2] = ["format", "vec"];

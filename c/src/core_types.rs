@@ -5,7 +5,7 @@ use crate::session::Session;
 use crate::{Refused, Result, Status, calls, numbers};
 use alloc::vec::Vec;
 use wenc::tree::{
-    self, CoreArrayType, CoreCompositeType, CoreFuncType, CoreStructType, CoreSubType, GroupTree,
+    CoreArrayType, CoreCompositeType, CoreFuncType, CoreStructType, CoreSubType, GroupTree,
 };
 use wenc::{FieldType, ValType};
 
@@ -59,11 +59,11 @@ fn field(number: u32, index: u32) -> Option<FieldType> {
     Some(numbers::field(number, index)?.into())
 }
 
-fn collected<T>(values: impl ExactSizeIterator<Item = T>) -> Result<tree::Vec<T>> {
+fn collected<T>(values: impl ExactSizeIterator<Item = T>) -> Result<Vec<T>> {
     let mut all = Vec::new();
     all.try_reserve_exact(values.len())?;
     all.extend(values);
-    Ok(all.into())
+    Ok(all)
 }
 
 impl Subtype {

@@ -16,7 +16,7 @@ use crate::adapters::{List, is_array};
 use crate::proved::wasm_encoder as proved;
 use crate::proved::wenc_base::{ByteTypes, Fault};
 use crate::shim::alloc::Global;
-use crate::shim::vec::Vec;
+use crate::shim::vec::{Vec, VecUsing};
 
 /// The maximum capacity to reserve by an iterator's size hint, which may be wrong.
 const CLAIMED: usize = 64;
@@ -28,9 +28,9 @@ pub(super) fn converted<T, U>(
 ) -> Result<Vec<U>, Error> {
     let values = values.into_iter();
     let claimed = values.size_hint().0.min(CLAIMED);
-    let mut converted = Vec::with_capacity(Global, claimed).map_err(Fault::from)?;
+    let mut converted = Vec::with_capacity_using(Global, claimed).map_err(Fault::from)?;
     for value in values {
-        converted.push(convert(value)?).map_err(Fault::from)?;
+        converted.push_using(convert(value)?).map_err(Fault::from)?;
     }
     Ok(converted)
 }
@@ -64,7 +64,7 @@ impl<T: Filler> Converted<T> {
     /// Creates it without values.
     #[inline]
     pub(super) fn new() -> Self {
-        Self { few: [T::FILLER; FEW], few_len: 0, all: Vec::new(Global) }
+        Self { few: [T::FILLER; FEW], few_len: 0, all: Vec::new() }
     }
 
     /// Converts the values and returns them. Fails with the first error.
@@ -131,10 +131,10 @@ impl<T: Filler> Converted<T> {
     fn push_to_all(&mut self, value: T) -> Result<(), Fault> {
         if self.all.is_empty() {
             for value in self.few {
-                self.all.push(value)?;
+                self.all.push_using(value)?;
             }
         }
-        Ok(self.all.push(value)?)
+        Ok(self.all.push_using(value)?)
     }
 }
 
@@ -160,7 +160,8 @@ impl Values {
         values: L,
     ) -> Result<(&[proved::ValType], Option<&ByteTypes>), Error> {
         let Self { types, bytes, have_bytes } = self;
-        let types = types.extend_with(values, |ty| *have_bytes = *have_bytes && bytes.push(ty))?;
+        let types =
+            types.extend_with(values, |ty| *have_bytes = *have_bytes && bytes.push_using(ty))?;
         Ok((types, have_bytes.then_some(&*bytes)))
     }
 }

@@ -3,6 +3,7 @@
 use super::{SectionReader, Sections};
 use crate::ListFault;
 use crate::proved::wenc_list as proved;
+use crate::shim::vec::VecUsing;
 use alloc::vec::Vec;
 use core::mem;
 
@@ -119,10 +120,7 @@ impl Ends {
     fn push(&mut self, end: usize) -> Result<(), ListFault> {
         match self.few.get_mut(self.len) {
             Some(place) => *place = end,
-            None => {
-                self.more.try_reserve(1).map_err(|_| ListFault::NoMemory)?;
-                self.more.push(end);
-            }
+            None => self.more.push_using(end).map_err(|_| ListFault::NoMemory)?,
         }
         // 32 bits: each is that of a component in the one before it, of 8 bytes at least.
         self.len += 1;

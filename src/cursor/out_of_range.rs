@@ -1,6 +1,7 @@
 //! The indices in a component that its index spaces don't have.
 
 use super::{Items, NestedSections};
+use crate::shim::vec::VecUsing;
 use crate::tree::{IndexCounts, Scope, Scopes, Space, UsedIndex};
 use crate::view::ItemView;
 use crate::{ComponentSectionId, ListFault};
@@ -61,9 +62,7 @@ impl<'a> Finder<'a> {
     }
 
     fn enter_component(&mut self) -> Result<(), ListFault> {
-        self.counts.try_reserve(1).map_err(|_| ListFault::NoMemory)?;
-        self.counts.push(IndexCounts::default());
-        Ok(())
+        self.counts.push_using(IndexCounts::default()).map_err(|_| ListFault::NoMemory)
     }
 
     fn define(&mut self, item: &ItemView<'_>) {

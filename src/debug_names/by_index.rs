@@ -1,7 +1,8 @@
 //! Names by the indices of their items.
 
-use super::owned;
-use alloc::collections::TryReserveError;
+use crate::shim::alloc::{AllocError, Global};
+use crate::shim::string::StringUsing;
+use crate::shim::vec::VecUsing;
 use alloc::string::String;
 use alloc::vec::Vec;
 use core::fmt;
@@ -39,10 +40,12 @@ impl ByIndex {
     /// # Errors
     ///
     /// Fails if an allocation fails.
-    pub fn add(&mut self, index: u32, name: &str) -> Result<(), TryReserveError> {
+    pub fn add(&mut self, index: u32, name: &str) -> Result<(), AllocError> {
         match self.find(index) {
             (_, Ok(_)) => Ok(()),
-            (page, Err(place)) => self.insert(page, place, (index, owned(name)?)),
+            (page, Err(place)) => {
+                self.insert(page, place, (index, String::from_str(Global, name)?))
+            }
         }
     }
 
@@ -51,7 +54,7 @@ impl ByIndex {
     /// # Errors
     ///
     /// Fails if an allocation fails.
-    pub fn replace(&mut self, index: u32, name: String) -> Result<(), TryReserveError> {
+    pub fn replace(&mut self, index: u32, name: String) -> Result<(), AllocError> {
         match self.find(index) {
             (page, Ok(place)) => {
                 self.pages[page][place].1 = name;
@@ -71,18 +74,12 @@ impl ByIndex {
     }
 
     /// Inserts a name at a position in a page.
-    fn insert(
-        &mut self,
-        page: usize,
-        place: usize,
-        name: (u32, String),
-    ) -> Result<(), TryReserveError> {
+    fn insert(&mut self, page: usize, place: usize, name: (u32, String)) -> Result<(), AllocError> {
         // 32 bits: there are fewer pages than bytes.
         let is_last = page + 1 >= self.pages.len();
         match self.pages.get_mut(page) {
             Some(names) if names.len() < PAGE => {
-                names.try_reserve(1)?;
-                names.insert(place, name);
+                names.insert_using(place, name)?;
             }
             Some(_) if place < PAGE || !is_last => {
                 self.split(page)?;
@@ -95,24 +92,21 @@ impl ByIndex {
             }
             _ => {
                 let mut names = Vec::new();
-                names.try_reserve(1)?;
-                self.pages.try_reserve(1)?;
-                names.push(name);
-                self.pages.push(names);
+                names.push_using(name)?;
+                self.pages.push_using(names)?;
             }
         }
         Ok(())
     }
 
     /// Moves half of the names of a full page to a page after it.
-    fn split(&mut self, page: usize) -> Result<(), TryReserveError> {
-        let mut half = Vec::new();
-        half.try_reserve_exact(PAGE)?;
-        self.pages.try_reserve(1)?;
+    fn split(&mut self, page: usize) -> Result<(), AllocError> {
+        let mut half = Vec::with_capacity_using(Global, PAGE)?;
+        self.pages.try_reserve_using(1)?;
+        #[expect(clippy::disallowed_methods, reason = "there is room")]
         half.extend(self.pages[page].drain(PAGE / 2..));
         // 32 bits: there are fewer pages than bytes.
-        self.pages.insert(page + 1, half);
-        Ok(())
+        Ok(self.pages.insert_using(page + 1, half)?)
     }
 }
 

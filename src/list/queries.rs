@@ -1,5 +1,6 @@
 //! Queries of a listing.
 
+use crate::shim::vec::VecUsing;
 use crate::tree::{ItemTree, NameTree, Space};
 use crate::twins::twins;
 use crate::{ComponentExportKind, ComponentTypeRef, DebugNames, Error, Listing};
@@ -96,8 +97,7 @@ impl Listing {
         for item in self.items() {
             let Some((space, count @ 1..)) = item.defined_indices() else { continue };
             let (items, first) = (&mut items[space.number()], &mut counts[space.number()]);
-            items.try_reserve(1).map_err(|_| Error::NoMemory)?;
-            items.push((*first, item));
+            items.push_using((*first, item)).map_err(|_| Error::NoMemory)?;
             *first = first.saturating_add(count.into());
         }
         Ok(Definitions { items, counts })

@@ -1,38 +1,36 @@
-//! Allocators and allocation errors.
+//! The allocator and allocation errors.
 
 use alloc::collections::TryReserveError;
 use core::fmt;
 
-/// An allocator: [`Global`], or in tests one that fails as planned.
-pub trait Allocator: Copy + TryClone + Eq + fmt::Debug + sealed::Sealed {
-    /// The least capacity of a vector of bytes, or a string, that grows from none.
-    #[doc(hidden)]
-    const FIRST_BYTES: usize = 0;
+/// Rattle's bound of allocators, for the sources' imports: the eraser leaves out what is bound.
+pub trait Allocator {}
 
-    /// Returns `true` if an allocation may be attempted.
-    #[inline]
-    fn allows(&self) -> bool {
-        true
-    }
-}
-
-/// The global allocator.
+/// The global allocator, the only one in Rust.
 #[derive(Clone, Copy, Debug, Default, PartialEq, Eq, Hash)]
 pub struct Global;
 
-impl Allocator for Global {
-    // std's vectors of bytes begin with 8: a type of a few members, or a section of a few items,
-    // would be reallocated three times.
-    const FIRST_BYTES: usize = 64;
+/// Returns an error if a test plans that the next allocation is refused.
+#[inline]
+pub(crate) fn ask() -> Result<(), AllocError> {
+    #[cfg(all(test, has_tests))]
+    if !crate::proved::tests::refusing::allows() {
+        return Err(AllocError);
+    }
+    Ok(())
 }
 
-pub(crate) mod sealed {
-    //! Keeps other crates from implementing [`Allocator`](super::Allocator).
-
-    /// A trait that only this crate can implement.
-    pub trait Sealed {}
-
-    impl Sealed for super::Global {}
+/// Creates a vector or a string with room for exactly this, which `reserve` reserves.
+pub(super) fn with_room<V: Default>(
+    room: usize,
+    reserve: impl FnOnce(&mut V, usize) -> Result<(), TryReserveError>,
+) -> Result<V, AllocError> {
+    if room > 0 {
+        ask()?;
+    }
+    let mut made = V::default();
+    reserve(&mut made, room)?;
+    Ok(made)
 }
 
 /// An allocation failed.

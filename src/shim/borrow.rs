@@ -1,19 +1,19 @@
 //! Strings that are borrowed or owned.
 
-use super::alloc::{AllocError, Allocator, Global, TryClone};
+use super::alloc::{AllocError, TryClone};
 use super::string::String;
 use alloc::borrow::Cow;
 
 /// A string that is borrowed or owned.
 #[derive(Debug)]
-pub enum CowStr<'a, A: Allocator = Global> {
+pub enum CowStr<'a> {
     /// Borrowed.
     Borrowed(&'a str),
     /// Owned.
-    Owned(String<A>),
+    Owned(String),
 }
 
-impl<A: Allocator> CowStr<'_, A> {
+impl CowStr<'_> {
     /// Returns the string as a slice.
     #[inline]
     pub fn as_str(&self) -> &str {
@@ -25,16 +25,16 @@ impl<A: Allocator> CowStr<'_, A> {
 }
 
 /// Strings with equal bytes are equal, borrowed or owned.
-impl<A: Allocator> PartialEq for CowStr<'_, A> {
+impl PartialEq for CowStr<'_> {
     #[inline]
     fn eq(&self, other: &Self) -> bool {
         self.as_str() == other.as_str()
     }
 }
 
-impl<A: Allocator> Eq for CowStr<'_, A> {}
+impl Eq for CowStr<'_> {}
 
-impl<A: Allocator> TryClone for CowStr<'_, A> {
+impl TryClone for CowStr<'_> {
     fn try_clone(&self) -> Result<Self, AllocError> {
         match self {
             CowStr::Borrowed(text) => Ok(CowStr::Borrowed(text)),
@@ -48,7 +48,7 @@ impl<'a> From<Cow<'a, str>> for CowStr<'a> {
     fn from(text: Cow<'a, str>) -> Self {
         match text {
             Cow::Borrowed(text) => CowStr::Borrowed(text),
-            Cow::Owned(text) => CowStr::Owned(text.into()),
+            Cow::Owned(text) => CowStr::Owned(text),
         }
     }
 }

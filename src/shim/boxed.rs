@@ -1,32 +1,30 @@
 //! Values on the heap.
 
-use super::alloc::{AllocFailed, Allocator, Global};
+use super::alloc::{AllocFailed, Global, ask};
 use alloc::boxed::Box as Inner;
 use alloc::vec::Vec;
 use core::fmt;
-use core::marker::PhantomData;
 use core::ops::{Deref, DerefMut};
 
 /// std's `Box`, whose [`try_new`](Self::try_new) returns an error if the allocation fails.
 #[derive(Clone, PartialEq, Eq, PartialOrd, Ord, Hash)]
-pub struct Box<T, A = Global> {
+pub struct Box<T> {
     /// An array of one element: it can be made from a vector, whose allocation can fail without
     /// aborting.
     inner: Inner<[T; 1]>,
-    alloc: PhantomData<A>,
 }
 
-impl<T, A: Allocator> Box<T, A> {
+impl<T> Box<T> {
     /// Moves a value to the heap. The allocation is exact, so that it needn't be shrunk, which
     /// could fail.
-    pub(crate) fn new(alloc: A, value: T) -> Result<Self, AllocFailed<T>> {
+    pub(crate) fn new(_alloc: Global, value: T) -> Result<Self, AllocFailed<T>> {
         let mut one = Vec::new();
-        if !alloc.allows() || one.try_reserve_exact(1).is_err() {
+        if ask().is_err() || one.try_reserve_exact(1).is_err() {
             return Err(AllocFailed { value });
         }
         one.push(value);
         match one.into_boxed_slice().try_into() {
-            Ok(inner) => Ok(Box { inner, alloc: PhantomData }),
+            Ok(inner) => Ok(Box { inner }),
             Err(_) => unreachable!("it has one element"),
         }
     }
@@ -38,7 +36,7 @@ impl<T, A: Allocator> Box<T, A> {
     }
 }
 
-impl<T, A> Deref for Box<T, A> {
+impl<T> Deref for Box<T> {
     type Target = T;
 
     #[inline]
@@ -47,14 +45,14 @@ impl<T, A> Deref for Box<T, A> {
     }
 }
 
-impl<T, A> DerefMut for Box<T, A> {
+impl<T> DerefMut for Box<T> {
     #[inline]
     fn deref_mut(&mut self) -> &mut T {
         &mut self.inner[0]
     }
 }
 
-impl<T: fmt::Debug, A> fmt::Debug for Box<T, A> {
+impl<T: fmt::Debug> fmt::Debug for Box<T> {
     fn fmt(&self, f: &mut fmt::Formatter<'_>) -> fmt::Result {
         self.inner[0].fmt(f)
     }

@@ -1,6 +1,5 @@
 //! Conversions.
 
-use super::alloc::Allocator;
 use super::vec::Vec;
 
 /// A value that can be borrowed as a slice.
@@ -30,23 +29,16 @@ impl<T, const N: usize> AsSlice<T> for &[T; N] {
     }
 }
 
-impl<T, A: Allocator> AsSlice<T> for Vec<T, A> {
+impl<T> AsSlice<T> for Vec<T> {
     #[inline]
     fn as_slice(&self) -> &[T] {
         Vec::as_slice(self)
     }
 }
 
-impl<T, A: Allocator> AsSlice<T> for &Vec<T, A> {
+impl<T> AsSlice<T> for &Vec<T> {
     #[inline]
     fn as_slice(&self) -> &[T] {
         Vec::as_slice(self)
-    }
-}
-
-impl<T> AsSlice<T> for alloc::vec::Vec<T> {
-    #[inline]
-    fn as_slice(&self) -> &[T] {
-        self
     }
 }

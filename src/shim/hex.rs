@@ -1,7 +1,7 @@
 //! The part of the kit's crate `hex` that the sources use.
 
-use crate::shim::alloc::{AllocError, Allocator};
-use crate::shim::vec::Vec;
+use crate::shim::alloc::{AllocError, Global};
+use crate::shim::vec::{Vec, VecUsing};
 
 /// Why hexadecimal can't be converted.
 #[derive(Clone, Copy, Debug, PartialEq, Eq)]
@@ -23,19 +23,16 @@ impl From<AllocError> for FromHexError {
 }
 
 /// Decodes hexadecimal digits.
-pub fn decode<A: Allocator>(
-    alloc: A,
-    digits: impl AsRef<[u8]>,
-) -> Result<Vec<u8, A>, FromHexError> {
+pub fn decode(alloc: Global, digits: impl AsRef<[u8]>) -> Result<Vec<u8>, FromHexError> {
     let digits = digits.as_ref();
     let value = |digit: u8| char::from(digit).to_digit(16).ok_or(FromHexError::InvalidHexCharacter);
     if digits.len() % 2 != 0 {
         return Err(FromHexError::OddLength);
     }
-    let mut bytes = Vec::with_capacity(alloc, digits.len() / 2)?;
+    let mut bytes = Vec::with_capacity_using(alloc, digits.len() / 2)?;
     for pair in digits.chunks_exact(2) {
         let byte = value(pair[0])? * 16 + value(pair[1])?;
-        let _ = bytes.push(byte as u8);
+        bytes.push(byte as u8);
     }
     Ok(bytes)
 }

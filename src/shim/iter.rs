@@ -1,19 +1,19 @@
 //! Iterators.
 
-use super::alloc::{AllocError, Allocator};
-use super::vec::Vec;
+use super::alloc::{AllocError, Global};
+use super::vec::{Vec, VecUsing};
 
 /// Rattle's `collect`, under another name, since Rust's iterators already have a `collect`.
 pub trait CollectUsing: Iterator {
     /// Collects the items in their order.
     #[inline]
-    fn collect_using<A: Allocator>(self, alloc: A) -> Result<Vec<Self::Item, A>, AllocError>
+    fn collect_using(self, alloc: Global) -> Result<Vec<Self::Item>, AllocError>
     where
         Self: Sized,
     {
-        let mut all = Vec::with_capacity(alloc, self.size_hint().0)?;
+        let mut all = Vec::with_capacity_using(alloc, self.size_hint().0)?;
         for one in self {
-            all.push(one)?;
+            all.push_using(one)?;
         }
         Ok(all)
     }

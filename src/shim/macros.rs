@@ -2,7 +2,8 @@
 
 macro_rules! format_in {
     (in $alloc:expr; $($arguments:tt)*) => {{
-        let mut text = crate::shim::string::String::new($alloc);
+        use crate::shim::string::{String, StringUsing};
+        let mut text = String::new_using($alloc);
         text.write_fmt(::core::format_args!($($arguments)*)).map(|()| text)
     }};
 }
@@ -11,10 +12,8 @@ macro_rules! format_in {
 macro_rules! vec_in {
     (in $alloc:expr; $($value:expr),* $(,)?) => {{
         let values = [$($value),*];
-        crate::shim::vec::Vec::with_capacity($alloc, values.len()).map(|mut all| {
-            for value in values {
-                let _ = all.push(value);
-            }
+        <crate::shim::vec::Vec<_> as crate::shim::vec::VecUsing<_>>::with_capacity_using($alloc, values.len()).map(|mut all| {
+            all.extend(values);
             all
         })
     }};

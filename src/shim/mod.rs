@@ -23,8 +23,10 @@ pub mod prelude {
     #[cfg(any(script, test))]
     pub use super::process::HostRuntime;
     pub use super::str;
-    pub use super::string::String;
-    pub use super::vec::Vec;
+    pub use super::string::{String, StringUsing};
+    pub use super::vec::{Vec, VecUsing};
+    #[cfg(all(test, not(script)))]
+    pub use crate::proved::for_tests::FromArray;
 }
 
 pub mod marker {

@@ -1,9 +1,9 @@
 //! Conversions between trees and the arguments of builders and sections.
 
-use super::{AliasTree, Command, NameOptions, NameTree, String};
+use super::{AliasTree, Command, NameOptions, NameTree};
 use crate::{Alias, ComponentExternName, ProducersSection};
 use alloc::borrow::Cow;
-use alloc::string::String as StdString;
+use alloc::string::String;
 
 /// Makes the command that adds the section to a component.
 ///
@@ -51,9 +51,9 @@ impl<'a> From<&'a NameTree> for ComponentExternName<'a> {
 impl From<NameTree> for ComponentExternName<'_> {
     fn from(NameTree { name, options }: NameTree) -> Self {
         fn owned<'a>(text: Option<String>) -> Option<Cow<'a, str>> {
-            text.map(|text| Cow::Owned(text.into()))
+            text.map(Cow::Owned)
         }
-        let mut made = Self::from(StdString::from(name));
+        let mut made = Self::from(name);
         if let Some(options) = options {
             let NameOptions { implements, version_suffix, external_id } = options.into_inner();
             made.implements = owned(implements);
@@ -61,12 +61,6 @@ impl From<NameTree> for ComponentExternName<'_> {
             made.external_id = owned(external_id);
         }
         made
-    }
-}
-
-impl<'a> From<&'a String> for ComponentExternName<'a> {
-    fn from(name: &'a String) -> Self {
-        name.as_str().into()
     }
 }
 
@@ -100,12 +94,6 @@ impl From<ComponentExternName<'_>> for NameTree {
 
 impl From<&str> for NameTree {
     fn from(name: &str) -> Self {
-        String::from(name).into()
-    }
-}
-
-impl From<StdString> for NameTree {
-    fn from(name: StdString) -> Self {
         String::from(name).into()
     }
 }

@@ -4,7 +4,7 @@ use super::{
     AbstractHeapType, AliasTree, ArrayType, CanonTree, CaseTree, ComponentDecl, CompositeType,
     CoreInstanceTree, CoreTypeTree, DefinedTree, EntityType, FieldType, FuncType, GlobalType,
     GroupTree, HeapType, InstanceDecl, InstanceTree, MemoryType, ModuleDecl, NameTree, RefType,
-    StorageType, String, StructType, SubType, TableType, TagType, TypeTree, ValType,
+    StorageType, StructType, SubType, TableType, TagType, TypeTree, ValType,
 };
 use crate::encode::encode;
 
@@ -32,7 +32,6 @@ encode! {
     NameTree, name => name.as_name();
     RefType, ty => *ty;
     StorageType, ty => *ty;
-    String, text => *text;
     StructType, ty => *ty;
     SubType, ty => *ty;
     TableType, ty => *ty;

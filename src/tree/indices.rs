@@ -82,15 +82,15 @@ impl ItemTree {
     ///
     /// ```
     /// use wenc::list;
-    /// use wenc::tree::{Command, Scope, Space, TypeTree, Vec, build};
+    /// use wenc::tree::{Command, Scope, Space, TypeTree, build};
     ///
     /// // an import of a function of type 0, which is exported
     /// let component = b"\0asm\x0d\0\x01\0\x07\x05\x01\x40\0\x01\0\x0a\x06\x01\0\x01f\x01\0\
     ///     \x0b\x07\x01\0\x01g\x01\0\0";
     ///
     /// // the same after another type
-    /// let ty = TypeTree::Func { is_async: true, params: [].into(), result: None };
-    /// let mut commands = std::vec![Command::Type { debug_name: None, ty }];
+    /// let ty = TypeTree::Func { is_async: true, params: vec![], result: None };
+    /// let mut commands = vec![Command::Type { debug_name: None, ty }];
     /// for mut item in list(component)?.into_items() {
     ///     item.indices_mut(|used| {
     ///         if (used.scope, used.space) == (Scope::Component(0), Space::Types) {

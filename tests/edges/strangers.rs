@@ -3,7 +3,7 @@
 
 use crate::panics;
 use std::mem::take;
-use wenc::tree::{ItemTree, String};
+use wenc::tree::ItemTree;
 use wenc::*;
 
 /// A user's value, by what it does to its sink.

@@ -183,7 +183,7 @@ fn names_and_their_trees() {
 fn names_of_trees_are_taken_where_names_are() {
     let mut section = ComponentImportSection::new();
     let ty = ComponentTypeRef::Func(0);
-    section.import(&tree::String::from("f"), ty).import(NameTree::from("g"), ty);
+    section.import(&String::from("f"), ty).import(NameTree::from("g"), ty);
     let options =
         tree::NameOptions { implements: None, version_suffix: None, external_id: Some("x".into()) };
     section.import(NameTree { name: "h".into(), options: Some(options.into()) }, ty);
@@ -208,47 +208,9 @@ fn aliases_and_their_trees() {
 }
 
 #[test]
-fn strings_of_trees_are_like_strings() {
-    let mut text = tree::String::default();
-    text.extend(["a", "b"]);
-    text.extend(['c', 'd']);
-    assert_eq!(text, "abcd");
-    assert_eq!(text, *"abcd");
-    assert_eq!(text, String::from("abcd"));
-    assert_eq!("abcd", text);
-    assert_eq!(*"abcd", text);
-    assert_eq!(String::from("abcd"), text);
-    assert!("abc" != text && *"abc" != text);
-    text.retain(|letter| letter != 'b');
-    assert_eq!(text, tree::String::from(Cow::Borrowed("acd")));
-    let smaller = tree::String::from("ab");
-    assert!(smaller < text);
-    assert_eq!(HashMap::from([(text.clone(), 1)]).get("acd"), Some(&1));
-    text.clear();
-    assert_eq!(text, "");
-    assert_eq!("xy".chars().rev().collect::<tree::String>(), "yx");
-}
-
-#[test]
-fn vectors_of_trees_are_like_vectors() {
-    let mut values = tree::Vec::default();
-    values.extend([1, 2, 3]);
-    values.extend(&[4]);
-    for value in &mut values {
-        *value *= 2;
-    }
-    assert_eq!(values, [2, 4, 6, 8]);
-    values.retain(|value| *value != 4);
-    assert_eq!(values, vec![2, 6, 8]);
-    assert!(values == [2, 6, 8][..] && values != [2, 6][..]);
-    assert!(values != [2, 6] && values != vec![2, 6]);
-    let larger = tree::Vec::from([3]);
-    assert!(values < larger);
-    assert_eq!(values.pop(), Some(8));
-    assert_eq!(values, tree::Vec::from(&[2, 6][..]));
-    assert_eq!(HashMap::from([(values.clone(), 1)]).get([2, 6].as_slice()), Some(&1));
-    values.clear();
-    assert_eq!(values.pop(), None);
+fn boxes_of_trees_are_like_boxes() {
     let boxed = tree::Box::try_new("x").unwrap();
     assert_eq!((*boxed, format!("{boxed:?}")), ("x", format!("{:?}", "x")));
+    assert_eq!(tree::Box::from("x"), boxed);
+    assert_eq!(boxed.into_inner(), "x");
 }

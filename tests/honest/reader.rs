@@ -1,11 +1,12 @@
 //! The closed list of ways in which a source, without clauses and ghost items, and its Rust may
 //! differ. The tokens of the source say which way it is, and what the Rust has instead.
 
+use super::allocators;
 use super::lexer::{Token, lex};
 use std::collections::BTreeMap;
 
 /// The ways, each of which some source takes.
-pub const WAYS: [&str; 23] = [
+pub const WAYS: [&str; 25] = [
     "kept",
     "prelude",
     "attribute of the prover left out",
@@ -25,10 +26,12 @@ pub const WAYS: [&str; 23] = [
     "root of another crate",
     "pub(crate)",
     "refusable clone",
+    "allocator is Global",
     "method that is handed an allocator",
+    "function that is handed an allocator",
     "macro that is handed an allocator",
     "main is pub",
-    "method that is inlined",
+    "function that is inlined",
 ];
 
 const CRATES: [&str; 18] = [
@@ -132,6 +135,40 @@ pub const NARROWED: [(&str, &str); 10] = [
     ("NameTree", "as_name"),
 ];
 
+/// Functions that are inlined, but for those with another attribute.
+const INLINED: [&str; 30] = [
+    "add_slot_row",
+    "alias",
+    "alias_export",
+    "append_list",
+    "as_slice",
+    "component",
+    "component_raw",
+    "core_alias_export",
+    "core_module_raw",
+    "core_type",
+    "custom_section",
+    "defined_type",
+    "encode",
+    "encode_bytes",
+    "encode_number",
+    "end_member",
+    "export",
+    "finish_member",
+    "function",
+    "import",
+    "keep_in_room",
+    "open",
+    "open_apart",
+    "put_number_over",
+    "ty",
+    "type_component",
+    "type_defined",
+    "type_function",
+    "type_instance",
+    "type_resource",
+];
+
 /// What both have next: the way, how many tokens of the source, and the tokens of the Rust.
 struct Step {
     way: &'static str,
@@ -170,7 +207,10 @@ pub fn compare(
     has_lines: bool,
     counts: &mut BTreeMap<&'static str, usize>,
 ) -> Result<(), String> {
-    let mut source = Source::new(crate_name, old);
+    let names = allocators::names(old);
+    let mut old = old.to_vec();
+    allocators::leave_out(&mut old, &names, counts);
+    let mut source = Source::new(crate_name, &old, &names);
     let mut rest = new;
     if !rest.is_empty() {
         // It stands in the line of what documents the first item.
@@ -218,14 +258,16 @@ fn take(way: &str, line: Option<usize>, wanted: &str, rest: &mut &[Token]) -> Re
 struct Source<'a> {
     crate_name: &'a str,
     tokens: &'a [Token],
+    /// The names of allocators, which become `Global` where they are left.
+    allocators: &'a [String],
     at: usize,
     /// Where an enum of errors ends, and what is written there.
     error: Option<(usize, String)>,
 }
 
 impl<'a> Source<'a> {
-    fn new(crate_name: &'a str, tokens: &'a [Token]) -> Self {
-        Source { crate_name, tokens, at: 0, error: None }
+    fn new(crate_name: &'a str, tokens: &'a [Token], allocators: &'a [String]) -> Self {
+        Source { crate_name, tokens, allocators, at: 0, error: None }
     }
 
     /// The token so many after this.
@@ -397,13 +439,23 @@ impl<'a> Source<'a> {
                 Some(step("member that stays in this crate", 1, "pub(crate)"))
             }
             "fn" if next == "main" => Some(step("main is pub", 2, "pub fn main")),
-            "fn" if next == "encode" && self.is_bare_method() => {
-                Some(step("method that is inlined", 2, "#[inline] fn encode"))
+            "fn" | "pub" if self.is_inlined() => {
+                Some(step("function that is inlined", 1, format!("#[inline] {word}")))
+            }
+            _ if self.allocators.iter().any(|name| name == word) => {
+                Some(step("allocator is Global", 1, "crate::shim::alloc::Global"))
             }
             "Clone" => Some(step("refusable clone", 1, "TryClone")),
             "clone" => Some(step("refusable clone", 1, "try_clone")),
-            "collect" if self.before(1) == "." => {
-                Some(step("method that is handed an allocator", 1, "collect_using"))
+            "allocator" | "collect" | "extend_from_slice" | "insert" | "push" | "try_reserve"
+                if [".", "fn"].contains(&self.before(1)) && next == "(" =>
+            {
+                Some(step("method that is handed an allocator", 1, format!("{word}_using")))
+            }
+            "new" | "with_capacity"
+                if self.before(1) == "::" && ["Vec", "String"].contains(&self.before(2)) =>
+            {
+                Some(step("function that is handed an allocator", 1, format!("{word}_using")))
             }
             "format" | "vec" if next == "!" && self.text(3) == "in" => {
                 let name = format!("crate::shim::{word}");
@@ -413,11 +465,17 @@ impl<'a> Source<'a> {
         }
     }
 
-    /// Whether a method of a type begins here, and not one that a trait asks for, and no attribute stands in front of it but
-    /// the prover's.
-    fn is_bare_method(&self) -> bool {
+    /// Whether a function that is inlined begins here, not one that a trait asks for, and no
+    /// attribute stands in front of it but the prover's.
+    fn is_inlined(&self) -> bool {
+        let name = match (self.text(0), self.text(1), self.text(4)) {
+            ("fn", name, _) => name,
+            ("pub", "fn", _) => self.text(2),
+            ("pub", "(", "fn") => self.text(5),
+            _ => "",
+        };
         let mut before = &self.tokens[..self.at];
-        let last = before.iter().rfind(|token| ["impl", "trait"].contains(&&*token.text));
+        let block = before.iter().rfind(|token| ["impl", "trait"].contains(&&*token.text));
         while before.last().is_some_and(|token| token.text == "]") {
             let begin = before.iter().rposition(|token| token.text == "#").unwrap_or(0);
             if !["tactic", "cycle"].contains(&&*before[begin + 2].text) {
@@ -425,8 +483,8 @@ impl<'a> Source<'a> {
             }
             before = &before[..begin];
         }
-        let is_shown = before.last().is_some_and(|token| token.text == "pub");
-        !is_shown && last.is_some_and(|token| token.text == "impl")
+        let is_first = before.last().is_none_or(|last| ["{", "}", ";"].contains(&&*last.text));
+        INLINED.contains(&name) && is_first && block.is_none_or(|token| token.text == "impl")
     }
 
     /// The type of the `impl` without a trait, or of the `struct`, that this stands in.

@@ -1,6 +1,6 @@
 //! Commands, run together and one by one, with each allocation failing in turn.
 
-use crate::proved::tests::refusing::Refusing;
+use crate::proved::tests::refusing::{Refusing, unplanned};
 use crate::proved::tests::sweeping::REFUSED;
 use crate::proved::wasm_encoder::command::Running;
 use crate::proved::wasm_encoder::{Command, Fault, build, list};
@@ -39,14 +39,14 @@ impl Case {
 }
 
 /// A function that runs commands, and returns their results and the component.
-type Run = fn(&Refusing, &[Command]) -> Result<(Vec<Answer>, Vec<u8>), Fault>;
+type Run = fn(Refusing, &[Command]) -> Result<(Vec<Answer>, Vec<u8>), Fault>;
 
-fn at_once(heap: &Refusing, commands: &[Command]) -> Result<(Vec<Answer>, Vec<u8>), Fault> {
+fn at_once(heap: Refusing, commands: &[Command]) -> Result<(Vec<Answer>, Vec<u8>), Fault> {
     let built = build(heap, commands)?;
     Ok((built.answers.as_slice().to_vec(), built.bytes.as_slice().to_vec()))
 }
 
-fn one_by_one(heap: &Refusing, commands: &[Command]) -> Result<(Vec<Answer>, Vec<u8>), Fault> {
+fn one_by_one(heap: Refusing, commands: &[Command]) -> Result<(Vec<Answer>, Vec<u8>), Fault> {
     let mut running = Running::new(heap)?;
     let answers = commands.iter().map(|command| running.run(command)).collect();
     let bytes = running.finish().expect("it is never refused");
@@ -57,7 +57,7 @@ const HEADER: &[u8] = b"\x00asm\x0d\x00\x01\x00";
 
 /// The command of the item that this section has.
 fn command(section: &[u8]) -> Command {
-    let listing = list(Global, &[HEADER, section].concat()).unwrap();
+    let listing = unplanned(|| list(Global, &[HEADER, section].concat())).unwrap();
     let mut items = listing.sections.into_iter().flat_map(|section| section.items);
     Command::from(items.next().unwrap())
 }
@@ -83,7 +83,7 @@ const RECORD: Item = (b"\x07\x09\x01\x72\x02\x01\x61\x7f\x01\x62\x7f", 12);
 /// Runs the commands with allocation number `n` failing, if there is one. Then one command fails,
 /// or the whole run.
 fn refuse(
-    heap: &Refusing,
+    heap: Refusing,
     run: Run,
     commands: &[Command],
     case: &Case,
@@ -120,7 +120,7 @@ fn commands_are_swept() {
     for case in CASES {
         let commands: Vec<Command> = case.items.iter().map(|(item, _)| command(item)).collect();
         for (run, is_refused) in runs.into_iter().zip(case.are_refused) {
-            let growths = (1..60).map_while(|n| refuse(&heap, run, &commands, case, n));
+            let growths = (1..60).map_while(|n| refuse(heap, run, &commands, case, n));
             let growths: Vec<Option<usize>> = growths.collect();
             assert!(growths.len() < 59 && growths.contains(&None), "the builder takes memory");
             assert!(growths.contains(&Some(0)));

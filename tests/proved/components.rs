@@ -13,14 +13,14 @@ use crate::shim::string::String;
 #[test]
 fn components_are_swept() {
     let heap = Refusing::new();
-    let (_, requests) = refused_in_turn(&heap, || Component::new(&heap));
+    let (_, requests) = refused_in_turn(heap, || Component::new(heap));
     let mut growths = 0;
     for (count, body) in (0..9).flat_map(|count| [(count, &[][..]), (count, TEXT)]) {
-        let mut component = Component::new(&heap).unwrap();
+        let mut component = Component::new(heap).unwrap();
         (0..count).for_each(|_| component.section(&RawCustomSection(&[])).unwrap());
         let before = component.as_slice().to_vec();
-        let (copy, copies) = refused_in_turn(&heap, || component.try_clone());
-        let ((), more) = refused_in_turn(&heap, || {
+        let (copy, copies) = refused_in_turn(heap, || component.try_clone());
+        let ((), more) = refused_in_turn(heap, || {
             let outcome = component.section(&RawCustomSection(body));
             assert!(outcome.is_ok() || component.as_slice() == before);
             outcome
@@ -36,9 +36,9 @@ fn components_are_swept() {
 macro_rules! are_swept {
     ($heap:ident $($ty:ident |$of:ident| $add:expr;)*) => {$(
         for count in 0..9 {
-            let mut $of = $ty::new(&$heap);
+            let mut $of = $ty::new($heap);
             (0..count).for_each(|_| $add.unwrap());
-            let (mut copy, requests) = refused_in_turn(&$heap, || $of.try_clone());
+            let (mut copy, requests) = refused_in_turn($heap, || $of.try_clone());
             assert_eq!((requests > 0, copy.type_count()), (count > 0, count));
             assert_eq!(sweep_encode(&copy), sweep_encode(&$of));
             let $of = &mut copy;

@@ -16,11 +16,11 @@ use crate::proved::wenc_list::{ItemTree, ItemView, Names};
 use crate::proved::wenc_parts::Alias;
 use crate::proved::wenc_view::View;
 use crate::shim::alloc::Global;
-use crate::shim::vec::Vec;
+use crate::shim::vec::{Vec, VecUsing};
 
 /// What is made is written as these bytes.
 fn written<T: Encode>(made: Result<T, Fault>) -> Result<Vec<u8>, Fault> {
-    let mut sink = Vec::new(Global);
+    let mut sink = Vec::new_using(Global);
     made?.encode(&mut sink)?;
     Ok(sink)
 }
@@ -134,7 +134,7 @@ fn types_by_encoders() {
             b"\x13\x02\x72\x02\x04name\x73\x06street\x73\x6b\x73";
         written(types::func_type(Global)) => b"\x0b\x01\x40\x01\x04line\x73\x01\x00";
     }
-    let mut sink = Vec::new(Global);
+    let mut sink = Vec::new_using(Global);
     base::core_type(Global).unwrap().encode_section(&mut sink).unwrap();
     assert_eq!(sink.as_slice(), b"\x05\x01\x60\x01\x7f\x00");
 }
@@ -155,7 +155,7 @@ fn trees_and_parts() {
 /// After what was there.
 #[test]
 fn sections_behind() {
-    let (bytes, count) = canon::behind(Vec::new(Global)).unwrap();
+    let (bytes, count) = canon::behind(Vec::new_using(Global)).unwrap();
     assert!(count == 1 && bytes.as_slice() == b"\x03\x02".as_slice());
     let (bytes, count) = sections::behind(bytes, parts::alias()).unwrap();
     assert!(count == 1 && bytes.as_slice() == b"\x03\x02\x03\x02\x01\x02".as_slice());

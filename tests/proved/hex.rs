@@ -1,6 +1,7 @@
 //! Hexadecimal digits, as the tests compare them.
 
 use crate::proved::hex::decode;
+use crate::proved::tests::refusing::unplanned;
 use crate::shim::alloc::Global;
 use std::string::String;
 use std::{format, vec::Vec};
@@ -12,5 +13,5 @@ pub fn digits(bytes: &[u8]) -> String {
 
 /// The bytes with these digits.
 pub fn bytes(digits: &str) -> Vec<u8> {
-    decode(Global, digits).unwrap().into()
+    unplanned(|| decode(Global, digits)).unwrap()
 }

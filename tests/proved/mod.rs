@@ -13,6 +13,6 @@ mod hex;
 mod listing;
 mod parts;
 mod program;
-mod refusing;
+pub(crate) mod refusing;
 mod shim;
 mod sweeping;

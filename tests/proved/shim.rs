@@ -14,7 +14,7 @@ use std::vec;
 use std::vec::Vec as RustVec;
 
 /// An allocator, and a vector of it with these elements and no room for more.
-fn full<'a>(heap: &'a Refusing, values: &[u16]) -> Vec<u16, &'a Refusing> {
+fn full(heap: Refusing, values: &[u16]) -> Vec<u16> {
     let vec = Vec::from_slice(heap, values).expect("it is granted");
     assert_eq!(vec.capacity(), values.len());
     vec
@@ -24,43 +24,43 @@ fn full<'a>(heap: &'a Refusing, values: &[u16]) -> Vec<u16, &'a Refusing> {
 fn a_vector_asks_only_where_room_is_missing() {
     let heap = Refusing::new();
     heap.refuse_all();
-    let mut vec: Vec<u16, _> = Vec::new(&heap);
-    assert!(vec.try_reserve(0).is_ok() && vec.extend_from_slice(&[]).is_ok());
-    assert!(Vec::<u16, _>::with_capacity(&heap, 0).is_ok());
+    let mut vec: Vec<u16> = Vec::new_using(heap);
+    assert!(vec.try_reserve_using(0).is_ok() && vec.extend_from_slice_using(&[]).is_ok());
+    assert!(Vec::<u16>::with_capacity_using(heap, 0).is_ok());
     assert_eq!(heap.requests(), 0);
     heap.refuse_none();
-    vec.try_reserve(3).expect("it is granted");
+    vec.try_reserve_using(3).expect("it is granted");
     assert_eq!((heap.requests(), heap.was_refused()), (1, false));
     let room = vec.capacity();
     heap.refuse_all();
-    vec.push(1).expect("there is room");
-    vec.insert(0, 2).expect("there is room");
-    vec.extend_from_slice(&[3]).expect("there is room");
+    vec.push_using(1).expect("there is room");
+    vec.insert_using(0, 2).expect("there is room");
+    vec.extend_from_slice_using(&[3]).expect("there is room");
     assert_eq!((vec.as_slice(), vec.capacity(), heap.requests()), (&[2, 1, 3][..], room, 0));
 }
 
 #[test]
 fn a_refused_vector_is_as_it_was() {
     let heap = Refusing::new();
-    let mut vec = full(&heap, &[7, 8]);
+    let mut vec = full(heap, &[7, 8]);
     heap.refuse_all();
-    assert_eq!(vec.push(9).map_err(|failed| failed.value), Err(9));
-    assert_eq!(vec.insert(1, 9).map_err(|failed| failed.value), Err(9));
-    assert_eq!(vec.extend_from_slice(&[9]), Err(AllocError));
-    assert_eq!(vec.try_reserve(1), Err(AllocError));
+    assert_eq!(vec.push_using(9).map_err(|failed| failed.value), Err(9));
+    assert_eq!(vec.insert_using(1, 9).map_err(|failed| failed.value), Err(9));
+    assert_eq!(vec.extend_from_slice_using(&[9]), Err(AllocError));
+    assert_eq!(vec.try_reserve_using(1), Err(AllocError));
     assert_eq!((vec.as_slice(), vec.capacity()), (&[7, 8][..], 2));
     assert_eq!((heap.requests(), heap.was_refused()), (4, true));
-    assert!(Vec::from_slice(&heap, &[1u8]).is_err());
-    assert!((0..3).collect_using(&heap).is_err());
-    assert!(Vec::<u8, _>::with_capacity(&heap, 1).is_err());
+    assert!(Vec::from_slice(heap, &[1u8]).is_err());
+    assert!((0..3).collect_using(heap).is_err());
+    assert!(Vec::<u8>::with_capacity_using(heap, 1).is_err());
 }
 
 #[test]
 fn a_vector_does_what_its_calls_say() {
     let heap = Refusing::new();
-    let mut vec = full(&heap, &[1, 2, 3]);
-    vec.insert(1, 9).expect("granted");
-    vec.insert(4, 8).expect("granted");
+    let mut vec = full(heap, &[1, 2, 3]);
+    vec.insert_using(1, 9).expect("granted");
+    vec.insert_using(4, 8).expect("granted");
     assert_eq!(vec.as_slice(), [1, 9, 2, 3, 8]);
     assert_eq!((vec.remove(1), vec.remove(3)), (9, 8));
     vec.truncate(7);
@@ -71,60 +71,37 @@ fn a_vector_does_what_its_calls_say() {
     assert_eq!((0..3u8).collect_using(Global).expect("granted").as_slice(), [0, 1, 2]);
     let owned: RustVec<u8> = Vec::from(vec![4, 5]).into();
     assert_eq!(owned, [4, 5]);
-    assert!(Vec::from_slice(&heap, &[1]) == Vec::from_slice(&Refusing::new(), &[1]));
+    assert!(Vec::from_slice(heap, &[1]) == Vec::from_slice(Refusing::new(), &[1]));
     assert_eq!(Vec::from(vec![1, 2]).into_iter().rev().collect::<RustVec<_>>(), [2, 1]);
 }
 
 /// Sizes that no machine has: they fail before the system is called, and nothing ends the program.
 #[test]
 fn sizes_that_no_memory_has() {
-    assert!(Vec::<u8>::with_capacity(Global, usize::MAX).is_err());
-    assert!(Vec::<u64>::with_capacity(Global, usize::MAX / 8).is_err());
-    assert!(Vec::<u64>::with_capacity(Global, usize::MAX).is_err());
+    assert!(Vec::<u8>::with_capacity_using(Global, usize::MAX).is_err());
+    assert!(Vec::<u64>::with_capacity_using(Global, usize::MAX / 8).is_err());
+    assert!(Vec::<u64>::with_capacity_using(Global, usize::MAX).is_err());
     let mut vec = Vec::from(vec![1u8]);
-    assert_eq!(vec.try_reserve(usize::MAX), Err(AllocError));
-    assert_eq!(vec.try_reserve(isize::MAX as usize), Err(AllocError));
+    assert_eq!(vec.try_reserve_using(usize::MAX), Err(AllocError));
+    assert_eq!(vec.try_reserve_using(isize::MAX as usize), Err(AllocError));
     assert_eq!(vec.as_slice(), [1]);
     assert!((0..usize::MAX).map(|n| n as u8).collect_using(Global).is_err());
-    assert!(Vec::<()>::with_capacity(Global, usize::MAX).is_ok());
-}
-
-#[test]
-fn room_that_is_given_back() {
-    let heap = Refusing::new();
-    let mut vec = Vec::with_capacity(&heap, 10).expect("granted");
-    vec.extend_from_slice(&[1, 2]).expect("room");
-    heap.refuse_all();
-    vec.shrink_to_fit();
-    assert_eq!((vec.as_slice(), vec.capacity()), (&[1, 2][..], 10), "it keeps what it has");
-    heap.refuse_none();
-    vec.shrink_to_fit();
-    assert_eq!((vec.as_slice(), vec.capacity()), (&[1, 2][..], 2));
-    heap.refuse_all();
-    vec.shrink_to_fit();
-    assert_eq!(heap.requests(), 0, "there is nothing to give back");
-    vec.truncate(0);
-    vec.shrink_to_fit();
-    assert_eq!(
-        (vec.capacity(), heap.requests()),
-        (0, 0),
-        "an empty one frees, and asks for nothing"
-    );
+    assert!(Vec::<()>::with_capacity_using(Global, usize::MAX).is_ok());
 }
 
 #[test]
 fn texts() {
     let heap = Refusing::new();
-    let mut text = String::from_str(&heap, "ab").expect("granted");
+    let mut text = String::from_str(heap, "ab").expect("granted");
     heap.refuse_all();
-    assert_eq!(text.push('é'), Err(AllocError));
-    assert_eq!(text.push_str("c"), Err(AllocError));
+    assert_eq!(text.push_using('é'), Err(AllocError));
+    assert_eq!(text.push_str_using("c"), Err(AllocError));
     assert_eq!(text.write_fmt(format_args!("{}", 1)), Err(AllocError));
-    assert_eq!((text.push_str(""), text.as_str()), (Ok(()), "ab"));
-    assert!(text.try_clone().is_err() && String::from_str(&heap, "a").is_err());
-    assert!(crate::shim::format!(in &heap; "{}", 1).is_err());
+    assert_eq!((text.push_str_using(""), text.as_str()), (Ok(()), "ab"));
+    assert!(text.try_clone().is_err() && String::from_str(heap, "a").is_err());
+    assert!(crate::shim::format!(in heap; "{}", 1).is_err());
     heap.refuse_none();
-    text.push('é').expect("granted");
+    text.push_using('é').expect("granted");
     write!(text, "{:03}!", 7).expect("granted");
     assert_eq!((text.as_str(), text.to_string()), ("abé007!", "abé007!".into()));
     assert_eq!(text.try_clone().map(|copy| copy == text), Ok(true));
@@ -138,20 +115,20 @@ fn texts() {
 fn boxes() {
     let heap = Refusing::new();
     heap.refuse_nth(1);
-    let refused: Result<Box<u16, _>, AllocFailed<u16>> = Box::new(&heap, 3);
+    let refused: Result<Box<u16>, AllocFailed<u16>> = Box::new(heap, 3);
     assert_eq!(refused.map_err(|failed| failed.value).err(), Some(3));
-    let mut boxed = Box::new(&heap, 3).expect("granted");
+    let mut boxed = Box::new(heap, 3).expect("granted");
     *boxed += 1;
     assert_eq!((*boxed, heap.requests(), heap.was_refused()), (4, 2, true));
     assert_eq!(Box::into_inner(boxed), 4);
-    assert_eq!(Box::<(), Global>::new(Global, ()).map(Box::into_inner).ok(), Some(()));
+    assert_eq!(Box::<()>::new(Global, ()).map(Box::into_inner).ok(), Some(()));
 }
 
 #[test]
 fn texts_that_are_lent_or_owned() {
     let heap = Refusing::new();
     let borrowed = CowStr::Borrowed("a");
-    let owned = CowStr::Owned(String::from_str(&heap, "a").expect("granted"));
+    let owned = CowStr::Owned(String::from_str(heap, "a").expect("granted"));
     assert_eq!(borrowed, owned);
     heap.refuse_all();
     assert!(borrowed.try_clone().is_ok() && owned.try_clone().is_err());
@@ -162,11 +139,12 @@ fn texts_that_are_lent_or_owned() {
 #[test]
 fn copies_that_may_be_refused() {
     let heap = Refusing::new();
-    heap.refuse_all();
-    assert_eq!(TryClone::try_clone(&Some(Global)), Ok(Some(Global)));
-    assert_eq!(TryClone::try_clone(&None::<String>).map(|none| none.is_none()), Ok(true));
     let text = Some(String::from_str(Global, "a").expect("granted"));
     assert_eq!(text.try_clone().map(|copy| copy == text), Ok(true));
+    heap.refuse_all();
+    assert!(text.try_clone().is_err());
+    assert_eq!(TryClone::try_clone(&Some(Global)), Ok(Some(Global)));
+    assert_eq!(TryClone::try_clone(&None::<String>).map(|none| none.is_none()), Ok(true));
     assert_eq!(AllocError::from(AllocFailed { value: 1 }), AllocError);
     assert_eq!(AllocError.to_string(), "memory allocation failed");
 }
@@ -192,7 +170,7 @@ fn digits() {
     assert_eq!(hex::decode(Global, "0g").err(), Some(FromHexError::InvalidHexCharacter));
     let heap = Refusing::new();
     heap.refuse_all();
-    assert_eq!(hex::decode(&heap, "00").err(), Some(FromHexError::OutOfMemory));
+    assert_eq!(hex::decode(heap, "00").err(), Some(FromHexError::OutOfMemory));
 }
 
 #[test]

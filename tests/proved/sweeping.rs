@@ -4,7 +4,7 @@
 use super::refusing::Refusing;
 use crate::proved::wenc_base::{Encode, Fault};
 use crate::shim::alloc::AllocError;
-use crate::shim::vec::Vec;
+use crate::shim::vec::{Vec, VecUsing};
 
 /// The error of a failed allocation.
 pub const REFUSED: Fault = Fault::Memory(AllocError);
@@ -16,7 +16,7 @@ const START: &[u8] = &[1, 2, 3];
 
 /// Makes a call with each of its allocations failing in turn, until it succeeds. Returns its result
 /// and the number of allocations.
-pub fn refused_in_turn<T>(heap: &Refusing, mut call: impl FnMut() -> Result<T, Fault>) -> (T, u64) {
+pub fn refused_in_turn<T>(heap: Refusing, mut call: impl FnMut() -> Result<T, Fault>) -> (T, u64) {
     for n in 1..20 {
         heap.refuse_nth(n);
         let outcome = call();
@@ -33,8 +33,8 @@ pub fn refused_in_turn<T>(heap: &Refusing, mut call: impl FnMut() -> Result<T, F
 /// is at least one.
 pub fn sweep_encode<E: Encode>(value: &E) -> std::vec::Vec<u8> {
     let heap = Refusing::new();
-    let mut sink = Vec::from_slice(&heap, START).unwrap();
-    let ((), requests) = refused_in_turn(&heap, || {
+    let mut sink = Vec::from_slice(heap, START).unwrap();
+    let ((), requests) = refused_in_turn(heap, || {
         let outcome = value.encode(&mut sink);
         assert!(outcome.is_ok() || sink.as_slice() == START);
         outcome
@@ -48,7 +48,7 @@ pub fn sweep_encode<E: Encode>(value: &E) -> std::vec::Vec<u8> {
 pub fn check<E: Encode>(value: &E, wanted: &[u8]) {
     if wanted.is_empty() {
         let heap = Refusing::new();
-        let mut sink = Vec::new(&heap);
+        let mut sink = Vec::new_using(heap);
         heap.refuse_all();
         value.encode(&mut sink).unwrap();
         assert!(sink.is_empty() && heap.requests() == 0);

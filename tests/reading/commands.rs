@@ -25,14 +25,3 @@ fn a_refused_command_changes_nothing() {
     let expected = component(b"\x0a\x06\x01\x00\x01f\x01\x00\x07\x03\x01\x42\x00");
     assert_eq!(builder.finish(), expected);
 }
-
-#[test]
-fn lists_and_texts_are_those_of_rust() {
-    let list: tree::Vec<u8> = vec![1, 2].into();
-    assert_eq!(Vec::from(list.clone()), [1, 2]);
-    assert_eq!(list, tree::Vec::from([1, 2]));
-    assert_eq!(list, [1, 2].into_iter().collect::<wenc::tree::Vec<_>>());
-    let given: String = text("x").into();
-    assert_eq!(given, "x");
-    assert_eq!(tree::Box::from(3).into_inner(), 3);
-}

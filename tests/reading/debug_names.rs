@@ -1,7 +1,7 @@
 //! Debug names.
 
 use crate::{bytes, component};
-use wenc::tree::{ItemTree, Space, String};
+use wenc::tree::{ItemTree, Space};
 use wenc::view::ItemView;
 use wenc::{
     Cause, Component, ComponentNameSection, ComponentSection, DebugNames, NamesFault, Sections,

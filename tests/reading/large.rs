@@ -3,7 +3,7 @@
 
 use crate::refuse::requested;
 use std::collections::BTreeMap;
-use wenc::tree::{ItemTree, OuterFault, Scope, Space, String};
+use wenc::tree::{ItemTree, OuterFault, Scope, Space};
 use wenc::{Component, DebugNames, ListFault, NestedComponentSection, RawSection, Sections, list};
 
 /// A number of at most 28 bits, padded to four bytes.

@@ -44,7 +44,7 @@ mod visited;
 use hex::bytes;
 use indices::{expect, here};
 use visited::Seen;
-use wenc::tree::{NameTree, String as Text};
+use wenc::tree::NameTree;
 use wenc::*;
 
 /// A component with these sections.
@@ -64,10 +64,15 @@ fn nested(sections: &[u8]) -> Vec<u8> {
     section(4, &component(sections))
 }
 
-fn text(text: &str) -> Text {
+fn bytes(hexadecimal: &str) -> Vec<u8> {
+    let digits = hexadecimal.replace(' ', "");
+    let byte = |at| u8::from_str_radix(&digits[at..at + 2], 16).expect("two digits");
+    (0..digits.len()).step_by(2).map(byte).collect()
+}
+fn text(text: &str) -> String {
     text.into()
 }
 
 fn name(text: &str) -> NameTree {
-    Text::from(text).into()
+    text.into()
 }

@@ -2,7 +2,7 @@
 
 use crate::corpus;
 use crate::seen::{is_name, is_same};
-use wenc::tree::{ItemTree, Space, Vec as List};
+use wenc::tree::{ItemTree, Space};
 use wenc::*;
 
 /// How many there are.
@@ -124,7 +124,7 @@ fn are_read_on(bytes: &[u8]) {
 
 /// The sections of a listing and of the components in it, with the depth of each, and its place in
 /// the outermost.
-fn listed(bytes: &[u8], depth: usize, from: usize) -> Vec<(usize, usize, List<ItemTree>)> {
+fn listed(bytes: &[u8], depth: usize, from: usize) -> Vec<(usize, usize, Vec<ItemTree>)> {
     let mut found = Vec::new();
     for ListedSection { place, items, .. } in list(bytes).expect("it is listed").sections {
         let inner = match items.as_slice() {
@@ -146,7 +146,7 @@ fn are_nested(bytes: &[u8], all: &mut Found) {
     let read = |section: Result<(usize, SectionReader<'_>), ListFault>| {
         let (depth, section) = section?;
         let items = section.trees().map(|item| Ok(item?.1)).collect::<Result<Vec<_>, _>>()?;
-        Ok((depth, section.range().start, List::from(items)))
+        Ok((depth, section.range().start, items))
     };
     // some have an item that isn't read in one
     let found: Result<Vec<_>, ListFault> = sections.map(read).collect();

@@ -7,7 +7,7 @@ use crate::{bytes, component};
 use std::ops::Range;
 use wenc::tree::{
     self, AliasTree, ComponentDecl, CoreCompositeType, CoreTypeTree, DefinedTree, GroupTree,
-    ItemTree, ModuleDecl, NameTree, String, TypeTree,
+    ItemTree, ModuleDecl, NameTree, TypeTree,
 };
 use wenc::view::ItemView;
 use wenc::*;
@@ -211,7 +211,6 @@ fn parts_of_items_encode_themselves() {
     are_encoded(&[
         (&case, "0161017d00"),
         (&DefinedTree::Variant([case.clone()].into()), "71010161017d00"),
-        (&String::from("f"), "0166"),
         (&tree::CanonTree::TaskCancel, "05"),
         (&tree::CoreInstanceTree::Instantiate { module: 128, args }, "0080010101651202"),
         (&tree::InstanceTree::Exports([].into()), "0100"),

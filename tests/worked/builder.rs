@@ -247,7 +247,7 @@ fn a_deep_type() {
 fn commands() {
     let cancel = Command::Canon { debug_name: None, canon: CanonTree::TaskCancel };
     let start = Command::Start { function: 7, args: [].into(), results: u32::MAX };
-    let import = Command::Import { name: tree::NameTree::from(tree::String::from("v")), ty: BYTE };
+    let import = Command::Import { name: tree::NameTree::from("v"), ty: BYTE };
     let nested = |commands: &[Command]| Command::Component {
         debug_name: None,
         commands: commands.to_vec().into(),

@@ -8,8 +8,7 @@ use crate::numbers::{
 };
 use crate::refuse::calmly;
 use wenc::tree::{
-    AliasTree, CanonTree, Command, CoreInstanceTree, DefinedTree, InstanceTree, NameTree, String,
-    TypeTree,
+    AliasTree, CanonTree, Command, CoreInstanceTree, DefinedTree, InstanceTree, NameTree, TypeTree,
 };
 use wenc::{CanonicalOption, ComponentTypeRef, ModuleArg};
 use wenc_capi::arguments::{Flag, Name, Pair, Part, Text};

@@ -7,7 +7,7 @@ use crate::refuse::calmly;
 use std::ptr;
 use wenc::tree::{
     AliasTree, ComponentDecl, CoreCompositeType, CoreEntityType, CoreSubType, CoreTypeTree,
-    GroupTree, InstanceDecl, ModuleDecl, Space, String,
+    GroupTree, InstanceDecl, ModuleDecl, Space,
 };
 use wenc_capi::arguments::{Entity, Flag, Pair, Subtype};
 use wenc_capi::component_types::wenc_type;

@@ -9,7 +9,7 @@ mod scopes;
 mod sections;
 
 use hex::bytes;
-use wenc::tree::{Command, ItemTree, NameTree, Scope, Space, String as Text, build};
+use wenc::tree::{Command, ItemTree, NameTree, Scope, Space, build};
 use wenc::{
     Component, ComponentNameSection, ComponentSection, ComponentSectionId, DebugNames, RawSection,
     list,
@@ -24,12 +24,12 @@ fn here(space: Space, index: u32) -> Seen {
     (space, Scope::Component(0), index)
 }
 
-fn text(text: &str) -> Text {
+fn text(text: &str) -> String {
     text.into()
 }
 
 fn name(text: &str) -> NameTree {
-    NameTree::from(Text::from(text))
+    NameTree::from(text)
 }
 
 /// The debug name of an index, where its scope has names.

@@ -11,8 +11,7 @@ mod shim;
 use proved::wenc::failure::Failure;
 use shim::alloc::{AllocError, Global};
 use shim::process::HostRuntime;
-use shim::string::String;
-use shim::vec::Vec;
+use shim::vec::VecUsing;
 use std::ffi::OsString;
 use std::io::{Read, Write};
 use std::process::ExitCode;
@@ -20,7 +19,7 @@ use std::process::ExitCode;
 /// Returns the arguments without the program's name. Fails if there are any and an allocation
 /// fails, or if one of them, or the program's name, isn't UTF-8.
 fn arguments(all: impl Iterator<Item = OsString>) -> Result<Vec<String>, Failure> {
-    let mut arguments = Vec::new(Global);
+    let mut arguments = Vec::new();
     let mut all = all.peekable();
     let program = all.next();
     if all.peek().is_none() {
@@ -29,7 +28,7 @@ fn arguments(all: impl Iterator<Item = OsString>) -> Result<Vec<String>, Failure
     for (at, argument) in program.into_iter().chain(all).enumerate() {
         let argument = argument.into_string().map_err(|_| Failure::Arguments)?;
         if at > 0 {
-            arguments.push(argument.into()).map_err(|_| Failure::from(AllocError))?;
+            arguments.push_using(argument).map_err(|_| Failure::from(AllocError))?;
         }
     }
     Ok(arguments)

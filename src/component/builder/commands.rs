@@ -90,13 +90,13 @@ impl ComponentBuilder {
     /// is unchanged, since a type that can't be encoded is discarded.
     ///
     /// ```
-    /// use wenc::tree::{Command, String};
+    /// use wenc::tree::Command;
     /// use wenc::{ComponentBuilder, ComponentExportKind, ComponentTypeRef, TypeBounds};
     ///
     /// let mut builder = ComponentBuilder::default();
     /// let file = builder.import("file", ComponentTypeRef::Type(TypeBounds::SubResource));
     /// let export = Command::Export {
-    ///     name: String::from("handle").into(),
+    ///     name: "handle".into(),
     ///     kind: ComponentExportKind::Type,
     ///     index: file,
     ///     ty: None,

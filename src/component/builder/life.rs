@@ -29,7 +29,7 @@ impl ComponentBuilder {
         /// assert_eq!(builder.finish(), b"\0asm\x0d\0\x01\0");
         /// ```
         fn finish | try_finish(self) -> Vec<u8> {
-            Ok(self.0.finish()?.into())
+            Ok(self.0.finish()?)
         }
 
         /// Adds a section of the debug names so far, if there are any. The debug name of an import,

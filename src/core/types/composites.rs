@@ -61,6 +61,7 @@ impl FuncType {
     {
         let mut values: Vec<ValType> = params.into_iter().collect();
         let params = values.len();
+        #[expect(clippy::disallowed_methods, reason = "it can't fail, as upstream's")]
         values.extend(results);
         Self { values: values.into(), params }
     }

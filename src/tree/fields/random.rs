@@ -1,11 +1,12 @@
 //! Random items, by the table of fields, and what reading gives of them.
 
 use super::{CoreArrayType, CoreFuncType, CoreValType, NameOptions};
-use crate::tree::{Box, Global, ItemTree, String, Vec};
+use crate::tree::{Box, Global, ItemTree};
 use crate::{Component, ItemSection, Sections};
 use std::fmt::Debug;
 use std::format;
-use std::vec::Vec as List;
+use std::string::String;
+use std::vec::Vec;
 
 /// Choices that a seed makes.
 pub(super) struct Choices {
@@ -92,19 +93,19 @@ impl Random for String {
     fn random(choices: &mut Choices) -> Self {
         let texts = ["", "a", "wasi:io/streams@0.2.0", "\u{e9}", "\u{10ffff}"];
         let text = texts[choices.below(texts.len())];
-        String::from_str(Global, text).expect("memory")
+        text.into()
     }
 }
 
 impl<T: Random> Random for Vec<T> {
     fn random(choices: &mut Choices) -> Self {
-        let mut values = Vec::new(Global);
+        let mut values = Vec::new();
         if choices.depth == 0 {
             return values;
         }
         choices.depth -= 1;
         for _ in 0..choices.below(5) {
-            values.push(T::random(choices)).expect("memory");
+            values.push(T::random(choices));
         }
         choices.depth += 1;
         values
@@ -149,7 +150,7 @@ impl Random for CoreFuncType {
 }
 
 /// The component with this item alone.
-fn component(item: &ItemTree) -> List<u8> {
+fn component(item: &ItemTree) -> Vec<u8> {
     let section = (0..=11).find_map(|id| {
         let mut section = ItemSection::new(id);
         section.item(item).is_ok().then_some(section)
@@ -182,7 +183,7 @@ fn random_items_are_read_as_they_were_written() {
         assert_eq!(view.to_tree(), item);
         assert_eq!(format!("{:?}", view.node()), format!("{:?}", item.node()));
 
-        let (mut owned, mut borrowed) = (List::new(), List::new());
+        let (mut owned, mut borrowed) = (Vec::new(), Vec::new());
         item.indices_mut(|used| owned.push((used.space, used.scope, *used.index)));
         view.node().each_index(|used| borrowed.push((used.space, used.scope, used.index)));
         assert_eq!(owned, borrowed);

@@ -3,9 +3,12 @@
 use super::{Child, CoreArrayType, CoreFuncType, CoreValType, Fields, List, Named, Node};
 use super::{Place, Tree, TreeMut, Visit, named};
 use crate::proved::wenc_view::View;
+use crate::shim::vec::VecUsing;
 use crate::tree::indices::{IndexUse, Visitor};
-use crate::tree::{AllocError, Box, CoreHeapType, CoreRefType, Space, String, Vec};
+use crate::tree::{AllocError, Box, CoreHeapType, CoreRefType, Global, Space};
 use crate::view::{ComponentDecls, CoreCompositeView, InstanceDecls, ListOf, NameView};
+use alloc::string::String;
+use alloc::vec::Vec;
 use core::ops::ControlFlow;
 
 /// Implements `Tree` for types without indices.
@@ -271,7 +274,5 @@ fn has_index(ty: &CoreValType) -> bool {
 
 /// Copies a list of types.
 fn copy(types: &[CoreValType]) -> Result<Vec<CoreValType>, AllocError> {
-    let mut copied = Vec::default();
-    copied.extend_from_slice(types)?;
-    Ok(copied)
+    Vec::from_slice(Global, types)
 }

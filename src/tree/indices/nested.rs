@@ -1,6 +1,7 @@
 //! The indices in nested components that refer to the components around them.
 
 use super::{IndexUse, Scope};
+use crate::shim::vec::VecUsing;
 use crate::tree::ItemTree;
 use crate::{ComponentBuilder, ComponentSectionId, Error, ListFault, SectionReader, Sections};
 use alloc::vec::Vec;
@@ -27,7 +28,7 @@ impl ItemTree {
     ///
     /// ```
     /// use wenc::list;
-    /// use wenc::tree::{Command, Scope, Space, Vec, build};
+    /// use wenc::tree::{Command, Scope, Space, build};
     ///
     /// // two types, and a component with an outer alias of the first, the type of its import
     /// let component = b"\0asm\x0d\0\x01\0\x07\x09\x02\x40\0\x01\0\x43\0\x01\0\
@@ -54,7 +55,7 @@ impl ItemTree {
     ) -> Result<(), OuterFault> {
         if let Self::Component(bytes) = self {
             if let Some(changed) = visit_outer(bytes, limit.min(DEPTH), &mut visit)? {
-                *bytes = changed.into();
+                *bytes = changed;
             }
         }
         Ok(())
@@ -82,9 +83,9 @@ fn visit_outer(
                 let place = section.range().start;
                 return Err(ListFault::TooDeep { place, unread: None, cause: None }.into());
             }
-            around.try_reserve(1).map_err(|_| ListFault::NoMemory)?;
             let nested = Visited::new(section.raw().data, innermost.depth + 1)?;
-            around.push(mem::replace(&mut innermost, nested));
+            let outer = mem::replace(&mut innermost, nested);
+            around.push_using(outer).map_err(|_| ListFault::NoMemory)?;
         } else {
             let bytes = innermost.bytes;
             let changed = innermost.finish()?;

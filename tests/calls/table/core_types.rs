@@ -5,7 +5,7 @@ use crate::call::{Build, Call, Declare, Seen, here};
 use crate::refuse::calmly;
 use crate::size::{Size, times};
 use wenc::tree::{
-    self, Command, CoreEntityType, CoreSubType, CoreTypeTree, GroupTree, ModuleDecl, Scope, Space,
+    Command, CoreEntityType, CoreSubType, CoreTypeTree, GroupTree, ModuleDecl, Scope, Space,
 };
 use wenc::*;
 
@@ -345,7 +345,7 @@ fn entity_tree(ty: EntityType) -> CoreEntityType {
     tree
 }
 
-fn text(text: &str) -> tree::String {
+fn text(text: &str) -> String {
     text.into()
 }
 

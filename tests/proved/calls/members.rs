@@ -18,8 +18,8 @@ use crate::proved::wenc_parts::{
 use crate::proved::wenc_sections::{NamesOf, Space};
 use crate::proved::wenc_types::counts::{Counts, IndexSpace, space_of_alias, space_of_kind};
 use crate::shim::alloc::Global;
-use crate::shim::string::String;
-use crate::shim::vec::Vec;
+use crate::shim::string::{String, StringUsing};
+use crate::shim::vec::{Vec, VecUsing};
 
 const ROWS: [Row; 3] = [rows::STREAM_READ, rows::RESOURCE_DROP, rows::CONTEXT_GET];
 
@@ -61,7 +61,7 @@ fn parts() {
     field.value("a", "1").unwrap();
     let mut producers = ProducersSection::new(Global);
     producers.field("sdk", &field).unwrap();
-    let mut data = Vec::new(Global);
+    let mut data = Vec::new_using(Global);
     producers.encode_data(&mut data).unwrap();
     assert_eq!(digits(&data), "010373646b0101610131");
     assert_eq!(Section::id(&producers), 0);
@@ -79,7 +79,7 @@ fn names_that_are_owned() {
 #[test]
 fn of_a_stranger() {
     let own = Own(&[0x2a]);
-    let mut sink = Vec::new(Global);
+    let mut sink = Vec::new_using(Global);
     own.append_to(&mut sink).unwrap();
     assert_eq!((Section::id(&own), sink.as_slice()), (98, b"\x62\x2a".as_slice()));
     section_is(&own, 99, "632a");

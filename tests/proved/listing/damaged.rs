@@ -228,12 +228,14 @@ fn requests(bytes: &[u8]) -> u64 {
     let heap = Refusing::new();
     let is_refused = |n: &u64| {
         heap.refuse_nth(*n);
-        let listing = list(&heap, bytes);
+        let listing = list(heap, bytes);
         assert_eq!(listing == Err(wenc_list::ListFault::Memory), heap.was_refused());
         assert!(!heap.was_refused() || heap.requests() == *n);
         heap.was_refused()
     };
-    (1..).take_while(is_refused).count() as u64
+    let count = (1..).take_while(is_refused).count() as u64;
+    heap.refuse_none();
+    count
 }
 
 /// The items of a table, each in a section of its own.

@@ -47,13 +47,13 @@ fn items() {
         let before = state(&items);
         heap.refuse_all();
         if items.id == 10 {
-            assert_eq!(items.next_tree(&heap).err(), Some(ListFault::Memory));
+            assert_eq!(items.next_tree(heap).err(), Some(ListFault::Memory));
         }
         assert_eq!(state(&items), before);
         heap.refuse_none();
-        assert!(items.next_tree(&heap).unwrap().is_some());
+        assert!(items.next_tree(heap).unwrap().is_some());
         for _ in 0..2 {
-            assert_eq!(items.next_tree(&heap).err(), Some(BAD_ITEM));
+            assert_eq!(items.next_tree(heap).err(), Some(BAD_ITEM));
             assert_eq!(items.next().err(), Some(BAD_ITEM));
             assert_eq!(state(&items), (left, reached));
         }
@@ -61,7 +61,7 @@ fn items() {
 }
 
 /// The error of a listing of these bytes, and the fault that it is converted to.
-fn fault<'a>(heap: &Refusing, bytes: &'a [u8]) -> (ListRefusal<'a>, ListFault) {
+fn fault<'a>(heap: Refusing, bytes: &'a [u8]) -> (ListRefusal<'a>, ListFault) {
     let refusal = list_or_refusal(heap, bytes).expect_err("it can't be listed");
     assert_eq!(list(heap, bytes).err(), Some(refusal.fault()));
     (refusal, refusal.fault())
@@ -70,20 +70,20 @@ fn fault<'a>(heap: &Refusing, bytes: &'a [u8]) -> (ListRefusal<'a>, ListFault) {
 #[test]
 fn listings() {
     let heap = Refusing::new();
-    let found = fault(&heap, b"\0asm\x01\0\0\0");
+    let found = fault(heap, b"\0asm\x01\0\0\0");
     assert!(matches!(found, (ListRefusal::Header, ListFault::NotAComponent { place: 0 })));
 
     // a size past the end, and no count
     let bytes = component(b"\x06\x02\0");
     let (ListRefusal::Section { place: 8, refusal }, ListFault::BadSection { place: 8 }) =
-        fault(&heap, &bytes)
+        fault(heap, &bytes)
     else {
         panic!("a section that can't be read")
     };
     let expected = Refusal { left: 1, expected: Expected::Bytes(2) };
     assert!(matches!(refusal, SectionRefusal::Frame(refusal) if refusal == expected));
     let bytes = component(b"\x06\0\x07\0");
-    let (ListRefusal::Section { place: 8, refusal }, BAD_ITEM) = fault(&heap, &bytes) else {
+    let (ListRefusal::Section { place: 8, refusal }, BAD_ITEM) = fault(heap, &bytes) else {
         panic!("a section without a count")
     };
     let SectionRefusal::Count(of, refusal) = refusal else { panic!("no count") };
@@ -92,7 +92,7 @@ fn listings() {
 
     // the second of three aliases
     let bytes = component(b"\x06\x0b\x03\x03\x02\0\0\x03\x03\0\0\0\0");
-    let (ListRefusal::Item { count: 3, left, refusal }, BAD_ITEM) = fault(&heap, &bytes) else {
+    let (ListRefusal::Item { count: 3, left, refusal }, BAD_ITEM) = fault(heap, &bytes) else {
         panic!("an item that can't be read")
     };
     assert_eq!((left.id, left.place, left.ends, left.left), (6, 8, 21, 2));
@@ -102,7 +102,7 @@ fn listings() {
 
     heap.refuse_all();
     let bytes = component(b"\x06\x01\0");
-    let found = fault(&heap, &bytes);
+    let found = fault(heap, &bytes);
     assert!(matches!(found, (ListRefusal::Memory, ListFault::Memory)));
 }
 

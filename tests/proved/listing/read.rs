@@ -135,9 +135,9 @@ const SECTIONS: [(&str, Result<Sections, usize>); 7] = [
 fn sections() {
     for (sections, wanted) in SECTIONS {
         let heap = Refusing::new();
-        let found = match list(&heap, &component(&bytes(sections))) {
+        let found = match list(heap, &component(&bytes(sections))) {
             Ok(listing) => {
-                let row = |of: &ListedSection<_>| (of.id, of.place, of.items.len());
+                let row = |of: &ListedSection| (of.id, of.place, of.items.len());
                 Ok(listing.sections.iter().map(row).collect::<Vec<_>>())
             }
             Err(ListFault::BadSection { place }) => Err(place),

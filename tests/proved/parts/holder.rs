@@ -4,7 +4,7 @@ use super::refusals::{LARGE, OPEN};
 use crate::proved::tests::sweeping::check;
 use crate::proved::wenc_base::{Encode, Fault, Holder, Parent, Verbatim};
 use crate::shim::alloc::Global;
-use crate::shim::vec::Vec;
+use crate::shim::vec::{Vec, VecUsing};
 use std::vec;
 
 pub type Answer = Result<(), Fault>;
@@ -30,7 +30,7 @@ fn end_with_list<T: Encode + Copy>(to: &mut Holder, lead: &[u8], list: &[T]) -> 
 /// what follows the count.
 pub fn is_whole(holder: &Holder, count: u32, section: &[u8]) {
     assert!(holder.is_finished() && !holder.is_opened() && holder.len() == count);
-    let mut sink = Vec::new(Global);
+    let mut sink = Vec::new_using(Global);
     holder.encode_section(&mut sink).unwrap();
     assert_eq!(sink.as_slice(), section);
     check(holder, &section[1..]);
@@ -78,7 +78,7 @@ fn members() {
     for _ in 0..128u32 {
         holder.add_encoded(&42u32).unwrap();
     }
-    let mut sink = Vec::new(Global);
+    let mut sink = Vec::new_using(Global);
     holder.encode_section(&mut sink).unwrap();
     let wanted = [&[0x82, 0x01, 0x80, 0x01][..], &[0x2a; 128]].concat();
     assert_eq!(sink.as_slice(), wanted);

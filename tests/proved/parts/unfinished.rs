@@ -4,16 +4,16 @@
 use crate::proved::tests::refusing::Refusing;
 use crate::proved::tests::sweeping::{REFUSED, TEXT};
 use crate::proved::wenc_base::{Encode, Fault, Holder, Parent, Verbatim};
-use crate::shim::vec::Vec;
+use crate::shim::vec::{Vec, VecUsing};
 use std::collections::BTreeSet;
 
-type Heaped<'h> = Holder<&'h Refusing>;
+type Heaped = Holder;
 
 /// What a member is opened with.
 const LEADS: [&[u8]; 2] = [&[], &[0x10]];
 
 /// A holder with this many members of one byte, and one that is opened.
-fn opened<'h>(heap: &'h Refusing, members: usize, lead: &[u8]) -> Heaped<'h> {
+fn opened(heap: Refusing, members: usize, lead: &[u8]) -> Heaped {
     heap.refuse_none();
     let mut holder = Holder::new(heap);
     for _ in 0..members {
@@ -24,17 +24,17 @@ fn opened<'h>(heap: &'h Refusing, members: usize, lead: &[u8]) -> Heaped<'h> {
 }
 
 /// The holder has two members, of which the second is being written, and these bytes.
-fn is_unfinished(holder: &Heaped<'_>, bytes: &[u8], is_opened: bool) {
+fn is_unfinished(holder: &Heaped, bytes: &[u8], is_opened: bool) {
     assert_eq!((holder.is_finished(), holder.is_opened()), (false, is_opened));
     assert_eq!((holder.len(), holder.as_slice()), (2, bytes));
 }
 
 /// Calls that add or encode fail since a member is unfinished, whatever else is wrong, and don't
 /// allocate.
-fn refuses(heap: &Refusing, holder: &mut Heaped<'_>) {
+fn refuses(heap: Refusing, holder: &mut Heaped) {
     let too_many = 4294967296usize;
     heap.refuse_all();
-    let mut sink = Vec::new(heap);
+    let mut sink = Vec::new_using(heap);
     let refused = [
         holder.add(TEXT),
         holder.add(&[]),
@@ -55,20 +55,20 @@ fn refuses(heap: &Refusing, holder: &mut Heaped<'_>) {
 }
 
 /// The member is discarded, once, without allocating, and another is added.
-fn is_given_up(heap: &Refusing, holder: &mut Heaped<'_>) {
+fn is_given_up(heap: Refusing, holder: &mut Heaped) {
     heap.refuse_all();
     assert!(holder.discard_unfinished() && holder.is_finished() && !holder.is_opened());
     assert!(!holder.discard_unfinished() && heap.requests() == 0);
     assert_eq!((holder.len(), holder.as_slice()), (1, &[0xaa][..]));
     heap.refuse_none();
     holder.add_encoded(&42u32).unwrap();
-    let mut sink = Vec::new(heap);
+    let mut sink = Vec::new_using(heap);
     holder.encode_section(&mut sink).unwrap();
     assert_eq!(sink.as_slice(), [0x03, 0x02, 0xaa, 0x2a]);
 }
 
 /// The copy is unfinished too. If the allocation fails, there is none.
-fn copied<'h>(heap: &'h Refusing, holder: &Heaped<'h>) -> Heaped<'h> {
+fn copied(heap: Refusing, holder: &Heaped) -> Heaped {
     heap.refuse_nth(1);
     assert_eq!(holder.try_clone().err(), Some(REFUSED));
     assert!(heap.was_refused());
@@ -82,23 +82,23 @@ fn copied<'h>(heap: &'h Refusing, holder: &Heaped<'h>) -> Heaped<'h> {
 fn members_that_are_not_ended() {
     let heap = Refusing::new();
     for (lead, written) in LEADS.into_iter().flat_map(|lead| [(lead, &b""[..]), (lead, b"ab")]) {
-        let mut holder = opened(&heap, 1, lead);
+        let mut holder = opened(heap, 1, lead);
         if !written.is_empty() {
             holder.append(written).unwrap();
         }
         let bytes = [&[0xaa], lead, written].concat();
-        let mut copy = copied(&heap, &holder);
+        let mut copy = copied(heap, &holder);
         for begun in [&mut copy, &mut holder] {
             is_unfinished(begun, &bytes, written.is_empty());
-            refuses(&heap, begun);
+            refuses(heap, begun);
             is_unfinished(begun, &bytes, written.is_empty());
-            is_given_up(&heap, begun);
+            is_given_up(heap, begun);
         }
     }
 }
 
 /// A call, and what it writes.
-type Call = (fn(&mut Heaped<'_>) -> Result<(), Fault>, &'static [u8]);
+type Call = (fn(&mut Heaped) -> Result<(), Fault>, &'static [u8]);
 
 /// Calls on a member, one after the other, and finally one that adds another.
 const CALLS: [Call; 8] = [
@@ -116,7 +116,7 @@ const CALLS: [Call; 8] = [
 ];
 
 /// What was opened is the member.
-fn finished(to: &mut Heaped<'_>) -> Result<(), Fault> {
+fn finished(to: &mut Heaped) -> Result<(), Fault> {
     to.finish_member();
     Ok(())
 }
@@ -131,7 +131,7 @@ const ENDS: [Call; 4] = [
 
 /// Makes these calls with allocation number `n` failing. The call that fails changes nothing, and
 /// is repeated. Returns which one it is, if there is such an allocation.
-fn refused(heap: &Refusing, members: usize, lead: &[u8], calls: &[Call], n: u64) -> Option<usize> {
+fn refused(heap: Refusing, members: usize, lead: &[u8], calls: &[Call], n: u64) -> Option<usize> {
     let mut holder = opened(heap, members, lead);
     let mut bytes = [&[0xaa; 16][..members], lead].concat();
     let mut refused = None;
@@ -160,7 +160,7 @@ fn refused_growths() {
     for calls in ENDS.chunks(1).chain([&CALLS[..]]) {
         let mut met = BTreeSet::new();
         for (lead, members) in LEADS.into_iter().flat_map(|lead| (0..=16).map(move |n| (lead, n))) {
-            met.extend((1..20).map_while(|n| refused(&heap, members, lead, calls, n)));
+            met.extend((1..20).map_while(|n| refused(heap, members, lead, calls, n)));
         }
         let writing = (0..calls.len()).filter(|at| !calls[*at].1.is_empty());
         assert_eq!(met, writing.collect());

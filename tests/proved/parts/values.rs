@@ -7,8 +7,8 @@ use crate::proved::wenc_base::{
     Verbatim, WithSize, encode_byte, encode_list, encoding_size, extend_in_room, section_size,
 };
 use crate::shim::alloc::{AllocError, Global};
-use crate::shim::string::String;
-use crate::shim::vec::Vec;
+use crate::shim::string::{String, StringUsing};
+use crate::shim::vec::{Vec, VecUsing};
 use std::string::ToString;
 use std::vec;
 
@@ -44,15 +44,15 @@ fn value_types_of_one_byte() {
     let mut types = ByteTypes::new();
     check(&types, b"\x00");
     for ty in [ValType::I32, ValType::I64, ValType::F32, ValType::F64, ValType::V128] {
-        assert!(types.push(ty));
+        assert!(types.push_using(ty));
     }
     let heap_type = HeapType::Abstract(AbstractHeapType::Func);
-    assert!(!types.push(ValType::Ref(RefType { nullable: true, heap_type })));
+    assert!(!types.push_using(ValType::Ref(RefType { nullable: true, heap_type })));
     check(&types, b"\x05\x7f\x7e\x7d\x7c\x7b");
     for _ in 5..11 {
-        assert!(types.push(ValType::I64));
+        assert!(types.push_using(ValType::I64));
     }
-    assert!(!types.push(ValType::I32));
+    assert!(!types.push_using(ValType::I32));
     check(&types, b"\x0b\x7f\x7e\x7d\x7c\x7b\x7e\x7e\x7e\x7e\x7e\x7e");
 }
 
@@ -140,7 +140,7 @@ const THREE_VALUES: &[u8] = &[0x2a, 0x80, 0x01, 0xbf, 0x7f];
 // A byte, and two numbers.
 fn short() -> Short {
     let mut short = Short::new();
-    short.push(0x2a);
+    short.push_using(0x2a);
     short.unsigned(128);
     short.signed(-65);
     short
@@ -149,7 +149,7 @@ fn short() -> Short {
 #[test]
 fn without_memory() {
     assert_eq!(short().as_slice(), THREE_VALUES);
-    let mut sink = Vec::with_capacity(Global, 8).unwrap();
+    let mut sink = Vec::with_capacity_using(Global, 8).unwrap();
     extend_in_room(&mut sink, &[0x2a, 0x80, 0x01, 0xbf, 0x7f]);
     assert_eq!(sink.as_slice(), THREE_VALUES);
     encode_byte(0xff, &mut sink).unwrap();

@@ -87,7 +87,7 @@ const SWEEPS: &[Sweep] = &[
 ];
 
 /// Each allocation fails in turn, until none is left.
-fn refuse_each(heap: &Refusing, row: &Sweep) {
+fn refuse_each(heap: Refusing, row: &Sweep) {
     let (mut refused, mut other) = (0u8, 0u8);
     for n in 1..200 {
         heap.refuse_nth(n);
@@ -111,10 +111,10 @@ fn runs_want_memory() {
     let heap = Refusing::new();
     for (args, text, end) in WITHOUT {
         heap.refuse_all();
-        let ran = run_program(Some(&heap), args, text, usize::MAX, [0; 3]);
+        let ran = run_program(Some(heap), args, text, usize::MAX, [0; 3]);
         assert!(ran.is(end) && heap.was_refused() && heap.requests() == 1);
     }
     for row in SWEEPS {
-        refuse_each(&heap, row);
+        refuse_each(heap, row);
     }
 }

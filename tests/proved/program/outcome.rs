@@ -1,12 +1,12 @@
 //! Runs of the program, and how they end.
 
 use super::streams::{Sink, Source};
-use crate::proved::tests::refusing::Refusing;
+use crate::proved::tests::refusing::{Refusing, unplanned};
 use crate::proved::wenc::program::run_with_allocators;
 use crate::proved::wenc::run;
 use crate::shim::alloc::Global;
-use crate::shim::string::String;
-use crate::shim::vec::Vec;
+use crate::shim::string::{String, StringUsing};
+use crate::shim::vec::{Vec, VecUsing};
 
 /// How a run ends: its status, and what its output and its standard error get.
 pub type End = (u8, &'static [u8], &'static [u8]);
@@ -35,10 +35,10 @@ impl Outcome<'_> {
 }
 
 fn words(args: &[&str]) -> Vec<String> {
-    let mut words = Vec::new(Global);
+    let mut words = Vec::new_using(Global);
     for word in args {
         let word = String::from_str(Global, word).unwrap();
-        words.push(word).unwrap();
+        words.push(word);
     }
     words
 }
@@ -47,13 +47,13 @@ fn words(args: &[&str]) -> Vec<String> {
 /// Each read and write moves at most `step` bytes. The calls with these numbers fail, of the input,
 /// the output and the standard error.
 pub fn run_program<'a>(
-    heap: Option<&Refusing>,
+    heap: Option<Refusing>,
     args: &[&str],
     text: &'a [u8],
     step: usize,
     failing: [usize; 3],
 ) -> Outcome<'a> {
-    let words = words(args);
+    let words = unplanned(|| words(args));
     let words = words.as_slice();
     let mut input = Source { rest: text, step, calls: 0, failing: failing[0] };
     let mut out = Sink::new(step, failing[1]);
