@@ -5,17 +5,18 @@
 //!
 //! - *leaves out*: clauses (`requires`, `ensures`), `ghost` items and fields with their comments,
 //!   the examples of documentation (they are Rattle) with the sentence before one that ends in a
-//!   colon, the attributes `tactic`, `cycle` and `error`, `Drop` among derives and bounds, and `use
-//!   thiserror::Error`;
+//!   colon, allocators among parameters and what stands for these, the attributes `tactic`, `cycle`
+//!   and `error`, `Drop` among derives and bounds, and `use thiserror::Error`;
 //! - *renames*: the roots of paths, so that `crate::` and `wenc_base::` are modules of
 //!   `crate::proved`, and `std::` is `crate::shim`, which has what the sources use of Rattle's
-//!   library; `Clone` and `clone`, which can fail in Rattle, to `TryClone` and `try_clone`; the
-//!   methods in [`ALLOCATING`], by appending `_using`; `derive_where` to `derive`; `pub` of the
-//!   methods and fields that aren't for users ([`NARROWED`]) to `pub(crate)`;
+//!   library; other allocators to `Global`; `Clone` and `clone`, which can fail in Rattle, to
+//!   `TryClone` and `try_clone`; the methods in [`ALLOCATING`] and [`MAKING`], by appending `_using`;
+//!   `derive_where` to `derive`; `pub` of the methods and fields that aren't for users
+//!   ([`NARROWED`]) to `pub(crate)`;
 //! - *adds*: the names that are in scope by default, before a file's first item; the derives that
 //!   users of Rust expect of a type ([`known::TREES`], [`known::DERIVED_TOO`]); `Display` and
-//!   `Error` after an enum that derives `Error`; `pub` to `main`; `#[inline]` to the methods
-//!   `encode` of types, which are short and call each other;
+//!   `Error` after an enum that derives `Error`; `pub` to `main`; `#[inline]` to the functions in
+//!   [`INLINED`];
 //! - *refuses*: everything else that it doesn't know, such as a module with a body, and a `Clone`
 //!   or a `clone` that the source defines itself. No crate is better than one that does something
 //!   else than was proved.

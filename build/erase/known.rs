@@ -1,20 +1,22 @@
 //! The closed lists of the eraser: the names that it knows.
 
-/// Methods that take or return an allocator in Rattle, or can fail there, but not in Rust's library,
-/// which has them on the same types.
+/// Methods that can fail or have an allocator in Rattle, and have the same names, but neither, in
+/// Rust's library.
 pub const ALLOCATING: [&str; 6] =
     ["allocator", "collect", "extend_from_slice", "insert", "push", "try_reserve"];
 
-/// Functions of `Vec` and `String` that take an allocator in Rattle only.
+/// Functions of `Vec` and `String` that take an allocator in Rattle, but not in Rust.
 pub const MAKING: [&str; 2] = ["new", "with_capacity"];
 
-/// Functions that become `#[inline]`.
-pub const INLINED: [&str; 30] = [
+/// Functions on the way of a call that adds an item: compiled into the caller's crate, they take
+/// fewer instructions (`benches/count`).
+pub const INLINED: [&str; 31] = [
+    "add_listed",
     "add_slot_row",
     "alias",
     "alias_export",
-    "append_list",
-    "as_slice",
+    "append_between",
+    "append_listed",
     "component",
     "component_raw",
     "core_alias_export",
@@ -30,9 +32,9 @@ pub const INLINED: [&str; 30] = [
     "finish_member",
     "function",
     "import",
+    "instantiate",
     "keep_in_room",
     "open",
-    "open_apart",
     "put_number_over",
     "ty",
     "type_component",

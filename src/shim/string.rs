@@ -1,6 +1,6 @@
 //! Strings: std's, with Rattle's calls, which return an error if an allocation fails.
 
-use super::alloc::{AllocError, Global, TryClone, ask, with_room};
+use super::alloc::{AllocError, Global, TryClone, ask};
 use super::vec::FIRST_BYTES;
 pub use alloc::string::String;
 use core::fmt;
@@ -45,8 +45,12 @@ impl StringUsing for String {
 
     #[inline]
     fn from_str(_alloc: Global, text: &str) -> Result<Self, AllocError> {
-        let mut made = with_room(text.len(), String::try_reserve_exact)?;
-        made.push_str(text);
+        let mut made = String::new();
+        if !text.is_empty() {
+            ask()?;
+            made.try_reserve_exact(text.len())?;
+            made.push_str(text);
+        }
         Ok(made)
     }
 

@@ -75,6 +75,25 @@ fn what_introduces_an_example_is_left_out() {
 }
 
 #[test]
+fn allocators_are_left_out() {
+    for (source, wanted) in [
+        ("struct S<A: Allocator = Global>(Vec<u8, A>);", "struct S(Vec<u8>);"),
+        ("fn f<A: Allocator + 'a, C>(a: A, b: T<A, C>);", "fn f<C>(a: Global, b: T<C>);"),
+        (
+            "fn f<T, A: Allocator>() where A: Copy, { S::<A>::a(g::<T, A>()) }",
+            "fn f<T>() { S::a(g::<T>()) }",
+        ),
+        ("type S<B = Global> = T<K, B>; fn f(a: Option<A>);", "type S = T<K>; fn f(a: Option<A>);"),
+        (
+            "fn f() { Vec::new(a).push(K::new(a)) }",
+            "fn f() { Vec::new_using(a).push_using(K::new(a)) }",
+        ),
+    ] {
+        becomes(source, &wanted.replace("Global", "crate::shim::alloc::Global"));
+    }
+}
+
+#[test]
 fn names_that_stay_their_owners() {
     for source in ["enum Op {\n Clone,\n}", "enum Op { A,\n Clone(u8) }", "use\n a::Clone;"] {
         refuses(source, 2, "a `Clone` that is no bound");
@@ -325,7 +344,7 @@ pub fn f(x: u8) -> Result<u8, Fault>
 impl Encode for Pair {
     ghost piece = { 1 };
 
-    fn encode(
+    fn encode<A: Allocator>(
         &self,
     ) -> u8
         ensures { nothing }

@@ -135,40 +135,6 @@ pub const NARROWED: [(&str, &str); 10] = [
     ("NameTree", "as_name"),
 ];
 
-/// Functions that are inlined, but for those with another attribute.
-const INLINED: [&str; 30] = [
-    "add_slot_row",
-    "alias",
-    "alias_export",
-    "append_list",
-    "as_slice",
-    "component",
-    "component_raw",
-    "core_alias_export",
-    "core_module_raw",
-    "core_type",
-    "custom_section",
-    "defined_type",
-    "encode",
-    "encode_bytes",
-    "encode_number",
-    "end_member",
-    "export",
-    "finish_member",
-    "function",
-    "import",
-    "keep_in_room",
-    "open",
-    "open_apart",
-    "put_number_over",
-    "ty",
-    "type_component",
-    "type_defined",
-    "type_function",
-    "type_instance",
-    "type_resource",
-];
-
 /// What both have next: the way, how many tokens of the source, and the tokens of the Rust.
 struct Step {
     way: &'static str,
@@ -222,8 +188,13 @@ pub fn compare(
         if let Some(why) = source.unknown() {
             return Err(format!("{}: {:?} is {why}", first.line, first.text));
         }
-        let Step { way, old, new } = source.step();
         let line = has_lines.then_some(first.line);
+        let is_attribute = rest.first().is_some_and(|next| next.text == "#");
+        if is_attribute && ["fn", "pub"].contains(&&*first.text) {
+            take("function that is inlined", line, "#[inline]", &mut rest)?;
+            *counts.entry("function that is inlined").or_default() += 1;
+        }
+        let Step { way, old, new } = source.step();
         take(way, line, &new, &mut rest).map_err(|why| format!("{}: {why}", first.line))?;
         *counts.entry(way).or_default() += 1;
         source.at += old;
@@ -439,9 +410,6 @@ impl<'a> Source<'a> {
                 Some(step("member that stays in this crate", 1, "pub(crate)"))
             }
             "fn" if next == "main" => Some(step("main is pub", 2, "pub fn main")),
-            "fn" | "pub" if self.is_inlined() => {
-                Some(step("function that is inlined", 1, format!("#[inline] {word}")))
-            }
             _ if self.allocators.iter().any(|name| name == word) => {
                 Some(step("allocator is Global", 1, "crate::shim::alloc::Global"))
             }
@@ -463,28 +431,6 @@ impl<'a> Source<'a> {
             }
             _ => self.root(),
         }
-    }
-
-    /// Whether a function that is inlined begins here, not one that a trait asks for, and no
-    /// attribute stands in front of it but the prover's.
-    fn is_inlined(&self) -> bool {
-        let name = match (self.text(0), self.text(1), self.text(4)) {
-            ("fn", name, _) => name,
-            ("pub", "fn", _) => self.text(2),
-            ("pub", "(", "fn") => self.text(5),
-            _ => "",
-        };
-        let mut before = &self.tokens[..self.at];
-        let block = before.iter().rfind(|token| ["impl", "trait"].contains(&&*token.text));
-        while before.last().is_some_and(|token| token.text == "]") {
-            let begin = before.iter().rposition(|token| token.text == "#").unwrap_or(0);
-            if !["tactic", "cycle"].contains(&&*before[begin + 2].text) {
-                return false;
-            }
-            before = &before[..begin];
-        }
-        let is_first = before.last().is_none_or(|last| ["{", "}", ";"].contains(&&*last.text));
-        INLINED.contains(&name) && is_first && block.is_none_or(|token| token.text == "impl")
     }
 
     /// The type of the `impl` without a trait, or of the `struct`, that this stands in.

@@ -64,11 +64,6 @@ fn nested(sections: &[u8]) -> Vec<u8> {
     section(4, &component(sections))
 }
 
-fn bytes(hexadecimal: &str) -> Vec<u8> {
-    let digits = hexadecimal.replace(' ', "");
-    let byte = |at| u8::from_str_radix(&digits[at..at + 2], 16).expect("two digits");
-    (0..digits.len()).step_by(2).map(byte).collect()
-}
 fn text(text: &str) -> String {
     text.into()
 }
