@@ -10,13 +10,10 @@ pub const MAKING: [&str; 2] = ["new", "with_capacity"];
 
 /// Functions on the way of a call that adds an item: compiled into the caller's crate, they take
 /// fewer instructions (`benches/count`).
-pub const INLINED: [&str; 31] = [
-    "add_listed",
+pub const INLINED: [&str; 27] = [
     "add_slot_row",
     "alias",
     "alias_export",
-    "append_between",
-    "append_listed",
     "component",
     "component_raw",
     "core_alias_export",
@@ -32,7 +29,6 @@ pub const INLINED: [&str; 31] = [
     "finish_member",
     "function",
     "import",
-    "instantiate",
     "keep_in_room",
     "open",
     "put_number_over",

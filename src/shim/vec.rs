@@ -5,7 +5,7 @@ pub use alloc::vec::Vec;
 
 /// The least capacity of a vector of bytes, or a string, that grows from none. std's begin with 8:
 /// a type of a few members, or a section of a few items, would be reallocated three times.
-pub(super) const FIRST_BYTES: usize = if cfg!(test) { 0 } else { 64 };
+pub(super) const FIRST_BYTES: usize = if cfg!(test) { 1 } else { 64 };
 
 /// Rattle's calls of a vector, under other names than those of std's that abort.
 pub trait VecUsing<T>: Sized {
