@@ -117,7 +117,7 @@ impl Merged {
     fn finish(mut self) -> Result<Vec<u8>, String> {
         let names = ComponentNameSection::from(&self.names);
         if !names.is_empty() {
-            let data = names.as_custom().data.into_owned().into();
+            let data = names.as_custom().data.into_owned();
             self.commands.push(Command::Custom { name: DebugNames::SECTION.into(), data });
         }
         let built = build(&self.commands).map_err(|error| error.to_string())?;

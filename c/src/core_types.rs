@@ -37,7 +37,7 @@ calls! {
             let wrong = |refused: Refused| refused.of(c"subtypes").at(member);
             types.push(subtype.read().map_err(wrong)?);
         }
-        let ty = GroupTree::Rec(types.into());
+        let ty = GroupTree::Rec(types);
         session.core_type(debug_name, |encoder| encoder.try_tree(&ty))
     };
     wenc_core_type_import(module[module_len]: text, name[name_len]: text, &entity: Entity)

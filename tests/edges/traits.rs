@@ -183,7 +183,7 @@ fn names_and_their_trees() {
 fn names_of_trees_are_taken_where_names_are() {
     let mut section = ComponentImportSection::new();
     let ty = ComponentTypeRef::Func(0);
-    section.import(&String::from("f"), ty).import(NameTree::from("g"), ty);
+    section.import(String::from("f"), ty).import(NameTree::from("g"), ty);
     let options =
         tree::NameOptions { implements: None, version_suffix: None, external_id: Some("x".into()) };
     section.import(NameTree { name: "h".into(), options: Some(options.into()) }, ty);

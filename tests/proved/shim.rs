@@ -69,10 +69,10 @@ fn a_vector_does_what_its_calls_say() {
     vec.as_mut_slice()[0] = 5;
     assert_eq!((vec.len(), vec[0], vec.remove(0), vec.len()), (1, 5, 5, 0));
     assert_eq!((0..3u8).collect_using(Global).expect("granted").as_slice(), [0, 1, 2]);
-    let owned: RustVec<u8> = Vec::from(vec![4, 5]).into();
+    let owned: RustVec<u8> = vec![4, 5];
     assert_eq!(owned, [4, 5]);
     assert!(Vec::from_slice(heap, &[1]) == Vec::from_slice(Refusing::new(), &[1]));
-    assert_eq!(Vec::from(vec![1, 2]).into_iter().rev().collect::<RustVec<_>>(), [2, 1]);
+    assert_eq!(vec![1, 2].into_iter().rev().collect::<RustVec<_>>(), [2, 1]);
 }
 
 /// Sizes that no machine has: they fail before the system is called, and nothing ends the program.
@@ -81,7 +81,7 @@ fn sizes_that_no_memory_has() {
     assert!(Vec::<u8>::with_capacity_using(Global, usize::MAX).is_err());
     assert!(Vec::<u64>::with_capacity_using(Global, usize::MAX / 8).is_err());
     assert!(Vec::<u64>::with_capacity_using(Global, usize::MAX).is_err());
-    let mut vec = Vec::from(vec![1u8]);
+    let mut vec = vec![1u8];
     assert_eq!(vec.try_reserve_using(usize::MAX), Err(AllocError));
     assert_eq!(vec.try_reserve_using(isize::MAX as usize), Err(AllocError));
     assert_eq!(vec.as_slice(), [1]);
@@ -107,8 +107,8 @@ fn texts() {
     assert_eq!(text.try_clone().map(|copy| copy == text), Ok(true));
     assert_eq!(text.into_bytes().as_slice(), "abé007!".as_bytes());
     let text = crate::shim::format!(in Global; "{}-{:x}", "a", 255).expect("granted");
-    assert_eq!(RustString::from(text), "a-ff");
-    assert_eq!(String::from(RustString::from("x")).as_str(), "x");
+    assert_eq!(text, "a-ff");
+    assert_eq!(RustString::from("x").as_str(), "x");
 }
 
 #[test]
@@ -151,7 +151,7 @@ fn copies_that_may_be_refused() {
 
 #[test]
 fn what_lends_a_slice() {
-    let vec = Vec::from(vec![1, 2]);
+    let vec = vec![1, 2];
     let lengths = [
         AsSlice::<u8>::as_slice(&vec).len(),
         AsSlice::as_slice(&&vec).len(),

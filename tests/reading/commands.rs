@@ -7,8 +7,8 @@ use wenc::*;
 #[test]
 fn a_refused_command_changes_nothing() {
     let import = || Command::Import { name: name("f"), ty: ComponentTypeRef::Func(0) };
-    let start = |results| Command::Start { function: 0, args: vec![].into(), results };
-    let nested = vec![import(), start(u32::MAX), start(1), import()].into();
+    let start = |results| Command::Start { function: 0, args: vec![], results };
+    let nested = vec![import(), start(u32::MAX), start(1), import()];
     let mut builder = ComponentBuilder::default();
     let refused = Command::Component { debug_name: Some(text("n")), commands: nested };
     assert_eq!(builder.command(&refused), Err(Error::TooMany));
@@ -17,7 +17,7 @@ fn a_refused_command_changes_nothing() {
 
     // A type whose encoder the user dropped is the user's to discard.
     drop(builder.type_defined(None));
-    let ty = tree::TypeTree::Instance(vec![].into());
+    let ty = tree::TypeTree::Instance(vec![]);
     let ty = Command::Type { debug_name: None, ty };
     assert_eq!(builder.command(&ty), Err(Error::Unfinished));
     assert!(builder.discard_unfinished());

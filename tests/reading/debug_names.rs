@@ -10,7 +10,7 @@ use wenc::{
 
 /// A custom section with this name and data.
 fn custom(name: &str, data: &[u8]) -> ItemTree {
-    ItemTree::Custom { name: String::from(name), data: data.to_vec().into() }
+    ItemTree::Custom { name: String::from(name), data: data.to_vec() }
 }
 
 /// The section of names with this data.
@@ -118,7 +118,7 @@ fn what_is_not_read_is_told() {
         assert_eq!(names.component(), Some("a"));
     }
     let mut names = DebugNames::new();
-    for other in [custom("name", b"\x00"), ItemTree::Component(b"\x00".to_vec().into())] {
+    for other in [custom("name", b"\x00"), ItemTree::Component(b"\x00".to_vec())] {
         assert_eq!(names.read(&other), Ok(()));
     }
     assert_eq!(names, DebugNames::default());

@@ -48,7 +48,7 @@ fn millions_of_components_in_one_another_are_walked() {
 fn outer_indices_are_visited_up_to_a_hundred_deep() {
     let visit = |depth, out, limit| {
         let (component, mut seen) = (deep(depth, &alias(out, 5)), 0);
-        let mut item = ItemTree::Component(component.clone().into());
+        let mut item = ItemTree::Component(component.clone());
         let (visited, requested) = requested(|| {
             item.outer_indices_mut(limit, |used| {
                 assert_eq!((used.space, used.scope), (Space::Types, Scope::Component(0)));
@@ -58,7 +58,7 @@ fn outer_indices_are_visited_up_to_a_hundred_deep() {
         });
         // each of at most a hundred components is copied, whatever is nested in them
         assert!(requested <= 300_000, "{depth}: {requested}");
-        assert!(visited.is_ok() || item == ItemTree::Component(component.into()));
+        assert!(visited.is_ok() || item == ItemTree::Component(component));
         (visited, seen, item)
     };
     let too_deep =
@@ -74,7 +74,7 @@ fn outer_indices_are_visited_up_to_a_hundred_deep() {
             outer.section(&NestedComponentSection(&expected));
             expected = outer;
         }
-        assert!(item == ItemTree::Component(expected.finish().into()));
+        assert!(item == ItemTree::Component(expected.finish()));
         for depth in [101, 40_000] {
             let (visited, seen, _) = visit(depth, 101, limit);
             assert_eq!((visited, seen), (too_deep, 0));
@@ -129,7 +129,7 @@ fn are_read(indices: impl Iterator<Item = u32>) {
     names.iter().rev().for_each(|(index, name)| inserted.insert(Space::Funcs, *index, *name));
     for data in [subsection(&names), each] {
         let name = String::from(DebugNames::SECTION);
-        let (mut read, item) = (DebugNames::new(), ItemTree::Custom { name, data: data.into() });
+        let (mut read, item) = (DebugNames::new(), ItemTree::Custom { name, data });
         let (result, requested) = requested(|| read.read(&item));
         assert_eq!(result, Ok(()));
         assert!(requested <= 100 * names.len() + 300, "{requested}");

@@ -14,7 +14,7 @@ fn nested(sections: &[&[u8]]) -> Vec<u8> {
 }
 
 fn item(bytes: &[u8]) -> ItemTree {
-    ItemTree::Component(bytes.to_vec().into())
+    ItemTree::Component(bytes.to_vec())
 }
 
 /// Outer aliases: of a core module in this component, a core type one component out, a type two
@@ -84,7 +84,7 @@ fn what_has_no_such_index_keeps_its_bytes() {
     let mut of = item(&bytes);
     assert_eq!(raise(&mut of, 5), []);
     assert_eq!(of, item(&bytes));
-    let mut module = ItemTree::Module(component(&[&aliases([1, 2, 3, 4])]).into());
+    let mut module = ItemTree::Module(component(&[&aliases([1, 2, 3, 4])]));
     assert_eq!(raise(&mut module, 5), []);
 }
 

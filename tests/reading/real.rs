@@ -128,7 +128,7 @@ fn listed(bytes: &[u8], depth: usize, from: usize) -> Vec<(usize, usize, Vec<Ite
     let mut found = Vec::new();
     for ListedSection { place, items, .. } in list(bytes).expect("it is listed").sections {
         let inner = match items.as_slice() {
-            [ItemTree::Component(inner)] => Vec::from(inner.clone()),
+            [ItemTree::Component(inner)] => inner.clone(),
             _ => Vec::new(),
         };
         found.push((depth, from + place, items));

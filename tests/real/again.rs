@@ -30,7 +30,7 @@ fn with_nested(mut all: Vec<(String, Vec<u8>)>) -> Vec<(String, Vec<u8>)> {
         let name = name.clone();
         if let Ok(listing) = list(bytes) {
             let nested = items(listing).filter_map(|item| match item {
-                ItemTree::Component(bytes) => Some((format!("{name}, nested"), bytes.into())),
+                ItemTree::Component(bytes) => Some((format!("{name}, nested"), bytes)),
                 _ => None,
             });
             all.extend(nested);

@@ -34,7 +34,7 @@ fn written(listing: &Listing, names: &DebugNames) -> ItemTree {
     let mut sections = std::iter::from_fn(|| sections.next_raw());
     let name = [&[0x0e], DebugNames::SECTION.as_bytes()].concat();
     let data = sections.find_map(|(_, section)| section.data.strip_prefix(&*name));
-    let data = data.expect("there are names").to_vec().into();
+    let data = data.expect("there are names").to_vec();
     ItemTree::Custom { name: DebugNames::SECTION.into(), data }
 }
 

@@ -248,10 +248,8 @@ fn commands() {
     let cancel = Command::Canon { debug_name: None, canon: CanonTree::TaskCancel };
     let start = Command::Start { function: 7, args: [].into(), results: u32::MAX };
     let import = Command::Import { name: tree::NameTree::from("v"), ty: BYTE };
-    let nested = |commands: &[Command]| Command::Component {
-        debug_name: None,
-        commands: commands.to_vec().into(),
-    };
+    let nested =
+        |commands: &[Command]| Command::Component { debug_name: None, commands: commands.to_vec() };
     let custom = Command::Custom { name: "x".into(), data: [].into() };
     let rows = [
         (nested(&[cancel]), Ok(Some(0)), "04 0c 00 61 73 6d 0d 00 01 00 08 02 01 05"),

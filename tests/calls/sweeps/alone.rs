@@ -46,7 +46,7 @@ fn sections_alone() {
         is_alone(&custom.clone(), &component(0, content.clone()));
         let raw = sized(&content);
         is_alone(&RawCustomSection(&raw), &component(0, content.clone()));
-        is_command(&Command::RawCustom { bytes: raw.into() }, &component(0, content.clone()));
+        is_command(&Command::RawCustom { bytes: raw }, &component(0, content.clone()));
         for id in [12, 200] {
             let raw = RawSection { id, data: a.other.as_bytes() };
             let wanted = bytes![&Component::HEADER[..], i32::from(id), sized(a.other.as_bytes())];

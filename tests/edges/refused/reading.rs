@@ -53,7 +53,7 @@ fn names_are_read() {
     section.component(NAME);
     section.types(&map);
     let CustomSection { name, data } = section.as_custom();
-    let item = ItemTree::Custom { name: (&*name).into(), data: data.into_owned().into() };
+    let item = ItemTree::Custom { name: (&*name).into(), data: data.into_owned() };
     let read = each_is_refused(10, |refusals| {
         let mut names = DebugNames::new();
         refusals.call(|| names.read(&item).map_err(refused(NamesFault::NoMemory)));

@@ -13,7 +13,6 @@ use crate::proved::wenc::script::build;
 use crate::proved::wenc::unlisted::Unlisted;
 use crate::proved::wenc::words::Words;
 use crate::shim::alloc::{AllocError, Global};
-use crate::shim::vec::Vec;
 use std::vec::Vec as RustVec;
 
 const SCRIPT: &[u8] = b"start 7 4294967295\nimport v value 0\n";
@@ -23,7 +22,7 @@ fn scripts() {
     let built = build(Global, Global, SCRIPT).unwrap();
     assert_eq!(built.answers.as_slice(), [Ok(Some(0)), Err(Fault::TooMany)]);
     assert_eq!(digits(&built.bytes), "0061736d0d00010009070700ffffffff0f");
-    let text = Vec::from(SCRIPT.to_vec());
+    let text = SCRIPT.to_vec();
     let printout = translate(Global, Global, text).unwrap();
     assert_eq!(printout.status, 2);
     assert_eq!(printout.lines.as_slice(), b"0\nrefused 2\n");

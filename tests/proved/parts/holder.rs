@@ -43,7 +43,7 @@ pub fn is_begun(holder: &Holder, count: u32, body: &[u8], is_opened: bool) {
     assert!(!holder.is_finished() && holder.is_opened() == is_opened);
     assert_eq!(holder.len(), count);
     assert_eq!(holder.as_slice(), body);
-    let mut sink = Vec::from(vec![0x99]);
+    let mut sink = vec![0x99];
     assert_eq!(holder.encode_section(&mut sink), UNFINISHED);
     assert_eq!(holder.encode(&mut sink), UNFINISHED);
     assert_eq!(sink.as_slice(), [0x99]);

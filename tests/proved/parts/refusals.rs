@@ -4,7 +4,6 @@ use crate::proved::proved_parts::strangers::own::Item;
 use crate::proved::tests::sweeping::check;
 use crate::proved::wenc_base::{Encode, Fault, Tagged, encode_list};
 use crate::proved::wenc_parts::ComponentSection;
-use crate::shim::vec::Vec;
 use std::vec;
 
 pub const OPEN: Item = Item { is_open: true };
@@ -16,7 +15,7 @@ pub const LARGE: usize = 4294967296;
 
 /// It can't be encoded, and the sink is unchanged.
 fn is_refused<T: Encode>(value: &T, fault: Fault) {
-    let mut sink = Vec::from(vec![0x99]);
+    let mut sink = vec![0x99];
     assert_eq!(value.encode(&mut sink), Err(fault));
     assert_eq!(sink.as_slice(), [0x99]);
 }
@@ -51,7 +50,7 @@ fn refusals() {
     is_refused(&BEGUN, Fault::Unfinished);
     is_refused(&LATE, Fault::TooMany);
     check(&(1u32, ENDED), &[0x01]);
-    let mut sink = Vec::from(vec![0x99]);
+    let mut sink = vec![0x99];
     assert_eq!(encode_list(SECOND_LARGE.iter().copied(), &mut sink), Err(Fault::TooMany));
     assert_eq!(OPEN.append_to_component(&mut sink), Err(Fault::Unfinished));
     assert_eq!(sink.as_slice(), [0x99]);

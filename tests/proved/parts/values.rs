@@ -70,8 +70,8 @@ fn values_around_values() {
 // Of the values of a vector, and of a type that the crates below don't know.
 #[test]
 fn lists_in_one_sink() {
-    let mut sink = Vec::from(vec![0x99]);
-    encode_list(Vec::from(vec![1u32, 128, 3]).into_iter(), &mut sink).unwrap();
+    let mut sink = vec![0x99];
+    encode_list(vec![1u32, 128, 3].into_iter(), &mut sink).unwrap();
     encode_list([0usize; 0].into_iter(), &mut sink).unwrap();
     write_all(&[Light::Red, Light::Green], Some(Light::Red), &mut sink).unwrap();
     write_all(&[], None::<Light>, &mut sink).unwrap();
@@ -112,7 +112,7 @@ fn sizes() {
     }
     for (count, start) in LONG_SIZES {
         let content = &ZEROS[..*count];
-        let mut sink = Vec::from(vec![0x99]);
+        let mut sink = vec![0x99];
         WithSize(&content).encode(&mut sink).unwrap();
         assert_eq!(sink.strip_prefix(*start), Some(content));
     }

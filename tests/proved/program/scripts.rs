@@ -8,13 +8,12 @@ use crate::proved::tests::listing::built::is_listed;
 use crate::proved::wenc::failure::Failure;
 use crate::proved::wenc::program::translate;
 use crate::shim::alloc::Global;
-use crate::shim::vec::Vec;
 use std::format;
 use std::string::String;
 
 /// The script's translation is what its run prints, or the number of the bad line.
 fn is_translated(script: &[u8], (status, out, err): End) {
-    match translate(Global, Global, Vec::from(script.to_vec())) {
+    match translate(Global, Global, script.to_vec()) {
         Ok(printout) => {
             let line = format!("{}\n", digits(&printout.bytes));
             let printed = [printout.lines.as_slice(), line.as_bytes()].concat();
