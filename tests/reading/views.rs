@@ -220,4 +220,9 @@ fn values_are_printed() {
          external_id: None }, ty: Func(0) }]))",
     );
     printed(9, "Start { function: 7, args: [1, 2], results: 3 }");
+    with(7, b"\x01\x41\x01\x01\x71\x01\x01a\x01\x79\0", |item| {
+        let list = "[CaseView { name: \"a\", ty: Some(Primitive(U32)) }]";
+        let wanted = format!("Type(Component([Decl(Type(Defined(Variant({list}))))]))");
+        assert_eq!(format!("{item:?}"), wanted);
+    });
 }

@@ -84,7 +84,6 @@ fn is_read(call: &Call, size: &Size) {
     assert!(is_same(view, tree) && view.to_tree() == *tree && read == *tree, "{}", call.name);
     assert_eq!(view.defined_indices(), defined, "{}", call.name);
     assert!(visited(view.node()) == (call.indices)(size), "{}: in place", call.name);
-    assert!(format!("{:?}", view.node()) == format!("{:?}", tree.node()), "{}", call.name);
     assert!(bytes[place] == item, "{}", call.name);
     let (mut anew, mut kept) = (ItemSection::new(call.id), ItemSection::new(call.id));
     anew.item(tree).expect("it is added");
