@@ -1,6 +1,7 @@
 //! Holders with bytes before their members, and sections over them.
 
 use super::holder::{UNFINISHED, is_begun, is_whole};
+use super::refusals::OPEN;
 use crate::proved::proved_parts::holders::{
     aliases, filled, functions, gone_back, over_four_bytes, unfinished_aliases,
 };
@@ -78,6 +79,9 @@ fn over_bytes() {
     let (bytes, kept, _, _) = holder.into_parts();
     let mut holder = Holder::over(bytes, kept, u32::MAX);
     assert_eq!(holder.add_encoded(&42u32), Err(Fault::TooMany));
+    let values = || [42u32].into_iter();
+    assert_eq!(holder.add_listed(&42u32, values(), &42u32), Err(Fault::TooMany));
+    assert_eq!(holder.add_listed(&OPEN, values(), &42u32), Err(Fault::Unfinished));
     assert!(has_parts(holder, &[0xcc], 1, u32::MAX));
 }
 
