@@ -85,7 +85,7 @@ fn faults_have_their_places() {
     }
 }
 
-/// What is read of a section: its items, with their places.
+/// The items of a section, with their byte offsets.
 type Read = Vec<Result<(Range<usize>, CoreItem<'static>), ModuleFault>>;
 
 /// The items of the only section of a module, after that section's count.

@@ -9,7 +9,7 @@ fn sections(bytes: &[u8]) -> Sections<'_> {
     Sections::new(bytes).expect("it is a component")
 }
 
-/// Two imports of which the second isn't read, between sections that are.
+/// Two imports, the second of which can't be read, between sections that can.
 const BAD_IMPORT: &[u8] = b"\x07\x05\x01\x40\x00\x01\x00\
     \x0b\x07\x01\x00\x01a\x01\x00\x00\
     \x0a\x07\x02\x00\x01f\x01\x00\xff\
@@ -51,7 +51,7 @@ fn the_first_fault_ends_what_is_found() {
     assert_eq!((exports.len(), &exports[1]), (2, &Err(CUT)));
 }
 
-/// A fault comes once, and then nothing, from the sections and from the items of one.
+/// A fault is returned once, by the sections and by the items of one, and then `None`.
 #[test]
 fn a_fault_comes_once() {
     let bytes = component(BAD_IMPORT);
@@ -69,7 +69,7 @@ fn a_fault_comes_once() {
     assert!(items.next().is_none() && items.next().is_none());
 }
 
-/// What follows is found by the methods of a cursor that has gone on.
+/// The methods of a cursor that has been advanced find what follows.
 #[test]
 fn a_cursor_goes_on_from_where_it_is() {
     let bytes = component(BAD_IMPORT);
@@ -85,7 +85,7 @@ fn a_cursor_goes_on_from_where_it_is() {
     assert_eq!(rest.count(), 1);
 }
 
-/// What is printed says how far it has come.
+/// A cursor prints its byte offset.
 #[test]
 fn readers_are_printed() {
     // an alias section without an item, in a component in a component

@@ -83,7 +83,7 @@ fn what_is_not_read_is_told() {
     // a name of the component, a subsection of another id, and then none
     let front = b"\x00\x02\x01a\x09\x01\xff";
     let bad = [
-        // a name that is longer than its subsection, shorter, or no text
+        // a name that is longer than its subsection, shorter, or not UTF-8
         ("00", "the bytes end at 0x8"),
         ("0001", "the bytes end at 0x9"),
         ("000101", "the bytes end at 0xa"),
@@ -91,13 +91,13 @@ fn what_is_not_read_is_told() {
         ("00020261", "needs 2 bytes or more from 0xa on, where 1 is left"),
         ("0003016161", "0x61 at 0xb, where the end is expected"),
         ("000201ff", "0xff at 0xa isn't UTF-8"),
-        // a kind that is none, or isn't there
+        // an unknown kind, or a missing one
         ("0100", "the bytes end at 0x9"),
         ("01020600", "0x06 at 0x9, where 0x00 to 0x05 is expected"),
         ("010100", "the bytes end at 0xa"),
         ("0103000500", "0x05 at 0xa, where 0x00 to 0x04 or 0x10 to 0x12 is expected"),
         ("0103001300", "0x13 at 0xa, where 0x00 to 0x04 or 0x10 to 0x12 is expected"),
-        // more or fewer names than are counted
+        // more or fewer names than the count
         ("01020101", "the bytes end at 0xb"),
         ("01050102000161", "the bytes end at 0xe"),
         ("01030100ff", "0xff at 0xb, where the end is expected"),
@@ -105,7 +105,7 @@ fn what_is_not_read_is_told() {
         // another subsection behind
         ("000101090100", "the bytes end at 0xa"),
         ("01020600090100", "0x06 at 0x9, where 0x00 to 0x05 is expected"),
-        // a size that is none, or past the end
+        // a malformed size, or one that exceeds the bytes
         ("0180", "the bytes end at 0x9"),
         ("0902", "needs 2 bytes or more from 0x9 on, where 0 are left"),
         ("0906ffffffff", "needs 6 bytes or more from 0x9 on, where 4 are left"),
@@ -129,7 +129,7 @@ fn what_is_not_read_is_told() {
     assert_eq!(NamesFault::NoMemory.to_string(), "no memory");
 }
 
-/// Names in front of what isn't read, in two sections of names.
+/// Names before the first that can't be read, in two sections of names.
 #[test]
 fn a_component_has_the_names_that_are_read() {
     let bytes = b"\0asm\x0d\0\x01\0\
@@ -142,8 +142,8 @@ fn a_component_has_the_names_that_are_read() {
     assert_eq!(listing.names(), names);
 }
 
-/// Names behind sections that are framed, though no items are read in them, and in front of one
-/// that isn't.
+/// Names are found after sections whose items can't be read, and up to one without a size within
+/// bounds.
 #[test]
 fn names_behind_what_is_not_read_are_found() {
     let framed: [&[u8]; 4] = [

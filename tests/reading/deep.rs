@@ -36,7 +36,7 @@ fn with_both(stack: usize, work: fn(&mut ItemTree)) {
             work(&mut item);
             item
         });
-        // it is dropped by a call of its own
+        // it is dropped by a separate call
         forget(done.expect("there is a thread").join().expect("it is done"));
     }
 }

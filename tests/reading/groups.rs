@@ -1,5 +1,5 @@
-//! Recursion groups of core types: whatever reads counts each of their types, as the standard does.
-//! The listing's counts are upstream's, for which a group is one type.
+//! Recursion groups of core types: readers count each of their types, as the standard does. The
+//! counts of a listing are upstream's, for which a group is one type.
 
 use crate::{component, nested, section};
 use wenc::tree::{IndexCounts, ItemTree, Scope, Space};

@@ -188,7 +188,7 @@ const ROWS: &[Row] = &rows! { |b|
         b.try_append_names() => Ok(()),
     } "09 07 00 00 fe ff ff ff 0f 06 06 01 02 00 00 01 76 \
        00 1a 0e cn 01 09 02 01 fe ff ff ff 0f 01 76";
-    // What is unfinished is said before anything else is.
+    // `Unfinished` takes precedence over other errors.
     {
         b.try_start(0, vec![], u32::MAX) => Ok(0),
         drop(b.try_type_defined(None).expect("a type")) => (),

@@ -1,5 +1,5 @@
 //! Rows of calls and the bytes that they write, in hexadecimal: literals that were worked out from
-//! the text of the format. `tests/calls` puts its bytes together instead.
+//! the format's standard. `tests/calls` composes its bytes instead.
 #![cfg(feature = "reader")]
 #![allow(unsafe_code, reason = "a global allocator is unsafe")]
 
@@ -29,7 +29,7 @@ fn is_behind(bytes: &[u8], wanted: &str) {
     assert!(bytes == [&Component::HEADER[..], &wanted].concat(), "{bytes:x?}, not {wanted:x?}");
 }
 
-/// Reads the component, by values and borrowed, and writes its sections and commands again.
+/// Reads the component, as owned and as borrowed items, and writes its sections and commands again.
 #[track_caller]
 fn is_listed(bytes: &[u8]) {
     let listing = list(bytes).expect("it is listed");

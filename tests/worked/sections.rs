@@ -123,7 +123,7 @@ fn a_function_and_its_import() {
     is_listed(component.as_slice());
 }
 
-/// A section that isn't of this library.
+/// A section type of the caller's own.
 struct Own;
 
 impl Encode for Own {
@@ -138,7 +138,7 @@ impl ComponentSection for Own {
     }
 }
 
-/// Sections that no component has, or that have no frame.
+/// Sections with unknown ids, or without a size within bounds.
 #[test]
 fn any_section() {
     let component = |section: &dyn Fn(&mut Component)| {

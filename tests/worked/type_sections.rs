@@ -9,7 +9,7 @@ fn subtype(is_final: bool, supertype_idx: Option<u32>, inner: CompositeInnerType
     SubType { is_final, supertype_idx, composite_type }
 }
 
-/// A type of functions with these parameters.
+/// A function type with these parameters.
 fn function<const N: usize>(params: [ValType; N]) -> CompositeInnerType {
     CompositeInnerType::Func(FuncType::new(params, []))
 }
@@ -51,7 +51,7 @@ const REFERENCES: [ValType; 4] = [
     ValType::Ref(RefType { nullable: true, heap_type: HeapType::Concrete(64) }),
 ];
 
-/// A core type, and a component's bytes after the header with that alone.
+/// A core type, and the bytes after the header of a component with only that type.
 type Row = (fn(ComponentCoreTypeEncoder<'_>), &'static str);
 
 const ROWS: [Row; 9] = [

@@ -92,7 +92,7 @@ fn parts(fault: ListFault) -> (Status, usize, Option<Unread>, Option<Cause>) {
     }
 }
 
-/// Where the bytes can't be read, and the bytes that can be there; what that counts as.
+/// The byte offset of the cause, the bytes that are expected there, and the kind of the cause.
 fn stop(cause: Cause) -> (usize, Vec<u8>, &'static str) {
     match cause {
         Cause::Byte { place, expected, .. } => {
@@ -106,7 +106,7 @@ fn stop(cause: Cause) -> (usize, Vec<u8>, &'static str) {
     }
 }
 
-/// The place of the content of a custom section, where the walk stays if that has no name.
+/// The byte offset of a custom section's content, where the walk stays if it has no name.
 fn content(bytes: &[u8], section: usize) -> Option<usize> {
     let (range, raw) = Sections::at(bytes, section)?.next_raw()?;
     (raw.id == 0).then_some(range.end - raw.data.len())

@@ -16,7 +16,7 @@ use wenc_capi::items::wenc_alias_outer;
 use wenc_capi::life::{wenc_count, wenc_len};
 use wenc_capi::{Handle, Status};
 
-/// A type whose declarations are counted beside it.
+/// A type, with the expected counts of its declarations.
 struct Types {
     held: Held,
     /// The spaces that it counts.
@@ -44,7 +44,7 @@ impl Types {
         Ok(())
     }
 
-    /// It counts what it declares. A module type has no number of all.
+    /// The type counts its declarations. A module type has no total.
     fn finished(mut self) -> Held {
         let at = self.held.at();
         for space in Space::ALL {
@@ -220,7 +220,7 @@ fn group(handle: *mut Handle, debug_name: &Option<String>, ty: &GroupTree) -> Do
         GroupTree::Sub(ty) => {
             let Listed { subtype, _lists: [one, two] } = &listed(ty);
             let (at, len) = (one.as_ptr(), one.len());
-            // The calls for what has no supertype and no subtypes.
+            // The calls for types without a supertype and without subtypes.
             let is_plain = ty.is_final && ty.supertype_idx.is_none();
             match (is_plain, &ty.composite_type) {
                 (true, CoreCompositeType::Func(_)) => called_with!(wenc_core_type_function(

@@ -78,7 +78,7 @@ impl Drop for Held {
     }
 }
 
-/// Imports a resource type under an empty name: the index.
+/// Imports a resource type under an empty name, and returns its index.
 fn import(handle: *mut Handle) -> (Status, u32) {
     let mut index = 77;
     let status = unsafe { wenc_import(handle, EMPTY, 0, 7, 0, &mut index) };
@@ -450,8 +450,8 @@ fn wrong_arguments_of_sections_are_named() {
     assert!(nothing.is_nothing());
 }
 
-/// To go through the sections in front of each of so many wouldn't end within the time that the
-/// gate gives to all.
+/// In quadratic time, by walking over the sections before each of them, this wouldn't end within
+/// the time limit of the gate.
 #[test]
 fn items_of_many_sections_are_found() {
     const SECTIONS: usize = 160_000;
@@ -502,7 +502,7 @@ fn what_is_not_read_is_put_out() {
     assert_eq!(read(&component), (Status::Done, [0; 4]));
     assert_eq!(read(&[]), (Status::NotAComponent, [0; 4]));
     assert_eq!(changed(8, 12), (Status::BadSection, [8, 8, 0, 0]));
-    // Two imports, of which the second isn't there; no count; a byte behind the type.
+    // Two imports, the second of which is missing; no count; a byte after the type.
     assert_eq!(changed(17, 2), (Status::BadItem, [15, 23, 2, 1]));
     assert_eq!(read(&component[..8 + 2 + 1]).0, Status::BadSection);
     assert_eq!(read(b"\0asm\x0d\0\x01\0\x07\x00"), (Status::BadItem, [8, 10, 1, 0]));
@@ -524,7 +524,7 @@ fn said(bytes: &[u8], section: usize, size: usize) -> (usize, Vec<u8>) {
 
 #[test]
 fn faults_are_said() {
-    // an import of a kind that is none
+    // an import of an unknown kind
     let bytes = b"\0asm\x0d\0\x01\0\x06\x01\0\x0a\x06\x01\0\x01f\x09\x01";
     let (mut unread, mut listing) = (UnreadPart::default(), Held::nothing());
     let status = unsafe { wenc_list(listing.at(), bytes.as_ptr(), bytes.len(), &mut unread) };

@@ -35,7 +35,7 @@ struct Row {
     error: (u32, Option<&'static CStr>, usize),
 }
 
-/// By what it begins: a status, an argument with the number of its member, and the call.
+/// The expected status, the argument with the number of its member, and the call.
 macro_rules! rows {
     ($at:ident: $($begin:path: $status:literal $argument:literal [$member:literal]
         $call:ident($($arg:expr),*);)*
@@ -195,7 +195,7 @@ fn rows() -> impl Iterator<Item = Row> {
     of_handles().into_iter().chain(of_items()).chain(of_types())
 }
 
-/// Each call of the header has its row, but for a walk, which has no handle.
+/// Each call of the header has its row, except for those of a walk, which has no handle.
 #[test]
 fn each_call_has_its_row() {
     let (of_handles, others): (Vec<_>, Vec<_>) =
@@ -248,7 +248,7 @@ fn calls_that_succeed_leave_it() {
     assert_eq!(last_error(at), PLANTED);
 }
 
-/// A handle that owns nothing has no error, also where a call can't begin something by it.
+/// A handle that owns nothing has no error, even after a call that failed to create something.
 #[test]
 fn nothing_has_no_error() {
     let begins = |name: &str| name.ends_with("_new") || name == "wenc_list";
@@ -273,7 +273,7 @@ fn nothing_has_no_error() {
     assert!(statuses.into_iter().eq(wanted) && nothing.is_nothing(), "{statuses:?}");
 }
 
-/// Several threads make calls that fail, each of them another one: the error is one of these.
+/// Several threads make calls that fail, each a different one: the error is one of theirs.
 #[cfg_attr(target_family = "wasm", ignore = "it has no threads")]
 #[test]
 fn threads_read_at_a_time() {

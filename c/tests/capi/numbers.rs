@@ -151,7 +151,7 @@ pub fn builtin_with(canon: &CanonTree) -> Option<(u32, u32, &[CanonicalOption])>
     })
 }
 
-/// The number of a builtin, and its two arguments: one that it doesn't take is anything.
+/// The number of a builtin, and its two arguments: one that it doesn't take is arbitrary.
 pub fn builtin(canon: &CanonTree) -> Option<(u32, u32, u32)> {
     use wenc::tree::CanonOf::*;
     let numbers = match *canon {

@@ -14,7 +14,7 @@ use wenc_capi::items::*;
 use wenc_capi::sections::*;
 use wenc_capi::{Handle, Status};
 
-/// A component with this call in a builder and by hand, which has these bytes behind its header.
+/// A component with this call, in a builder and by hand, has these bytes after its header.
 #[track_caller]
 fn in_both(wanted: &[u8], call: impl Fn(*mut Handle) -> Status) {
     for mut held in [Held::builder(), Held::by_hand()] {
@@ -63,7 +63,7 @@ fn producers() {
         version: version.as_ptr(),
         version_len: version.len(),
     });
-    // Neighbours of one field share it.
+    // Adjacent tools with the same field share it.
     let fields = [&tools[..2], &tools[2..3], &tools[3..]];
     let field = |of: &[(&str, &str, &str)]| {
         bytes![of[0].0, list(of.iter().map(|(_, tool, version)| bytes![*tool, *version]))]

@@ -1,6 +1,6 @@
-//! Each row of the table of calls by the call for C: in a builder, whose bytes are the table's;
-//! and, as the calls for Rust make it, by hand, with each request for memory refused in turn, and
-//! read and added again.
+//! Each row of the table of calls, made by the call for C: in a builder, whose bytes are the
+//! table's; and, with the results of the calls for Rust, by hand, with each allocation failing in
+//! turn, and read and added again.
 
 use crate::call::Call;
 use crate::called::{Done, UNTOUCHED, call};
@@ -75,14 +75,14 @@ fn each_call() {
 #[test]
 fn each_is_refused() {
     for row in of_c() {
-        // At one of these numbers of calls in front there is no room for the next one's name.
+        // After one of these numbers of calls there is no room for the next name.
         let requests: usize = (1..7).map(|front| requests_refused(&row, front)).sum();
         assert!(requests > 0, "{}", row.name);
     }
 }
 
-/// Has the requests of the call refused in turn, behind this number of such calls. Returns how many
-/// there are.
+/// Makes each allocation of the call fail in turn, after this number of such calls. Returns how
+/// many there are.
 fn requests_refused(row: &Call, front: usize) -> usize {
     let size = Size { text: text(70), ..Size::new(128, 40, 0, 50) };
     let name = Some("an-interface-with-a-long-name");

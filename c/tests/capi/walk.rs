@@ -97,12 +97,12 @@ fn items(bytes: &[u8]) -> (Vec<ItemRow>, Status) {
     (items, status)
 }
 
-/// What a row has, beside its place, its spaces and its texts.
+/// The fields of a row except its byte offset, its spaces and its texts.
 fn rest(item: &ItemRow) -> [u32; 6] {
     [item.reference, item.of, item.alias, item.kind, item.item, item.count]
 }
 
-/// What a row has of a type, which may have no index.
+/// The fields of a row for a type, which may have no index.
 fn of_type(ty: ComponentTypeRef) -> [u32; 2] {
     match numbers::type_ref(ty) {
         (7, _) => [7, 0],
@@ -120,7 +120,7 @@ fn names_of(name: &NameTree) -> [Option<&str>; 4] {
     ]
 }
 
-/// Expects that the row tells what the command does of its item.
+/// Expects that the row describes the item as the command does.
 pub fn is_told<'a>(row: &ItemRow, command: &'a Command) {
     let plain = |name: &'a str| [Some(name), None, None, None];
     let (names, [reference, of], [alias, kind, item, count]) = match command {
@@ -165,8 +165,8 @@ fn what_is_empty_is_a_string() {
 
 #[test]
 fn a_walk_goes_on_behind_what_it_cannot_read() {
-    // A builtin that there isn't, behind one that there is; a section with an unknown id; a count
-    // that isn't there; and an import.
+    // An unknown builtin after a known one; a section with an unknown id; a missing count; and an
+    // import.
     let bytes =
         b"\0asm\x0d\0\x01\0\x08\x04\x02\x05\xff\0\x0c\x01\x07\x06\0\x0a\x06\x01\0\x01f\x01\0";
     let mut walk = begun(bytes);
@@ -304,7 +304,7 @@ fn debug_names_are_read() {
     let wanted = [(13, 0, "c"), (8, 0, "g"), (8, 255, ""), (12, 5, "\u{e9}")];
     assert_eq!(names_in(NAMES), (wanted.to_vec(), Status::End));
     assert_eq!(names_in(b""), (Vec::new(), Status::End));
-    // A subsection past the end, behind another; two names where one is there.
+    // A subsection that exceeds the bytes, after another; a count of two before one name.
     let bad = |data| names_in(data);
     assert_eq!(bad(b"\0\x02\x01c\x01\x03\x01"), (wanted[..1].to_vec(), Status::Malformed));
     assert_eq!(bad(b"\x01\x05\x01\x02\0\x01g"), (Vec::new(), Status::Malformed));
@@ -352,15 +352,15 @@ fn a_listing_has_the_rows_of_the_walk() {
         assert_eq!(wenc_item_at(at, 7, 0, ptr::null_mut()), Status::BadArgument);
         assert_eq!(wenc_copy(to, ptr::null(), at, 1, 1, none), Status::BadArgument);
         assert_eq!(wenc_copy(at, ptr::null(), to, 0, 0, none), Status::BadArgument);
-        // What isn't read has no sections, and there is no such space.
+        // A handle that read nothing has no sections, and the space is unknown.
         assert_eq!(wenc_section_at(to, 0, ptr::null_mut()), Status::BadArgument);
         assert_eq!(wenc_len(to, ptr::null_mut()), Status::BadArgument);
         assert_eq!(wenc_count(to, 13, ptr::null_mut()), Status::BadArgument);
     }
 }
 
-/// A walk from the start to each of so many items wouldn't end within the time that the gate gives
-/// to all.
+/// In quadratic time, by a walk from the start to each item, this wouldn't end within the time
+/// limit of the gate.
 #[test]
 fn a_walk_is_linear() {
     let items_len = 2_000_000;
@@ -437,7 +437,7 @@ fn copied(bytes: &[u8], rows: &[ItemRow]) -> Vec<u8> {
     builder.finished()
 }
 
-/// What Rust reads of a component, written again.
+/// The component as Rust reads and writes it again.
 fn relisted(bytes: &[u8]) -> Vec<u8> {
     let listing = wenc::list(bytes).expect("a component");
     let items = listing.sections.into_iter().flat_map(|section| section.items);
@@ -445,7 +445,7 @@ fn relisted(bytes: &[u8]) -> Vec<u8> {
     wenc::tree::build(&commands).expect("there is memory").bytes
 }
 
-/// What a row has of a section and of an item is what Rust reads.
+/// The rows of sections and items have what Rust reads.
 fn is_section(row: SectionRow, read: &SectionReader<'_>) {
     let (range, content) = (read.range(), read.raw().data.len());
     let count = usize::try_from(read.count()).expect("few items");
