@@ -7,7 +7,7 @@ use crate::proved::wenc_base::{Module, RawCustomSection};
 use crate::proved::wenc_parts::{Component, ComponentExternName};
 use crate::proved::wenc_types::{ComponentType, InstanceType, ModuleType};
 use crate::shim::borrow::CowStr;
-use crate::shim::string::String;
+use crate::shim::string::{String, StringUsing};
 
 /// After up to eight sections of one byte, growth is needed at each place.
 #[test]
@@ -61,18 +61,18 @@ fn types_with_declarations_are_swept() {
 #[test]
 fn copies_of_modules_and_names_are_swept() {
     let heap = Refusing::new();
-    let mut module = Module::new(&heap).unwrap();
+    let mut module = Module::new(heap).unwrap();
     module.section(&RawCustomSection(TEXT)).unwrap();
-    let (copy, requests) = refused_in_turn(&heap, || module.try_clone());
+    let (copy, requests) = refused_in_turn(heap, || module.try_clone());
     assert_eq!((copy.as_slice(), requests), (module.as_slice(), 1));
 
-    let text = |text| Some(CowStr::Owned(String::from_str(&heap, text).unwrap()));
+    let text = |text| Some(CowStr::Owned(String::from_str(heap, text).unwrap()));
     let name = ComponentExternName {
         name: CowStr::Borrowed("a"),
         implements: text("b"),
         version_suffix: None,
         external_id: text("c"),
     };
-    let (copy, requests) = refused_in_turn(&heap, || name.try_clone());
+    let (copy, requests) = refused_in_turn(heap, || name.try_clone());
     assert_eq!((sweep_encode(&copy), requests), (sweep_encode(&name), 2));
 }

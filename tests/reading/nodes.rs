@@ -1,7 +1,7 @@
 //! Items as nodes.
 
 use crate::component;
-use wenc::tree::{CoreFuncType, CoreValType, Node, Vec as List};
+use wenc::tree::{CoreFuncType, CoreValType, Node};
 use wenc::{CoreItem, CoreSections, ExportKind, Sections, list};
 
 /// What is printed of a node, in single quotes.
@@ -118,7 +118,7 @@ fn lengths_of_borrowed_elements() {
 
 #[test]
 fn function_types_of_lists() {
-    let [params, results] = [CoreValType::I32, CoreValType::F64].map(|ty| List::from(vec![ty]));
+    let [params, results] = [CoreValType::I32, CoreValType::F64].map(|ty| vec![ty]);
     let ty = CoreFuncType::from_lists(params, results);
     assert_eq!((ty.params(), ty.results()), (&[CoreValType::I32][..], &[CoreValType::F64][..]));
 }
