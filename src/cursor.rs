@@ -209,8 +209,8 @@ impl<'a> Sections<'a> {
     /// checked. A recursion group defines an index for each of its types, to which they may refer.
     ///
     /// The iterator ends after an error, which is that of a section or of an item, or
-    /// [`ListFault::NoMemory`]: it allocates for each depth of components, and for the indices of one
-    /// item that are out of range.
+    /// [`ListFault::NoMemory`]: it allocates for each depth of components, and for the indices of
+    /// one item that are out of range.
     ///
     /// ```
     /// use wenc::tree::{Scope, Space};
