@@ -10,7 +10,7 @@
 //! - *renames*: the roots of paths, so that `crate::` and `wenc_base::` are modules of
 //!   `crate::proved`, and `std::` is `crate::shim`, which has what the sources use of Rattle's
 //!   library; other allocators to `Global`; `Clone` and `clone`, which can fail in Rattle, to
-//!   `TryClone` and `try_clone`; the methods in [`ALLOCATING`] and [`MAKING`], by appending `_using`;
+//!   `TryClone` and `try_clone`; the calls in [`ALLOCATING`] and [`MAKING`], by appending `_using`;
 //!   `derive_where` to `derive`; `pub` of the methods and fields that aren't for users
 //!   ([`NARROWED`]) to `pub(crate)`;
 //! - *adds*: the names that are in scope by default, before a file's first item; the derives that

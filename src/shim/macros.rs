@@ -11,11 +11,8 @@ macro_rules! format_in {
 #[cfg(test)]
 macro_rules! vec_in {
     (in $alloc:expr; $($value:expr),* $(,)?) => {{
-        let values = [$($value),*];
-        <crate::shim::vec::Vec<_> as crate::shim::vec::VecUsing<_>>::with_capacity_using($alloc, values.len()).map(|mut all| {
-            all.extend(values);
-            all
-        })
+        use crate::shim::iter::CollectUsing;
+        [$($value),*].into_iter().collect_using($alloc)
     }};
 }
 
