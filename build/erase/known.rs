@@ -10,7 +10,7 @@ pub const MAKING: [&str; 2] = ["new", "with_capacity"];
 
 /// Functions on the way of a call that adds an item: compiled into the caller's crate, they take
 /// fewer instructions (`benches/count`).
-pub const INLINED: [&str; 27] = [
+pub const INLINED: [&str; 28] = [
     "add_slot_row",
     "alias",
     "alias_export",
@@ -32,6 +32,7 @@ pub const INLINED: [&str; 27] = [
     "keep_in_room",
     "open",
     "put_number_over",
+    "tree_of",
     "ty",
     "type_component",
     "type_defined",

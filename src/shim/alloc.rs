@@ -25,11 +25,11 @@ pub(super) fn with_room<V: Default>(
     room: usize,
     reserve: impl FnOnce(&mut V, usize) -> Result<(), TryReserveError>,
 ) -> Result<V, AllocError> {
+    let mut made = V::default();
     if room > 0 {
         ask()?;
+        reserve(&mut made, room)?;
     }
-    let mut made = V::default();
-    reserve(&mut made, room)?;
     Ok(made)
 }
 

@@ -95,6 +95,7 @@ fn next_section<'a>(left: &mut Sections<'a>) -> Result<Option<SectionItems<'a>>,
 }
 
 /// Reads all items of a section.
+#[inline(always)]
 fn section<A: Allocator + Copy>(
     alloc: A,
     from: SectionItems<'_>,
