@@ -269,9 +269,9 @@ impl<A: Allocator> Encode for CanonicalFunctionSection<A> {
 }
 
 impl<A: Allocator> ComponentSection for CanonicalFunctionSection<A> {
-    ghost use Rattle.wenc_parts.specs.declared.component.ComponentSectionId.TheVariants.{CanonicalFunction};
+    ghost use Rattle.wenc_parts.specs.declared.component.ComponentSectionId.TheVariants as ids;
 
-    ghost section_id = { λ _. section_number CanonicalFunction };
+    ghost section_id = { λ _. section_number ids.CanonicalFunction };
 
     fn id(&self) -> u8 {
         u8::from(ComponentSectionId::CanonicalFunction)

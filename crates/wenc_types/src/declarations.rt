@@ -61,7 +61,8 @@ pub trait DeclaredKind {
 /// The kinds of types that allow all declarations of instance types: those of components and
 /// instances (component model, binary format, "Type Definitions").
 pub trait DeclaringKind: DeclaredKind {
-    /// Each declaration of an instance type is one of such a type, with the same encoding and space.
+    /// Each declaration of an instance type is one of such a type, with the same encoding and
+    /// space.
     ghost declares: { (d : InstanceDeclaration) → DeclaredAs Self.form Self.space
         (Self.declared d) d };
 }

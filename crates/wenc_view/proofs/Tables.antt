@@ -1,9 +1,9 @@
 -- What a table of values that are a byte each finds.
-use Rattle.std.proofs.Common.{◌≡◌, ℕ, List, [], ◌∷◌, ◌++◌, map, Some, None, Result, Ok, Err, refl}
+use Rattle.std.proofs.Common.{◌≡◌, ℕ, List, [], ◌∷◌, ◌++◌, map, Some, None, Ok, Err, refl}
 use Rattle.std.proofs.Common.{inl, inr, ap}
 use Rattle.std.proofs.lemmas.Option.{same_Some}
 use Rattle.wenc_base.specs.laws.Sound.{tested}
-use Rattle.wenc_base.specs.Readers.{Flaw, Bad, read_byte, Reader, ◌>>=◌, give, pick, choose}
+use Rattle.wenc_base.specs.Readers.{Bad, read_byte, Reader, ◌>>=◌, give, pick, choose}
 use Rattle.wenc_read.specs.laws.Tables.{first_there}
 use Rattle.wenc_view.specs.inside.Tables.{find}
 

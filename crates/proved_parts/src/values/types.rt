@@ -4,7 +4,7 @@ ghost use Rattle.proved_parts.specs.Prelude.{ValType, ComponentOuterAliasKind, T
 ghost use Rattle.wenc_base.specs.Prelude.{Func, Single};
 ghost use Rattle.wenc_parts.specs.Prelude.{Outer, plain_name};
 ghost use Rattle.wenc_parts.specs.declared.imports.ComponentTypeRef.TheVariants as references;
-ghost use Rattle.wenc_parts.specs.declared.types.ComponentValType.TheVariants.{Primitive as primitive};
+ghost use Rattle.wenc_parts.specs.declared.types.ComponentValType.TheVariants as values;
 ghost use Rattle.wenc_parts.specs.declared.types.PrimitiveValType.TheVariants.{String, U8, U32};
 ghost use Rattle.wenc_types.specs.Prelude.{DefinedType, FunctionType, ComponentType, InstanceType};
 ghost use Rattle.wenc_types.specs.Prelude.{ResourceType, CoreTyped, Typed, Aliased, Exported};
@@ -19,21 +19,21 @@ pub fn defined_types()
     ensures no_fields { (def_val_type (Record [])).text ≡ 0x72 ∷ 0x00 ∷ [] }
     // "a" without a value, and "b" with a string
     ensures cases { (def_val_type (Variant (record { name = 0x61 ∷ []; ty = None }
-        ∷ record { name = 0x62 ∷ []; ty = Some (primitive String) } ∷ []))).text
+        ∷ record { name = 0x62 ∷ []; ty = Some (values.Primitive String) } ∷ []))).text
         ≡ 0x71 ∷ 0x02 ∷ 0x01 ∷ 0x61 ∷ 0x00 ∷ 0x00 ∷ 0x01 ∷ 0x62 ∷ 0x01 ∷ 0x73 ∷ 0x00 ∷ [] }
-    ensures error_alone { (def_val_type (ResultOf None (Some (primitive String)))).text
+    ensures error_alone { (def_val_type (ResultOf None (Some (values.Primitive String)))).text
         ≡ 0x6a ∷ 0x00 ∷ 0x01 ∷ 0x73 ∷ [] }
-    ensures map { (def_val_type (MapOf (primitive String) (primitive U32))).text
+    ensures map { (def_val_type (MapOf (values.Primitive String) (values.Primitive U32))).text
         ≡ 0x63 ∷ 0x73 ∷ 0x79 ∷ [] }
-    ensures fixed_length { (def_val_type (FixedLengthList (primitive U8) 128)).text
+    ensures fixed_length { (def_val_type (FixedLengthList (values.Primitive U8) 128)).text
         ≡ 0x67 ∷ 0x7d ∷ 0x80 ∷ 0x01 ∷ [] }
     ensures handle { (def_val_type (Own 64)).text ≡ 0x69 ∷ 0x40 ∷ [] }
     // "a" and "b" are strings, and so is the result
     ensures function { (function_type (record {
       is_async = false;
-      params = record { name = 0x61 ∷ []; ty = primitive String }
-          ∷ record { name = 0x62 ∷ []; ty = primitive String } ∷ [];
-      answer = Some (primitive String);
+      params = record { name = 0x61 ∷ []; ty = values.Primitive String }
+          ∷ record { name = 0x62 ∷ []; ty = values.Primitive String } ∷ [];
+      answer = Some (values.Primitive String);
     })).text
         ≡ 0x40 ∷ 0x02 ∷ 0x01 ∷ 0x61 ∷ 0x73 ∷ 0x01 ∷ 0x62 ∷ 0x73 ∷ 0x00 ∷ 0x73 ∷ [] }
     ensures asynchronous { (function_type (record {
@@ -55,7 +55,7 @@ pub fn component_types()
         (and_instance (Typed (InstanceType no_instance)) no_instance)) ≡ 2 }
     // an optional string, exported as "t"
     ensures instance { (def_type (InstanceType
-        (and_instance (Typed (DefinedType (OptionOf (primitive String))))
+        (and_instance (Typed (DefinedType (OptionOf (values.Primitive String))))
         (and_instance (Exported (plain_name (0x74 ∷ [])) (references.«Type» (TypeBounds.Eq 0)))
         no_instance)))).text
         ≡ 0x42 ∷ 0x02 ∷ 0x01 ∷ 0x6b ∷ 0x73 ∷ 0x04 ∷ 0x00 ∷ 0x01 ∷ 0x74 ∷ 0x03 ∷ 0x00 ∷ 0x00 ∷ [] }

@@ -93,8 +93,8 @@ fn put_long_number_over<A: Allocator>(
     }
 }
 
-/// Writes `text` before the bytes from `start` on. These move behind it, and as many bytes as it has
-/// are lost at the end.
+/// Writes `text` before the bytes from `start` on. These move behind it, and as many bytes as it
+/// has are lost at the end.
 fn put_in_front(bytes: &mut [u8], start: usize, text: &[u8])
     requires { start + length text.now ≤ length bytes.old }
     ensures { (before behind last : List ℕ) → bytes.old ≡ before ++ behind ++ last

@@ -1,10 +1,10 @@
 //! The encoder of core types.
 ghost use Rattle.std.specs.Iterator.{IsFinite};
 ghost use Rattle.std.specs.Prelude.{◌≡◌, true, false, map};
-ghost use Rattle.wenc_base.specs.Prelude.{RecType, Single, Rec, Func, Struct, Array, composite_type};
+ghost use Rattle.wenc_base.specs.Prelude.{RecType, Single, Rec, Func, Struct, Array};
 ghost use Rattle.wenc_base.specs.Prelude.{func_type_view, sub_view, rec_type, rec_type_view};
 ghost use Rattle.wenc_base.specs.Prelude.{standing, list, Ends, EndsListed, EndsLists, MakesWhole};
-ghost use Rattle.wenc_base.specs.Prelude.{◌▸◌, val_type};
+ghost use Rattle.wenc_base.specs.Prelude.{◌▸◌, val_type, composite_type};
 
 use super::guard::Guarded;
 use super::{ArrayType, ByteTypes, FieldType, FuncType, GroupTree, StorageType, SubType, ValType};
