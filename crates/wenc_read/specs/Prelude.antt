@@ -3,5 +3,6 @@ pub use Rattle.wenc_read.specs.Gives.{Gives, flaw_of}
 pub use Rattle.wenc_read.specs.Expected.{ranges_of, is_number, BeginsWith}
 pub use Rattle.wenc_read.specs.Refusals.{expected_at, expected_before, or_else, in_flat}
 pub use Rattle.wenc_read.specs.Refusals.{unless_between, unless_few}
+pub use Rattle.wenc_read.specs.Refusals.{byte_error, flag_error, number_error}
 pub use Rattle.wenc_read.specs.Exact.{IsExact, IsExactAt}
 pub use Rattle.wenc_read.specs.laws.Exact.{exact_by, list_exact, option_exact}

@@ -1,9 +1,9 @@
 -- The errors of reading: at which place, and what is expected there.
-use Rattle.std.specs.Prelude.{ℕ, ◌+◌, List, [], ◌∷◌, length, ◌&&◌, ◌||◌, not}
+use Rattle.std.specs.Prelude.{ℕ, zero, suc, ◌+◌, List, [], ◌∷◌, length, ◌&&◌, ◌||◌, not}
 use Rattle.std.specs.Prelude.{nat_eq, nat_lt, if◌then◌else◌}
 use Rattle.wenc_read.specs.Expected.{is_number}
 use Rattle.wenc_read.specs.declared.expected.Expected.{Expected}
-use Rattle.wenc_read.specs.declared.expected.Expected.TheVariants.{Bytes, From}
+use Rattle.wenc_read.specs.declared.expected.Expected.TheVariants.{Bytes, Bits, From, Index}
 use Rattle.wenc_read.specs.declared.refusal.NestedRefusal.{NestedRefusal}
 use Rattle.wenc_read.specs.declared.refusal.NestedRefusal.TheVariants.{Flat, TooDeep}
 use Rattle.wenc_read.specs.declared.refusal.Refusal.{Refusal}
@@ -15,6 +15,24 @@ expected_at bytes expected = record { left = length bytes; expected = expected }
 -- at the byte before them
 abbrev pub expected_before : List ℕ → Expected → Refusal
 expected_before bytes expected = record { left = length bytes + 1; expected = expected }
+
+-- Why no byte begins the bytes: there is none.
+abbrev pub byte_error : List ℕ → Refusal
+byte_error bytes = expected_at bytes (Bytes 1)
+
+-- Why no flag begins the bytes: there is no byte, or another one.
+abbrev pub flag_error : List ℕ → Refusal
+flag_error [] = byte_error []
+flag_error (b ∷ bytes) = expected_at (b ∷ bytes) (From 0 1)
+
+-- Why no number of so many bits, in at most room + 1 bytes, the last one below top, begins the
+-- bytes: they end in it, its last one is too large, or it is, from the first of the whole bytes on.
+abbrev pub number_error : ℕ → ℕ → List ℕ → ℕ → List ℕ → Refusal
+number_error top bits whole room [] = byte_error []
+number_error top bits whole zero (b ∷ bytes) = expected_at whole (Bits bits)
+number_error top bits whole (suc room) (b ∷ bytes) = if nat_lt b top then expected_at whole (Bits bits)
+    else (if nat_lt b 128 then expected_at (b ∷ bytes) Index
+    else number_error top bits whole room bytes)
 
 -- Where the first byte is what can't be read, another expectation stands in place of that of the
 -- error, but for a number that is too large.

@@ -1,6 +1,7 @@
 //! Flags.
+ghost use Rattle.std.specs.Prelude.{◌≡◌, IfErr};
 ghost use Rattle.wenc_base.specs.Prelude.{read_flag};
-ghost use Rattle.wenc_read.specs.Prelude.{Gives};
+ghost use Rattle.wenc_read.specs.Prelude.{Gives, flag_error};
 
 use crate::expected::Expected;
 use crate::number::byte;
@@ -10,7 +11,8 @@ use crate::refusal::Refusal;
 /// if no such byte begins the bytes.
 #[tactic(auto, unfolding(wenc_base::specs::Readers::choose))]
 pub fn flag_of(bytes: &[u8]) -> Result<(bool, &[u8]), Refusal>
-    ensures { Gives (λ x. (x.0, x.1.now)) result (read_flag bytes.now) }
+    ensures found { Gives (λ x. (x.0, x.1.now)) result (read_flag bytes.now) }
+    ensures refused { IfErr result (λ e. e ≡ flag_error bytes.now) }
 {
     match byte(bytes)? {
         (0, rest) => Ok((false, rest)),

@@ -1,7 +1,7 @@
 //! Numbers.
-ghost use Rattle.std.specs.Prelude.{◌≡◌, ◌^◌, ◌≤◌, ◌<◌, ◌+◌, ◌-◌, ◌*◌};
+ghost use Rattle.std.specs.Prelude.{◌≡◌, ◌^◌, ◌≤◌, ◌<◌, ◌+◌, ◌-◌, ◌*◌, IfErr};
 ghost use Rattle.wenc_base.specs.Prelude.{read_groups, read_u32, read_u64, read_index, read_byte};
-ghost use Rattle.wenc_read.specs.Prelude.{Gives};
+ghost use Rattle.wenc_read.specs.Prelude.{Gives, byte_error, number_error};
 
 use crate::expected::Expected;
 use crate::refusal::Refusal;
@@ -9,7 +9,8 @@ use crate::refusal::Refusal;
 /// Reads the first byte. Fails if there is none.
 #[inline(always)]
 pub fn byte(bytes: &[u8]) -> Result<(u8, &[u8]), Refusal>
-    ensures { Gives (λ x. (x.0, x.1.now)) result (read_byte bytes.now) }
+    ensures found { Gives (λ x. (x.0, x.1.now)) result (read_byte bytes.now) }
+    ensures refused { IfErr result (λ e. e ≡ byte_error bytes.now) }
 {
     match bytes {
         [] => Err(Refusal::at(bytes, Expected::Bytes(1))),
@@ -17,53 +18,54 @@ pub fn byte(bytes: &[u8]) -> Result<(u8, &[u8]), Refusal>
     }
 }
 
-/// Returns the error of a number that goes on in these bytes, after so many others.
-fn too_long(bytes: &[u8], before: usize, expected: Expected) -> Refusal {
-    Refusal {
-        left: bytes.len().saturating_add(before),
-        expected,
-    }
-}
-
-/// Reads a number of 32 bits, whose last byte is below `top`, after at most `room` other bytes.
-#[tactic(auto, unfolding(wenc_base::specs::reading::Numbers::read_groups))]
-fn short_groups(top: u8, room: u8, bytes: &[u8]) -> Result<(u32, &[u8]), Refusal>
+/// Reads a number of 32 bits, whose last byte is below `top`, after at most `room` other bytes. It
+/// is a number in the bytes `whole`, from the first of them on.
+#[tactic(auto, using(crate::proofs::Numbers::too_large), unfolding(wenc_base::specs::reading::Numbers::read_groups))]
+fn short_groups<'a>(
+    top: u8,
+    room: u8,
+    whole: &[u8],
+    bytes: &'a [u8],
+) -> Result<(u32, &'a [u8]), Refusal>
     requires { top ≤ 128 }
-    ensures { Gives (λ x. (x.0, x.1.now)) result (read_groups top (2 ^ 32) room bytes.now) }
+    ensures found { Gives (λ x. (x.0, x.1.now)) result (read_groups top (2 ^ 32) room bytes.now) }
+    ensures refused { IfErr result (λ e. e ≡ number_error top 32 whole.now room bytes.now) }
 {
     let (first, rest) = byte(bytes)?;
     if first < top {
         return Ok((u32::from(first), rest));
     }
     if room == 0 {
-        return Err(too_long(bytes, 4, Expected::Bits(32)));
+        return Err(Refusal::at(whole, Expected::Bits(32)));
     }
     if first < 128 {
         return Err(Refusal::at(bytes, Expected::Index));
     }
-    let (high, rest) = short_groups(top, room - 1, rest)?;
+    let (high, rest) = short_groups(top, room - 1, whole, rest)?;
     match u32::try_from(u64::from(first) - 128 + 128 * u64::from(high)) {
         Ok(n) => Ok((n, rest)),
-        Err(_) => Err(Refusal::at(bytes, Expected::Bits(32))),
+        Err(_) => Err(Refusal::at(whole, Expected::Bits(32))),
     }
 }
 
-/// Reads a number of 64 bits, whose last byte comes after at most `room` others.
-#[tactic(auto, unfolding(wenc_base::specs::reading::Numbers::read_groups))]
-fn long_groups(room: u8, bytes: &[u8]) -> Result<(u64, &[u8]), Refusal>
-    ensures { Gives (λ x. (x.0, x.1.now)) result (read_groups 128 (2 ^ 64) room bytes.now) }
+/// Reads a number of 64 bits, whose last byte comes after at most `room` others. It is a number in
+/// the bytes `whole`, from the first of them on.
+#[tactic(auto, using(crate::proofs::Numbers::too_large), unfolding(wenc_base::specs::reading::Numbers::read_groups))]
+fn long_groups<'a>(room: u8, whole: &[u8], bytes: &'a [u8]) -> Result<(u64, &'a [u8]), Refusal>
+    ensures found { Gives (λ x. (x.0, x.1.now)) result (read_groups 128 (2 ^ 64) room bytes.now) }
+    ensures refused { IfErr result (λ e. e ≡ number_error 128 64 whole.now room bytes.now) }
 {
     let (first, rest) = byte(bytes)?;
     if first < 128 {
         return Ok((u64::from(first), rest));
     }
     if room == 0 {
-        return Err(too_long(bytes, 9, Expected::Bits(64)));
+        return Err(Refusal::at(whole, Expected::Bits(64)));
     }
-    let (high, rest) = long_groups(room - 1, rest)?;
+    let (high, rest) = long_groups(room - 1, whole, rest)?;
     match u64::try_from(u128::from(first) - 128 + 128 * u128::from(high)) {
         Ok(n) => Ok((n, rest)),
-        Err(_) => Err(Refusal::at(bytes, Expected::Bits(64))),
+        Err(_) => Err(Refusal::at(whole, Expected::Bits(64))),
     }
 }
 
@@ -79,11 +81,12 @@ fn joined(low: u8, high: u32) -> u32
 
 /// Reads a number of 32 bits in at most 5 bytes, whose last byte is below `top`. Most numbers take
 /// at most three.
-#[tactic(auto, unfolding(wenc_base::specs::reading::Numbers::read_groups))]
+#[tactic(auto, using(crate::proofs::Numbers::too_large), unfolding(wenc_base::specs::reading::Numbers::read_groups))]
 #[inline(always)]
 fn short_number(top: u8, bytes: &[u8]) -> Result<(u32, &[u8]), Refusal>
     requires { top ≤ 128 }
-    ensures { Gives (λ x. (x.0, x.1.now)) result (read_groups top (2 ^ 32) 4 bytes.now) }
+    ensures found { Gives (λ x. (x.0, x.1.now)) result (read_groups top (2 ^ 32) 4 bytes.now) }
+    ensures refused { IfErr result (λ e. e ≡ number_error top 32 bytes.now 4 bytes.now) }
 {
     match bytes {
         [first, rest @ ..] if *first < top => Ok((u32::from(*first), rest)),
@@ -94,7 +97,7 @@ fn short_number(top: u8, bytes: &[u8]) -> Result<(u32, &[u8]), Refusal>
             let high = joined(*second, u32::from(*third));
             Ok((joined(*first, high), rest))
         }
-        _ => short_groups(top, 4, bytes),
+        _ => short_groups(top, 4, bytes, bytes),
     }
 }
 
@@ -102,7 +105,8 @@ fn short_number(top: u8, bytes: &[u8]) -> Result<(u32, &[u8]), Refusal>
 /// with none of at most 5 bytes.
 #[inline(always)]
 pub fn u32_of(bytes: &[u8]) -> Result<(u32, &[u8]), Refusal>
-    ensures { Gives (λ x. (x.0, x.1.now)) result (read_u32 bytes.now) }
+    ensures found { Gives (λ x. (x.0, x.1.now)) result (read_u32 bytes.now) }
+    ensures refused { IfErr result (λ e. e ≡ number_error 128 32 bytes.now 4 bytes.now) }
 {
     short_number(128, bytes)
 }
@@ -110,16 +114,18 @@ pub fn u32_of(bytes: &[u8]) -> Result<(u32, &[u8]), Refusal>
 /// Reads a number of 64 bits (WebAssembly 3.0, binary format, "Integers"). Fails if the bytes begin
 /// with none of at most 10 bytes.
 pub fn u64_of(bytes: &[u8]) -> Result<(u64, &[u8]), Refusal>
-    ensures { Gives (λ x. (x.0, x.1.now)) result (read_u64 bytes.now) }
+    ensures found { Gives (λ x. (x.0, x.1.now)) result (read_u64 bytes.now) }
+    ensures refused { IfErr result (λ e. e ≡ number_error 128 64 bytes.now 9 bytes.now) }
 {
-    long_groups(9, bytes)
+    long_groups(9, bytes, bytes)
 }
 
 /// Reads an index, from 0 to 4294967295, that is written as a signed number of 33 bits (WebAssembly
 /// 3.0, binary format, "Heap Types"). Fails if the bytes begin with none of at most 5 bytes.
 #[inline(always)]
 pub fn index_of(bytes: &[u8]) -> Result<(u32, &[u8]), Refusal>
-    ensures { Gives (λ x. (x.0, x.1.now)) result (read_index bytes.now) }
+    ensures found { Gives (λ x. (x.0, x.1.now)) result (read_index bytes.now) }
+    ensures refused { IfErr result (λ e. e ≡ number_error 64 32 bytes.now 4 bytes.now) }
 {
     short_number(64, bytes)
 }

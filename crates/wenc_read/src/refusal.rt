@@ -45,10 +45,11 @@ impl Refusal {
     pub fn or(self, bytes: &[u8], expected: Expected) -> Refusal
         ensures { result ≡ or_else bytes.now expected self }
     {
-        if self.left == bytes.len() && !self.expected.is_number() {
-            return Refusal::at(bytes, expected);
+        match self.expected {
+            Expected::Bits(_) => self,
+            _ if self.left == bytes.len() => Refusal::at(bytes, expected),
+            _ => self,
         }
-        self
     }
 
     /// Returns the error of a value in these bytes that begins with a byte from `first` to `last`:

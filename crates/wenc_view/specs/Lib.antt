@@ -2,6 +2,7 @@ pub mod Canonicals
 pub mod Instances
 pub mod Gives
 pub mod Types
+pub mod Texts
 pub mod CoreTypes
 pub mod Depth
 pub mod DefinedTypes

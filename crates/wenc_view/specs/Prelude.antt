@@ -1,6 +1,7 @@
 -- The names that clauses cite, re-exported from the files that define them.
 pub use Rattle.wenc_view.specs.Members.{members_of, list_view, GivesFirst, IsCounted}
 pub use Rattle.wenc_view.specs.Names.{name_seen}
+pub use Rattle.wenc_view.specs.Texts.{name_error}
 pub use Rattle.wenc_view.specs.inside.Names.{option_seen, read_options}
 pub use Rattle.wenc_view.specs.Depth.{OpensTypes}
 pub use Rattle.wenc_view.specs.inside.Tables.{find}

@@ -1,9 +1,12 @@
 //! The trait `View`, and the parts of every form.
-ghost use Rattle.std.specs.Prelude.{⊤, IfOk};
+ghost use Rattle.std.specs.Prelude.{◌≡◌, ◌-◌, ⊤, length, IfOk, IfErr};
+ghost use Rattle.std.specs.Str.{valid_up_to};
 ghost use Rattle.wenc_base.specs.Prelude.{Form, Reader, read_u32, u32 as number, u32_sound};
 ghost use Rattle.wenc_base.specs.Prelude.{u32_lawful, read_name, name as name_form, name_sound};
 ghost use Rattle.wenc_base.specs.Prelude.{name_lawful};
 ghost use Rattle.wenc_read.specs.Prelude.{IsExact, Gives, exact_by};
+ghost use Rattle.wenc_read.specs.declared.expected.Expected.TheVariants.{Utf8};
+ghost use Rattle.wenc_view.specs.Prelude.{name_error};
 
 use std::str::Utf8Error;
 use wenc_read::{Expected, Refusal, byte, flag_of, u32_of};
@@ -67,12 +70,16 @@ impl<'a> View<'a> for u32 {
     }
 }
 
-/// Returns the error of a text of so many bytes, before these, that isn't UTF-8.
+/// Returns the error of a text that begins the bytes and isn't UTF-8.
 #[cold]
-fn not_utf8(len: usize, after: &[u8], error: Utf8Error) -> Refusal {
-    let left = len.saturating_sub(error.valid_up_to());
+fn not_utf8(bytes: &[u8], error: Utf8Error) -> Refusal
+    ensures { result ≡ record {
+      left = length bytes.now - valid_up_to error;
+      expected = Utf8;
+    } }
+{
     Refusal {
-        left: left.saturating_add(after.len()),
+        left: bytes.len().saturating_sub(error.valid_up_to()),
         expected: Expected::Utf8,
     }
 }
@@ -86,17 +93,18 @@ fn not_utf8(len: usize, after: &[u8], error: Utf8Error) -> Refusal {
 #[tactic(auto, unfolding(wenc_base::specs::reading::Forms::text_at))]
 #[inline(always)]
 pub fn text_of(bytes: &[u8]) -> Result<(&str, &[u8]), Refusal>
-    ensures { Gives (λ x. (x.0.now, x.1.now)) result (read_name bytes.now) }
+    ensures found { Gives (λ x. (x.0.now, x.1.now)) result (read_name bytes.now) }
+    ensures refused { IfErr result (λ e. e ≡ name_error bytes.now) }
 {
     let (size, rest) = u32_of(bytes)?;
     let len = size as usize;
     if rest.len() < len {
         return Err(Refusal::at(rest, Expected::Bytes(size)));
     }
-    let (front, rest) = rest.split_at(len);
+    let (front, after) = rest.split_at(len);
     match std::str::from_utf8(front) {
-        Ok(text) => Ok((text, rest)),
-        Err(error) => Err(not_utf8(len, rest, error)),
+        Ok(text) => Ok((text, after)),
+        Err(error) => Err(not_utf8(rest, error)),
     }
 }
 
