@@ -2,8 +2,7 @@
 
 use super::NamesFault;
 use crate::Cause;
-use crate::proved::wenc_list::{ItemName, Names, names_of, part_of};
-use crate::proved::wenc_read::Refusal;
+use crate::proved::wenc_list::{ItemName, Names, names_in, part_of};
 use crate::proved::wenc_view::View;
 use crate::tree::Space;
 
@@ -86,10 +85,16 @@ impl<'a> NamesReader<'a> {
     }
 
     /// Takes the next name from `rest`. Empty subsections and those with unknown ids are skipped.
-    fn take(&mut self, rest: &mut &'a [u8]) -> Result<Option<DebugName<'a>>, Refusal> {
+    fn take(&mut self, rest: &mut &'a [u8]) -> Result<Option<DebugName<'a>>, Cause> {
+        let data = self.data;
+        let cause = |behind: &[u8]| {
+            let end = data.len() - behind.len();
+            move |refusal| Cause::new(data, end, refusal)
+        };
         loop {
             if let Some((space, left)) = self.within {
-                let (ItemName { index, name }, behind) = ItemName::view_of(rest)?;
+                let (ItemName { index, name }, behind) =
+                    ItemName::view_of(rest).map_err(cause(&[]))?;
                 *rest = behind;
                 self.within = (left > 1).then_some((space, left - 1));
                 return Ok(Some(DebugName { item: Some((space, index)), name }));
@@ -97,8 +102,8 @@ impl<'a> NamesReader<'a> {
             if rest.is_empty() {
                 return Ok(None);
             }
-            let (names, behind) = names_of(rest)?;
-            match names {
+            let ((id, content), behind) = part_of(rest).map_err(cause(&[]))?;
+            match names_in(id, content).map_err(cause(behind))? {
                 Names::Items(space, names) if names.left > 0 => {
                     self.within = Some((space, names.left));
                     // From its first name on, to the end of the subsection.
@@ -128,13 +133,8 @@ impl<'a> Iterator for NamesReader<'a> {
                 self.rest = Some(rest);
                 name.map(Ok)
             }
-            Err(refusal) => {
+            Err(cause) => {
                 let place = self.data.len() - rest.len();
-                let end = match part_of(rest) {
-                    Ok((_, behind)) if self.within.is_none() => self.data.len() - behind.len(),
-                    _ => self.data.len(),
-                };
-                let cause = Cause::new(self.data, end, refusal);
                 Some(Err(NamesFault::BadSubsection { place, cause }))
             }
         }

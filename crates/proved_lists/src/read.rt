@@ -4,7 +4,7 @@ ghost use Rattle.wenc_base.specs.Prelude.{u32 as number, Wide, times, read_u32};
 ghost use Rattle.wenc_base.specs.Prelude.{Producers, list, producers_field};
 ghost use Rattle.wenc_base.specs.Readers.{Bad, Deep};
 ghost use Rattle.wenc_list.specs.Prelude.{names_view, parts_left, producers_parts};
-ghost use Rattle.wenc_list.specs.Prelude.{subsection_by_id};
+ghost use Rattle.wenc_list.specs.Prelude.{subsection_by_id, read_names};
 ghost use Rattle.wenc_parts.specs.Prelude.{AliasOf, alias, alias_view};
 ghost use Rattle.wenc_read.specs.Prelude.{Gives, flaw_of};
 ghost use Rattle.wenc_sections.specs.Prelude.{Subsection};
@@ -12,7 +12,7 @@ ghost use Rattle.wenc_types.specs.Prelude.{DefType, def_type, depth};
 ghost use Rattle.wenc_view.specs.Prelude.{type_seen};
 
 use wenc_list::laws::{names_are_exact, parts_are_of_fields};
-use wenc_list::{Names, ProducersParts, names_of};
+use wenc_list::{Names, ProducersParts, names_in, part_of};
 use wenc_parts::Alias;
 use wenc_read::laws::readers_are_exact;
 use wenc_read::{NestedRefusal, Refusal, u32_of};
@@ -62,6 +62,15 @@ pub fn type_within(depth_left: u32, bytes: &[u8]) -> Result<(TypeView<'_>, &[u8]
 {
     types_are_exact();
     type_at(depth_left, bytes)
+}
+
+/// Reads a subsection of names. Returns it and the bytes after it.
+fn names_of(bytes: &[u8]) -> Result<(Names<'_>, &[u8]), Refusal>
+    ensures { Gives (λ x. (names_view x.0, x.1.now)) result (read_names bytes.now) }
+{
+    let ((id, content), rest) = part_of(bytes)?;
+    let names = names_in(id, content)?;
+    Ok((names, rest))
 }
 
 /// Reads a subsection of names that the bytes spell. Returns it and the bytes after it. If that

@@ -8,6 +8,7 @@ use Rattle.wenc_base.specs.Number.{u32}
 use Rattle.wenc_base.specs.Piece.{Piece, Form, Wide, EndsWith, only_where, raw, ◌⨾◌, each}
 use Rattle.wenc_builder.specs.Item.{Item, ModuleItem, ComponentItem, StartItem, CustomItem}
 use Rattle.wenc_builder.specs.Sections.{collects, item_of}
+use Rattle.wenc_read.specs.Gives.{left_of}
 use Rattle.wenc_read.specs.declared.refusal.NestedRefusal.{NestedRefusal}
 use Rattle.wenc_read.specs.declared.refusal.NestedRefusal.TheVariants.{Flat, TooDeep}
 use Rattle.wenc_view.specs.Depth.{OpensTypes}
@@ -137,11 +138,6 @@ IsCountless ends bytes (Frame refusal) = Unit {0}
 IsCountless ends bytes (Count section refusal) = LacksCount ends bytes section
 
 -- ---- where the bytes can't be read on
-
--- how many bytes are left there
-abbrev pub left_of : NestedRefusal → ℕ
-left_of (Flat refusal) = refusal.left
-left_of (TooDeep left) = left
 
 -- The place is in these bytes, in which no section begins, or in the content that has no count.
 abbrev pub IsPlacedIn : List ℕ → SectionRefusal → Type 0

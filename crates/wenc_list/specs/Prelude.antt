@@ -2,7 +2,8 @@
 pub use Rattle.wenc_list.specs.Cursor.{HasTaken, IsCountless, IsFaultIn, IsPlacedIn, IsSpent}
 pub use Rattle.wenc_list.specs.Cursor.{IsLeftOf, LacksCount, Opens, StopsInside}
 pub use Rattle.wenc_list.specs.Cursor.{fault_of_content, fault_of_items, fault_of_list}
-pub use Rattle.wenc_list.specs.Cursor.{fault_of_section, left_of}
+pub use Rattle.wenc_list.specs.Cursor.{fault_of_section}
+pub use Rattle.wenc_read.specs.Gives.{left_of}
 pub use Rattle.wenc_list.specs.Items.{item_section, item_view, section_view}
 pub use Rattle.wenc_list.specs.Items.{IsCountedItem, item_seen}
 pub use Rattle.wenc_list.specs.Listing.{AreFrom, ArePlaced, AreWithin, HasNoHeader, IsFaultBehind}

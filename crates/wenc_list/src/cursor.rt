@@ -9,7 +9,7 @@ ghost use Rattle.wenc_list.specs.Prelude.{IsFaultHere, HasNoHeader, fault_of_con
 ghost use Rattle.wenc_list.specs.Prelude.{fault_of_items};
 ghost use Rattle.wenc_list.specs.Prelude.{fault_of_section, left_of, IsPlacedIn, IsCountless};
 ghost use Rattle.wenc_list.specs.declared.fault.ListFault.TheVariants.{Memory, NotAComponent};
-ghost use Rattle.wenc_read.specs.Prelude.{Gives, flaw_of};
+ghost use Rattle.wenc_read.specs.Prelude.{Gives, flaw_of, IsWithin};
 
 use crate::fault::ListFault;
 use crate::item::ItemTree;
@@ -64,37 +64,6 @@ pub enum SectionRefusal<'a> {
     Count(SectionItems<'a>, Refusal),
 }
 
-/// Returns the error with its place in these bytes.
-#[cold]
-#[inline(never)]
-fn placed(refusal: Refusal, bytes: &[u8]) -> Refusal
-    ensures within { result.left ≤ length bytes.now }
-    ensures kept { refusal.left ≤ length bytes.now → result ≡ refusal }
-{
-    if refusal.left <= bytes.len() {
-        return refusal;
-    }
-    Refusal {
-        left: bytes.len(),
-        expected: refusal.expected,
-    }
-}
-
-/// Returns the error of bytes that may nest, as `placed` does.
-#[cold]
-#[inline(never)]
-fn placed_nested(refusal: NestedRefusal, bytes: &[u8]) -> NestedRefusal
-    ensures flaw { flaw_of result ≡ flaw_of refusal }
-    ensures within { left_of result ≤ length bytes.now }
-    ensures kept { left_of refusal ≤ length bytes.now → result ≡ refusal }
-{
-    match refusal {
-        NestedRefusal::Flat(flat) => NestedRefusal::Flat(placed(flat, bytes)),
-        NestedRefusal::TooDeep(left) if left <= bytes.len() => NestedRefusal::TooDeep(left),
-        NestedRefusal::TooDeep(_) => NestedRefusal::TooDeep(bytes.len()),
-    }
-}
-
 /// Maps an error in the content of a section with this id. In a custom section only the name can be
 /// malformed.
 fn content_fault(refusal: NestedRefusal, id: u8, place: usize) -> ListFault
@@ -132,7 +101,8 @@ pub(crate) fn section_fault(refusal: SectionRefusal<'_>, place: usize) -> ListFa
 #[inline(always)]
 pub(crate) fn counted(id: u8, content: &[u8]) -> Result<(u32, &[u8]), Refusal>
     requires { id ≤ 11 }
-    ensures { Gives (λ x. (x.0, x.1.now)) result (read_count id content.now) }
+    ensures found { Gives (λ x. (x.0, x.1.now)) result (read_count id content.now) }
+    ensures place { IsWithin (λ x. x.1.now) content.now result }
 {
     match id {
         0 => Ok((1, content)),
@@ -218,10 +188,10 @@ impl<'a> Sections<'a> {
                         left: 0,
                         rest: content,
                     };
-                    Err(SectionRefusal::Count(section, placed(refusal, content)))
+                    Err(SectionRefusal::Count(section, refusal))
                 }
             },
-            Err(refusal) => Err(SectionRefusal::Frame(placed(refusal, self.rest))),
+            Err(refusal) => Err(SectionRefusal::Frame(refusal)),
         }
     }
 
@@ -291,19 +261,12 @@ impl<'a> SectionItems<'a> {
             if self.rest.is_empty() {
                 return Ok(None);
             }
-            return Err(NestedRefusal::Flat(Refusal {
-                left: self.rest.len(),
-                expected: Expected::End,
-            }));
+            return Err(NestedRefusal::Flat(Refusal::at(self.rest, Expected::End)));
         }
-        match item_in(self.id, self.rest) {
-            Ok((item, rest)) => {
-                self.left -= 1;
-                self.rest = rest;
-                Ok(Some(item))
-            }
-            Err(refusal) => Err(placed_nested(refusal, self.rest)),
-        }
+        let (item, rest) = item_in(self.id, self.rest)?;
+        self.left -= 1;
+        self.rest = rest;
+        Ok(Some(item))
     }
 
     /// Returns the next item, or `None` at the end. It borrows from the component: nothing is

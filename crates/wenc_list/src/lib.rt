@@ -23,6 +23,6 @@ pub use fault::ListFault;
 pub use item::ItemTree;
 pub use item_view::ItemView;
 pub use listing::{ListedSection, Listing, list, list_or_refusal};
-pub use names::{ItemName, Names, behind_module_header, names_of, part_of};
+pub use names::{ItemName, Names, behind_module_header, names_in, part_of};
 pub use producers::{ProducersPart, ProducersParts};
 pub use refusal::ListRefusal;

@@ -5,7 +5,7 @@ ghost use Rattle.wenc_list.specs.Prelude.{read_core_instance_item, read_core_typ
 ghost use Rattle.wenc_list.specs.Prelude.{read_instance_item, read_alias_item, read_type_item};
 ghost use Rattle.wenc_list.specs.Prelude.{read_canonical_item, read_import_item, read_export_item};
 ghost use Rattle.wenc_list.specs.Prelude.{read_item_in, item_seen, IsCountedItem};
-ghost use Rattle.wenc_read.specs.Prelude.{Gives};
+ghost use Rattle.wenc_read.specs.Prelude.{Gives, IsWithin, IsWithinNested};
 ghost use Rattle.wenc_view.specs.Prelude.{GivesNested};
 
 use crate::item_view::ItemView;
@@ -25,6 +25,7 @@ const DEPTH: u32 = 100;
 fn core_instance(bytes: &[u8]) -> Result<(ItemView<'_>, &[u8]), Refusal>
     ensures found { Gives (λ x. (item_seen x.0, x.1.now)) result
         (read_core_instance_item bytes.now) }
+    ensures place { IsWithin (λ x. x.1.now) bytes.now result }
     ensures counted { IfOk result (λ x. IsCountedItem x.0) }
 {
     let (instance, rest) = CoreInstanceView::view_of(bytes)?;
@@ -36,6 +37,7 @@ fn core_instance(bytes: &[u8]) -> Result<(ItemView<'_>, &[u8]), Refusal>
 fn core_type(bytes: &[u8]) -> Result<(ItemView<'_>, &[u8]), Refusal>
     ensures found { Gives (λ x. (item_seen x.0, x.1.now)) result
         (read_core_type_item bytes.now) }
+    ensures place { IsWithin (λ x. x.1.now) bytes.now result }
     ensures counted { IfOk result (λ x. IsCountedItem x.0) }
 {
     let (ty, rest) = CoreTypeView::view_of(bytes)?;
@@ -47,6 +49,7 @@ fn core_type(bytes: &[u8]) -> Result<(ItemView<'_>, &[u8]), Refusal>
 fn instance(bytes: &[u8]) -> Result<(ItemView<'_>, &[u8]), Refusal>
     ensures found { Gives (λ x. (item_seen x.0, x.1.now)) result
         (read_instance_item bytes.now) }
+    ensures place { IsWithin (λ x. x.1.now) bytes.now result }
     ensures counted { IfOk result (λ x. IsCountedItem x.0) }
 {
     let (instance, rest) = InstanceView::view_of(bytes)?;
@@ -57,6 +60,7 @@ fn instance(bytes: &[u8]) -> Result<(ItemView<'_>, &[u8]), Refusal>
 #[inline(always)]
 fn alias(bytes: &[u8]) -> Result<(ItemView<'_>, &[u8]), Refusal>
     ensures found { Gives (λ x. (item_seen x.0, x.1.now)) result (read_alias_item bytes.now) }
+    ensures place { IsWithin (λ x. x.1.now) bytes.now result }
     ensures counted { IfOk result (λ x. IsCountedItem x.0) }
 {
     let (alias, rest) = Alias::view_of(bytes)?;
@@ -68,6 +72,7 @@ fn alias(bytes: &[u8]) -> Result<(ItemView<'_>, &[u8]), Refusal>
 fn ty(bytes: &[u8]) -> Result<(ItemView<'_>, &[u8]), NestedRefusal>
     ensures found { GivesNested (λ x. (item_seen x.0, x.1.now)) result
         (read_type_item 100 bytes.now) }
+    ensures place { IsWithinNested (λ x. x.1.now) bytes.now result }
     ensures counted { IfOk result (λ x. IsCountedItem x.0) }
 {
     let (ty, rest) = type_at(DEPTH, bytes)?;
@@ -79,6 +84,7 @@ fn ty(bytes: &[u8]) -> Result<(ItemView<'_>, &[u8]), NestedRefusal>
 fn canon(bytes: &[u8]) -> Result<(ItemView<'_>, &[u8]), Refusal>
     ensures found { Gives (λ x. (item_seen x.0, x.1.now)) result
         (read_canonical_item bytes.now) }
+    ensures place { IsWithin (λ x. x.1.now) bytes.now result }
     ensures counted { IfOk result (λ x. IsCountedItem x.0) }
 {
     let (canon, rest) = CanonView::view_of(bytes)?;
@@ -90,6 +96,7 @@ fn canon(bytes: &[u8]) -> Result<(ItemView<'_>, &[u8]), Refusal>
 fn import(bytes: &[u8]) -> Result<(ItemView<'_>, &[u8]), Refusal>
     ensures found { Gives (λ x. (item_seen x.0, x.1.now)) result
         (read_import_item bytes.now) }
+    ensures place { IsWithin (λ x. x.1.now) bytes.now result }
     ensures counted { IfOk result (λ x. IsCountedItem x.0) }
 {
     let (name, rest) = NameView::view_of(bytes)?;
@@ -102,6 +109,7 @@ fn import(bytes: &[u8]) -> Result<(ItemView<'_>, &[u8]), Refusal>
 fn export(bytes: &[u8]) -> Result<(ItemView<'_>, &[u8]), Refusal>
     ensures found { Gives (λ x. (item_seen x.0, x.1.now)) result
         (read_export_item bytes.now) }
+    ensures place { IsWithin (λ x. x.1.now) bytes.now result }
     ensures counted { IfOk result (λ x. IsCountedItem x.0) }
 {
     let (name, rest) = NameView::view_of(bytes)?;
@@ -129,6 +137,7 @@ fn raw(bytes: &[u8]) -> &[u8]
 fn custom(content: &[u8]) -> Result<(ItemView<'_>, &[u8]), Refusal>
     ensures found { Gives (λ x. (item_seen x.0, x.1.now)) result
         (read_item_in 100 0 content.now) }
+    ensures place { IsWithin (λ x. x.1.now) content.now result }
     ensures counted { IfOk result (λ x. IsCountedItem x.0) }
 {
     let (name, rest) = text_of(content)?;
@@ -140,6 +149,7 @@ fn custom(content: &[u8]) -> Result<(ItemView<'_>, &[u8]), Refusal>
 fn module(content: &[u8]) -> Result<(ItemView<'_>, &[u8]), Refusal>
     ensures found { Gives (λ x. (item_seen x.0, x.1.now)) result
         (read_item_in 100 1 content.now) }
+    ensures place { IsWithin (λ x. x.1.now) content.now result }
     ensures counted { IfOk result (λ x. IsCountedItem x.0) }
 {
     Ok((ItemView::Module(raw(content)), &[]))
@@ -149,6 +159,7 @@ fn module(content: &[u8]) -> Result<(ItemView<'_>, &[u8]), Refusal>
 fn component(content: &[u8]) -> Result<(ItemView<'_>, &[u8]), Refusal>
     ensures found { Gives (λ x. (item_seen x.0, x.1.now)) result
         (read_item_in 100 4 content.now) }
+    ensures place { IsWithin (λ x. x.1.now) content.now result }
     ensures counted { IfOk result (λ x. IsCountedItem x.0) }
 {
     Ok((ItemView::Component(raw(content)), &[]))
@@ -158,6 +169,7 @@ fn component(content: &[u8]) -> Result<(ItemView<'_>, &[u8]), Refusal>
 fn start(bytes: &[u8]) -> Result<(ItemView<'_>, &[u8]), Refusal>
     ensures found { Gives (λ x. (item_seen x.0, x.1.now)) result
         (read_item_in 100 9 bytes.now) }
+    ensures place { IsWithin (λ x. x.1.now) bytes.now result }
     ensures counted { IfOk result (λ x. IsCountedItem x.0) }
 {
     let (function, rest) = u32_of(bytes)?;
@@ -178,6 +190,7 @@ fn alone(id: u8, content: &[u8]) -> Result<(ItemView<'_>, &[u8]), Refusal>
     requires { (id ≡ 0) ⊎ ((id ≡ 1) ⊎ ((id ≡ 4) ⊎ (id ≡ 9))) }
     ensures found { Gives (λ x. (item_seen x.0, x.1.now)) result
         (read_item_in 100 id content.now) }
+    ensures place { IsWithin (λ x. x.1.now) content.now result }
     ensures counted { IfOk result (λ x. IsCountedItem x.0) }
 {
     match id {
@@ -194,6 +207,7 @@ fn alone(id: u8, content: &[u8]) -> Result<(ItemView<'_>, &[u8]), Refusal>
 pub(crate) fn item_in(id: u8, bytes: &[u8]) -> Result<(ItemView<'_>, &[u8]), NestedRefusal>
     ensures found { GivesNested (λ x. (item_seen x.0, x.1.now)) result
         (read_item_in 100 id bytes.now) }
+    ensures place { IsWithinNested (λ x. x.1.now) bytes.now result }
     ensures counted { IfOk result (λ x. IsCountedItem x.0) }
 {
     match id {

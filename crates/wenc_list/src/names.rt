@@ -1,12 +1,12 @@
 //! The subsections of a name section, and the sections of a core module.
-ghost use Rattle.std.specs.Prelude.{ℕ, List, IfOk, MatchOption};
+ghost use Rattle.std.specs.Prelude.{◌≤◌, ℕ, List, length, IfOk, IfErr, MatchOption};
 ghost use Rattle.wenc_base.specs.Prelude.{module_preamble, Wide, done, read_name, NameAssociation};
 ghost use Rattle.wenc_base.specs.Prelude.{name_association, name_association_lawful};
 ghost use Rattle.wenc_list.specs.Prelude.{names_view, read_part, read_core_sort, read_sort};
-ghost use Rattle.wenc_list.specs.Prelude.{read_item_names, read_names_in, read_names};
+ghost use Rattle.wenc_list.specs.Prelude.{read_item_names, read_names_in};
 ghost use Rattle.wenc_list.specs.Prelude.{item_name_view, read_item_name, item_name_sound};
 ghost use Rattle.wenc_list.specs.Prelude.{IsCountedNames};
-ghost use Rattle.wenc_read.specs.Prelude.{Gives, exact_by};
+ghost use Rattle.wenc_read.specs.Prelude.{Gives, exact_by, IsWithin};
 
 use wenc_read::{Expected, Refusal, byte, u32_of};
 use wenc_sections::Space;
@@ -74,7 +74,8 @@ pub fn behind_module_header(bytes: &[u8]) -> Option<&[u8]>
 /// bytes (WebAssembly 3.0, binary format, "Sections"). Returns its id, its content, and the bytes
 /// after it. Fails if there is no id or size, or the size exceeds the remaining bytes.
 pub fn part_of(bytes: &[u8]) -> Result<((u8, &[u8]), &[u8]), Refusal>
-    ensures { Gives (λ x. ((x.0.0, x.0.1.now), x.1.now)) result (read_part bytes.now) }
+    ensures found { Gives (λ x. ((x.0.0, x.0.1.now), x.1.now)) result (read_part bytes.now) }
+    ensures place { IsWithin (λ x. x.1.now) bytes.now result }
 {
     let (id, rest) = byte(bytes)?;
     let (size, rest) = u32_of(rest)?;
@@ -89,7 +90,8 @@ pub fn part_of(bytes: &[u8]) -> Result<((u8, &[u8]), &[u8]), Refusal>
 /// Reads the kind of a core item, after its first byte, as an index space.
 #[tactic(auto, unfolding(wenc_base::specs::Readers::choose))]
 fn core_space_of(bytes: &[u8]) -> Result<(Space, &[u8]), Refusal>
-    ensures { Gives (λ x. (x.0, x.1.now)) result (read_core_sort bytes.now) }
+    ensures found { Gives (λ x. (x.0, x.1.now)) result (read_core_sort bytes.now) }
+    ensures place { IsWithin (λ x. x.1.now) bytes.now result }
 {
     match byte(bytes)? {
         (0x00, rest) => Ok((Space::CoreFuncs, rest)),
@@ -107,7 +109,8 @@ fn core_space_of(bytes: &[u8]) -> Result<(Space, &[u8]), Refusal>
 /// Reads a kind of items, as its index space.
 #[tactic(auto, unfolding(wenc_base::specs::Readers::choose))]
 fn space_of(bytes: &[u8]) -> Result<(Space, &[u8]), Refusal>
-    ensures { Gives (λ x. (x.0, x.1.now)) result (read_sort bytes.now) }
+    ensures found { Gives (λ x. (x.0, x.1.now)) result (read_sort bytes.now) }
+    ensures place { IsWithin (λ x. x.1.now) bytes.now result }
 {
     match byte(bytes)? {
         (0x00, rest) => core_space_of(rest),
@@ -122,7 +125,8 @@ fn space_of(bytes: &[u8]) -> Result<(Space, &[u8]), Refusal>
 
 /// Reads the component's own name, which takes all of the content.
 fn component_name(content: &[u8]) -> Result<&str, Refusal>
-    ensures { Gives (λ s. s.now) result (done read_name content.now) }
+    ensures found { Gives (λ s. s.now) result (done read_name content.now) }
+    ensures place { IfErr result (λ e. e.left ≤ length content.now) }
 {
     let (name, rest) = text_of(content)?;
     if rest.is_empty() {
@@ -135,6 +139,7 @@ fn component_name(content: &[u8]) -> Result<&str, Refusal>
 /// Reads names of items in one index space, which take all of the content.
 fn item_names(content: &[u8]) -> Result<Names<'_>, Refusal>
     ensures found { Gives names_view result (done read_item_names content.now) }
+    ensures place { IfErr result (λ e. e.left ≤ length content.now) }
     ensures counted { IfOk result IsCountedNames }
 {
     let (space, rest) = space_of(content)?;
@@ -146,9 +151,21 @@ fn item_names(content: &[u8]) -> Result<Names<'_>, Refusal>
     }
 }
 
-/// Reads the content of a subsection with this id.
-fn names_in(id: u8, content: &[u8]) -> Result<Names<'_>, Refusal>
+/// Reads the content of a subsection of a name section with this id (component model, binary
+/// format, "Name Section"). The subsections are the parts of the bytes after the name of a custom
+/// section `component-name`. Nothing is allocated.
+///
+/// # Errors
+///
+/// Fails if the content isn't one of a subsection with this id.
+///
+/// ```
+/// let ((id, content), rest) = part_of(data)?;
+/// let names = names_in(id, content)?;
+/// ```
+pub fn names_in(id: u8, content: &[u8]) -> Result<Names<'_>, Refusal>
     ensures found { Gives names_view result (read_names_in id content.now) }
+    ensures place { IfErr result (λ e. e.left ≤ length content.now) }
     ensures counted { IfOk result IsCountedNames }
 {
     match id {
@@ -156,24 +173,4 @@ fn names_in(id: u8, content: &[u8]) -> Result<Names<'_>, Refusal>
         1 => item_names(content),
         _ => Ok(Names::Raw(id, content)),
     }
-}
-
-/// Reads the subsection of a name section that begins the bytes (component model, binary format,
-/// "Name Section"). Returns it and the bytes after it. The bytes are those after the name of a
-/// custom section `component-name`, or those after another subsection. Nothing is allocated.
-///
-/// # Errors
-///
-/// Fails if no subsection begins the bytes.
-///
-/// ```
-/// let (names, rest) = names_of(data)?;
-/// ```
-pub fn names_of(bytes: &[u8]) -> Result<(Names<'_>, &[u8]), Refusal>
-    ensures found { Gives (λ x. (names_view x.0, x.1.now)) result (read_names bytes.now) }
-    ensures counted { IfOk result (λ x. IsCountedNames x.0) }
-{
-    let ((id, content), rest) = part_of(bytes)?;
-    let names = names_in(id, content)?;
-    Ok((names, rest))
 }

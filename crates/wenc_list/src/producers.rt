@@ -1,10 +1,10 @@
 //! A producers section, part by part.
-ghost use Rattle.std.specs.Prelude.{◌≡◌, IfOk, IfErr, MatchOption, Ok, []};
+ghost use Rattle.std.specs.Prelude.{◌≡◌, ◌≤◌, [], length, Ok, IfOk, IfErr, MatchOption};
 ghost use Rattle.wenc_list.specs.Prelude.{IsMalformed, IsNoPart, part_seen, parts_in, parts_left};
 ghost use Rattle.wenc_list.specs.Prelude.{tool_seen, with_part, AreSpent, HasTakenPart, IsNoNumber};
 ghost use Rattle.wenc_base.specs.Prelude.{Wide, u32 as number};
 ghost use Rattle.wenc_base.specs.laws.Sections.{read_producer};
-ghost use Rattle.wenc_read.specs.Prelude.{Gives};
+ghost use Rattle.wenc_read.specs.Prelude.{Gives, IsWithin};
 
 use wenc_read::{Expected, Refusal, u32_of};
 use wenc_view::text_of;
@@ -32,7 +32,8 @@ pub struct ProducersParts<'a> {
 
 /// Reads the name of a tool and its version.
 fn tool_of(bytes: &[u8]) -> Result<((&str, &str), &[u8]), Refusal>
-    ensures { Gives (λ x. (tool_seen x.0, x.1.now)) result (read_producer bytes.now) }
+    ensures found { Gives (λ x. (tool_seen x.0, x.1.now)) result (read_producer bytes.now) }
+    ensures place { IsWithin (λ x. x.1.now) bytes.now result }
 {
     let (name, rest) = text_of(bytes)?;
     let (version, rest) = text_of(rest)?;
@@ -51,6 +52,7 @@ impl<'a> ProducersParts<'a> {
             × (number p.fields).Reads Wide bytes.now p.rest.now) }
         ensures begins { IfOk result (λ p. parts_left p ≡ parts_in bytes.now) }
         ensures fault { IfErr result (λ _. IsNoNumber bytes.now) }
+        ensures place { IfErr result (λ e. e.left ≤ length bytes.now) }
         ensures unread { IfErr result (λ _. IsMalformed (parts_in bytes.now)) }
     {
         let (fields, rest) = u32_of(bytes)?;
@@ -80,6 +82,7 @@ impl<'a> ProducersParts<'a> {
         ensures refused { IfErr result (λ _. self.new ≡ self.old) }
         // An error has its cause in the remaining bytes.
         ensures fault { IfErr result (λ _. IsNoPart self.old) }
+        ensures place { IfErr result (λ e. e.left ≤ length self.old.rest.now) }
         ensures unread { IfErr result (λ _. IsMalformed (parts_left self.old)) }
     {
         if self.tools > 0 {

@@ -33,9 +33,9 @@ too_large top bits bound (suc room) whole (b ∷ bytes) x e =
                 elim (cases_lt b 256) [
                   | inl high ↦
                       let y = raised_from bound b (read_groups top bound room bytes) x
-                          (rw (le-ltb b top ge, cond, le-ltb b 128 low, cond, lt-ltb b 256 high, cond) at e) in
+                      (rw (le-ltb b top ge, cond, le-ltb b 128 low, cond, lt-ltb b 256 high, cond) at e) in
                       rw (le-ltb b top ge, cond, le-ltb b 128 low, cond)
-                          (too_large top bits bound room whole bytes y.0 y.1)
+                      (too_large top bits bound room whole bytes y.0 y.1)
                   | inr big ↦ never x
                       (rw (le-ltb b top ge, cond, le-ltb b 128 low, cond, le-ltb b 256 big, cond) at e)
                 ]

@@ -1,6 +1,6 @@
 -- The names that clauses cite, re-exported from the files that define them.
-pub use Rattle.wenc_read.specs.Gives.{Gives, flaw_of}
-pub use Rattle.wenc_read.specs.Expected.{ranges_of, is_number, BeginsWith}
+pub use Rattle.wenc_read.specs.Gives.{Gives, IsWithin, IsWithinNested, flaw_of, left_of}
+pub use Rattle.wenc_read.specs.Expected.{ranges_of, BeginsWith}
 pub use Rattle.wenc_read.specs.Refusals.{expected_at, expected_before, or_else, in_flat}
 pub use Rattle.wenc_read.specs.Refusals.{unless_between, unless_few}
 pub use Rattle.wenc_read.specs.Refusals.{byte_error, flag_error, number_error}

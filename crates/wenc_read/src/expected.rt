@@ -1,6 +1,6 @@
 //! What can be read on where bytes can't be.
 ghost use Rattle.std.specs.Prelude.{◌≡◌};
-ghost use Rattle.wenc_read.specs.Prelude.{ranges_of, is_number};
+ghost use Rattle.wenc_read.specs.Prelude.{ranges_of};
 
 /// What can be read at a place at which the bytes can't be read on.
 #[derive(Clone, Copy, Debug, PartialEq, Eq)]
@@ -55,13 +55,6 @@ pub enum Expected {
 const NONE: (u8, u8) = (1, 0);
 
 impl Expected {
-    /// Returns whether a number is expected that fits.
-    pub fn is_number(self) -> bool
-        ensures { result ≡ is_number self }
-    {
-        matches!(self, Expected::Bits(_))
-    }
-
     /// Returns the bytes that can be there: ascending ranges, each from a first byte to a last one.
     /// There is none where the end, bytes of any kind, or a whole number or text is expected.
     pub fn ranges(self) -> [(u8, u8); 4]

@@ -1,7 +1,7 @@
 //! Flags.
 ghost use Rattle.std.specs.Prelude.{◌≡◌, IfErr};
 ghost use Rattle.wenc_base.specs.Prelude.{read_flag};
-ghost use Rattle.wenc_read.specs.Prelude.{Gives, flag_error};
+ghost use Rattle.wenc_read.specs.Prelude.{Gives, IsWithin, flag_error};
 
 use crate::expected::Expected;
 use crate::number::byte;
@@ -13,6 +13,7 @@ use crate::refusal::Refusal;
 pub fn flag_of(bytes: &[u8]) -> Result<(bool, &[u8]), Refusal>
     ensures found { Gives (λ x. (x.0, x.1.now)) result (read_flag bytes.now) }
     ensures refused { IfErr result (λ e. e ≡ flag_error bytes.now) }
+    ensures place { IsWithin (λ x. x.1.now) bytes.now result }
 {
     match byte(bytes)? {
         (0, rest) => Ok((false, rest)),

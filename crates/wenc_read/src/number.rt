@@ -1,7 +1,7 @@
 //! Numbers.
-ghost use Rattle.std.specs.Prelude.{◌≡◌, ◌^◌, ◌≤◌, ◌<◌, ◌+◌, ◌-◌, ◌*◌, IfErr};
+ghost use Rattle.std.specs.Prelude.{◌≡◌, ◌^◌, ◌≤◌, ◌<◌, ◌+◌, ◌-◌, ◌*◌, length, IfOk, IfErr};
 ghost use Rattle.wenc_base.specs.Prelude.{read_groups, read_u32, read_u64, read_index, read_byte};
-ghost use Rattle.wenc_read.specs.Prelude.{Gives, byte_error, number_error};
+ghost use Rattle.wenc_read.specs.Prelude.{Gives, IsWithin, byte_error, number_error};
 
 use crate::expected::Expected;
 use crate::refusal::Refusal;
@@ -11,6 +11,8 @@ use crate::refusal::Refusal;
 pub fn byte(bytes: &[u8]) -> Result<(u8, &[u8]), Refusal>
     ensures found { Gives (λ x. (x.0, x.1.now)) result (read_byte bytes.now) }
     ensures refused { IfErr result (λ e. e ≡ byte_error bytes.now) }
+    ensures shorter { IfOk result (λ x. length x.1.now < length bytes.now) }
+    ensures place { IsWithin (λ x. x.1.now) bytes.now result }
 {
     match bytes {
         [] => Err(Refusal::at(bytes, Expected::Bytes(1))),
@@ -27,9 +29,11 @@ fn short_groups<'a>(
     whole: &[u8],
     bytes: &'a [u8],
 ) -> Result<(u32, &'a [u8]), Refusal>
-    requires { top ≤ 128 }
+    requires small { top ≤ 128 }
+    requires part { length bytes.now ≤ length whole.now }
     ensures found { Gives (λ x. (x.0, x.1.now)) result (read_groups top (2 ^ 32) room bytes.now) }
     ensures refused { IfErr result (λ e. e ≡ number_error top 32 whole.now room bytes.now) }
+    ensures place { IsWithin (λ x. x.1.now) whole.now result }
 {
     let (first, rest) = byte(bytes)?;
     if first < top {
@@ -52,8 +56,10 @@ fn short_groups<'a>(
 /// the bytes `whole`, from the first of them on.
 #[tactic(auto, using(crate::proofs::Numbers::too_large), unfolding(wenc_base::specs::reading::Numbers::read_groups))]
 fn long_groups<'a>(room: u8, whole: &[u8], bytes: &'a [u8]) -> Result<(u64, &'a [u8]), Refusal>
+    requires { length bytes.now ≤ length whole.now }
     ensures found { Gives (λ x. (x.0, x.1.now)) result (read_groups 128 (2 ^ 64) room bytes.now) }
     ensures refused { IfErr result (λ e. e ≡ number_error 128 64 whole.now room bytes.now) }
+    ensures place { IsWithin (λ x. x.1.now) whole.now result }
 {
     let (first, rest) = byte(bytes)?;
     if first < 128 {
@@ -87,6 +93,7 @@ fn short_number(top: u8, bytes: &[u8]) -> Result<(u32, &[u8]), Refusal>
     requires { top ≤ 128 }
     ensures found { Gives (λ x. (x.0, x.1.now)) result (read_groups top (2 ^ 32) 4 bytes.now) }
     ensures refused { IfErr result (λ e. e ≡ number_error top 32 bytes.now 4 bytes.now) }
+    ensures place { IsWithin (λ x. x.1.now) bytes.now result }
 {
     match bytes {
         [first, rest @ ..] if *first < top => Ok((u32::from(*first), rest)),
@@ -107,6 +114,7 @@ fn short_number(top: u8, bytes: &[u8]) -> Result<(u32, &[u8]), Refusal>
 pub fn u32_of(bytes: &[u8]) -> Result<(u32, &[u8]), Refusal>
     ensures found { Gives (λ x. (x.0, x.1.now)) result (read_u32 bytes.now) }
     ensures refused { IfErr result (λ e. e ≡ number_error 128 32 bytes.now 4 bytes.now) }
+    ensures place { IsWithin (λ x. x.1.now) bytes.now result }
 {
     short_number(128, bytes)
 }
@@ -116,6 +124,7 @@ pub fn u32_of(bytes: &[u8]) -> Result<(u32, &[u8]), Refusal>
 pub fn u64_of(bytes: &[u8]) -> Result<(u64, &[u8]), Refusal>
     ensures found { Gives (λ x. (x.0, x.1.now)) result (read_u64 bytes.now) }
     ensures refused { IfErr result (λ e. e ≡ number_error 128 64 bytes.now 9 bytes.now) }
+    ensures place { IsWithin (λ x. x.1.now) bytes.now result }
 {
     long_groups(9, bytes, bytes)
 }
@@ -126,6 +135,7 @@ pub fn u64_of(bytes: &[u8]) -> Result<(u64, &[u8]), Refusal>
 pub fn index_of(bytes: &[u8]) -> Result<(u32, &[u8]), Refusal>
     ensures found { Gives (λ x. (x.0, x.1.now)) result (read_index bytes.now) }
     ensures refused { IfErr result (λ e. e ≡ number_error 64 32 bytes.now 4 bytes.now) }
+    ensures place { IsWithin (λ x. x.1.now) bytes.now result }
 {
     short_number(64, bytes)
 }

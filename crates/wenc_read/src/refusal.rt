@@ -1,6 +1,6 @@
 //! The errors of reading.
-ghost use Rattle.std.specs.Prelude.{◌≡◌};
-ghost use Rattle.wenc_read.specs.Prelude.{flaw_of, expected_at, expected_before, or_else};
+ghost use Rattle.std.specs.Prelude.{◌≡◌, ◌≤◌, length};
+ghost use Rattle.wenc_read.specs.Prelude.{flaw_of, left_of, expected_at, expected_before, or_else};
 ghost use Rattle.wenc_read.specs.Prelude.{unless_between, unless_few, in_flat};
 ghost use Rattle.wenc_read.specs.declared.refusal.NestedRefusal.TheVariants.{Flat};
 
@@ -43,7 +43,8 @@ impl Refusal {
     /// byte can't be read, this is expected in its place.
     #[cold]
     pub fn or(self, bytes: &[u8], expected: Expected) -> Refusal
-        ensures { result ≡ or_else bytes.now expected self }
+        ensures error { result ≡ or_else bytes.now expected self }
+        ensures place { self.left ≤ length bytes.now → result.left ≤ length bytes.now }
     {
         match self.expected {
             Expected::Bits(_) => self,
@@ -56,7 +57,8 @@ impl Refusal {
     /// if another one is there, that is why.
     #[cold]
     pub fn unless_from(self, first: u8, last: u8, bytes: &[u8]) -> Refusal
-        ensures { result ≡ unless_between first last bytes.now self }
+        ensures error { result ≡ unless_between first last bytes.now self }
+        ensures place { self.left ≤ length bytes.now → result.left ≤ length bytes.now }
     {
         match bytes {
             [byte, ..] if *byte < first || last < *byte => {
@@ -70,7 +72,8 @@ impl Refusal {
     /// are fewer bytes, that is why.
     #[cold]
     pub fn of_many(self, bytes: &[u8], count: u32) -> Refusal
-        ensures { result ≡ unless_few count bytes.now self }
+        ensures error { result ≡ unless_few count bytes.now self }
+        ensures place { self.left ≤ length bytes.now → result.left ≤ length bytes.now }
     {
         if bytes.len() < count as usize {
             return Refusal::at(bytes, Expected::Bytes(count));
@@ -94,6 +97,7 @@ impl NestedRefusal {
     pub fn or(self, bytes: &[u8], expected: Expected) -> NestedRefusal
         ensures flaw { flaw_of result ≡ flaw_of self }
         ensures error { result ≡ in_flat (or_else bytes.now expected) self }
+        ensures place { left_of self ≤ length bytes.now → left_of result ≤ length bytes.now }
     {
         match self {
             NestedRefusal::Flat(refusal) => NestedRefusal::Flat(refusal.or(bytes, expected)),
@@ -106,6 +110,7 @@ impl NestedRefusal {
     pub fn of_many(self, bytes: &[u8], count: u32) -> NestedRefusal
         ensures flaw { flaw_of result ≡ flaw_of self }
         ensures error { result ≡ in_flat (unless_few count bytes.now) self }
+        ensures place { left_of self ≤ length bytes.now → left_of result ≤ length bytes.now }
     {
         match self {
             NestedRefusal::Flat(refusal) => NestedRefusal::Flat(refusal.of_many(bytes, count)),

@@ -2,7 +2,7 @@
 ghost use Rattle.wenc_parts.specs.Prelude.{alias_view, read_alias, read_export, read_core_export};
 ghost use Rattle.wenc_parts.specs.Prelude.{read_outer, read_export_or_outer, read_exported_alias};
 ghost use Rattle.wenc_parts.specs.Prelude.{read_core_alias, AliasOf, alias_sound, alias_lawful};
-ghost use Rattle.wenc_read.specs.Prelude.{Gives, exact_by};
+ghost use Rattle.wenc_read.specs.Prelude.{Gives, exact_by, IsWithin};
 
 use crate::view::View;
 use wenc_base::ExportKind;
@@ -12,7 +12,8 @@ use wenc_read::{Expected, Refusal, byte};
 /// Reads an alias of an instance's export, after the byte `00`.
 #[inline(always)]
 fn export(kind: ComponentExportKind, bytes: &[u8]) -> Result<(Alias<'_>, &[u8]), Refusal>
-    ensures { Gives (λ x. (alias_view x.0, x.1.now)) result (read_export kind bytes.now) }
+    ensures found { Gives (λ x. (alias_view x.0, x.1.now)) result (read_export kind bytes.now) }
+    ensures place { IsWithin (λ x. x.1.now) bytes.now result }
 {
     let (instance, rest) = u32::view_of(bytes)?;
     let (name, rest) = <&str>::view_of(rest)?;
@@ -26,7 +27,8 @@ fn export(kind: ComponentExportKind, bytes: &[u8]) -> Result<(Alias<'_>, &[u8]),
 
 /// Reads an alias of an outer item, after the byte `02`.
 fn outer(kind: ComponentOuterAliasKind, bytes: &[u8]) -> Result<(Alias<'_>, &[u8]), Refusal>
-    ensures { Gives (λ x. (alias_view x.0, x.1.now)) result (read_outer kind bytes.now) }
+    ensures found { Gives (λ x. (alias_view x.0, x.1.now)) result (read_outer kind bytes.now) }
+    ensures place { IsWithin (λ x. x.1.now) bytes.now result }
 {
     let (count, rest) = u32::view_of(bytes)?;
     let (index, rest) = u32::view_of(rest)?;
@@ -36,8 +38,9 @@ fn outer(kind: ComponentOuterAliasKind, bytes: &[u8]) -> Result<(Alias<'_>, &[u8
 /// Reads an alias of a core instance's export, after the sort.
 #[tactic(auto, unfolding(wenc_base::specs::Readers::choose))]
 fn core_export(kind: ExportKind, bytes: &[u8]) -> Result<(Alias<'_>, &[u8]), Refusal>
-    ensures { Gives (λ x. (alias_view x.0, x.1.now)) result
+    ensures found { Gives (λ x. (alias_view x.0, x.1.now)) result
         (read_core_export kind bytes.now) }
+    ensures place { IsWithin (λ x. x.1.now) bytes.now result }
 {
     match byte(bytes)? {
         (0x01, rest) => {
@@ -58,8 +61,9 @@ fn core_export(kind: ExportKind, bytes: &[u8]) -> Result<(Alias<'_>, &[u8]), Ref
 #[tactic(auto, unfolding(wenc_base::specs::Readers::choose))]
 #[inline(always)]
 fn export_alone(kind: ComponentExportKind, bytes: &[u8]) -> Result<(Alias<'_>, &[u8]), Refusal>
-    ensures { Gives (λ x. (alias_view x.0, x.1.now)) result
+    ensures found { Gives (λ x. (alias_view x.0, x.1.now)) result
         (read_exported_alias kind bytes.now) }
+    ensures place { IsWithin (λ x. x.1.now) bytes.now result }
 {
     match byte(bytes)? {
         (0x00, rest) => export(kind, rest),
@@ -74,8 +78,9 @@ fn export_or_outer(
     outer_kind: ComponentOuterAliasKind,
     bytes: &[u8],
 ) -> Result<(Alias<'_>, &[u8]), Refusal>
-    ensures { Gives (λ x. (alias_view x.0, x.1.now)) result
+    ensures found { Gives (λ x. (alias_view x.0, x.1.now)) result
         (read_export_or_outer kind outer_kind bytes.now) }
+    ensures place { IsWithin (λ x. x.1.now) bytes.now result }
 {
     match byte(bytes)? {
         (0x00, rest) => export(kind, rest),
@@ -87,7 +92,8 @@ fn export_or_outer(
 /// Reads an alias of a core sort, after the sort's first byte.
 #[tactic(auto, unfolding(wenc_base::specs::Readers::choose))]
 fn core(bytes: &[u8]) -> Result<(Alias<'_>, &[u8]), Refusal>
-    ensures { Gives (λ x. (alias_view x.0, x.1.now)) result (read_core_alias bytes.now) }
+    ensures found { Gives (λ x. (alias_view x.0, x.1.now)) result (read_core_alias bytes.now) }
+    ensures place { IsWithin (λ x. x.1.now) bytes.now result }
 {
     match byte(bytes)? {
         (0x00, rest) => core_export(ExportKind::Func, rest),

@@ -1,5 +1,5 @@
 //! Canonical functions, each by its opcode.
-ghost use Rattle.std.specs.Prelude.{IfOk};
+ghost use Rattle.std.specs.Prelude.{◌∷◌, IfOk};
 ghost use Rattle.wenc_base.specs.Prelude.{pick, nowhere};
 ghost use Rattle.wenc_canon.specs.Prelude.{read_lifted, read_lowered, rows, read_canonical_option};
 ghost use Rattle.wenc_canon.specs.Prelude.{canonical_option, canonical_option_sound};
@@ -8,7 +8,7 @@ ghost use Rattle.wenc_canon.specs.Prelude.{read_canonical, canonical_sound, cano
 ghost use Rattle.wenc_view.specs.Prelude.{read_zero, stream_rows, future_rows, error_context_rows};
 ghost use Rattle.wenc_view.specs.Prelude.{thread_rows, forward_rows, read_ty_and_options};
 ghost use Rattle.wenc_view.specs.Prelude.{read_waited_memory, CanonicalOption as Value'};
-ghost use Rattle.wenc_read.specs.Prelude.{Gives, exact_by};
+ghost use Rattle.wenc_read.specs.Prelude.{Gives, exact_by, IsWithin};
 ghost use Rattle.wenc_view.specs.Prelude.{canon_seen, list_view, IsCounted, IsCountedCanon};
 
 use crate::lists::ListOf;
@@ -69,7 +69,8 @@ impl<'a> View<'a> for CanonicalOption {
 /// Reads the byte `00`.
 #[tactic(auto, unfolding(wenc_base::specs::Readers::choose))]
 fn zero(bytes: &[u8]) -> Result<((), &[u8]), Refusal>
-    ensures { Gives (λ x. (tt, x.1.now)) result (read_zero bytes.now) }
+    ensures found { Gives (λ x. (tt, x.1.now)) result (read_zero bytes.now) }
+    ensures place { IsWithin (λ x. x.1.now) bytes.now result }
 {
     match byte(bytes)? {
         (0x00, rest) => Ok(((), rest)),
@@ -81,6 +82,7 @@ fn zero(bytes: &[u8]) -> Result<((), &[u8]), Refusal>
 #[tactic(auto, unfolding(wenc_base::specs::Readers::choose))]
 fn lifted(bytes: &[u8]) -> Result<(CanonView<'_>, &[u8]), Refusal>
     ensures found { Gives (λ x. (canon_seen x.0, x.1.now)) result (read_lifted bytes.now) }
+    ensures place { IsWithin (λ x. x.1.now) bytes.now result }
     ensures counted { IfOk result (λ x. IsCountedCanon x.0) }
 {
     match byte(bytes)? {
@@ -103,6 +105,7 @@ fn lifted(bytes: &[u8]) -> Result<(CanonView<'_>, &[u8]), Refusal>
 #[tactic(auto, unfolding(wenc_base::specs::Readers::choose))]
 fn lowered(bytes: &[u8]) -> Result<(CanonView<'_>, &[u8]), Refusal>
     ensures found { Gives (λ x. (canon_seen x.0, x.1.now)) result (read_lowered bytes.now) }
+    ensures place { IsWithin (λ x. x.1.now) bytes.now result }
     ensures counted { IfOk result (λ x. IsCountedCanon x.0) }
 {
     match byte(bytes)? {
@@ -120,6 +123,7 @@ fn lowered(bytes: &[u8]) -> Result<(CanonView<'_>, &[u8]), Refusal>
 fn ty_and_options(bytes: &[u8]) -> Result<(u32, ListOf<'_, CanonicalOption>, &[u8]), Refusal>
     ensures found { Gives (λ x. ((x.0, list_view read_canonical_option x.1), x.2.now)) result
         (read_ty_and_options bytes.now) }
+    ensures place { IsWithin (λ x. x.2.now) bytes.now result }
     ensures counted { IfOk result (λ x. IsCounted read_canonical_option x.1) }
 {
     let (ty, rest) = u32::view_of(bytes)?;
@@ -130,7 +134,8 @@ fn ty_and_options(bytes: &[u8]) -> Result<(u32, ListOf<'_, CanonicalOption>, &[u
 /// Reads the byte `00` and the index of a memory.
 #[inline(always)]
 fn waited_memory(bytes: &[u8]) -> Result<(u32, &[u8]), Refusal>
-    ensures { Gives (λ x. ((tt, x.0), x.1.now)) result (read_waited_memory bytes.now) }
+    ensures found { Gives (λ x. ((tt, x.0), x.1.now)) result (read_waited_memory bytes.now) }
+    ensures place { IsWithin (λ x. x.1.now) bytes.now result }
 {
     let (_, rest) = zero(bytes)?;
     u32::view_of(rest)
@@ -220,6 +225,7 @@ macro_rules! returning {
 fn function(opcode: u8, bytes: &[u8]) -> Result<(CanonView<'_>, &[u8]), Refusal>
     ensures found { Gives (λ x. (canon_seen x.0, x.1.now)) result
         (pick rows nowhere opcode bytes.now) }
+    ensures place { IsWithin (λ x. x.1.now) (opcode ∷ bytes.now) result }
     ensures counted { IfOk result (λ x. IsCountedCanon x.0) }
 {
     match opcode {
@@ -243,6 +249,7 @@ fn function(opcode: u8, bytes: &[u8]) -> Result<(CanonView<'_>, &[u8]), Refusal>
 fn of_stream(opcode: u8, bytes: &[u8]) -> Result<(CanonView<'_>, &[u8]), Refusal>
     ensures found { Gives (λ x. (canon_seen x.0, x.1.now)) result
         (pick stream_rows nowhere opcode bytes.now) }
+    ensures place { IsWithin (λ x. x.1.now) (opcode ∷ bytes.now) result }
     ensures counted { IfOk result (λ x. IsCountedCanon x.0) }
 {
     match opcode {
@@ -261,6 +268,7 @@ fn of_stream(opcode: u8, bytes: &[u8]) -> Result<(CanonView<'_>, &[u8]), Refusal
 fn of_future(opcode: u8, bytes: &[u8]) -> Result<(CanonView<'_>, &[u8]), Refusal>
     ensures found { Gives (λ x. (canon_seen x.0, x.1.now)) result
         (pick future_rows nowhere opcode bytes.now) }
+    ensures place { IsWithin (λ x. x.1.now) (opcode ∷ bytes.now) result }
     ensures counted { IfOk result (λ x. IsCountedCanon x.0) }
 {
     match opcode {
@@ -280,6 +288,7 @@ fn of_future(opcode: u8, bytes: &[u8]) -> Result<(CanonView<'_>, &[u8]), Refusal
 fn of_error_context(opcode: u8, bytes: &[u8]) -> Result<(CanonView<'_>, &[u8]), Refusal>
     ensures found { Gives (λ x. (canon_seen x.0, x.1.now)) result
         (pick error_context_rows nowhere opcode bytes.now) }
+    ensures place { IsWithin (λ x. x.1.now) (opcode ∷ bytes.now) result }
     ensures counted { IfOk result (λ x. IsCountedCanon x.0) }
 {
     match opcode {
@@ -301,6 +310,7 @@ fn of_error_context(opcode: u8, bytes: &[u8]) -> Result<(CanonView<'_>, &[u8]), 
 fn of_thread(opcode: u8, bytes: &[u8]) -> Result<(CanonView<'_>, &[u8]), Refusal>
     ensures found { Gives (λ x. (canon_seen x.0, x.1.now)) result
         (pick thread_rows nowhere opcode bytes.now) }
+    ensures place { IsWithin (λ x. x.1.now) (opcode ∷ bytes.now) result }
     ensures counted { IfOk result (λ x. IsCountedCanon x.0) }
 {
     match opcode {
@@ -320,6 +330,7 @@ fn of_thread(opcode: u8, bytes: &[u8]) -> Result<(CanonView<'_>, &[u8]), Refusal
 fn of_forward(opcode: u8, bytes: &[u8]) -> Result<(CanonView<'_>, &[u8]), Refusal>
     ensures found { Gives (λ x. (canon_seen x.0, x.1.now)) result
         (pick forward_rows nowhere opcode bytes.now) }
+    ensures place { IsWithin (λ x. x.1.now) (opcode ∷ bytes.now) result }
     ensures counted { IfOk result (λ x. IsCountedCanon x.0) }
 {
     match opcode {

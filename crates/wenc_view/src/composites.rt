@@ -9,7 +9,7 @@ ghost use Rattle.wenc_base.specs.Prelude.{field_type, field_type_sound, field_ty
 ghost use Rattle.wenc_base.specs.Prelude.{Composite, composite_type_sound, composite_type_lawful};
 ghost use Rattle.wenc_base.specs.Prelude.{sub_type, sub_type_sound, sub_type_lawful, RecType};
 ghost use Rattle.wenc_base.specs.Prelude.{rec_type, group_sound, group_lawful};
-ghost use Rattle.wenc_read.specs.Prelude.{Gives, exact_by};
+ghost use Rattle.wenc_read.specs.Prelude.{Gives, exact_by, IsWithin};
 
 use crate::lists::ListOf;
 use crate::view::View;
@@ -177,6 +177,7 @@ impl<'a> View<'a> for SubView<'a> {
 pub(crate) fn open(bytes: &[u8]) -> Result<(SubView<'_>, &[u8]), Refusal>
     ensures found { Gives (λ x. (sub_seen x.0, x.1.now)) result
         (read_extension (λ n c. sub_of false n c) bytes.now) }
+    ensures place { IsWithin (λ x. x.1.now) bytes.now result }
     ensures counted { IfOk result (λ x. IsCountedComposite x.0.composite_type) }
 {
     let (supertype_idx, rest) = Option::view_of(bytes)?;
@@ -194,6 +195,7 @@ pub(crate) fn open(bytes: &[u8]) -> Result<(SubView<'_>, &[u8]), Refusal>
 fn closed(bytes: &[u8]) -> Result<(SubView<'_>, &[u8]), Refusal>
     ensures found { Gives (λ x. (sub_seen x.0, x.1.now)) result
         (read_closed (λ n c. sub_of true (Some n) c) bytes.now) }
+    ensures place { IsWithin (λ x. x.1.now) bytes.now result }
     ensures counted { IfOk result (λ x. IsCountedComposite x.0.composite_type) }
 {
     match byte(bytes)? {

@@ -1,7 +1,7 @@
 //! Core types in a component: recursion groups with guards, and module types.
 ghost use Rattle.std.specs.Prelude.{IfOk};
 ghost use Rattle.wenc_view.specs.Prelude.{read_guarded, IsCountedModuleDecl, IsCountedCoreType};
-ghost use Rattle.wenc_read.specs.Prelude.{Gives, exact_by};
+ghost use Rattle.wenc_read.specs.Prelude.{Gives, exact_by, IsWithin};
 ghost use Rattle.wenc_view.specs.Prelude.{module_declaration_seen, core_type_seen};
 ghost use Rattle.wenc_types.specs.Prelude.{read_outer_type, ModuleDeclaration, module_declaration};
 ghost use Rattle.wenc_types.specs.Prelude.{read_module_declaration, module_declaration_sound};
@@ -58,6 +58,7 @@ pub enum CoreTypeView<'a> {
 fn outer_type(bytes: &[u8]) -> Result<(ModuleDeclView<'_>, &[u8]), Refusal>
     ensures found { Gives (λ x. (module_declaration_seen x.0, x.1.now)) result
         (read_outer_type (λ d. d) bytes.now) }
+    ensures place { IsWithin (λ x. x.1.now) bytes.now result }
     ensures counted { IfOk result (λ x. IsCountedModuleDecl x.0) }
 {
     match byte(bytes)? {
@@ -115,6 +116,7 @@ impl<'a> View<'a> for ModuleDeclView<'a> {
 fn guarded(bytes: &[u8]) -> Result<(CoreTypeView<'_>, &[u8]), Refusal>
     ensures found { Gives (λ x. (core_type_seen x.0, x.1.now)) result
         (read_guarded bytes.now) }
+    ensures place { IsWithin (λ x. x.1.now) bytes.now result }
     ensures counted { IfOk result (λ x. IsCountedCoreType x.0) }
 {
     match byte(bytes)? {

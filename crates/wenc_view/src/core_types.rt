@@ -5,7 +5,7 @@ ghost use Rattle.wenc_base.specs.Prelude.{read_heap_type, heap_type_sound, heap_
 ghost use Rattle.wenc_base.specs.Prelude.{read_reference, reference_sound, reference_lawful};
 ghost use Rattle.wenc_base.specs.Prelude.{read_val_type, val_type, val_type_sound, val_type_lawful};
 ghost use Rattle.wenc_view.specs.Prelude.{read_referred, find};
-ghost use Rattle.wenc_read.specs.Prelude.{Gives, exact_by};
+ghost use Rattle.wenc_read.specs.Prelude.{Gives, exact_by, IsWithin};
 
 use crate::view::View;
 use wenc_base::{AbstractHeapType, HeapType, RefType, ValType};
@@ -96,7 +96,8 @@ fn to(nullable: bool, heap_type: HeapType) -> RefType
 
 /// Reads a reference to the heap type that follows.
 fn reference(nullable: bool, bytes: &[u8]) -> Result<(RefType, &[u8]), Refusal>
-    ensures { Gives (λ x. (x.0, x.1.now)) result (read_referred nullable bytes.now) }
+    ensures found { Gives (λ x. (x.0, x.1.now)) result (read_referred nullable bytes.now) }
+    ensures place { IsWithin (λ x. x.1.now) bytes.now result }
 {
     let (heap_type, rest) = HeapType::view_of(bytes)?;
     Ok((to(nullable, heap_type), rest))

@@ -1,7 +1,7 @@
 //! Defined value types, in place.
-ghost use Rattle.std.specs.Prelude.{IfOk};
+ghost use Rattle.std.specs.Prelude.{◌∷◌, IfOk};
 ghost use Rattle.wenc_base.specs.Prelude.{pick, nowhere};
-ghost use Rattle.wenc_read.specs.Prelude.{Gives, exact_by};
+ghost use Rattle.wenc_read.specs.Prelude.{Gives, exact_by, IsWithin};
 ghost use Rattle.wenc_types.specs.Prelude.{LabelledType, labelled_type, read_labelled_type};
 ghost use Rattle.wenc_types.specs.Prelude.{named_sound, labelled_type_lawful, Case, case};
 ghost use Rattle.wenc_types.specs.Prelude.{read_case, case_sound, case_lawful, DefValType};
@@ -120,6 +120,7 @@ impl<'a> View<'a> for CaseView<'a> {
 fn defined(first: u8, bytes: &[u8]) -> Result<(DefinedView<'_>, &[u8]), Refusal>
     ensures found { Gives (λ x. (defined_seen x.0, x.1.now)) result
         (read_defined_row first bytes.now) }
+    ensures place { IsWithin (λ x. x.1.now) (first ∷ bytes.now) result }
     ensures counted { IfOk result (λ x. IsCountedDefined x.0) }
 {
     match first {
@@ -164,6 +165,7 @@ fn defined(first: u8, bytes: &[u8]) -> Result<(DefinedView<'_>, &[u8]), Refusal>
 fn other_defined(first: u8, bytes: &[u8]) -> Result<(DefinedView<'_>, &[u8]), Refusal>
     ensures found { Gives (λ x. (defined_seen x.0, x.1.now)) result
         (pick handle_rows nowhere first bytes.now) }
+    ensures place { IsWithin (λ x. x.1.now) (first ∷ bytes.now) result }
     ensures counted { IfOk result (λ x. IsCountedDefined x.0) }
 {
     match first {

@@ -9,7 +9,7 @@ ghost use Rattle.wenc_base.specs.Prelude.{entity_type_lawful, read_core_export_k
 ghost use Rattle.wenc_base.specs.Prelude.{core_export_kind, core_export_kind_sound};
 ghost use Rattle.wenc_base.specs.Prelude.{core_export_kind_lawful};
 ghost use Rattle.wenc_view.specs.Prelude.{read_maximum, read_bounds, memory_so, table_so};
-ghost use Rattle.wenc_read.specs.Prelude.{Gives, exact_by};
+ghost use Rattle.wenc_read.specs.Prelude.{Gives, exact_by, IsWithin};
 
 use crate::view::View;
 use wenc_base::{
@@ -19,7 +19,8 @@ use wenc_read::{Expected, Refusal, byte, u64_of};
 
 /// Reads the maximum, if there is one.
 fn maximum(has_maximum: bool, bytes: &[u8]) -> Result<(Option<u64>, &[u8]), Refusal>
-    ensures { Gives (λ x. (x.0, x.1.now)) result (read_maximum has_maximum bytes.now) }
+    ensures found { Gives (λ x. (x.0, x.1.now)) result (read_maximum has_maximum bytes.now) }
+    ensures place { IsWithin (λ x. x.1.now) bytes.now result }
 {
     if !has_maximum {
         return Ok((None, bytes));
@@ -35,8 +36,9 @@ fn memory(
     has_maximum: bool,
     bytes: &[u8],
 ) -> Result<(MemoryType, &[u8]), Refusal>
-    ensures { Gives (λ x. (x.0, x.1.now)) result
+    ensures found { Gives (λ x. (x.0, x.1.now)) result
         (read_bounds has_maximum (memory_so shared memory64) bytes.now) }
+    ensures place { IsWithin (λ x. x.1.now) bytes.now result }
 {
     let (minimum, rest) = u64_of(bytes)?;
     let (maximum, rest) = maximum(has_maximum, rest)?;
@@ -85,8 +87,9 @@ fn table(
     has_maximum: bool,
     bytes: &[u8],
 ) -> Result<(TableType, &[u8]), Refusal>
-    ensures { Gives (λ x. (x.0, x.1.now)) result
+    ensures found { Gives (λ x. (x.0, x.1.now)) result
         (read_bounds has_maximum (table_so element_type table64) bytes.now) }
+    ensures place { IsWithin (λ x. x.1.now) bytes.now result }
 {
     let (minimum, rest) = u64_of(bytes)?;
     let (maximum, rest) = maximum(has_maximum, rest)?;

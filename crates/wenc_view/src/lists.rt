@@ -2,7 +2,7 @@
 ghost use Rattle.std.specs.Prelude.{◌≡◌, ◌+◌, List, IfSome, MatchOption};
 ghost use Rattle.std.specs.Iterator.{at_most};
 ghost use Rattle.wenc_base.specs.Prelude.{times, read_list, list};
-ghost use Rattle.wenc_read.specs.Prelude.{Gives, list_exact};
+ghost use Rattle.wenc_read.specs.Prelude.{Gives, list_exact, IsWithin};
 ghost use Rattle.wenc_view.specs.Prelude.{members_of, list_view, GivesFirst, IsCounted};
 
 use crate::view::View;
@@ -23,8 +23,9 @@ pub struct ListOf<'a, T> {
 
 /// Reads over `count` values. Returns the bytes after them.
 fn passed<'a, T: View<'a>>(count: u32, bytes: &'a [u8]) -> Result<&'a [u8], Refusal>
-    ensures { Gives (λ rest. (members_of T.read count bytes.now, rest.now)) result
+    ensures found { Gives (λ rest. (members_of T.read count bytes.now, rest.now)) result
         (times T.read count bytes.now) }
+    ensures place { IsWithin (λ rest. rest.now) bytes.now result }
 {
     let mut rest = bytes;
     for _ in 0..count {

@@ -1,9 +1,9 @@
 //! Names of imports and exports, in place.
-ghost use Rattle.std.specs.Prelude.{◌≡◌, ◌≤◌};
+ghost use Rattle.std.specs.Prelude.{◌≡◌, ◌≤◌, length};
 ghost use Rattle.wenc_parts.specs.Prelude.{ExternName, extern_name, extern_name_sound};
 ghost use Rattle.wenc_parts.specs.Prelude.{extern_name_lawful, option_number, with_option};
 ghost use Rattle.wenc_parts.specs.Prelude.{read_name_option, read_extern_name};
-ghost use Rattle.wenc_read.specs.Prelude.{Gives, exact_by};
+ghost use Rattle.wenc_read.specs.Prelude.{Gives, exact_by, IsWithin};
 ghost use Rattle.wenc_view.specs.Prelude.{name_seen, option_seen, read_options};
 
 use crate::view::{View, text_of};
@@ -64,7 +64,8 @@ fn with<'a>(option: NameOptionView<'a>, name: NameView<'a>) -> NameView<'a>
 /// Reads an option of a name.
 #[tactic(auto, unfolding(wenc_base::specs::Readers::choose))]
 fn option_of(bytes: &[u8]) -> Result<(NameOptionView<'_>, &[u8]), Refusal>
-    ensures { Gives (λ x. (option_seen x.0, x.1.now)) result (read_name_option bytes.now) }
+    ensures found { Gives (λ x. (option_seen x.0, x.1.now)) result (read_name_option bytes.now) }
+    ensures place { IsWithin (λ x. x.1.now) bytes.now result }
 {
     match byte(bytes)? {
         (0x00, rest) => {
@@ -101,8 +102,9 @@ fn options_from<'a>(
     bytes: &'a [u8],
 ) -> Result<(NameView<'a>, &'a [u8]), Refusal>
     requires { least ≤ 3 }
-    ensures { Gives (λ x. (name_seen x.0, x.1.now)) result
+    ensures found { Gives (λ x. (name_seen x.0, x.1.now)) result
         (read_options name.now least count bytes.now) }
+    ensures place { IsWithin (λ x. x.1.now) bytes.now result }
 {
     if count == 0 {
         let name = NameView {
@@ -131,7 +133,9 @@ fn options_from<'a>(
 
 /// Returns the error of bytes that begin with another number than 1 to 3.
 #[cold]
-fn no_count_of_options(bytes: &[u8]) -> Refusal {
+fn no_count_of_options(bytes: &[u8]) -> Refusal
+    ensures { result.left ≤ length bytes.now }
+{
     match bytes {
         [0x81 | 0x82 | 0x83, ..] => Refusal::at(bytes, Expected::Bits(2)),
         _ => Refusal::at(bytes, Expected::OptionCount),

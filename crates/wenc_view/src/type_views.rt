@@ -1,8 +1,8 @@
 //! Types that components define, in place. Component types and instance types nest, down to a
 //! depth.
-ghost use Rattle.std.specs.Prelude.{◌≡◌, ◌+◌, ◌≤◌, IfOk, IfSome, MatchOption};
+ghost use Rattle.std.specs.Prelude.{◌∷◌, ◌≡◌, ◌+◌, ◌≤◌, IfOk, IfSome, MatchOption};
 ghost use Rattle.wenc_base.specs.Prelude.{times};
-ghost use Rattle.wenc_read.specs.Prelude.{Gives};
+ghost use Rattle.wenc_read.specs.Prelude.{Gives, IsWithin, IsWithinNested};
 ghost use Rattle.wenc_types.specs.Prelude.{read_imported, read_exported};
 ghost use Rattle.wenc_types.specs.Prelude.{read_component_declaration, read_instance_declaration};
 ghost use Rattle.wenc_types.specs.Prelude.{read_type, read_component_type, read_instance_type};
@@ -109,6 +109,7 @@ pub enum ComponentDeclView<'a> {
 fn function_type(is_async: bool, bytes: &[u8]) -> Result<(TypeView<'_>, &[u8]), Refusal>
     ensures found { Gives (λ x. (type_seen x.0, x.1.now)) result
         (read_signature is_async FunctionType bytes.now) }
+    ensures place { IsWithin (λ x. x.1.now) bytes.now result }
     ensures flat { IfOk result (λ x. type_nests x.0 ≡ 0) }
     ensures counted { IfOk result (λ x. IsCountedType x.0) }
 {
@@ -126,6 +127,7 @@ fn function_type(is_async: bool, bytes: &[u8]) -> Result<(TypeView<'_>, &[u8]), 
 fn resource_type(bytes: &[u8]) -> Result<(TypeView<'_>, &[u8]), Refusal>
     ensures found { Gives (λ x. (type_seen x.0, x.1.now)) result
         (read_resource_type bytes.now) }
+    ensures place { IsWithin (λ x. x.1.now) bytes.now result }
     ensures flat { IfOk result (λ x. type_nests x.0 ≡ 0) }
     ensures counted { IfOk result (λ x. IsCountedType x.0) }
 {
@@ -149,6 +151,7 @@ pub fn type_at<'a>(
 ) -> Result<(TypeView<'a>, &'a [u8]), NestedRefusal>
     ensures found { GivesNested (λ x. (type_seen x.0, x.1.now)) result
         (read_type depth_left bytes.now) }
+    ensures place { IsWithinNested (λ x. x.1.now) bytes.now result }
     ensures within { IfOk result (λ x. type_nests x.0 ≤ depth_left) }
     ensures counted { IfOk result (λ x. IsCountedType x.0) }
 {
@@ -173,6 +176,7 @@ fn component_type<'a>(
 ) -> Result<(TypeView<'a>, &'a [u8]), NestedRefusal>
     ensures found { GivesNested (λ x. (type_seen x.0, x.1.now)) result
         (read_component_type depth_left bytes.now) }
+    ensures place { IsWithinNested (λ x. x.1.now) (0x41 ∷ bytes.now) result }
     ensures within { IfOk result (λ x. type_nests x.0 ≤ depth_left) }
     ensures counted { IfOk result (λ x. IsCountedType x.0) }
 {
@@ -198,6 +202,7 @@ fn instance_type<'a>(
 ) -> Result<(TypeView<'a>, &'a [u8]), NestedRefusal>
     ensures found { GivesNested (λ x. (type_seen x.0, x.1.now)) result
         (read_instance_type depth_left bytes.now) }
+    ensures place { IsWithinNested (λ x. x.1.now) (0x42 ∷ bytes.now) result }
     ensures within { IfOk result (λ x. type_nests x.0 ≤ depth_left) }
     ensures counted { IfOk result (λ x. IsCountedType x.0) }
 {
@@ -222,12 +227,13 @@ fn component_decls<'a>(
     count: u32,
     bytes: &'a [u8],
 ) -> Result<&'a [u8], NestedRefusal>
-    ensures { GivesNested
+    ensures found { GivesNested
         (λ rest. (
           members_of (read_component_declaration (read_type depth_left)) count bytes.now,
           rest.now,
         ))
         result (times (read_component_declaration (read_type depth_left)) count bytes.now) }
+    ensures place { IsWithinNested (λ rest. rest.now) bytes.now result }
 {
     let mut rest = bytes;
     for _ in 0..count {
@@ -246,12 +252,13 @@ fn instance_decls<'a>(
     count: u32,
     bytes: &'a [u8],
 ) -> Result<&'a [u8], NestedRefusal>
-    ensures { GivesNested
+    ensures found { GivesNested
         (λ rest. (
           members_of (read_instance_declaration (read_type depth_left)) count bytes.now,
           rest.now,
         ))
         result (times (read_instance_declaration (read_type depth_left)) count bytes.now) }
+    ensures place { IsWithinNested (λ rest. rest.now) bytes.now result }
 {
     let mut rest = bytes;
     for _ in 0..count {
@@ -272,6 +279,7 @@ fn component_decl<'a>(
 ) -> Result<(ComponentDeclView<'a>, &'a [u8]), NestedRefusal>
     ensures found { GivesNested (λ x. (component_declaration_seen x.0, x.1.now)) result
         (read_component_declaration (read_type depth_left) bytes.now) }
+    ensures place { IsWithinNested (λ x. x.1.now) bytes.now result }
     ensures within { IfOk result (λ x. component_declaration_nests x.0 ≤ depth_left) }
     ensures counted { IfOk result (λ x. IsCountedComponentDecl x.0) }
 {
@@ -293,6 +301,7 @@ fn instance_decl<'a>(
 ) -> Result<(InstanceDeclView<'a>, &'a [u8]), NestedRefusal>
     ensures found { GivesNested (λ x. (instance_declaration_seen x.0, x.1.now)) result
         (read_instance_declaration (read_type depth_left) bytes.now) }
+    ensures place { IsWithinNested (λ x. x.1.now) bytes.now result }
     ensures within { IfOk result (λ x. instance_declaration_nests x.0 ≤ depth_left) }
     ensures counted { IfOk result (λ x. IsCountedInstanceDecl x.0) }
 {
@@ -318,6 +327,7 @@ fn instance_decl<'a>(
 fn imported(bytes: &[u8]) -> Result<(ComponentDeclView<'_>, &[u8]), Refusal>
     ensures found { Gives (λ x. (component_declaration_seen x.0, x.1.now)) result
         (read_imported bytes.now) }
+    ensures place { IsWithin (λ x. x.1.now) bytes.now result }
     ensures flat { IfOk result (λ x. component_declaration_nests x.0 ≡ 0) }
     ensures counted { IfOk result (λ x. IsCountedComponentDecl x.0) }
 {
@@ -330,6 +340,7 @@ fn imported(bytes: &[u8]) -> Result<(ComponentDeclView<'_>, &[u8]), Refusal>
 fn exported(bytes: &[u8]) -> Result<(InstanceDeclView<'_>, &[u8]), Refusal>
     ensures found { Gives (λ x. (instance_declaration_seen x.0, x.1.now)) result
         (read_exported bytes.now) }
+    ensures place { IsWithin (λ x. x.1.now) bytes.now result }
     ensures flat { IfOk result (λ x. instance_declaration_nests x.0 ≡ 0) }
     ensures counted { IfOk result (λ x. IsCountedInstanceDecl x.0) }
 {

@@ -1,10 +1,10 @@
 //! The trait `View`, and the parts of every form.
-ghost use Rattle.std.specs.Prelude.{◌≡◌, ◌-◌, ⊤, length, IfOk, IfErr};
+ghost use Rattle.std.specs.Prelude.{◌≡◌, ◌+◌, ◌-◌, ⊤, length, IfOk, IfErr};
 ghost use Rattle.std.specs.Str.{valid_up_to};
 ghost use Rattle.wenc_base.specs.Prelude.{Form, Reader, read_u32, u32 as number, u32_sound};
 ghost use Rattle.wenc_base.specs.Prelude.{u32_lawful, read_name, name as name_form, name_sound};
 ghost use Rattle.wenc_base.specs.Prelude.{name_lawful};
-ghost use Rattle.wenc_read.specs.Prelude.{IsExact, Gives, exact_by};
+ghost use Rattle.wenc_read.specs.Prelude.{IsExact, Gives, exact_by, IsWithin};
 ghost use Rattle.wenc_read.specs.declared.expected.Expected.TheVariants.{Utf8};
 ghost use Rattle.wenc_view.specs.Prelude.{name_error};
 
@@ -48,6 +48,7 @@ pub trait View<'a>: Sized + Copy {
     /// Fails if no value begins the bytes.
     fn view_of(bytes: &'a [u8]) -> Result<(Self, &'a [u8]), Refusal>
         ensures found { Gives (λ x. (view x.0, x.1.now)) result (read bytes.now) }
+        ensures place { IsWithin (λ x. x.1.now) bytes.now result }
         ensures counted { IfOk result (λ x. is_counted x.0) };
 }
 
@@ -70,16 +71,17 @@ impl<'a> View<'a> for u32 {
     }
 }
 
-/// Returns the error of a text that begins the bytes and isn't UTF-8.
+/// Returns the error of a text, before these bytes, that isn't UTF-8.
 #[cold]
-fn not_utf8(bytes: &[u8], error: Utf8Error) -> Refusal
+fn not_utf8(text: &[u8], after: &[u8], error: Utf8Error) -> Refusal
     ensures { result ≡ record {
-      left = length bytes.now - valid_up_to error;
+      left = length text.now - valid_up_to error + length after.now;
       expected = Utf8;
     } }
 {
+    let left = text.len().saturating_sub(error.valid_up_to());
     Refusal {
-        left: bytes.len().saturating_sub(error.valid_up_to()),
+        left: left.saturating_add(after.len()),
         expected: Expected::Utf8,
     }
 }
@@ -94,6 +96,7 @@ fn not_utf8(bytes: &[u8], error: Utf8Error) -> Refusal
 #[inline(always)]
 pub fn text_of(bytes: &[u8]) -> Result<(&str, &[u8]), Refusal>
     ensures found { Gives (λ x. (x.0.now, x.1.now)) result (read_name bytes.now) }
+    ensures place { IsWithin (λ x. x.1.now) bytes.now result }
     ensures refused { IfErr result (λ e. e ≡ name_error bytes.now) }
 {
     let (size, rest) = u32_of(bytes)?;
@@ -104,7 +107,7 @@ pub fn text_of(bytes: &[u8]) -> Result<(&str, &[u8]), Refusal>
     let (front, after) = rest.split_at(len);
     match std::str::from_utf8(front) {
         Ok(text) => Ok((text, after)),
-        Err(error) => Err(not_utf8(rest, error)),
+        Err(error) => Err(not_utf8(front, after, error)),
     }
 }
 

@@ -4,7 +4,7 @@ use std::alloc::{AllocError, Allocator};
 use wenc_decode::TreeOf;
 use wenc_list::{
     ItemTree, ItemView, ListFault, ListRefusal, Names, Sections, behind_module_header, list,
-    list_or_refusal, names_of, part_of,
+    list_or_refusal, names_in, part_of,
 };
 use wenc_parts::{Alias, AliasTree};
 use wenc_read::{Expected, Refusal};
@@ -57,9 +57,10 @@ pub fn first_section(module: &[u8]) -> Result<((u8, &[u8]), &[u8]), Refusal> {
     }
 }
 
-/// `names_of`.
+/// `names_in`.
 pub fn first_names(data: &[u8]) -> Result<(Names<'_>, &[u8]), Refusal> {
-    let (names, rest) = names_of(data)?;
+    let ((id, content), rest) = part_of(data)?;
+    let names = names_in(id, content)?;
     Ok((names, rest))
 }
 

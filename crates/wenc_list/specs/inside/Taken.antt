@@ -1,12 +1,13 @@
 -- What a loop over a section's items finds.
 use Rattle.std.specs.Prelude.{◌≡◌, ℕ, ◌-◌, ◌≤◌, List, length}
 use Rattle.wenc_builder.specs.Item.{Item}
-use Rattle.wenc_list.specs.Cursor.{HasTaken, IsSpent, IsFaultIn, IsPlacedIn, IsCountless, left_of}
+use Rattle.wenc_list.specs.Cursor.{HasTaken, IsSpent, IsFaultIn, IsPlacedIn, IsCountless}
 use Rattle.wenc_list.specs.declared.cursor.SectionItems.{SectionItems}
 use Rattle.wenc_list.specs.declared.cursor.Sections.{Sections}
 use Rattle.wenc_list.specs.declared.fault.ListFault.{ListFault}
 use Rattle.wenc_list.specs.declared.refusal.ListRefusal.{ListRefusal}
 use Rattle.wenc_list.specs.declared.refusal.ListRefusal.TheVariants as refusals
+use Rattle.wenc_read.specs.Gives.{left_of}
 
 -- these are all items that were left
 pub record TakesAll (first : SectionItems) (xs : List Item) : Type 0 where

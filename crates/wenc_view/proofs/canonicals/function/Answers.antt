@@ -20,13 +20,13 @@ pub returns-in_ok-options-in-9-clause-found : goal.returns-in_ok-options-in-9-cl
 returns-in_ok-options-in-9-clause-found c = rw (c.in-9.is, c.in_ok-ty-in-9.ensures.found, c.in_ok-options-in-9.ensures.found) refl
 
 pub returns-in_ok-ty-in-10-clause-found : goal.returns-in_ok-ty-in-10-clause-found
-returns-in_ok-ty-in-10-clause-found c = rw (c.in-10.is, c.in_ok-ty-in-10.ensures) refl
+returns-in_ok-ty-in-10-clause-found c = rw (c.in-10.is, c.in_ok-ty-in-10.ensures.found) refl
 
 pub returns-in_ok-ty-in-11-clause-found : goal.returns-in_ok-ty-in-11-clause-found
-returns-in_ok-ty-in-11-clause-found c = rw (c.in-11.is, c.in_ok-ty-in-11.ensures) refl
+returns-in_ok-ty-in-11-clause-found c = rw (c.in-11.is, c.in_ok-ty-in-11.ensures.found) refl
 
 pub returns-in_ok-rest-in-12-clause-found : goal.returns-in_ok-rest-in-12-clause-found
-returns-in_ok-rest-in-12-clause-found c = rw (c.in-12.is, c.in_ok-rest-in-12.ensures) refl
+returns-in_ok-rest-in-12-clause-found c = rw (c.in-12.is, c.in_ok-rest-in-12.ensures.found) refl
 
 pub returns-in-13-clause-found : goal.returns-in-13-clause-found
 returns-in-13-clause-found c = rw c.in-13.is refl

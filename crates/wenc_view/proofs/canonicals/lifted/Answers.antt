@@ -9,6 +9,6 @@ use Rattle.wenc_view.proofs.canonicals.lifted.Goals as goal
 
 pub returns-in_ok-ty-in-0-default-clause-found : goal.returns-in_ok-ty-in-0-default-clause-found
 returns-in_ok-ty-in-0-default-clause-found c =
-    at_first _ _ 0x00 _ _ _ c.in_ok-rest.ensures (search rules)
+    at_first _ _ 0x00 _ _ _ c.in_ok-rest.ensures.found (search rules)
     ∙ made_of_three (λ f os t. Lift f os t) read_u32 (read_list read_canonical_option) read_u32 _ _ _ _ _ _ _ c.in_ok-core_func-in-0-default.ensures.found
     (c.in_ok-options-in-0-default.ensures.found) c.in_ok-ty-in-0-default.ensures.found

@@ -14,10 +14,10 @@ pub returns-in-31-clause-found : goal.returns-in-31-clause-found
 returns-in-31-clause-found c = rw c.in-31.is refl
 
 pub returns-in_ok-memory-in-32-clause-found : goal.returns-in_ok-memory-in-32-clause-found
-returns-in_ok-memory-in-32-clause-found c = rw (c.in-32.is, c.in_ok-memory-in-32.ensures) refl
+returns-in_ok-memory-in-32-clause-found c = rw (c.in-32.is, c.in_ok-memory-in-32.ensures.found) refl
 
 pub returns-in_ok-memory-in-33-clause-found : goal.returns-in_ok-memory-in-33-clause-found
-returns-in_ok-memory-in-33-clause-found c = rw (c.in-33.is, c.in_ok-memory-in-33.ensures) refl
+returns-in_ok-memory-in-33-clause-found c = rw (c.in-33.is, c.in_ok-memory-in-33.ensures.found) refl
 
 pub returns-in-34-clause-found : goal.returns-in-34-clause-found
 returns-in-34-clause-found c = rw c.in-34.is refl

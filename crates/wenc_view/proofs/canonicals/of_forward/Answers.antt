@@ -11,7 +11,7 @@ pub returns-in_ok-index-in-64-clause-found : goal.returns-in_ok-index-in-64-clau
 returns-in_ok-index-in-64-clause-found c = rw (c.in-64.is, c.in_ok-index-in-64.ensures.found) refl
 
 pub returns-in_ok-ty-in-65-clause-found : goal.returns-in_ok-ty-in-65-clause-found
-returns-in_ok-ty-in-65-clause-found c = rw (c.in-65.is, c.in_ok-ty-in-65.ensures) refl
+returns-in_ok-ty-in-65-clause-found c = rw (c.in-65.is, c.in_ok-ty-in-65.ensures.found) refl
 
 pub returns-in-66-clause-found : goal.returns-in-66-clause-found
 returns-in-66-clause-found c = rw c.in-66.is refl

@@ -11,10 +11,10 @@ pub returns-in_ok-ty-in-23-clause-found : goal.returns-in_ok-ty-in-23-clause-fou
 returns-in_ok-ty-in-23-clause-found c = rw (c.in-23.is, c.in_ok-ty-in-23.ensures.found) refl
 
 pub returns-in_ok-ty-in-24-clause-found : goal.returns-in_ok-ty-in-24-clause-found
-returns-in_ok-ty-in-24-clause-found c = rw (c.in-24.is, c.in_ok-ty-in-24.ensures) refl
+returns-in_ok-ty-in-24-clause-found c = rw (c.in-24.is, c.in_ok-ty-in-24.ensures.found) refl
 
 pub returns-in_ok-ty-in-25-clause-found : goal.returns-in_ok-ty-in-25-clause-found
-returns-in_ok-ty-in-25-clause-found c = rw (c.in-25.is, c.in_ok-ty-in-25.ensures) refl
+returns-in_ok-ty-in-25-clause-found c = rw (c.in-25.is, c.in_ok-ty-in-25.ensures.found) refl
 
 pub returns-in_ok-index-in-26-clause-found : goal.returns-in_ok-index-in-26-clause-found
 returns-in_ok-index-in-26-clause-found c = rw (c.in-26.is, c.in_ok-index-in-26.ensures.found) refl

@@ -11,10 +11,10 @@ pub returns-in_ok-ty-in-16-clause-found : goal.returns-in_ok-ty-in-16-clause-fou
 returns-in_ok-ty-in-16-clause-found c = rw (c.in-16.is, c.in_ok-ty-in-16.ensures.found) refl
 
 pub returns-in_ok-ty-in-17-clause-found : goal.returns-in_ok-ty-in-17-clause-found
-returns-in_ok-ty-in-17-clause-found c = rw (c.in-17.is, c.in_ok-ty-in-17.ensures) refl
+returns-in_ok-ty-in-17-clause-found c = rw (c.in-17.is, c.in_ok-ty-in-17.ensures.found) refl
 
 pub returns-in_ok-ty-in-18-clause-found : goal.returns-in_ok-ty-in-18-clause-found
-returns-in_ok-ty-in-18-clause-found c = rw (c.in-18.is, c.in_ok-ty-in-18.ensures) refl
+returns-in_ok-ty-in-18-clause-found c = rw (c.in-18.is, c.in_ok-ty-in-18.ensures.found) refl
 
 pub returns-in_ok-index-in-19-clause-found : goal.returns-in_ok-index-in-19-clause-found
 returns-in_ok-index-in-19-clause-found c = rw (c.in-19.is, c.in_ok-index-in-19.ensures.found) refl

@@ -7,6 +7,6 @@ use Rattle.wenc_view.proofs.composites.closed.Goals as goal
 
 pub returns-in_ok-composite_type-in-1-default-clause-found : goal.returns-in_ok-composite_type-in-1-default-clause-found
 returns-in_ok-composite_type-in-1-default-clause-found c =
-    at_first _ _ 0x01 _ _ _ c.in_ok-rest.ensures (search rules)
+    at_first _ _ 0x01 _ _ _ c.in_ok-rest.ensures.found (search rules)
     ∙ made_of_both (λ n d. sub_of true (Some n) d) read_u32 read_composite _ _ _ _ _ c.in_ok-supertype-in-1-default.ensures.found
     c.in_ok-composite_type-in-1-default.ensures.found

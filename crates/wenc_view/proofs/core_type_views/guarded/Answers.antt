@@ -14,7 +14,7 @@ returns-in_err-ty-in-80-default-clause-found c =
     let p = err_from_is_err_and c.from_residual-in_err-ty-in-80-default.result c.from_residual-in_err-ty-in-80-default.ensures.1 in
     rw (
       p.1,
-      at_first ((0x50, read_extension (λ n d. Grouped (Single (sub_of false n d)))) ∷ []) nowhere 0x50 _ _ _ c.in_ok-rest.ensures
+      at_first ((0x50, read_extension (λ n d. Grouped (Single (sub_of false n d)))) ∷ []) nowhere 0x50 _ _ _ c.in_ok-rest.ensures.found
           (search rules),
       extension_follows (λ s. Grouped (Single s)) (λ n d. sub_of false n d) c.in_ok-rest.field-0.1.now,
     )
@@ -23,6 +23,6 @@ returns-in_err-ty-in-80-default-clause-found c =
 
 pub returns-in_ok-ty-in-80-default-clause-found : goal.returns-in_ok-ty-in-80-default-clause-found
 returns-in_ok-ty-in-80-default-clause-found c =
-    at_first ((0x50, read_extension (λ n d. Grouped (Single (sub_of false n d)))) ∷ []) nowhere 0x50 _ _ _ c.in_ok-rest.ensures (search rules)
+    at_first ((0x50, read_extension (λ n d. Grouped (Single (sub_of false n d)))) ∷ []) nowhere 0x50 _ _ _ c.in_ok-rest.ensures.found (search rules)
     ∙ extension_follows (λ s. Grouped (Single s)) (λ n d. sub_of false n d) c.in_ok-rest.field-0.1.now
     ∙ rw c.in_ok-ty-in-80-default.ensures.found refl

@@ -1,14 +1,14 @@
-use Rattle.std.proofs.Common.{◌≡◌, ◌++◌, ◌∷◌, [], Ok}
+use Rattle.std.proofs.Common.{◌≡◌, ◌++◌, ◌∷◌, [], Ok, arith, rules}
 use Rattle.wenc_base.specs.Readers.{Bad, times}
 use Rattle.wenc_view.specs.laws.Members.{members_are}
 use Rattle.wenc_view.specs.laws.Repeats.{at_start, times_go_on, stops, is_done}
 use Rattle.wenc_view.proofs.lists.passed.Goals as goal
 
 pub loop-init : goal.loop-init
-loop-init g c = ([], at_start g.T.View.read c.args.count c.args.bytes.now)
+loop-init g c = ([], at_start g.T.View.read c.args.count c.args.bytes.now, omega arith)
 
-pub returns-in-Err : goal.returns-in-Err
-returns-in-Err g c =
+pub returns-in-Err-clause-found : goal.returns-in-Err-clause-found
+returns-in-Err-clause-found g c =
     let read = g.T.View.read in
     stops Bad read c.loop.invariant.0 c.args.count c.loop.counter c.loop.rest.now
     (times read c.args.count c.args.bytes.now) c.loop-test.true c.in-Err.ensures.found c.loop.invariant.1
@@ -20,10 +20,11 @@ loop-preserved g c =
       c.loop.invariant.0 ++ v ∷ [],
       times_go_on read c.loop.invariant.0 c.args.count c.loop.counter c.loop.rest.now v c.in-Ok.after.now
           (times read c.args.count c.args.bytes.now) c.loop-test.true c.in-Ok.ensures.found c.loop.invariant.1,
+      search rules,
     )
 
-pub returns : goal.returns
-returns g c =
+pub returns-clause-found : goal.returns-clause-found
+returns-clause-found g c =
     let read = g.T.View.read in
     let done : times read c.args.count c.args.bytes.now ≡ Ok (c.loop.invariant.0, c.loop.rest.now) = is_done read c.loop.invariant.0 c.args.count c.loop.counter
     c.loop.rest.now (times read c.args.count c.args.bytes.now) c.loop-test.false c.loop.invariant.1 in

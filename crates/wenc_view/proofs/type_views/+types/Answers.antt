@@ -19,10 +19,10 @@ use Rattle.wenc_view.proofs.Nested.{instance_fails, shallow_ok}
 use Rattle.wenc_view.proofs.type_views.+types.Goals as goal
 
 pub instance_decls-loop-init : goal.instance_decls-loop-init
-instance_decls-loop-init t c = ([], at_start (read_instance_declaration (read_type c.args.depth_left)) c.args.count c.args.bytes.now)
+instance_decls-loop-init t c = ([], at_start (read_instance_declaration (read_type c.args.depth_left)) c.args.count c.args.bytes.now, omega arith)
 
-pub instance_decls-returns-in-Err : goal.instance_decls-returns-in-Err
-instance_decls-returns-in-Err t c =
+pub instance_decls-returns-in-Err-clause-found : goal.instance_decls-returns-in-Err-clause-found
+instance_decls-returns-in-Err-clause-found t c =
     let read = read_instance_declaration (read_type c.args.depth_left) in
     (rw c.of_many.ensures.flaw (stops (flaw_of c.in-Err.refusal) read c.loop.invariant.0 c.args.count c.loop.counter c.loop.rest.now
     (times read c.args.count c.args.bytes.now) c.loop-test.true c.in-Err.ensures.found c.loop.invariant.1))
@@ -34,10 +34,11 @@ instance_decls-loop-preserved t c =
       c.loop.invariant.0 ++ v ∷ [],
       times_go_on read c.loop.invariant.0 c.args.count c.loop.counter c.loop.rest.now v c.in-Ok.after.now
           (times read c.args.count c.args.bytes.now) c.loop-test.true c.in-Ok.ensures.found c.loop.invariant.1,
+      search rules,
     )
 
-pub instance_decls-returns : goal.instance_decls-returns
-instance_decls-returns t c =
+pub instance_decls-returns-clause-found : goal.instance_decls-returns-clause-found
+instance_decls-returns-clause-found t c =
     let read = read_instance_declaration (read_type c.args.depth_left) in
     let done : times read c.args.count c.args.bytes.now ≡ Ok (c.loop.invariant.0, c.loop.rest.now) = is_done read c.loop.invariant.0 c.args.count c.loop.counter
     c.loop.rest.now (times read c.args.count c.args.bytes.now) c.loop-test.false c.loop.invariant.1 in
@@ -47,21 +48,21 @@ pub instance_type-returns-in_err-rest-clause-found : goal.instance_type-returns-
 instance_type-returns-in_err-rest-clause-found t c =
     let p = err_from_is_err_and c.from_residual-in_err-rest.result c.from_residual-in_err-rest.ensures.1 in
     rw (p.1, p.2) (instance_fails c.args.depth_left c.in_ok-left.left c.args.bytes.now c.in_ok-left.start.now (flaw_of c.in_err-rest.field-0.0)
-    (omega arith) c.in_ok-left.ensures c.in_err-rest.ensures)
+    (omega arith) c.in_ok-left.ensures.found c.in_err-rest.ensures.found)
 
 pub instance_type-returns-clause-counted : goal.instance_type-returns-clause-counted
 instance_type-returns-clause-counted t c =
-    are_counted (read_instance_declaration (read_type (c.args.depth_left - 1))) c.in_ok-left.left c.in_ok-left.start.now _ c.in_ok-rest.rest.now c.in_ok-rest.ensures
+    are_counted (read_instance_declaration (read_type (c.args.depth_left - 1))) c.in_ok-left.left c.in_ok-left.start.now _ c.in_ok-rest.rest.now c.in_ok-rest.ensures.found
 
 pub instance_type-returns-clause-found : goal.instance_type-returns-clause-found
 instance_type-returns-clause-found t c = instance_found c.args.depth_left c.in_ok-left.left c.args.bytes.now c.in_ok-left.start.now c.in_ok-rest.rest.now _
-    (omega arith) c.in_ok-left.ensures c.in_ok-rest.ensures
+    (omega arith) c.in_ok-left.ensures.found c.in_ok-rest.ensures.found
 
 pub component_decls-loop-init : goal.component_decls-loop-init
-component_decls-loop-init t c = ([], at_start (read_component_declaration (read_type c.args.depth_left)) c.args.count c.args.bytes.now)
+component_decls-loop-init t c = ([], at_start (read_component_declaration (read_type c.args.depth_left)) c.args.count c.args.bytes.now, omega arith)
 
-pub component_decls-returns-in-Err : goal.component_decls-returns-in-Err
-component_decls-returns-in-Err t c =
+pub component_decls-returns-in-Err-clause-found : goal.component_decls-returns-in-Err-clause-found
+component_decls-returns-in-Err-clause-found t c =
     let read = read_component_declaration (read_type c.args.depth_left) in
     (rw c.of_many.ensures.flaw (stops (flaw_of c.in-Err.refusal) read c.loop.invariant.0 c.args.count c.loop.counter c.loop.rest.now
     (times read c.args.count c.args.bytes.now) c.loop-test.true c.in-Err.ensures.found c.loop.invariant.1))
@@ -73,10 +74,11 @@ component_decls-loop-preserved t c =
       c.loop.invariant.0 ++ v ∷ [],
       times_go_on read c.loop.invariant.0 c.args.count c.loop.counter c.loop.rest.now v c.in-Ok.after.now
           (times read c.args.count c.args.bytes.now) c.loop-test.true c.in-Ok.ensures.found c.loop.invariant.1,
+      search rules,
     )
 
-pub component_decls-returns : goal.component_decls-returns
-component_decls-returns t c =
+pub component_decls-returns-clause-found : goal.component_decls-returns-clause-found
+component_decls-returns-clause-found t c =
     let read = read_component_declaration (read_type c.args.depth_left) in
     let done : times read c.args.count c.args.bytes.now ≡ Ok (c.loop.invariant.0, c.loop.rest.now) = is_done read c.loop.invariant.0 c.args.count c.loop.counter
     c.loop.rest.now (times read c.args.count c.args.bytes.now) c.loop-test.false c.loop.invariant.1 in
@@ -86,22 +88,22 @@ pub component_type-returns-in_err-rest-clause-found : goal.component_type-return
 component_type-returns-in_err-rest-clause-found t c =
     let p = err_from_is_err_and c.from_residual-in_err-rest.result c.from_residual-in_err-rest.ensures.1 in
     rw (p.1, p.2) (component_fails c.args.depth_left c.in_ok-left.left c.args.bytes.now c.in_ok-left.start.now (flaw_of c.in_err-rest.field-0.0)
-    (omega arith) c.in_ok-left.ensures c.in_err-rest.ensures)
+    (omega arith) c.in_ok-left.ensures.found c.in_err-rest.ensures.found)
 
 pub component_type-returns-clause-counted : goal.component_type-returns-clause-counted
 component_type-returns-clause-counted t c =
-    are_counted (read_component_declaration (read_type (c.args.depth_left - 1))) c.in_ok-left.left c.in_ok-left.start.now _ c.in_ok-rest.rest.now c.in_ok-rest.ensures
+    are_counted (read_component_declaration (read_type (c.args.depth_left - 1))) c.in_ok-left.left c.in_ok-left.start.now _ c.in_ok-rest.rest.now c.in_ok-rest.ensures.found
 
 pub component_type-returns-clause-found : goal.component_type-returns-clause-found
 component_type-returns-clause-found t c = component_found c.args.depth_left c.in_ok-left.left c.args.bytes.now c.in_ok-left.start.now c.in_ok-rest.rest.now _
-    (omega arith) c.in_ok-left.ensures c.in_ok-rest.ensures
+    (omega arith) c.in_ok-left.ensures.found c.in_ok-rest.ensures.found
 
 pub type_at-returns-in_ok-ty-in_default-clause-found : goal.type_at-returns-in_ok-ty-in_default-clause-found
 type_at-returns-in_ok-ty-in_default-clause-found t c =
     rw (
       one_level c.args.depth_left,
       past_rows (type_rows (read_component_type c.args.depth_left) (read_instance_type c.args.depth_left)) read_shallow _ _ _
-          c.in_ok-rest.ensures (search rules, (search rules, (search rules, (search rules, (search rules, tt))))),
+          c.in_ok-rest.ensures.found (search rules, (search rules, (search rules, (search rules, (search rules, tt))))),
     )
     (shallow_ok _ c.args.bytes.now c.in_ok-ty-in_default.rest.now c.in_ok-ty-in_default.ensures.found)
 
@@ -113,6 +115,6 @@ type_at-returns-in_err-ty-in_default-clause-found t c =
       p.2,
       one_level c.args.depth_left,
       past_rows (type_rows (read_component_type c.args.depth_left) (read_instance_type c.args.depth_left)) read_shallow
-          _ _ _ c.in_ok-rest.ensures (search rules, (search rules, (search rules, (search rules, (search rules, tt))))),
+          _ _ _ c.in_ok-rest.ensures.found (search rules, (search rules, (search rules, (search rules, (search rules, tt))))),
     )
     (fails_on Bad (read_defined c.args.bytes.now) (λ ty. give (DefinedType ty)) c.in_err-ty-in_default.ensures.found)

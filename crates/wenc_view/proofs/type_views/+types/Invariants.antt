@@ -1,4 +1,4 @@
-use Rattle.std.proofs.Common.{◌≡◌, ◌-◌, ◌+◌, ◌*◌, List}
+use Rattle.std.proofs.Common.{◌≡◌, ◌≤◌, length, ◌-◌, ◌+◌, ◌*◌, List}
 use Rattle.wenc_base.specs.Readers.{times}
 use Rattle.wenc_types.specs.ComponentTypes.{ComponentDeclaration, InstanceDeclaration}
 use Rattle.wenc_types.specs.reading.ComponentTypes.{read_type, read_instance_declaration}
@@ -30,9 +30,9 @@ decreases-component_decls l = 5 * l.depth_left + 4
 abbrev pub invariant-instance_decls-loop : goal.invariant-instance_decls-loop
 invariant-instance_decls-loop l =
     let read = read_instance_declaration (read_type l.depth_left) in
-    (vs : List InstanceDeclaration) × (with_front vs (times read (l.count - l.counter) l.rest) ≡ times read l.count l.bytes)
+    (vs : List InstanceDeclaration) × (with_front vs (times read (l.count - l.counter) l.rest) ≡ times read l.count l.bytes) × (length l.rest ≤ length l.bytes)
 
 abbrev pub invariant-component_decls-loop : goal.invariant-component_decls-loop
 invariant-component_decls-loop l =
     let read = read_component_declaration (read_type l.depth_left) in
-    (vs : List ComponentDeclaration) × (with_front vs (times read (l.count - l.counter) l.rest) ≡ times read l.count l.bytes)
+    (vs : List ComponentDeclaration) × (with_front vs (times read (l.count - l.counter) l.rest) ≡ times read l.count l.bytes) × (length l.rest ≤ length l.bytes)

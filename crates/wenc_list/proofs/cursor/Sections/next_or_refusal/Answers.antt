@@ -8,8 +8,8 @@ pub returns-in-Ok-counted-clause-taken : goal.returns-in-Ok-counted-clause-taken
 returns-in-Ok-counted-clause-taken c =
     let id = c.in-Ok.id in
     let content = c.in-Ok.content.now in
-    let framed = is_framed c.args.self.now.rest.now id content c.in-Ok.rest.now c.in-Ok.ensures in
-    let holds = count_holds id content c.in-Ok-counted.left c.in-Ok-counted.items.now c.in-Ok-counted.ensures in
+    let framed = is_framed c.args.self.now.rest.now id content c.in-Ok.rest.now c.in-Ok.ensures.found in
+    let holds = count_holds id content c.in-Ok-counted.left c.in-Ok-counted.items.now c.in-Ok-counted.ensures.found in
     record {
       content = content;
       framed = framed;
@@ -23,8 +23,8 @@ pub returns-in-Err-counted-clause-fault : goal.returns-in-Err-counted-clause-fau
 returns-in-Err-counted-clause-fault c =
     let id = c.in-Ok.id in
     let content = c.in-Ok.content.now in
-    let bad = c.in-Err-counted.ensures in
-    let framed = is_framed c.args.self.now.rest.now id content c.in-Ok.rest.now c.in-Ok.ensures in
+    let bad = c.in-Err-counted.ensures.found in
+    let framed = is_framed c.args.self.now.rest.now id content c.in-Ok.rest.now c.in-Ok.ensures.found in
     let f = uncounted_fault 0 c.args.self.now.rest.now id content c.in-Ok.rest.now framed (collects_other id (no_count id content bad)) bad in
     (refl, f.1, f.2)
 
@@ -32,11 +32,11 @@ pub returns-in-Err-counted-clause-countless : goal.returns-in-Err-counted-clause
 returns-in-Err-counted-clause-countless c =
     let id = c.in-Ok.id in
     let content = c.in-Ok.content.now in
-    let bad = c.in-Err-counted.ensures in
+    let bad = c.in-Err-counted.ensures.found in
     let collecting = no_count id content bad in
     record {
       rest = c.in-Ok.rest.now;
-      framed = is_framed c.args.self.now.rest.now id content c.in-Ok.rest.now c.in-Ok.ensures;
+      framed = is_framed c.args.self.now.rest.now id content c.in-Ok.rest.now c.in-Ok.ensures.found;
       collecting = collecting;
       never = λ n items r. uncounted id content bad n items (inl (collecting, r));
       is_place = c.place-place.ensures;
@@ -45,5 +45,5 @@ returns-in-Err-counted-clause-countless c =
 
 pub returns-in-Err-clause-fault : goal.returns-in-Err-clause-fault
 returns-in-Err-clause-fault c =
-    let f = no_frame 0 c.args.self.now.rest.now c.in-Err.ensures in
+    let f = no_frame 0 c.args.self.now.rest.now c.in-Err.ensures.found in
     (refl, f.1, f.2)

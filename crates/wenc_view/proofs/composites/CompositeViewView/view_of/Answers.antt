@@ -8,15 +8,15 @@ use Rattle.wenc_view.proofs.Tables.{made_of, made_of_both}
 use Rattle.wenc_view.proofs.composites.CompositeViewView.view_of.Goals as goal
 
 pub returns-in_ok-element-in-94-default-clause-found : goal.returns-in_ok-element-in-94-default-clause-found
-returns-in_ok-element-in-94-default-clause-found c = at_first _ _ 0x5e _ _ _ c.in_ok-rest.ensures (search rules)
+returns-in_ok-element-in-94-default-clause-found c = at_first _ _ 0x5e _ _ _ c.in_ok-rest.ensures.found (search rules)
     ∙ made_of Array read_field_type _ _ _ c.in_ok-element-in-94-default.ensures.found
 
 pub returns-in_ok-fields-in-95-default-clause-found : goal.returns-in_ok-fields-in-95-default-clause-found
-returns-in_ok-fields-in-95-default-clause-found c = at_first _ _ 0x5f _ _ _ c.in_ok-rest.ensures (search rules)
+returns-in_ok-fields-in-95-default-clause-found c = at_first _ _ 0x5f _ _ _ c.in_ok-rest.ensures.found (search rules)
     ∙ made_of (λ fs. Struct fs) (read_list read_field_type) _ _ _ c.in_ok-fields-in-95-default.ensures.found
 
 pub returns-in_ok-results-in-96-default-clause-found : goal.returns-in_ok-results-in-96-default-clause-found
 returns-in_ok-results-in-96-default-clause-found c =
-    (at_first _ _ 0x60 _ _ _ c.in_ok-rest.ensures (search rules)
+    (at_first _ _ 0x60 _ _ _ c.in_ok-rest.ensures.found (search rules)
     ∙ made_of_both (λ ps rs. Func ps rs) (read_list read_val_type) (read_list read_val_type) _ _ _ _ _ c.in_ok-params-in-96-default.ensures.found
     c.in_ok-results-in-96-default.ensures.found)

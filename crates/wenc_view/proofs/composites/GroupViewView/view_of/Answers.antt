@@ -10,12 +10,12 @@ use Rattle.wenc_view.proofs.composites.GroupViewView.view_of.Goals as goal
 
 pub returns-in-Ok-clause-found : goal.returns-in-Ok-clause-found
 returns-in-Ok-clause-found c =
-    wraps Single (sub_rows (λ s. s)) (sub_rows Single) ((0x4e, read_types (λ (t : RecType). t)) ∷ []) (subs_follow Single (λ s. s)) _ _ _ c.in_ok-rest.ensures
+    wraps Single (sub_rows (λ s. s)) (sub_rows Single) ((0x4e, read_types (λ (t : RecType). t)) ∷ []) (subs_follow Single (λ s. s)) _ _ _ c.in_ok-rest.ensures.found
     (search rules)
     ∙ rw c.in-Ok.ensures.found refl
 
 pub returns-in-Err-clause-found : goal.returns-in-Err-clause-found
 returns-in-Err-clause-found c =
     rw (wraps Single (sub_rows (λ s. s)) (sub_rows Single) ((0x4e, read_types (λ (t : RecType). t)) ∷ []) (subs_follow Single
-    (λ s. s)) _ _ _ c.in_ok-rest.ensures (search rules))
+    (λ s. s)) _ _ _ c.in_ok-rest.ensures.found (search rules))
     (fails_on Bad (read_sub_type c.args.bytes.now) (λ s. give (Single s)) c.in-Err.ensures.found)

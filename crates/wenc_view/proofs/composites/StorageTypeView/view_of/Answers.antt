@@ -11,10 +11,10 @@ use Rattle.wenc_view.proofs.composites.StorageTypeView.view_of.Goals as goal
 
 pub returns-in-Ok-clause-found : goal.returns-in-Ok-clause-found
 returns-in-Ok-clause-found c =
-    wraps Val (val_type_rows (λ t. t)) (val_type_rows Val) small_rows (val_types_follow Val (λ t. t)) _ _ _ c.in_ok-rest.ensures (search rules)
+    wraps Val (val_type_rows (λ t. t)) (val_type_rows Val) small_rows (val_types_follow Val (λ t. t)) _ _ _ c.in_ok-rest.ensures.found (search rules)
     ∙ rw c.in-Ok.ensures.found refl
 
 pub returns-in-Err-clause-found : goal.returns-in-Err-clause-found
 returns-in-Err-clause-found c =
-    rw (wraps Val (val_type_rows (λ t. t)) (val_type_rows Val) small_rows (val_types_follow Val (λ t. t)) _ _ _ c.in_ok-rest.ensures (search rules))
+    rw (wraps Val (val_type_rows (λ t. t)) (val_type_rows Val) small_rows (val_types_follow Val (λ t. t)) _ _ _ c.in_ok-rest.ensures.found (search rules))
     (fails_on Bad (read_val_type c.args.bytes.now) (λ t. give (Val t)) c.in-Err.ensures.found)

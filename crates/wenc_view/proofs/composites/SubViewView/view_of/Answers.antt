@@ -17,11 +17,11 @@ returns-in-Ok-clause-found c =
       0x50,
       read_extension
           (λ n d. sub_of false n d),
-    ) ∷ []) (composites_follow final (λ d. d)) _ _ _ c.in_ok-rest.ensures (search rules)
+    ) ∷ []) (composites_follow final (λ d. d)) _ _ _ c.in_ok-rest.ensures.found (search rules)
     ∙ rw c.in-Ok.ensures.found refl
 
 pub returns-in-80-default-clause-found : goal.returns-in-80-default-clause-found
-returns-in-80-default-clause-found c = rw (at_first (sub_rows (λ s. s)) nowhere 0x50 _ _ _ c.in_ok-rest.ensures (search rules)) c.open.ensures.found
+returns-in-80-default-clause-found c = rw (at_first (sub_rows (λ s. s)) nowhere 0x50 _ _ _ c.in_ok-rest.ensures.found (search rules)) c.open.ensures.found
 
 pub returns-in-Err-clause-found : goal.returns-in-Err-clause-found
 returns-in-Err-clause-found c =
@@ -29,6 +29,6 @@ returns-in-Err-clause-found c =
       0x50,
       read_extension
           (λ n d. sub_of false n d),
-    ) ∷ []) (composites_follow final (λ d. d)) _ _ _ c.in_ok-rest.ensures (search rules))
+    ) ∷ []) (composites_follow final (λ d. d)) _ _ _ c.in_ok-rest.ensures.found (search rules))
     (fails_on Bad (read_composite c.args.bytes.now)
     (λ d. give (final d)) c.in-Err.ensures.found)

@@ -15,30 +15,30 @@ use Rattle.wenc_read.specs.laws.Tables.{fails_on}
 use Rattle.wenc_view.proofs.core_type_views.CoreTypeViewView.view_of.Goals as goal
 
 pub returns-in_ok-decls-in-80-default-clause-found : goal.returns-in_ok-decls-in-80-default-clause-found
-returns-in_ok-decls-in-80-default-clause-found c = at_first _ _ 0x50 _ _ _ c.in_ok-rest.ensures (search rules)
+returns-in_ok-decls-in-80-default-clause-found c = at_first _ _ 0x50 _ _ _ c.in_ok-rest.ensures.found (search rules)
     ∙ made_of Module (read_list read_module_declaration) _ _ _ c.in_ok-decls-in-80-default.ensures.found
 
 pub returns-in-Ok-clause-found : goal.returns-in-Ok-clause-found
 returns-in-Ok-clause-found c =
     let alone = wraps (λ s. s) (final_rows (λ s. s)) (final_rows (λ s. s)) ((0x50, read_extension (λ n d. sub_of false n d)) ∷ []) (finals_follow (λ s. s)
-    (λ s. s)) _ _ _ c.in_ok-rest.ensures (search rules) in
+    (λ s. s)) _ _ _ c.in_ok-rest.ensures.found (search rules) in
     wraps (λ s. Grouped (Single s)) (final_rows (λ s. s)) (final_rows (λ s. Grouped (Single s))) ((0x4e, read_types Grouped) ∷ (
       0x00,
       read_open
           (λ s. Grouped (Single s)),
-    ) ∷ (0x50, read_declarations Module) ∷ []) (finals_follow (λ s. Grouped (Single s)) (λ s. s)) _ _ _ c.in_ok-rest.ensures
+    ) ∷ (0x50, read_declarations Module) ∷ []) (finals_follow (λ s. Grouped (Single s)) (λ s. s)) _ _ _ c.in_ok-rest.ensures.found
     (search rules)
     ∙ rw (sym (found_alone (choose (final_rows (λ s. s)) nowhere c.args.bytes.now)) ∙ sym alone ∙ c.in-Ok.ensures.found) refl
 
 pub returns-in-Err-clause-found : goal.returns-in-Err-clause-found
 returns-in-Err-clause-found c =
     let alone = wraps (λ s. s) (final_rows (λ s. s)) (final_rows (λ s. s)) ((0x50, read_extension (λ n d. sub_of false n d)) ∷ []) (finals_follow (λ s. s)
-    (λ s. s)) _ _ _ c.in_ok-rest.ensures (search rules) in
+    (λ s. s)) _ _ _ c.in_ok-rest.ensures.found (search rules) in
     rw (wraps (λ s. Grouped (Single s)) (final_rows (λ s. s)) (final_rows (λ s. Grouped (Single s))) ((0x4e, read_types Grouped) ∷ (
       0x00,
       read_open
           (λ s. Grouped (Single s)),
-    ) ∷ (0x50, read_declarations Module) ∷ []) (finals_follow (λ s. Grouped (Single s)) (λ s. s)) _ _ _ c.in_ok-rest.ensures
+    ) ∷ (0x50, read_declarations Module) ∷ []) (finals_follow (λ s. Grouped (Single s)) (λ s. s)) _ _ _ c.in_ok-rest.ensures.found
     (search rules))
     (fails_on Bad (choose (final_rows (λ s. s)) nowhere c.args.bytes.now) (λ s. give (Grouped (Single s)))
     (subst (λ (found : Result (Sub × List ℕ) Flaw). found ≡ Err Bad) (alone

@@ -14,21 +14,21 @@ pub returns-in_err-first-clause-found : goal.returns-in_err-first-clause-found
 returns-in_err-first-clause-found c =
     let p = err_from_is_err_and c.from_residual.result c.from_residual.ensures.1 in
     rw p.1 (fails_first (abstract_rows Abstract) (read_index >>= λ n. give (Concrete n)) c.args.bytes.now
-    c.in_err-first.ensures)
+    c.in_err-first.ensures.found)
 
 pub returns-in-Some-clause-found : goal.returns-in-Some-clause-found
-returns-in-Some-clause-found c = begins abstract_byte Abstract abstract_types [] (read_index >>= λ n. give (Concrete n)) _ _ _ _ c.in_ok-first.ensures
+returns-in-Some-clause-found c = begins abstract_byte Abstract abstract_types [] (read_index >>= λ n. give (Concrete n)) _ _ _ _ c.in_ok-first.ensures.found
     (sym c.abstract_of.ensures ∙ c.in-Some.is)
 
 pub returns-in-Err-clause-found : goal.returns-in-Err-clause-found
 returns-in-Err-clause-found c =
-    rw (falls_through abstract_byte Abstract abstract_types (read_index >>= λ n. give (Concrete n)) _ _ _ c.in_ok-first.ensures
+    rw (falls_through abstract_byte Abstract abstract_types (read_index >>= λ n. give (Concrete n)) _ _ _ c.in_ok-first.ensures.found
     (sym c.abstract_of.ensures ∙ c.in-None.is)) (fails_on Bad (read_index c.args.bytes.now)
-    (λ n. give (Concrete n)) c.in-Err.ensures)
+    (λ n. give (Concrete n)) c.in-Err.ensures.found)
 
 pub returns-in-Ok-clause-found : goal.returns-in-Ok-clause-found
 returns-in-Ok-clause-found c = rw (
-  falls_through abstract_byte Abstract abstract_types (read_index >>= λ n. give (Concrete n)) _ _ _ c.in_ok-first.ensures
+  falls_through abstract_byte Abstract abstract_types (read_index >>= λ n. give (Concrete n)) _ _ _ c.in_ok-first.ensures.found
       (sym c.abstract_of.ensures ∙ c.in-None.is),
-  c.in-Ok.ensures,
+  c.in-Ok.ensures.found,
 ) refl

@@ -10,11 +10,11 @@ use Rattle.wenc_view.proofs.core_types.ValTypeView.view_of.Goals as goal
 
 pub returns-in-Ok-clause-found : goal.returns-in-Ok-clause-found
 returns-in-Ok-clause-found c =
-    wraps Ref (reference_rows (λ r. r)) (reference_rows Ref) (number_rows (λ t. t)) (references_follow Ref (λ r. r)) _ _ _ c.in_ok-rest.ensures (search rules)
+    wraps Ref (reference_rows (λ r. r)) (reference_rows Ref) (number_rows (λ t. t)) (references_follow Ref (λ r. r)) _ _ _ c.in_ok-rest.ensures.found (search rules)
     ∙ rw c.in-Ok.ensures.found refl
 
 pub returns-in-Err-clause-found : goal.returns-in-Err-clause-found
 returns-in-Err-clause-found c =
-    rw (wraps Ref (reference_rows (λ r. r)) (reference_rows Ref) (number_rows (λ t. t)) (references_follow Ref (λ r. r)) _ _ _ c.in_ok-rest.ensures
+    rw (wraps Ref (reference_rows (λ r. r)) (reference_rows Ref) (number_rows (λ t. t)) (references_follow Ref (λ r. r)) _ _ _ c.in_ok-rest.ensures.found
     (search rules))
     (fails_on Bad (read_reference c.args.bytes.now) (λ r. give (Ref r)) c.in-Err.ensures.found)

@@ -12,12 +12,12 @@ use Rattle.wenc_view.proofs.defined_types.DefinedViewView.view_of.Goals as goal
 pub returns-in_err-first-clause-found : goal.returns-in_err-first-clause-found
 returns-in_err-first-clause-found c =
     let p = err_from_is_err_and c.from_residual.result c.from_residual.ensures.1 in
-    rw p.1 (bad_first (primitive_rows Primitive ++ defined_rows (λ t. t)) nowhere c.args.bytes.now c.in_err-first.ensures)
+    rw p.1 (bad_first (primitive_rows Primitive ++ defined_rows (λ t. t)) nowhere c.args.bytes.now c.in_err-first.ensures.found)
 
 pub returns-in-Some-clause-found : goal.returns-in-Some-clause-found
-returns-in-Some-clause-found c = begins primitive_byte Primitive primitive_types (defined_rows (λ t. t)) nowhere _ _ _ _ c.in_ok-first.ensures (sym c.primitive_of.ensures
+returns-in-Some-clause-found c = begins primitive_byte Primitive primitive_types (defined_rows (λ t. t)) nowhere _ _ _ _ c.in_ok-first.ensures.found (sym c.primitive_of.ensures
     ∙ c.in-Some.is)
 
 pub returns-in-None-clause-found : goal.returns-in-None-clause-found
-returns-in-None-clause-found c = rw (goes_past primitive_byte Primitive primitive_types (defined_rows (λ t. t)) nowhere _ _ _ c.in_ok-first.ensures
+returns-in-None-clause-found c = rw (goes_past primitive_byte Primitive primitive_types (defined_rows (λ t. t)) nowhere _ _ _ c.in_ok-first.ensures.found
     (sym c.primitive_of.ensures ∙ c.in-None.is)) c.defined.ensures.found
