@@ -22,8 +22,7 @@
 //!   else than was proved.
 //!
 //! `gate/erased` compares what is left without clauses and ghost items with what the prover reads
-//! as code. `tests/honest` compares that with the Rust, with a lexer of its own, and knows the same
-//! list.
+//! as code. `tests/honest` compares that with the Rust, with a lexer of its own.
 
 #[path = "erase/allocators.rs"]
 mod allocators;
@@ -32,7 +31,7 @@ mod antt;
 #[path = "erase/attributes.rs"]
 mod attributes;
 #[path = "erase/known.rs"]
-mod known;
+pub mod known;
 #[path = "erase/lexer.rs"]
 mod lexer;
 

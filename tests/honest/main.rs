@@ -17,8 +17,9 @@ mod proof;
 mod reader;
 
 use allocators::LEFT_OUT;
+use erase::known::{DERIVED_TOO, NARROWED, TREES};
 use lexer::{Token, lex};
-use reader::{DERIVED_TOO, NARROWED, TREES, WAYS, compare, read};
+use reader::{WAYS, compare, read};
 use std::collections::BTreeMap;
 use std::fs;
 use std::path::{Path, PathBuf};

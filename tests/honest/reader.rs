@@ -2,6 +2,7 @@
 //! differ. The tokens of the source say which way it is, and what the Rust has instead.
 
 use super::allocators;
+use super::erase::known::{DERIVED_TOO, NARROWED, TREES};
 use super::lexer::{Token, lex};
 use std::collections::BTreeMap;
 
@@ -32,107 +33,6 @@ pub const WAYS: [&str; 25] = [
     "macro that is handed an allocator",
     "main is pub",
     "function that is inlined",
-];
-
-const CRATES: [&str; 18] = [
-    "wenc_base",
-    "wenc_parts",
-    "wenc_types",
-    "wenc_canon",
-    "wenc_sections",
-    "wenc_builder",
-    "wenc_read",
-    "wenc_view",
-    "wenc_decode",
-    "wenc_list",
-    "wasm_encoder",
-    "wenc",
-    "rebuild",
-    "proved_parts",
-    "proved_lists",
-    "proved_tests",
-    "proved_scripts",
-    "hex",
-];
-
-/// Trees, which a user compares, hashes, prints and copies.
-pub const TREES: [&str; 22] = [
-    "AliasTree",
-    "Built",
-    "CaseTree",
-    "Command",
-    "ComponentDecl",
-    "CompositeType",
-    "CoreInstanceTree",
-    "CoreTypeTree",
-    "DefinedTree",
-    "FuncType",
-    "GroupTree",
-    "InstanceDecl",
-    "InstanceTree",
-    "ItemTree",
-    "ListedSection",
-    "Listing",
-    "ModuleDecl",
-    "NameOptions",
-    "NameTree",
-    "StructType",
-    "SubType",
-    "TypeTree",
-];
-
-/// Types that derive more than their sources say, and what.
-pub const DERIVED_TOO: [(&str, &str); 36] = [
-    ("AbstractHeapType", "Hash"),
-    ("Alias", "Debug, Hash, PartialEq, Eq"),
-    ("ArrayType", "Hash"),
-    ("CanonOf", "Hash"),
-    ("CanonicalOption", "Hash"),
-    ("CaseView", "Debug, PartialEq, Eq, Hash"),
-    ("ComponentDeclView", "Debug, PartialEq, Eq, Hash"),
-    ("ComponentExportKind", "Hash"),
-    ("ComponentOuterAliasKind", "Hash"),
-    ("ComponentSectionId", "Hash"),
-    ("CompositeView", "Debug, PartialEq, Eq, Hash"),
-    ("CoreInstanceView", "Debug, PartialEq, Eq, Hash"),
-    ("CoreTypeView", "Debug, PartialEq, Eq, Hash"),
-    ("DefinedView", "Debug, PartialEq, Eq, Hash"),
-    ("EntityType", "Hash"),
-    ("ExportKind", "Hash"),
-    ("Fault", "Hash"),
-    ("FieldType", "Hash"),
-    ("GlobalType", "Hash"),
-    ("GroupView", "Debug, PartialEq, Eq, Hash"),
-    ("HeapType", "Hash"),
-    ("InstanceDeclView", "Debug, PartialEq, Eq, Hash"),
-    ("InstanceView", "Debug, PartialEq, Eq, Hash"),
-    ("ItemView", "Debug, PartialEq, Eq, Hash"),
-    ("MemoryType", "Hash"),
-    ("ModuleArg", "Hash"),
-    ("ModuleDeclView", "Debug, PartialEq, Eq, Hash"),
-    ("NameView", "Debug, PartialEq, Eq, Hash"),
-    ("RefType", "Hash"),
-    ("Space", "Hash, PartialOrd, Ord"),
-    ("StorageType", "Hash"),
-    ("SubView", "Debug, PartialEq, Eq, Hash"),
-    ("TableType", "Hash"),
-    ("TagType", "Hash"),
-    ("TypeView", "Debug, PartialEq, Eq, Hash"),
-    ("ValType", "Hash"),
-];
-
-/// Methods that only this crate calls, and fields that only it reads.
-pub const NARROWED: [(&str, &str); 10] = [
-    ("ComponentDecls", "bytes"),
-    ("ComponentDecls", "depth_left"),
-    ("ComponentDecls", "left"),
-    ("FuncType", "new"),
-    ("InstanceDecls", "bytes"),
-    ("InstanceDecls", "depth_left"),
-    ("InstanceDecls", "left"),
-    ("ListOf", "bytes"),
-    ("ListOf", "left"),
-    ("NameTree", "as_name"),
 ];
 
 /// What both have next: the way, how many tokens of the source, and the tokens of the Rust.
@@ -464,10 +364,12 @@ impl<'a> Source<'a> {
                 Some(step("root of the crate", 1, root))
             }
             "std" => Some(step("root of std", 1, "crate::shim")),
-            word if CRATES.contains(&word) => {
-                Some(step("root of another crate", 1, format!("crate::proved::{word}")))
+            word => {
+                let is_known = ["hex", "rebuild", "wasm_encoder"].contains(&word);
+                let is_crate = is_known || word.starts_with("wenc") || word.starts_with("proved_");
+                let root = || step("root of another crate", 1, format!("crate::proved::{word}"));
+                is_crate.then(root)
             }
-            _ => None,
         }
     }
 }
