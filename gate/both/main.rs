@@ -18,15 +18,16 @@ mod hex;
 mod listings;
 mod random;
 mod scripts;
+#[path = "../../tests/common/side_by_side.rs"]
+mod side_by_side;
 
 use components::{Pool, damage};
 use random::Random;
+use side_by_side::side_by_side;
 use std::io::{self, ErrorKind, Write};
 use std::path::{Path, PathBuf};
 use std::process::{Command, ExitCode, Output, Stdio};
-use std::sync::Mutex;
-use std::sync::atomic::{AtomicUsize, Ordering};
-use std::{env, fs, thread};
+use std::{env, fs};
 
 /// The number of differences of a kind that are printed.
 const TOLD: usize = 5;
@@ -142,28 +143,6 @@ impl Kind<'_> {
             Err(error) => println!("    {}: {error}", kept.display()),
         }
     }
-}
-
-/// Runs that many jobs on all processors, and returns their results in order.
-fn side_by_side<T: Send>(number: usize, work: impl Fn(usize) -> T + Sync) -> Vec<T> {
-    let next = AtomicUsize::new(0);
-    let done = Mutex::new(Vec::new());
-    let take = || loop {
-        let at = next.fetch_add(1, Ordering::Relaxed);
-        if at >= number {
-            break;
-        }
-        let answer = work(at);
-        done.lock().expect("no thread panics with it").push((at, answer));
-    };
-    thread::scope(|scope| {
-        for _ in 0..thread::available_parallelism().map_or(1, |processors| processors.get()) {
-            scope.spawn(take);
-        }
-    });
-    let mut done = done.into_inner().expect("no thread panics with it");
-    done.sort_by_key(|(at, _)| *at);
-    done.into_iter().map(|(_, answer)| answer).collect()
 }
 
 /// Returns the last line of an output: a component in hexadecimal, if there is one.

@@ -1,7 +1,6 @@
 //! What callers may do besides the calls of `calls`, and allocations that fail: values that panic,
 //! sections and core types of the caller's own, calls out of turn, iterators that report a wrong
 //! length.
-#![cfg(feature = "reader")]
 #![allow(unsafe_code, reason = "a global allocator is unsafe")]
 
 mod builders;

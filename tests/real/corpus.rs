@@ -2,9 +2,11 @@
 
 use std::path::{Path, PathBuf};
 
-/// A file of the corpus, by its path there.
+/// A file of the corpus, by its path there, for tests of any package.
 pub fn path(of: &str) -> PathBuf {
-    Path::new(env!("CARGO_MANIFEST_DIR")).join("tests/real/corpus").join(of)
+    let folders = Path::new(env!("CARGO_MANIFEST_DIR")).ancestors();
+    let mut corpora = folders.map(|folder| folder.join("tests/real/corpus"));
+    corpora.find(|corpus| corpus.is_dir()).expect("the corpus is there").join(of)
 }
 
 pub fn read(of: &str) -> Vec<u8> {

@@ -122,7 +122,7 @@ pub fn told_but_of_starts(linker: &Linker, component: &[u8]) -> Option<String> {
 
 #[test]
 fn components_of_examples_are_valid() {
-    let sources = Path::new(env!("CARGO_MANIFEST_DIR")).join("src");
+    let sources = Path::new(env!("CARGO_MANIFEST_DIR")).join("../../src");
     let linker = linker("examples of the documentation");
     let (mut count, mut refused) = (0, Vec::new());
     for example in files(&sources, "rs").iter().flat_map(|path| examples(path)) {

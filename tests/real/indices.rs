@@ -5,6 +5,7 @@
 
 use crate::again::{built, items};
 use crate::corpus;
+use crate::side_by_side::side_by_side;
 use crate::toolchain::{Linker, linker};
 use wenc::tree::{Command, IndexUse, ItemTree, Scope, Space, UsedIndex};
 use wenc::{
@@ -110,9 +111,9 @@ fn each_raised(name: &str, component: &[u8]) -> Vec<(Space, Vec<u8>)> {
 }
 
 /// The validator finds the index of the space.
-fn is_refused(linker: &Linker, name: &str, space: Space, raised: &[u8]) {
+fn is_refused(linker: &Linker, (space, raised): &(Space, Vec<u8>)) {
     let cause = linker.refuses(raised);
-    let cause = cause.unwrap_or_else(|| panic!("{name}: {space:?} is valid"));
+    let cause = cause.unwrap_or_else(|| panic!("{space:?}: valid"));
     assert!(cause.contains("out of bounds") || cause.contains("unknown"), "{cause}");
 }
 
@@ -225,22 +226,17 @@ fn indices_are_raised_and_moved() {
     for space in Space::ALL {
         assert!(raised.iter().any(|(of, _)| *of == space), "{space:?}");
     }
-    let (mut components, mut indices, mut all, mut refused) = (0, 0, 0, 0);
-    for (name, bytes) in corpus::components() {
-        if list(&bytes).is_err() {
-            continue;
-        }
-        components += 1;
-        indices += is_moved(&name, &bytes, &front, linker.as_ref());
-        for (space, raised) in each_raised(&name, &bytes) {
-            all += 1;
-            // the validator is a process for each
-            if let (Some(linker), 0) = (&linker, all % 16) {
-                is_refused(linker, &name, space, &raised);
-                refused += 1;
-            }
-        }
-    }
-    assert_eq!((components, indices, all), (40, 2707, 3498));
-    assert_eq!(refused, if linker.is_some() { all / 16 } else { 0 });
+    let mut components = corpus::components();
+    components.retain(|(_, bytes)| list(bytes).is_ok());
+    let found = side_by_side(components.len(), |at| {
+        let (name, bytes) = &components[at];
+        (is_moved(name, bytes, &front, linker.as_ref()), each_raised(name, bytes))
+    });
+    let (indices, raised): (Vec<_>, Vec<_>) = found.into_iter().unzip();
+    let (indices, raised) = (indices.iter().sum::<usize>(), raised.concat());
+    assert_eq!((components.len(), indices, raised.len()), (40, 2707, 3498));
+    let Some(linker) = linker else { return };
+    // The validator is a process for each.
+    let refused = side_by_side(raised.len() / 16, |at| is_refused(&linker, &raised[16 * at + 15]));
+    assert_eq!(refused.len(), 218);
 }

@@ -6,7 +6,6 @@
 //! `corpus/o`. For what stands here no toolchain is needed. Where `rustc` has such a linker, the
 //! tests of worlds, features, random components, examples and documentation call it; where it has
 //! none they say that they were left out.
-#![cfg(feature = "reader")]
 
 mod again;
 mod corpus;
@@ -20,6 +19,8 @@ mod indices;
 mod interfaces;
 mod random;
 mod shown;
+#[path = "../common/side_by_side.rs"]
+mod side_by_side;
 mod toolchain;
 mod upstream;
 mod valid;

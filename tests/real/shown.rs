@@ -11,7 +11,7 @@ use std::path::{Path, PathBuf};
 use wenc::Component;
 
 fn path(of: &str) -> PathBuf {
-    Path::new(env!("CARGO_MANIFEST_DIR")).join(of)
+    Path::new(env!("CARGO_MANIFEST_DIR")).join("../..").join(of)
 }
 
 fn text(of: &str) -> String {

@@ -1,6 +1,5 @@
 //! Rows of calls and the bytes that they write, in hexadecimal: literals that were worked out from
 //! the format's standard. `tests/calls` composes its bytes instead.
-#![cfg(feature = "reader")]
 #![allow(unsafe_code, reason = "a global allocator is unsafe")]
 
 mod builder;

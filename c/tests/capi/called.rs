@@ -6,11 +6,11 @@ use crate::numbers::{
     builtin, builtin_with, core_kind, core_value, kind, maybe_value, option, outer_kind, primitive,
     type_ref, value,
 };
-use crate::refuse::calmly;
 use wenc::tree::{
     AliasTree, CanonTree, Command, CoreInstanceTree, DefinedTree, InstanceTree, NameTree, TypeTree,
 };
 use wenc::{CanonicalOption, ComponentTypeRef, ModuleArg};
+use wenc_calls::refuse::calmly;
 use wenc_capi::arguments::{Flag, Name, Pair, Part, Text};
 use wenc_capi::component_types::*;
 use wenc_capi::items::*;

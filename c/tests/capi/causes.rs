@@ -161,7 +161,7 @@ fn compare(bytes: &[u8], counts: &mut BTreeMap<&str, usize>) {
 
 /// The components of the corpus, and those that are nested in them.
 fn components() -> Vec<Vec<u8>> {
-    let folder = concat!(env!("CARGO_MANIFEST_DIR"), "/../tests/real/corpus/wasm");
+    let folder = concat!(env!("CARGO_MANIFEST_DIR"), "/../real/corpus/wasm");
     let mut files: Vec<_> = fs::read_dir(folder)
         .expect("the corpus is there")
         .map(|file| file.expect("a file").path())

@@ -3,12 +3,12 @@
 use crate::called::{self, Done, called, called_with, pairs};
 use crate::edges::{Held, named};
 use crate::numbers::{core_value, field, reference};
-use crate::refuse::calmly;
 use std::ptr;
 use wenc::tree::{
     AliasTree, ComponentDecl, CoreCompositeType, CoreEntityType, CoreSubType, CoreTypeTree,
     GroupTree, InstanceDecl, ModuleDecl, Space,
 };
+use wenc_calls::refuse::calmly;
 use wenc_capi::arguments::{Entity, Flag, Pair, Subtype};
 use wenc_capi::component_types::wenc_type;
 use wenc_capi::core_types::*;

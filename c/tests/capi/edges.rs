@@ -1,8 +1,8 @@
 //! NULL, unknown numbers and handles, as the header describes them.
 
-use crate::refuse::requested;
 use std::ffi::CStr;
 use std::{mem, ptr, slice};
+use wenc_calls::refuse::requested;
 use wenc_capi::arguments::{Entity, Flag, IndexName, Name, Pair, Part, Producer, Subtype, Text};
 use wenc_capi::component_types::*;
 use wenc_capi::core_types::*;

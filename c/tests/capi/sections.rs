@@ -1,13 +1,13 @@
 //! Sections that aren't in the table: of debug names, of producers, raw ones; and components in
 //! components.
 
-use crate::bytes;
 use crate::called::called;
 use crate::edges::{Held, named};
-use crate::format::{NAMED, list, sized};
-use crate::size::text;
 use std::ptr;
 use wenc::tree::Space;
+use wenc_calls::bytes;
+use wenc_calls::format::{NAMED, list, sized};
+use wenc_calls::size::text;
 use wenc_capi::arguments::{IndexName, Producer};
 use wenc_capi::component_types::wenc_type_own;
 use wenc_capi::items::*;

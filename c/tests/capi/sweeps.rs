@@ -2,18 +2,18 @@
 //! table's; and, with the results of the calls for Rust, by hand, with each allocation failing in
 //! turn, and read and added again.
 
-use crate::call::Call;
 use crate::called::{Done, UNTOUCHED, call};
-use crate::counts;
 use crate::edges::{Held, named};
-use crate::format::Model;
-use crate::refuse::{calmly, refusing};
-use crate::size::{Size, cases, text};
-use crate::table::calls;
 use crate::walk::is_told;
 use std::{mem, ptr};
 use wenc::ComponentBuilder;
 use wenc::tree::{Command, InstanceTree, Space};
+use wenc_calls::call::Call;
+use wenc_calls::counts;
+use wenc_calls::format::Model;
+use wenc_calls::refuse::{calmly, refusing};
+use wenc_calls::size::{Size, cases, text};
+use wenc_calls::table::calls;
 use wenc_capi::Status;
 use wenc_capi::life::*;
 use wenc_capi::listing::*;

@@ -2,13 +2,13 @@
 
 use super::edges::Held;
 use super::numbers;
-use super::refuse::requested;
 use std::collections::BTreeMap;
 use std::ops::Range;
 use std::{mem, ptr, slice, str};
 use wenc::tree::{AliasTree, Command, NameOptions, NameTree};
 use wenc::view::ItemView;
 use wenc::{ComponentTypeRef, SectionReader, Sections};
+use wenc_calls::refuse::requested;
 use wenc_capi::arguments::{Name, Text};
 use wenc_capi::component_types::wenc_type;
 use wenc_capi::items::*;
@@ -531,7 +531,7 @@ fn recursion_groups_define_an_index_for_each_type() {
 
 #[test]
 fn components_are_read_as_in_rust() {
-    let folder = concat!(env!("CARGO_MANIFEST_DIR"), "/../tests/real/corpus/wasm");
+    let folder = concat!(env!("CARGO_MANIFEST_DIR"), "/../real/corpus/wasm");
     let files = std::fs::read_dir(folder).expect("the corpus is there");
     let read = files.map(|file| std::fs::read(file.expect("a file").path()).expect("its bytes"));
     let (mut items_len, mut names_len) = (0, 0);

@@ -1,11 +1,11 @@
 //! Sections with one item, by hand: custom sections, modules, components and starts. Values that
 //! encode themselves.
 
-use crate::bytes;
-use crate::format::{Model, list, sized};
-use crate::size::{SIZES, Size};
 use wenc::tree::{CaseTree, Command, build};
 use wenc::*;
+use wenc_calls::bytes;
+use wenc_calls::format::{Model, list, sized};
+use wenc_calls::size::{SIZES, Size};
 
 /// A component with the section has these bytes, by each call that writes it.
 #[track_caller]

@@ -1,12 +1,12 @@
 //! Sections of debug names and of producers, built by hand: at each size, and with each allocation
 //! failing in turn.
 
-use crate::bytes;
-use crate::format::{Model, NAMED, list, sized};
-use crate::refuse::refusing;
-use crate::size::{SIZES, Size};
 use wenc::tree::Space;
 use wenc::*;
+use wenc_calls::bytes;
+use wenc_calls::format::{Model, NAMED, list, sized};
+use wenc_calls::refuse::refusing;
+use wenc_calls::size::{SIZES, Size};
 
 type Done = Result<(), Error>;
 

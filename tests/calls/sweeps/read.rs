@@ -1,16 +1,15 @@
 //! Each item is read as the value in its command, encoded and built again, and its indices are
 //! visited.
 
-use super::{is_made, same};
-use crate::call::{Call, Seen};
-use crate::format::Model;
+use super::{is_made, same, with_each};
 use crate::seen::is_same;
-use crate::size::{Size, cases};
-use crate::table::calls;
-use crate::visited::{add_indices, visited};
 use wenc::tree::{Command, ItemTree, Node, Scope};
 use wenc::view::ItemView;
 use wenc::*;
+use wenc_calls::call::{Call, Seen};
+use wenc_calls::format::Model;
+use wenc_calls::size::{Size, cases};
+use wenc_calls::visited::{add_indices, visited};
 
 /// The command without a debug name.
 fn unnamed(command: Command) -> Command {
@@ -115,7 +114,5 @@ fn is_added(call: &Call, size: &Size, tree: &ItemTree, view: ItemView<'_>) {
 
 #[test]
 fn each_item() {
-    for call in calls() {
-        cases(&call).for_each(|size| is_read(&call, &size));
-    }
+    with_each(|call| cases(call).for_each(|size| is_read(call, &size)));
 }

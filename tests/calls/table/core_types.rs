@@ -1,15 +1,13 @@
 //! Core types: of functions, structs and arrays, recursion groups, and types of core modules.
 
 use crate::bytes;
-use crate::call::{Build, Call, Declare, Seen, here};
+use crate::call::{Build, Call, Declare, Done, Of, Seen, here};
 use crate::refuse::calmly;
 use crate::size::{Size, times};
 use wenc::tree::{
     Command, CoreEntityType, CoreSubType, CoreTypeTree, GroupTree, ModuleDecl, Scope, Space,
 };
 use wenc::*;
-
-type Done = Result<(), Error>;
 
 /// Types of values in turn: numbers, and references by indices and to each abstract type.
 fn value(a: &Size, at: usize) -> ValType {
@@ -212,8 +210,6 @@ fn seen_in_value(ty: &ValType) -> Option<u32> {
     }
 }
 
-type Bytes = Box<dyn Fn(&Size) -> Vec<u8>>;
-
 /// A core type in each parent of its encoder, and given as a value.
 fn row(
     name: String,
@@ -221,7 +217,7 @@ fn row(
     tree: impl Fn(&Size) -> CoreTypeTree + Copy + 'static,
     indices: impl Fn(&Size) -> Vec<Seen> + 'static,
     bytes: impl Fn(&Size) -> Vec<u8> + 'static,
-    members: Vec<(Bytes, Declare)>,
+    members: Vec<(Of<Vec<u8>>, Declare)>,
 ) -> Call {
     let as_tree =
         move |ty: ComponentCoreTypeEncoder<'_>, a: &Size| ty.try_tree(&calmly(|| tree(a)));
@@ -257,7 +253,8 @@ fn of_shape(shape: &'static Shape) -> Call {
         let tree = calmly(|| shape.tree(a));
         types.module.try_ty()?.try_tree(&tree)
     });
-    let member = |declare| (Box::new(|a: &Size| bytes![0x01, shape.bytes(a)]) as Bytes, declare);
+    let member =
+        |declare| (Box::new(|a: &Size| bytes![0x01, shape.bytes(a)]) as Of<Vec<u8>>, declare);
     row(
         shape.name.into(),
         |ty, a| (shape.write)(ty.core(), a),
@@ -269,31 +266,80 @@ fn of_shape(shape: &'static Shape) -> Call {
 }
 
 /// What a module type declares.
-struct Declaration {
-    declare: fn(&mut ModuleType, &Size) -> Done,
-    tree: fn(&Size) -> ModuleDecl,
-    bytes: fn(&Size) -> Vec<u8>,
-    seen: fn(&Size) -> Vec<Seen>,
+enum Declaration {
+    Import(fn(&Size) -> EntityType),
+    Export(fn(&Size) -> EntityType),
+    Alias,
+    /// An alias of a type of its own, by the call that returns the index.
+    OwnAlias,
+    Type(&'static Shape),
+}
+
+impl Declaration {
+    fn declare(&self, ty: &mut ModuleType, a: &Size) -> Done {
+        match self {
+            Self::Import(entity) => ty.try_import(&a.text, &a.other, entity(a)).map(|_| ()),
+            Self::Export(entity) => ty.try_export(&a.text, entity(a)).map(|_| ()),
+            Self::Alias => ty.try_alias_outer_core_type(a.index, a.second).map(|_| ()),
+            Self::OwnAlias => {
+                let wanted = ty.type_count();
+                ty.try_alias_core_type(0, a.index).map(|index| assert_eq!(index, wanted))
+            }
+            Self::Type(shape) => (shape.write)(ty.try_ty()?, a),
+        }
+    }
+
+    fn tree(&self, a: &Size) -> ModuleDecl {
+        let text = a.text.clone();
+        match self {
+            Self::Import(of) => {
+                ModuleDecl::Import { module: text, name: a.other.clone(), ty: entity_tree(of(a)) }
+            }
+            Self::Export(of) => ModuleDecl::Export { name: text, ty: entity_tree(of(a)) },
+            Self::Alias => ModuleDecl::Alias { count: a.index, index: a.second },
+            Self::OwnAlias => ModuleDecl::Alias { count: 0, index: a.index },
+            Self::Type(shape) => ModuleDecl::Type(shape.tree(a)),
+        }
+    }
+
+    fn bytes(&self, a: &Size) -> Vec<u8> {
+        match self {
+            Self::Import(of) => bytes![0x00, a.text.as_str(), a.other.as_str(), of(a)],
+            Self::Export(of) => bytes![0x03, a.text.as_str(), of(a)],
+            Self::Alias => bytes![0x02, 0x10, 0x01, a.index, a.second],
+            Self::OwnAlias => bytes![0x02, 0x10, 0x01, 0_u32, a.index],
+            Self::Type(shape) => bytes![0x01, shape.bytes(a)],
+        }
+    }
+
+    fn seen(&self, a: &Size) -> Vec<Seen> {
+        match self {
+            Self::Import(of) | Self::Export(of) => seen_in_entity(of(a)),
+            Self::Alias => vec![outer(a.index, a.second)],
+            Self::OwnAlias => vec![outer(0, a.index)],
+            Self::Type(shape) => shape.seen(a).into_iter().map(inside).collect(),
+        }
+    }
 }
 
 /// A module type with the declaration.
-fn of_module(name: &str, of: &'static Declaration) -> Call {
-    let times = |a: &Size| times(a, &(of.bytes)(a));
+fn of_module((name, of): &'static (&str, Declaration)) -> Call {
+    let times = |a: &Size| times(a, &of.bytes(a));
     let make = move |a: &Size| {
         calmly(|| {
             let mut ty = ModuleType::new();
-            (0..times(a)).for_each(|_| (of.declare)(&mut ty, a).expect("there is memory"));
+            (0..times(a)).for_each(|_| of.declare(&mut ty, a).expect("there is memory"));
             ty
         })
     };
-    let declare: Declare = Box::new(|types, a| (of.declare)(&mut types.module, a));
+    let declare: Declare = Box::new(|types, a| of.declare(&mut types.module, a));
     row(
         format!("module type with {name}"),
         move |ty, a| ty.try_module(&make(a)),
-        move |a| CoreTypeTree::Module((0..times(a)).map(|_| (of.tree)(a)).collect()),
-        move |a| (of.seen)(a).repeat(times(a)),
-        move |a| bytes![0x50, crate::format::list(vec![(of.bytes)(a); times(a)].into_iter())],
-        vec![(Box::new(of.bytes), declare)],
+        move |a| CoreTypeTree::Module((0..times(a)).map(|_| of.tree(a)).collect()),
+        move |a| of.seen(a).repeat(times(a)),
+        move |a| bytes![0x50, crate::format::list(vec![of.bytes(a); times(a)].into_iter())],
+        vec![(Box::new(|a| of.bytes(a)), declare)],
     )
 }
 
@@ -345,35 +391,29 @@ fn entity_tree(ty: EntityType) -> CoreEntityType {
     tree
 }
 
-fn text(text: &str) -> String {
-    text.into()
+/// Where an outer alias counts: in the module type itself, or out of it.
+fn outer(count: u32, index: u32) -> Seen {
+    let scope = count.checked_sub(1).map_or(Scope::Type(1), Scope::Component);
+    (Space::CoreTypes, scope, index)
 }
 
 /// Imports and exports of what a module may have.
-macro_rules! entities {
+macro_rules! declarations {
     ($($name:literal |$a:ident| $entity:expr;)*) => {
-        [$(
-            (concat!("an import of ", $name), Declaration {
-                declare: |ty, $a| ty.try_import(&$a.text, &$a.other, $entity).map(|_| ()),
-                tree: |$a| ModuleDecl::Import {
-                    module: text(&$a.text),
-                    name: text(&$a.other),
-                    ty: entity_tree($entity),
-                },
-                bytes: |$a| bytes![0x00, $a.text.as_str(), $a.other.as_str(), $entity],
-                seen: |$a| seen_in_entity($entity),
-            }),
-            (concat!("an export of ", $name), Declaration {
-                declare: |ty, $a| ty.try_export(&$a.text, $entity).map(|_| ()),
-                tree: |$a| ModuleDecl::Export { name: text(&$a.text), ty: entity_tree($entity) },
-                bytes: |$a| bytes![0x03, $a.text.as_str(), $entity],
-                seen: |$a| seen_in_entity($entity),
-            }),
-        )*]
+        [
+            $(
+                (concat!("an import of ", $name), Declaration::Import(|$a| $entity)),
+                (concat!("an export of ", $name), Declaration::Export(|$a| $entity)),
+            )*
+            ("an alias", Declaration::Alias),
+            ("an alias of itself", Declaration::OwnAlias),
+            ("a subtype", Declaration::Type(&SHAPES[6])),
+            ("a recursion group", Declaration::Type(&SHAPES[8])),
+        ]
     };
 }
 
-static ENTITIES: [(&str, Declaration); 18] = entities! {
+static DECLARATIONS: [(&str, Declaration); 22] = declarations! {
     "a function" |a| EntityType::Function(a.index);
     "a table" |a| table(a, false, false);
     "a table with a maximum" |a| table(a, true, true);
@@ -385,58 +425,6 @@ static ENTITIES: [(&str, Declaration); 18] = entities! {
     "a tag" |a| tag(a);
 };
 
-/// Where an outer alias counts: in the module type itself, or out of it.
-fn outer(count: u32, index: u32) -> Seen {
-    let scope = count.checked_sub(1).map_or(Scope::Type(1), Scope::Component);
-    (Space::CoreTypes, scope, index)
-}
-
-static ALIASES: [(&str, Declaration); 2] = [
-    (
-        "an alias",
-        Declaration {
-            declare: |ty, a| ty.try_alias_outer_core_type(a.index, a.second).map(|_| ()),
-            tree: |a| ModuleDecl::Alias { count: a.index, index: a.second },
-            bytes: |a| bytes![0x02, 0x10, 0x01, a.index, a.second],
-            seen: |a| vec![outer(a.index, a.second)],
-        },
-    ),
-    (
-        "an alias of itself",
-        Declaration {
-            declare: |ty, a| {
-                let wanted = ty.type_count();
-                ty.try_alias_core_type(0, a.index).map(|index| assert_eq!(index, wanted))
-            },
-            tree: |a| ModuleDecl::Alias { count: 0, index: a.index },
-            bytes: |a| bytes![0x02, 0x10, 0x01, 0_u32, a.index],
-            seen: |a| vec![outer(0, a.index)],
-        },
-    ),
-];
-
-static TYPES: [(&str, Declaration); 2] = [
-    (
-        "a subtype",
-        Declaration {
-            declare: |ty, a| (SHAPES[6].write)(ty.try_ty()?, a),
-            tree: |a| ModuleDecl::Type(SHAPES[6].tree(a)),
-            bytes: |a| bytes![0x01, SHAPES[6].bytes(a)],
-            seen: |a| SHAPES[6].seen(a).into_iter().map(inside).collect(),
-        },
-    ),
-    (
-        "a recursion group",
-        Declaration {
-            declare: |ty, a| (SHAPES[8].write)(ty.try_ty()?, a),
-            tree: |a| ModuleDecl::Type(SHAPES[8].tree(a)),
-            bytes: |a| bytes![0x01, SHAPES[8].bytes(a)],
-            seen: |a| SHAPES[8].seen(a).into_iter().map(inside).collect(),
-        },
-    ),
-];
-
 pub fn calls() -> Vec<Call> {
-    let modules = ENTITIES.iter().chain(&ALIASES).chain(&TYPES);
-    SHAPES.iter().map(of_shape).chain(modules.map(|(name, of)| of_module(name, of))).collect()
+    SHAPES.iter().map(of_shape).chain(DECLARATIONS.iter().map(of_module)).collect()
 }

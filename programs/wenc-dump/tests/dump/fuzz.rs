@@ -3,6 +3,7 @@
 use crate::component;
 use crate::corpus::corpus;
 use crate::random::Random;
+use crate::side_by_side::side_by_side;
 use crate::values::Value;
 use std::fs;
 use wenc::view::ItemView;
@@ -146,16 +147,18 @@ fn is_so(bytes: &[u8]) -> u8 {
 fn damaged_components() {
     let (components, parts) = parts();
     let mut random = Random(0x9e37_79b9_7f4a_7c15);
-    let mut bad = 0;
-    for number in 0..COMPONENTS {
+    let mut damaged = |number| {
         let bytes = if number % 2 == 0 {
             random.one_of(&components).clone()
         } else {
             let sections = (0..random.below(6)).map(|_| random.one_of(&parts).clone());
             component(&sections.collect::<Vec<_>>().concat())
         };
-        bad += usize::from(is_so(&random.damaged(bytes)));
-    }
+        random.damaged(bytes)
+    };
+    let damaged: Vec<_> = (0..COMPONENTS).map(&mut damaged).collect();
+    let statuses = side_by_side(COMPONENTS, |number| usize::from(is_so(&damaged[number])));
+    let bad: usize = statuses.into_iter().sum();
     assert!(bad > COMPONENTS / 2 && bad < COMPONENTS, "{bad}");
 }
 

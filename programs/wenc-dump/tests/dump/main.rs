@@ -16,11 +16,14 @@ mod manual;
 mod options;
 #[path = "../../../../tests/common/random.rs"]
 mod random;
+#[path = "../../../../tests/common/side_by_side.rs"]
+mod side_by_side;
 mod size;
 mod text;
 mod values;
 
 use std::fs;
+use std::io::Write;
 use std::path::{Path, PathBuf};
 use std::process::{Command, Output};
 use wenc_dump::{Streams, Terminal};
@@ -46,13 +49,24 @@ fn dump(options: &[&str], file: &Path) -> Output {
 
 /// Does what the program does with these bytes as its input, for this terminal. Returns its status,
 /// what it prints and what it says.
-fn run(options: &[&str], mut bytes: &[u8], terminal: Terminal) -> (u8, String, String) {
-    let (mut out, mut err) = (Vec::new(), Vec::new());
+fn run(options: &[&str], bytes: &[u8], terminal: Terminal) -> (u8, String, String) {
+    let mut out = Vec::new();
+    let (status, err) = run_into(&mut out, options, bytes, terminal);
+    (status, String::from_utf8(out).expect("it is text"), err)
+}
+
+/// The same with this output. The program is compiled once for all.
+fn run_into(
+    mut out: &mut dyn Write,
+    options: &[&str],
+    mut bytes: &[u8],
+    terminal: Terminal,
+) -> (u8, String) {
+    let mut err = Vec::new();
     let mut streams = Streams { input: &mut bytes, out: &mut out, err: &mut err };
     let arguments = ["wenc-dump"].iter().chain(options).chain(&["-"]).map(Into::into);
     let status = wenc_dump::run(arguments, terminal, &mut streams);
-    let [out, err] = [out, err].map(|text| String::from_utf8(text).expect("it is text"));
-    (status, out, err)
+    (status, String::from_utf8(err).expect("it is text"))
 }
 
 /// A file with these bytes.

@@ -1,12 +1,14 @@
 //! Options, files and streams.
 
 use crate::corpus::corpus;
-use crate::{FUNCTION, FUNCTION_TEXT, PROGRAM, component, dump, expect_of, file, file_of};
+use crate::{
+    FUNCTION, FUNCTION_TEXT, PROGRAM, component, dump, expect_of, file, file_of, run_into,
+};
 use std::fs;
 use std::io::{self, BufRead, BufReader, Write};
 use std::path::Path;
 use std::process::{Command, Output, Stdio};
-use wenc_dump::{Streams, Terminal};
+use wenc_dump::Terminal;
 
 const USAGE: &str = "usage: wenc-dump [OPTION]... FILE...\n";
 
@@ -250,15 +252,11 @@ impl Write for Left {
 
 #[test]
 fn a_reader_that_leaves_ends_it_quietly() {
-    let path = file("left", FUNCTION).into_os_string();
-    for (option, len) in [(None, FUNCTION_TEXT.len()), (Some("--json"), 400)] {
+    for (options, len) in [(&[][..], FUNCTION_TEXT.len()), (&["--json"], 400)] {
         for room in 0..len {
-            let arguments = ["wenc-dump".into()].into_iter().chain(option.map(Into::into));
-            let arguments = arguments.chain([path.clone()]);
-            let (mut out, mut err) = (Left(room), Vec::new());
-            let mut streams = Streams { input: &mut io::empty(), out: &mut out, err: &mut err };
-            let status = wenc_dump::run(arguments, Terminal::default(), &mut streams);
-            assert_eq!((status, err.len()), (0, 0), "{room}");
+            let mut out = Left(room);
+            let told = run_into(&mut out, options, &component(FUNCTION), Terminal::default());
+            assert_eq!(told, (0, String::new()), "{room}");
         }
     }
 }
