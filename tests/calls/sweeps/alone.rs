@@ -7,7 +7,7 @@ use wenc_calls::bytes;
 use wenc_calls::format::{Model, list, sized};
 use wenc_calls::size::{SIZES, Size};
 
-/// A component with the section has these bytes, by each call that writes it.
+/// Expects these bytes of a component with the section, by each call that writes it.
 #[track_caller]
 fn is_alone(section: &impl ComponentSection, wanted: &[u8]) {
     let mut whole = Component::new();

@@ -9,7 +9,7 @@ use wenc::tree::{
 };
 use wenc::*;
 
-/// Types of values in turn: numbers, and references by indices and to each abstract type.
+/// Each type of values in turn: numbers, references to indices, and to each abstract type.
 fn value(a: &Size, at: usize) -> ValType {
     let reference = |nullable, heap_type| ValType::Ref(RefType { nullable, heap_type });
     match at % 8 {
@@ -91,7 +91,7 @@ fn member(a: &Size, at: usize) -> SubType {
     subtype(at % 2 == 0, (at % 3 > 0).then_some(a.at(at)), inner)
 }
 
-/// Core types, a group or one, and how they are written.
+/// A core type or a group of them, and the call that writes it.
 struct Shape {
     name: &'static str,
     is_group: bool,
@@ -242,7 +242,7 @@ fn row(
     }
 }
 
-/// Outside of module types, a type that would begin as they do has a prefix.
+/// A type that begins as a module type does has a prefix where module types may stand.
 fn guarded(bytes: Vec<u8>) -> Vec<u8> {
     if bytes[0] == 0x50 { bytes![0x00, bytes] } else { bytes }
 }
@@ -270,7 +270,7 @@ enum Declaration {
     Import(fn(&Size) -> EntityType),
     Export(fn(&Size) -> EntityType),
     Alias,
-    /// An alias of a type of its own, by the call that returns the index.
+    /// An alias of a type of the module type itself, by the call that returns the index.
     OwnAlias,
     Type(&'static Shape),
 }
@@ -322,7 +322,7 @@ impl Declaration {
     }
 }
 
-/// A module type with the declaration.
+/// The row of a module type with the declaration.
 fn of_module((name, of): &'static (&str, Declaration)) -> Call {
     let times = |a: &Size| times(a, &of.bytes(a));
     let make = move |a: &Size| {
@@ -391,13 +391,13 @@ fn entity_tree(ty: EntityType) -> CoreEntityType {
     tree
 }
 
-/// Where an outer alias counts: in the module type itself, or out of it.
+/// The index that an outer alias has: in the module type itself, or outside of it.
 fn outer(count: u32, index: u32) -> Seen {
     let scope = count.checked_sub(1).map_or(Scope::Type(1), Scope::Component);
     (Space::CoreTypes, scope, index)
 }
 
-/// Imports and exports of what a module may have.
+/// Imports and exports of each kind, then the other declarations.
 macro_rules! declarations {
     ($($name:literal |$a:ident| $entity:expr;)*) => {
         [

@@ -8,7 +8,7 @@ use std::rc::Rc;
 use wenc::tree::{Command, ComponentDecl, InstanceDecl, Scope, Space, TypeTree};
 use wenc::{ComponentTypeEncoder, Error};
 
-/// A scope as seen from outside the type.
+/// The index as it is seen from outside of the type.
 fn around((space, scope, index): Seen) -> Seen {
     let scope = match scope {
         Scope::Component(0) => Scope::Type(1),
@@ -18,7 +18,7 @@ fn around((space, scope, index): Seen) -> Seen {
     (space, scope, index)
 }
 
-/// The value of the item as a declaration.
+/// The declaration of a command's item.
 fn declaration(command: Command, lead: u8) -> ComponentDecl {
     ComponentDecl::Decl(match (command, lead) {
         (Command::Import { name, ty }, 0x03) => return ComponentDecl::Import { name, ty },
@@ -37,7 +37,7 @@ fn in_instance(declaration: ComponentDecl) -> InstanceDecl {
     declaration
 }
 
-/// A type that declares the item in this way.
+/// A type that declares the item of a row by one of its calls.
 struct Of {
     call: Call,
     way: usize,
@@ -148,7 +148,7 @@ fn row(call: Call, way: usize) -> Call {
     }
 }
 
-/// The rows whose items are declared here, each in one of its ways.
+/// The rows whose items are declared here, each with one of its calls.
 fn declared() -> Vec<(Call, usize)> {
     let values = super::values::calls().into_iter();
     let values = values.filter(|call| ["record", "own", "function"].contains(&&*call.name));
