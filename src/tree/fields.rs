@@ -40,9 +40,9 @@ use core::ops::ControlFlow;
 pub(super) use place::Place;
 pub use place::{IndexCounts, Scopes};
 
-/// A function that takes the elements of a list, each with the number of bytes that it was read
-/// from, until it breaks.
-pub(super) type Visit<'v> = dyn FnMut(&dyn Tree, Option<usize>) -> ControlFlow<()> + 'v;
+/// A function that takes the elements of a list, each with the bytes that it was read from, until
+/// it breaks.
+pub(super) type Visit<'v> = dyn FnMut(&dyn Tree, Option<&[u8]>) -> ControlFlow<()> + 'v;
 
 /// A value that is an item or within one, owned or borrowed.
 pub(super) trait Tree {
@@ -64,9 +64,9 @@ pub(super) trait Tree {
         [None; 4]
     }
 
-    /// Returns whether the list has no elements.
-    fn is_empty(&self) -> bool {
-        true
+    /// Returns the number of elements of the list.
+    fn len(&self) -> usize {
+        0
     }
 
     /// Visits the elements of the list, in order.

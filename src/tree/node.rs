@@ -185,7 +185,7 @@ fn up_to_error<E>(result: &mut Result<(), E>, next: Result<(), E>) -> ControlFlo
 pub struct Child<'a> {
     source: Source<'a>,
     place: Place<'a>,
-    encoded_len: Option<usize>,
+    encoded: Option<&'a [u8]>,
 }
 
 #[derive(Clone, Copy)]
@@ -201,7 +201,7 @@ enum Source<'a> {
 
 impl<'a> Child<'a> {
     fn of(source: Source<'a>, place: Place<'a>) -> Self {
-        Self { source, place, encoded_len: None }
+        Self { source, place, encoded: None }
     }
 
     pub(super) fn new(tree: &'a dyn Tree, place: Place<'a>) -> Self {
@@ -230,10 +230,16 @@ impl<'a> Child<'a> {
         }
     }
 
+    /// Returns the bytes that this element of a borrowed list was read from; `None` for other
+    /// values.
+    pub fn encoded(self) -> Option<&'a [u8]> {
+        self.encoded
+    }
+
     /// Returns the number of bytes that this element of a borrowed list was read from; `None` for
     /// other values.
     pub fn encoded_len(self) -> Option<usize> {
-        self.encoded_len
+        self.encoded.map(<[u8]>::len)
     }
 }
 
@@ -254,9 +260,14 @@ impl<'a> List<'a> {
 
     /// Returns `true` if there are no elements. Nothing is read.
     pub fn is_empty(self) -> bool {
+        self.len() == 0
+    }
+
+    /// Returns the number of elements. Nothing is read.
+    pub fn len(self) -> usize {
         match self.0.source {
-            Source::Types(types) => types.is_empty(),
-            Source::Tree(list) | Source::Part(list) | Source::Present(list) => list.is_empty(),
+            Source::Types(types) => types.len(),
+            Source::Tree(list) | Source::Part(list) | Source::Present(list) => list.len(),
         }
     }
 
@@ -288,8 +299,8 @@ impl<'a> List<'a> {
         if let Some(around) = around {
             return self.each_declaration(around, place, visit);
         }
-        self.each_element(&mut |element, encoded_len| {
-            visit(Child { source: Source::Tree(element), place, encoded_len })
+        self.each_element(&mut |element, encoded| {
+            visit(Child { source: Source::Tree(element), place, encoded })
         })
     }
 
@@ -302,10 +313,10 @@ impl<'a> List<'a> {
         visit: &mut dyn FnMut(Child<'_>) -> ControlFlow<()>,
     ) -> ControlFlow<()> {
         let mut declared = IndexCounts::default();
-        self.each_element(&mut |element, encoded_len| {
+        self.each_element(&mut |element, encoded| {
             let inner = around.inner(declared);
             let place = place.in_scopes(&inner);
-            visit(Child { source: Source::Tree(element), place, encoded_len })?;
+            visit(Child { source: Source::Tree(element), place, encoded })?;
             declared.define(element.defined());
             ControlFlow::Continue(())
         })

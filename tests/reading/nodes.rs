@@ -95,25 +95,32 @@ fn items_of_core_modules() {
     );
 }
 
-/// The lengths in bytes that the elements of the list in a node have.
-fn lengths(node: Node) -> Vec<Option<usize>> {
+/// The bytes that the elements of the list in a node were read from, with their length.
+fn encoded(node: Node) -> Vec<Option<(Vec<u8>, usize)>> {
     let mut found = Vec::new();
     match node {
-        Node::Variant(_, child) => return lengths(child.node()),
-        Node::List(list) => list.for_each(|child| found.push(child.encoded_len())),
+        Node::Variant(_, child) => return encoded(child.node()),
+        Node::List(list) => {
+            list.for_each(|child| {
+                let bytes = child.encoded().map(<[u8]>::to_vec);
+                found.push(bytes.zip(child.encoded_len()));
+            });
+            assert_eq!((list.len(), list.is_empty()), (found.len(), found.is_empty()));
+        }
         _ => {}
     }
     found
 }
 
 #[test]
-fn lengths_of_borrowed_elements() {
+fn bytes_of_borrowed_elements() {
     let bytes = component(b"\x07\x0b\x01\x42\x02\x02\x03\x02\0\x09\x01\x6b\x79");
     let view = Sections::new(&bytes).expect("it has a header").items().next();
     let (_, view) = view.expect("there is an item").expect("it is read");
-    assert_eq!(lengths(view.node()), [Some(5), Some(3)]);
+    let [alias, ty] = [&b"\x02\x03\x02\0\x09"[..], b"\x01\x6b\x79"].map(<[u8]>::to_vec);
+    assert_eq!(encoded(view.node()), [Some((alias, 5)), Some((ty, 3))]);
     let mut items = list(&bytes).expect("it is a component").into_items();
-    assert_eq!(lengths(items.next().expect("there is an item").node()), [None, None]);
+    assert_eq!(encoded(items.next().expect("there is an item").node()), [None, None]);
 }
 
 #[test]

@@ -53,8 +53,8 @@ impl<T: Tree> Tree for Vec<T> {
         Node::List(List::new(self, place))
     }
 
-    fn is_empty(&self) -> bool {
-        self.as_slice().is_empty()
+    fn len(&self) -> usize {
+        self.as_slice().len()
     }
 
     fn each_element(&self, visit: &mut Visit<'_>) -> ControlFlow<()> {
@@ -76,17 +76,17 @@ macro_rules! lists {
                 Node::List(List::new(self, place))
             }
 
-            fn is_empty(&self) -> bool {
-                self.left == 0
+            fn len(&self) -> usize {
+                usize::try_from(self.left).unwrap_or(usize::MAX)
             }
 
             fn each_element(&self, visit: &mut Visit<'_>) -> ControlFlow<()> {
                 let mut list = *self;
-                let mut before = list.bytes.len();
+                let mut before = list.bytes;
                 while let Some(element) = list.next() {
-                    let after = list.bytes.len();
-                    visit(&element, Some(before - after))?;
-                    before = after;
+                    let len = before.len() - list.bytes.len();
+                    visit(&element, before.get(..len))?;
+                    before = list.bytes;
                 }
                 ControlFlow::Continue(())
             }
