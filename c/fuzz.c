@@ -292,7 +292,7 @@ typedef struct {
 
 #define HANDLES 5
 
-static unsigned long calls, accepted, refusals, compared, read_items, blamed, said;
+static unsigned long calls, accepted, refusals, compared, read_items, visited, blamed, said;
 
 /* Begins something: what is decided by a number. */
 static enum wenc_status begin(uint32_t number, wenc_handle *handle) {
@@ -354,6 +354,57 @@ static void check_sentence(const uint8_t *bytes, size_t len, size_t section, boo
   if (is_bad) said++;
 }
 
+/* The nodes of an item that are left to visit, those that are within others, and their bytes. */
+typedef struct {
+  uint32_t left;
+  uint64_t within;
+  const uint8_t *bytes;
+  size_t len;
+} nodes;
+
+/* Each node but the item is within one before it, and its bytes are within the component's. */
+static bool check_node(void *context, const wenc_node *node) {
+  nodes *all = (nodes *)context;
+  REQUIRE(all->left > 0 && node->kind <= WENC_NODE_STRUCT && node->space <= WENC_SPACES);
+  REQUIRE(node->place <= all->len && node->len <= all->len - node->place);
+  REQUIRE((node->depth == 0) == (all->within == 0) && node->scope <= WENC_SCOPE_TYPE);
+  if (node->kind == WENC_NODE_TEXT || node->kind == WENC_NODE_BYTES)
+    REQUIRE(memcmp(node->text.at, all->bytes + node->place, node->text.len) == 0);
+  if (all->within == 0) all->within = 1;
+  all->within--;
+  if (node->kind != WENC_NODE_NUMBER && node->kind != WENC_NODE_FLAG &&
+      node->kind != WENC_NODE_INDEX)
+    all->within += node->number;
+  visited++;
+  return --all->left > 0;
+}
+
+/* Visits nodes, all or a few. Returns whether an item is read. */
+static bool check_nodes(const wenc_walk *walk, const wenc_listed_item *item) {
+  nodes all = {UINT32_MAX, 0, NULL, 0};
+  char text[256];
+  enum wenc_status status;
+  bool is_within = item->place <= walk->len && item->len <= walk->len - item->place;
+  all.bytes = walk->bytes, all.len = walk->len;
+  if (a_flag()) all.left = 1 + below(20);
+  status = wenc_walk_nodes(walk, item, check_node, &all);
+  if (!is_within) {
+    REQUIRE(status == WENC_BAD_ARGUMENT);
+    return false;
+  }
+  /* What the data of a custom section contains may be bad. */
+  if (wenc_item_fault_text(item->section, walk->bytes + item->place, item->len, text,
+                           sizeof text) == 0) {
+    REQUIRE(status == (item->section > WENC_SECTION_EXPORT ? WENC_BAD_ARGUMENT : WENC_DONE));
+  } else {
+    REQUIRE(item->section == WENC_SECTION_CUSTOM || status == WENC_MALFORMED ||
+            status == WENC_TOO_DEEP);
+    said++;
+  }
+  if (status == WENC_DONE) REQUIRE(all.left == 0 || all.within == 0);
+  return status == WENC_DONE;
+}
+
 /* Walks over bytes beside a listing of them: the same items, or the same status. */
 static void compare_walk(const uint8_t *bytes, size_t len) {
   wenc_handle listing = {NULL};
@@ -375,6 +426,7 @@ static void compare_walk(const uint8_t *bytes, size_t len) {
     }
     for (items = 0; (status = wenc_walk_item(&walk, &item)) == WENC_DONE; items++) {
       read_items++;
+      REQUIRE(check_nodes(&walk, &item) || item.section == WENC_SECTION_CUSTOM);
       if (wanted != WENC_DONE) continue;
       REQUIRE(wenc_item_at(&listing, sections, items, &row) == WENC_DONE);
       REQUIRE(row.place == item.place && row.len == item.len && row.space == item.space);
@@ -407,6 +459,12 @@ static void damage(const uint8_t *bytes, size_t len) {
     REQUIRE((unsigned)(k % 2 ? wenc_walk_section(&walk, NULL) : wenc_walk_skip(&walk, NULL)) <=
             WENC_END);
     REQUIRE(wenc_fault_text(copy, len, below((uint32_t)len + 2), NULL, 0) < 256);
+  }
+  memset(&item, 0, sizeof item);
+  for (k = 0; k < 20; k++) {
+    item.place = below((uint32_t)len + 2), item.len = below((uint32_t)len + 2);
+    item.section = (enum wenc_section)below(14);
+    check_nodes(&walk, &item);
   }
   names.bytes = copy, names.len = len, names.next = below((uint32_t)len + 2);
   names.space = a_number(), names.names = below(3) ? 0 : a_number();
@@ -494,9 +552,10 @@ int main(int argc, char **argv) {
   }
   printf("%lu calls, %lu accepted, %lu without memory, %lu with a wrong argument that is named\n",
          calls, accepted, refusals, blamed);
-  printf("%lu components compared, %lu items read, %lu faults said\n", compared, read_items, said);
+  printf("%lu components compared, %lu items read, %lu nodes visited, %lu faults said\n", compared,
+         read_items, visited, said);
   return accepted > count && compared > count && refusals > 0 && read_items > count &&
-                 blamed > count && said > count
+                 visited > read_items && blamed > count && said > count
              ? 0
              : 1;
 }

@@ -1,19 +1,20 @@
 /* Walks over a component, and prints its sections and items with their byte offsets, and its debug
- * names. It says why an item or a section can't be read, and goes on behind the section. Nothing is
- * allocated. */
+ * names. It says why an item, a section or names can't be read, and goes on behind the section.
+ * Nothing is allocated. */
 #include <stdio.h>
 #include <stdlib.h>
 
 #include "wenc.h"
 
 /* A function type; backpressure.inc, behind it a builtin that isn't known; a section that isn't
- * known; an import, an alias of its export, and an export; and debug names. */
+ * known; an import, an alias of its export, and an export; and debug names, with a subsection that
+ * has no size. */
 static const uint8_t component[] = {
     0x00, 0x61, 0x73, 0x6d, 0x0d, 0x00, 0x01, 0x00, 0x07, 0x05, 0x01, 0x40, 0x00, 0x01, 0x00, 0x08,
     0x04, 0x02, 0x24, 0xff, 0x00, 0x0c, 0x01, 0x07, 0x0a, 0x06, 0x01, 0x00, 0x01, 0x69, 0x05, 0x00,
     0x06, 0x07, 0x01, 0x01, 0x00, 0x00, 0x02, 0x66, 0x67, 0x0b, 0x07, 0x01, 0x00, 0x01, 0x65, 0x01,
-    0x00, 0x00, 0x00, 0x1b, 0x0e, 0x63, 0x6f, 0x6d, 0x70, 0x6f, 0x6e, 0x65, 0x6e, 0x74, 0x2d, 0x6e,
-    0x61, 0x6d, 0x65, 0x00, 0x02, 0x01, 0x63, 0x01, 0x06, 0x01, 0x01, 0x00, 0x02, 0x66, 0x6e};
+    0x00, 0x00, 0x00, 0x1c, 0x0e, 0x63, 0x6f, 0x6d, 0x70, 0x6f, 0x6e, 0x65, 0x6e, 0x74, 0x2d, 0x6e,
+    0x61, 0x6d, 0x65, 0x00, 0x02, 0x01, 0x63, 0x01, 0x06, 0x01, 0x01, 0x00, 0x02, 0x66, 0x6e, 0x01};
 
 static unsigned long number(size_t size) { return (unsigned long)size; }
 
@@ -29,13 +30,19 @@ static void print_fault(const char *before, size_t section) {
 }
 
 static void print_names(const wenc_listed_item *item) {
+  char text[200];
   wenc_names_walk names;
   wenc_debug_name name;
+  enum wenc_status status;
   if (wenc_walk_names(&names, item) != WENC_DONE) return;
-  while (wenc_walk_name(&names, &name) == WENC_DONE) {
+  while ((status = wenc_walk_name(&names, &name)) == WENC_DONE) {
     printf("    space %u index %lu", (unsigned)name.space, (unsigned long)name.index);
     print_text(" is ", name.name);
     putchar('\n');
+  }
+  if (status != WENC_END) {
+    wenc_item_fault_text(item->section, component + item->place, item->len, text, sizeof text);
+    printf("    in the item at %#lx: %s\n", number(item->place), text);
   }
 }
 

@@ -8,11 +8,12 @@
  * (wenc_types_new), a section (wenc_section_new, wenc_names_new), or a component that was read
  * (wenc_list). A walk (wenc_walk_begin) reads a component without a handle, and allocates nothing.
  *
- *  - Each call but wenc_free, wenc_version, wenc_status_text and wenc_fault_text returns a status,
- *    which is WENC_DONE or says why the call failed. A call that fails changes nothing: neither
- *    what its handles own, nor what its arguments point to; except that wenc_list writes which part
- *    it can't read. If the first argument is a handle that owns something, wenc_last_error then
- *    says which argument was wrong. Why bytes can't be read is said by wenc_fault_text.
+ *  - Each call but wenc_free, wenc_version, wenc_status_text, wenc_fault_text and
+ *    wenc_item_fault_text returns a status, which is WENC_DONE or says why the call failed. A call
+ *    that fails changes nothing: neither what its handles own, nor what its arguments point to;
+ *    except that wenc_list writes which part it can't read. If the first argument is a handle that
+ *    owns something, wenc_last_error then says which argument was wrong. Why bytes can't be read is
+ *    said by wenc_fault_text and wenc_item_fault_text.
  *
  *  - A text is UTF-8 without a terminating 0; bytes are any bytes. Both are passed as a pointer and
  *    a number of bytes, and the call keeps no pointer to them. If the number is 0, the pointer may
@@ -384,6 +385,47 @@ enum wenc_unread_part {
   WENC_UNREAD_BEHIND = 3
 };
 
+/* Kinds of values within items, for wenc_walk_nodes. The comment before one says what of wenc_node
+ * it has. */
+enum wenc_node_kind {
+  /* An option that is none. */
+  WENC_NODE_ABSENT = 0,
+  /* An option that has a value, which is the next node. */
+  WENC_NODE_PRESENT = 1,
+  /* A number that isn't an index: `number`. */
+  WENC_NODE_NUMBER = 2,
+  /* A flag: `number` is 0 or 1. */
+  WENC_NODE_FLAG = 3,
+  /* A text: `text`. */
+  WENC_NODE_TEXT = 4,
+  /* The bytes of a core module, a component or a custom section: `text`, which needn't be UTF-8. */
+  WENC_NODE_BYTES = 5,
+  /* An index: `number`, `space`, `scope` and `out`. */
+  WENC_NODE_INDEX = 6,
+  /* Values of one type. */
+  WENC_NODE_LIST = 7,
+  /* Values of several types. Their names are "0", "1", "2". */
+  WENC_NODE_TUPLE = 8,
+  /* A structure with named fields. `text` is its name. */
+  WENC_NODE_RECORD = 9,
+  /* A variant without fields. `text` is its name. */
+  WENC_NODE_WORD = 10,
+  /* A variant with one value without a name, which is the next node. `text` is its name. */
+  WENC_NODE_VARIANT = 11,
+  /* A variant with named fields. `text` is its name. */
+  WENC_NODE_STRUCT = 12
+};
+
+/* What an index space belongs to, as seen from an item (component model, explainer, "Index
+ * Spaces"). It goes with a number, `out`. */
+enum wenc_scope {
+  /* A component: 0 is the one that the item is in, 1 the one around that, and so on outwards. */
+  WENC_SCOPE_COMPONENT = 0,
+  /* The type of a component, an instance or a core module: 1 is the item itself, 2 a type that is
+   * declared in it, and so on inwards. */
+  WENC_SCOPE_TYPE = 1
+};
+
 /* The library takes and returns enumerations as 32 bits. With a compiler that makes them shorter
  * (-fshort-enums), this doesn't compile. */
 #ifndef WENC_PARSED
@@ -600,6 +642,36 @@ typedef struct {
   /* The index of the item; 0 for the component itself. */
   uint32_t index;
 } wenc_debug_name;
+
+/* A value within an item, or the item itself. Members that its kind doesn't have are 0, NULL and
+ * WENC_SPACES. */
+typedef struct {
+  /* A number, a flag or an index; of others the number of values that are directly within, which
+   * are the next nodes with the next larger depth. */
+  uint64_t number;
+  /* Its name, if it is a field: that of the Rust type. NULL for others. */
+  wenc_text name;
+  /* A text or bytes, which are the component's; or the name of a structure or variant, that of the
+   * Rust type. */
+  wenc_text text;
+  /* Its byte offset in the component and its size in bytes, of the item, of members of lists, and
+   * of texts and bytes, without what stands before these. Both are 0 for what is read together with
+   * others. */
+  size_t place;
+  size_t len;
+  /* The number of values around it: 0 for the item. */
+  uint32_t depth;
+  enum wenc_node_kind kind;
+  /* For an index, its index space and what that belongs to. */
+  enum wenc_space space;
+  enum wenc_scope scope;
+  uint32_t out;
+} wenc_node;
+
+/* A function of the program that wenc_walk_nodes calls with each node, which is there during the
+ * call only, and with its own last argument. If it returns false, it isn't called again. It returns
+ * in no other way: neither by longjmp nor by an exception. */
+typedef bool (*wenc_node_visit)(void *context, const wenc_node *node);
 
 #ifdef __cplusplus
 }
@@ -1041,6 +1113,21 @@ WENC_CHECKED enum wenc_status wenc_walk_names(wenc_names_walk *names,
  * WENC_MALFORMED if the next subsection can't be read. */
 WENC_CHECKED enum wenc_status wenc_walk_name(wenc_names_walk *names, wenc_debug_name *name);
 
+/* Calls a function with the nodes of an item that wenc_walk_item or wenc_item_at wrote: the item,
+ * and after each value those within it, in order. Together they are all that it contains, but for
+ * the contents of core modules, components and custom sections. The bytes of a section named
+ * "producers" have in them a structure "Producer" for each tool, with the fields "field", "name"
+ * and "version".
+ *
+ * `walk` is a walk over the component; it stays where it is, and the function may use it. The
+ * item's types nest at most 100 deep, for which this takes 120 kB of stack. WENC_DONE also if
+ * the function returned false. WENC_BAD_ARGUMENT if an argument but `context` is NULL, or if the
+ * item isn't within the component's bytes; WENC_MALFORMED or WENC_TOO_DEEP if there isn't such an
+ * item: wenc_item_fault_text says why. Then the function wasn't called. WENC_MALFORMED also, behind
+ * the tools before it, for a tool that can't be read. */
+WENC_CHECKED enum wenc_status wenc_walk_nodes(const wenc_walk *walk, const wenc_listed_item *item,
+                                              wenc_node_visit visit, void *context);
+
 /* ---- reading components at once
  *
  * wenc_section_at and wenc_item_at return WENC_BAD_ARGUMENT, WENC_FINISHED, WENC_NO_HANDLE. The
@@ -1066,6 +1153,13 @@ WENC_CHECKED enum wenc_status wenc_list(wenc_handle *listing, const uint8_t *byt
  * or past it, and if `bytes` or `len` can't be. From an offset that is no section's other sections
  * are read. The words may change with the version. */
 size_t wenc_fault_text(const uint8_t *bytes, size_t len, size_t section, char *text, size_t size);
+
+/* Writes why the bytes of an item, as wenc_item takes them, aren't exactly one item of a section
+ * with this id; of a custom section named "component-name" or "producers" also why its names or its
+ * tools can't be read. Byte offsets in the sentence count from the item's first byte. The rest is
+ * as in wenc_fault_text: 0 if the item can be read, or if an argument is wrong. */
+size_t wenc_item_fault_text(enum wenc_section section, const uint8_t *bytes, size_t len, char *text,
+                            size_t size);
 
 /* Writes the section with this number, counting from 0, to `*section`. WENC_BAD_ARGUMENT if there
  * is none. */

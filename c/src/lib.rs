@@ -16,6 +16,7 @@ pub mod items;
 pub mod last_error;
 pub mod life;
 pub mod listing;
+pub mod nodes;
 mod numbers;
 pub mod rows;
 pub mod sections;

@@ -10,7 +10,10 @@ use core::fmt::{self, Write};
 use core::ops::Range;
 use wenc::tree::Space;
 use wenc::view::ItemView;
-use wenc::{Cause, ComponentSectionId, Items, ListFault, SectionReader, Sections, Unread};
+use wenc::{
+    Cause, ComponentSectionId, DebugNames, Items, ListFault, NamesFault, NamesReader,
+    ProducersFault, ProducersReader, SectionReader, Sections, Unread,
+};
 
 /// A component that was read.
 pub struct Listed {
@@ -195,17 +198,10 @@ impl fmt::Write for Written {
     }
 }
 
-#[unsafe(no_mangle)]
-pub unsafe extern "C" fn wenc_fault_text(
-    bytes: *const u8,
-    len: usize,
-    section: usize,
-    text: *mut c_char,
-    size: usize,
-) -> usize {
+/// Writes why something can't be read, or an empty string. Returns the length of it all.
+unsafe fn write_fault(fault: Option<impl fmt::Display>, text: *mut c_char, size: usize) -> usize {
     let size = if text.is_null() { 0 } else { size };
     let mut written = Written { text, size, len: 0 };
-    let fault = unsafe { list(bytes, len) }.ok().and_then(|bytes| fault_at(bytes, section));
     if let Some(fault) = fault {
         // Nothing fails.
         let _ = write!(written, "{fault}");
@@ -214,6 +210,85 @@ pub unsafe extern "C" fn wenc_fault_text(
         unsafe { text.add(written.len.min(last)).write(0) };
     }
     written.len
+}
+
+#[unsafe(no_mangle)]
+pub unsafe extern "C" fn wenc_fault_text(
+    bytes: *const u8,
+    len: usize,
+    section: usize,
+    text: *mut c_char,
+    size: usize,
+) -> usize {
+    let fault = unsafe { list(bytes, len) }.ok().and_then(|bytes| fault_at(bytes, section));
+    unsafe { write_fault(fault, text, size) }
+}
+
+/// Why bytes aren't one item, or what an item contains can't be read.
+enum ItemFault {
+    Item(ListFault),
+    Names(NamesFault),
+    Producers(ProducersFault),
+}
+
+impl fmt::Display for ItemFault {
+    fn fmt(&self, f: &mut fmt::Formatter<'_>) -> fmt::Result {
+        match self {
+            Self::Item(fault) => fault.fmt(f),
+            Self::Names(fault) => fault.fmt(f),
+            Self::Producers(fault) => fault.fmt(f),
+        }
+    }
+}
+
+impl ItemFault {
+    /// Returns why these bytes aren't one item of a section.
+    fn of(section: ComponentSectionId, bytes: &[u8]) -> Option<Self> {
+        let mut items = Items::at(bytes, section, 0..bytes.len(), 1)?;
+        match (items.next()?, items.next()) {
+            (Err(fault), _) | (_, Some(Err(fault))) => Some(Self::Item(fault)),
+            (Ok((_, ItemView::Custom { name, data })), _) => {
+                Self::of_custom(name, data, bytes.len() - data.len())
+            }
+            _ => None,
+        }
+    }
+
+    /// Returns why the data of a custom section, which begins at this byte offset, can't be read.
+    fn of_custom(name: &str, data: &[u8], start: usize) -> Option<Self> {
+        match name {
+            DebugNames::SECTION => match NamesReader::new(data).find_map(fault_of)? {
+                NamesFault::BadSubsection { place, cause } => {
+                    let (place, cause) = (start + place, cause.moved(start));
+                    Some(Self::Names(NamesFault::BadSubsection { place, cause }))
+                }
+                fault => Some(Self::Names(fault)),
+            },
+            ProducersReader::SECTION => {
+                let ProducersFault { place, cause } =
+                    ProducersReader::new(data).find_map(fault_of)?;
+                let (place, cause) = (start + place, cause.moved(start));
+                Some(Self::Producers(ProducersFault { place, cause }))
+            }
+            _ => None,
+        }
+    }
+}
+
+fn fault_of<T, E>(read: core::result::Result<T, E>) -> Option<E> {
+    read.err()
+}
+
+#[unsafe(no_mangle)]
+pub unsafe extern "C" fn wenc_item_fault_text(
+    section: u32,
+    bytes: *const u8,
+    len: usize,
+    text: *mut c_char,
+    size: usize,
+) -> usize {
+    let fault = || ItemFault::of(numbers::section(section)?, unsafe { list(bytes, len) }.ok()?);
+    unsafe { write_fault(fault(), text, size) }
 }
 
 /// Returns the component that a handle has read.
@@ -268,7 +343,7 @@ fn add(session: &mut Session, debug_name: Option<&str>, item: &ItemView<'_>) -> 
 }
 
 /// Reads an item of a section, which must take all bytes.
-fn read_item(section: ComponentSectionId, bytes: &[u8]) -> Result<ItemView<'_>, Status> {
+pub(crate) fn read_item(section: ComponentSectionId, bytes: &[u8]) -> Result<ItemView<'_>, Status> {
     let mut items = Items::at(bytes, section, 0..bytes.len(), 1).ok_or(Status::Malformed)?;
     match (items.next(), items.next()) {
         (Some(Ok((_, item))), None) => Ok(item),

@@ -4,7 +4,8 @@
 use crate::arguments::Entity;
 use wenc::tree::{
     CoreAbstractHeapType, CoreEntityType, CoreFieldType, CoreGlobalType, CoreHeapType,
-    CoreMemoryType, CoreRefType, CoreStorageType, CoreTableType, CoreTagType, CoreValType, Space,
+    CoreMemoryType, CoreRefType, CoreStorageType, CoreTableType, CoreTagType, CoreValType, Scope,
+    Space,
 };
 use wenc::{
     Alias, CanonicalOption, ComponentExportKind, ComponentOuterAliasKind, ComponentSectionId,
@@ -119,6 +120,14 @@ pub const NO_SPACE: u32 = Space::ALL.len() as u32;
 /// Returns the number of an index space in `enum wenc_space`.
 pub fn of_space(space: Space) -> u32 {
     number_in(&Space::ALL, &space)
+}
+
+/// `enum wenc_scope`, and how far out or in the scope is.
+pub fn of_scope(scope: Scope) -> (u32, u32) {
+    match scope {
+        Scope::Component(out) => (0, out),
+        Scope::Type(depth) => (1, depth),
+    }
 }
 
 /// Returns the number of a kind in `enum wenc_kind`.

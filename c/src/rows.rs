@@ -132,7 +132,11 @@ fn at_of(bytes: &[u8]) -> *const u8 {
 
 impl Text {
     pub fn new(text: &str) -> Self {
-        Self { at: at_of(text.as_bytes()), len: text.len() }
+        Self::of_bytes(text.as_bytes())
+    }
+
+    pub fn of_bytes(bytes: &[u8]) -> Self {
+        Self { at: at_of(bytes), len: bytes.len() }
     }
 }
 

@@ -23,7 +23,7 @@ pub struct Walk {
 }
 
 impl Walk {
-    unsafe fn bytes<'a>(&self) -> Result<&'a [u8]> {
+    pub(crate) unsafe fn bytes<'a>(&self) -> Result<&'a [u8]> {
         unsafe { whole(self.bytes, self.len) }
     }
 

@@ -3,23 +3,37 @@
 use super::edges::{EMPTY, Held};
 use super::random::Random;
 use std::collections::BTreeMap;
+use std::ffi::c_char;
 use std::{fs, mem, ptr};
 use wenc::view::ItemView;
-use wenc::{Cause, ListFault, Sections, Unread, list};
+use wenc::{
+    Cause, DebugNames, Items, ListFault, NamesFault, NamesReader, ProducersFault, ProducersReader,
+    Sections, Unread, list,
+};
 use wenc_capi::Status;
 use wenc_capi::listing::*;
 use wenc_capi::rows::SectionRow;
 use wenc_capi::walk::*;
 
-/// The sentence of the section at this place, whose length is asked for first.
-fn sentence(bytes: &[u8], section: usize) -> String {
-    let (at, len) = (bytes.as_ptr(), bytes.len());
-    let needed = unsafe { wenc_fault_text(at, len, section, ptr::null_mut(), 0) };
+/// A sentence, whose length is asked for first.
+fn written(write: impl Fn(*mut c_char, usize) -> usize) -> String {
+    let needed = write(ptr::null_mut(), 0);
     let mut text = vec![1; needed + 1];
-    let to = text.as_mut_ptr().cast();
-    assert_eq!(unsafe { wenc_fault_text(at, len, section, to, needed + 1) }, needed);
+    assert_eq!(write(text.as_mut_ptr().cast(), needed + 1), needed);
     assert_eq!(text.pop(), Some(0));
     String::from_utf8(text).expect("it is UTF-8")
+}
+
+/// The sentence of the section at this place.
+fn sentence(bytes: &[u8], section: usize) -> String {
+    let (at, len) = (bytes.as_ptr(), bytes.len());
+    written(|to, size| unsafe { wenc_fault_text(at, len, section, to, size) })
+}
+
+/// The sentence of an item of a section.
+fn sentence_of_item(section: u32, bytes: &[u8]) -> String {
+    let (at, len) = (bytes.as_ptr(), bytes.len());
+    written(|to, size| unsafe { wenc_item_fault_text(section, at, len, to, size) })
 }
 
 /// What C returns for a fault: the status, the section, the sentence, and where the walk stays.
@@ -160,7 +174,7 @@ fn compare(bytes: &[u8], counts: &mut BTreeMap<&str, usize>) {
 }
 
 /// The components of the corpus, and those that are nested in them.
-fn components() -> Vec<Vec<u8>> {
+pub fn components() -> Vec<Vec<u8>> {
     let folder = concat!(env!("CARGO_MANIFEST_DIR"), "/../real/corpus/wasm");
     let mut files: Vec<_> = fs::read_dir(folder)
         .expect("the corpus is there")
@@ -261,4 +275,101 @@ fn bytes_that_are_none() {
         assert_eq!(said(EMPTY, len), "");
     }
     assert_eq!(said(b"a".as_ptr(), usize::MAX), "");
+}
+
+/// Why the bytes aren't one item, or the data of a custom section can't be read, by Rust: what is
+/// at fault, and the sentence.
+fn fault_of_item(section: u32, bytes: &[u8]) -> Option<(&'static str, String)> {
+    let mut items = Items::at(bytes, section as u8, 0..bytes.len(), 1).expect("one item");
+    let first = items.next().expect("an item");
+    let (name, data) = match (first, items.next()) {
+        (Err(fault), _) | (_, Some(Err(fault))) => return Some(("item", fault.to_string())),
+        (Ok((_, ItemView::Custom { name, data })), _) => (name, data),
+        _ => return None,
+    };
+    let start = bytes.len() - data.len();
+    match name {
+        DebugNames::SECTION => match NamesReader::new(data).find_map(Result::err)? {
+            NamesFault::BadSubsection { place, cause } => {
+                let (place, cause) = (start + place, cause.moved(start));
+                Some(("names", NamesFault::BadSubsection { place, cause }.to_string()))
+            }
+            fault => panic!("{fault:?}"),
+        },
+        ProducersReader::SECTION => {
+            let ProducersFault { place, cause } =
+                ProducersReader::new(data).find_map(Result::err)?;
+            let (place, cause) = (start + place, cause.moved(start));
+            Some(("producers", ProducersFault { place, cause }.to_string()))
+        }
+        _ => None,
+    }
+}
+
+#[test]
+fn causes_of_items_are_those_of_rust() {
+    let (mut random, mut counts) = (Random(2), BTreeMap::new());
+    for bytes in components() {
+        for section in Sections::new(&bytes).expect("a component") {
+            let section = section.expect("it is read");
+            // what is in a core module or a nested component isn't read
+            let (id, len) = match section.id() {
+                id @ (1 | 4) => (id.into(), 0),
+                id => (id.into(), usize::MAX),
+            };
+            for (range, _) in section.items().map_while(Result::ok) {
+                let item = &bytes[range];
+                let len = item.len().min(len);
+                let mut damage = vec![item.to_vec()];
+                if len > 0 {
+                    let places = [(); 3].map(|()| random.below(len));
+                    damage.extend(places.map(|place| damaged(item.to_vec(), place, &mut random)));
+                }
+                for item in damage {
+                    let fault = fault_of_item(id, &item);
+                    let (kind, wanted) = fault.unwrap_or(("none", String::new()));
+                    assert_eq!(sentence_of_item(id, &item), wanted);
+                    *counts.entry(kind).or_insert(0_usize) += 1;
+                }
+            }
+        }
+    }
+    let kinds: Vec<&str> = counts.keys().copied().collect();
+    assert_eq!(kinds, ["item", "names", "none", "producers"]);
+    assert!(counts.values().all(|count| *count > 20), "{counts:?}");
+}
+
+/// Sentences of items that can't be read or that contain what can't be, and none of others.
+#[test]
+fn sentences_of_items() {
+    let rows: [(u32, &[u8], &str); 9] = [
+        (7, b"\x40\0\x01\0", ""),
+        (
+            7,
+            b"",
+            "bad item 0 at 0x0 in the section at 0x0: the section ends where a type is expected",
+        ),
+        (
+            8,
+            b"\xff",
+            "bad item 0 at 0x0 in the section at 0x0: 0xff where a canonical function is expected",
+        ),
+        (8, b"\x05\x05", "bytes behind the last item at 0x1 in the section at 0x0"),
+        (0, b"\x01x\xff", ""),
+        (
+            0,
+            b"\x0ecomponent-name\x01\x02\0\x07",
+            "bad subsection of names at 0xf: 0x07 at 0x12, where 0x00 to 0x04 or 0x10 to 0x12 is expected",
+        ),
+        (0, b"\x09producers\x01", "bad producers at 0xb: the bytes end at 0xb"),
+        (12, b"\xff", ""),
+        (u32::MAX, b"\xff", ""),
+    ];
+    for (section, bytes, wanted) in rows {
+        assert_eq!(sentence_of_item(section, bytes), wanted, "{bytes:?}");
+    }
+    for (at, len) in [(EMPTY, 1), (b"a".as_ptr(), usize::MAX)] {
+        let said = written(|to, size| unsafe { wenc_item_fault_text(8, at, len, to, size) });
+        assert_eq!(said, "");
+    }
 }

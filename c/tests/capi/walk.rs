@@ -28,19 +28,19 @@ const COMPONENT: &[u8] = b"\0asm\x0d\0\x01\0\
     \x01\x08\0asm\x01\0\0\0\
     \x09\x03\0\0\x02";
 
-fn begun(bytes: &[u8]) -> Walk {
+pub fn begun(bytes: &[u8]) -> Walk {
     let mut walk = unsafe { mem::zeroed() };
     let status = unsafe { wenc_walk_begin(&mut walk, bytes.as_ptr(), bytes.len()) };
     assert_eq!(status, Status::Done);
     walk
 }
 
-fn next_section(walk: &mut Walk) -> Result<SectionRow, Status> {
+pub fn next_section(walk: &mut Walk) -> Result<SectionRow, Status> {
     let mut row = unsafe { mem::zeroed() };
     done(unsafe { wenc_walk_section(walk, &mut row) }).map(|()| row)
 }
 
-fn next_item(walk: &mut Walk) -> Result<ItemRow, Status> {
+pub fn next_item(walk: &mut Walk) -> Result<ItemRow, Status> {
     let mut row = unsafe { mem::zeroed() };
     done(unsafe { wenc_walk_item(walk, &mut row) }).map(|()| row)
 }
@@ -56,7 +56,7 @@ fn done(status: Status) -> Result<(), Status> {
 }
 
 /// A text that was written, while its bytes exist.
-fn text(text: Text) -> Option<&'static str> {
+pub fn text(text: Text) -> Option<&'static str> {
     if text.at.is_null() {
         assert_eq!(text.len, 0);
         return None;
@@ -92,7 +92,7 @@ fn walked(bytes: &[u8]) -> (Vec<SectionRow>, Vec<ItemRow>, Status) {
 }
 
 /// All items of a component, with what follows the last.
-fn items(bytes: &[u8]) -> (Vec<ItemRow>, Status) {
+pub fn items(bytes: &[u8]) -> (Vec<ItemRow>, Status) {
     let (_, items, status) = walked(bytes);
     (items, status)
 }
