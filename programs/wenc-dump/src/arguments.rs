@@ -66,8 +66,9 @@ impl Options {
     /// Returns a message if there is no such option, or if it can't have this value.
     fn set(&mut self, option: &str, value: &str) -> Result<(), String> {
         let bad = || format!("no value of {option}: {}", Escaped(value.as_ref()));
+        let no_kind = || format!("{}\nit takes {}", bad(), Kind::expected());
         match option {
-            "--section" => self.sections.push(Kind::parse(value).ok_or_else(bad)?),
+            "--section" => self.sections.push(Kind::parse(value).ok_or_else(no_kind)?),
             "--color" => {
                 self.colours = match value {
                     "always" => Some(true),

@@ -17,6 +17,14 @@ pub enum Kind {
 }
 
 impl Kind {
+    /// Returns the words for sections, of components first, with spaces.
+    fn words() -> impl Iterator<Item = &'static str> {
+        let of_components = || (0..=u8::MAX).filter_map(words::section);
+        let of_modules = (0..=u8::MAX).filter_map(words::core_section);
+        of_components()
+            .chain(of_modules.filter(move |word| of_components().all(|one| one != *word)))
+    }
+
     /// Parses a word, with hyphens or spaces, or a decimal id; `None` if there are no such
     /// sections.
     pub fn parse(text: &str) -> Option<Self> {
@@ -24,8 +32,13 @@ impl Kind {
             return Some(Self::Id(id));
         }
         let text = text.replace('-', " ");
-        let words = (0..=u8::MAX).flat_map(|id| [words::section(id), words::core_section(id)]);
-        words.flatten().find(|word| *word == text).map(Self::Word)
+        Self::words().find(|word| *word == text).map(Self::Word)
+    }
+
+    /// Returns what can be parsed, as a list of words with hyphens.
+    pub fn expected() -> String {
+        let words: Vec<String> = Self::words().map(|word| word.replace(' ', "-")).collect();
+        format!("an id, or one of {}", words.join(", "))
     }
 
     /// Returns whether a section with this id and this word is of the kind.

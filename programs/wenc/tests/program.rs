@@ -1,5 +1,8 @@
 //! The program `wenc`: what it prints, its statuses, and what it says on standard error.
 
+#[allow(dead_code, reason = "some is for the other program")]
+#[path = "program/completions.rs"]
+mod completions;
 #[cfg(unix)]
 #[path = "program/manual.rs"]
 mod manual;
@@ -121,4 +124,20 @@ fn reads_that_fail_have_a_status() {
 #[test]
 fn of_the_manual() {
     manual::run(env!("CARGO_BIN_EXE_wenc"), 2);
+}
+
+/// The program's one word is completed, and it has no option.
+#[test]
+fn words_are_completed() {
+    for (shell, options) in completions::options("wenc") {
+        assert!(options.is_empty(), "{shell}");
+    }
+    for (shell, file) in completions::files("wenc") {
+        assert!(file.contains("list"), "{shell}");
+    }
+    completions::are_read_by_shells("wenc");
+    #[cfg(unix)]
+    for (words, found) in [(&["l"][..], &["list"][..]), (&["x"], &[]), (&["list", "l"], &[])] {
+        completions::bash_gives("wenc", words, found);
+    }
 }

@@ -3,6 +3,8 @@
 
 mod causes;
 mod check;
+#[path = "../../../wenc/tests/program/completions.rs"]
+mod completions;
 mod corpus;
 mod custom;
 mod faults;

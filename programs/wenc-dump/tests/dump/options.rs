@@ -2,8 +2,10 @@
 
 use crate::corpus::corpus;
 use crate::{
-    FUNCTION, FUNCTION_TEXT, PROGRAM, component, dump, expect_of, file, file_of, run_into,
+    FUNCTION, FUNCTION_TEXT, PROGRAM, completions, component, dump, expect_of, file, file_of,
+    run_into,
 };
+use std::collections::BTreeSet;
 use std::fs;
 use std::io::{self, BufRead, BufReader, Write};
 use std::path::Path;
@@ -45,12 +47,92 @@ fn bad_values_have_the_usage_printed() {
         (&["--color", "--", "-"], "no value of --color: --"),
         (&["--width=-1", "-"], "no value of --width: -1"),
         (&["--width=", "-"], "no value of --width: "),
-        (&["--section=imports", "-"], "no value of --section: imports"),
-        (&["--section=256", "-"], "no value of --section: 256"),
         (&["-", "--section"], "no value of --section"),
         (&["--json=1", "-"], "no option --json=1"),
     ] {
         expect_run(arguments, b"", (2, "", &format!("wenc-dump: {bad}\n{USAGE}")));
+    }
+}
+
+/// The words for sections, in a message about another one.
+const KINDS: &str = "custom, core-module, core-instance, core-type, component, instance, alias, \
+    type, canonical-function, start, import, export, function, table, memory, global, element, \
+    code, data, data-count, tag";
+
+#[test]
+fn the_words_for_sections_are_told() {
+    for kind in ["imports", "256", "", "core"] {
+        let said = format!(
+            "wenc-dump: no value of --section: {kind}\nit takes an id, or one of {KINDS}\n{USAGE}"
+        );
+        expect_run(&[&format!("--section={kind}"), "-"], b"", (2, "", &said));
+    }
+    let component = component(FUNCTION);
+    for kind in KINDS.split(", ") {
+        assert!(run(&["--section", kind, "-"], &component).status.success(), "{kind}");
+    }
+}
+
+/// The options that `--help` lists, those with a value with a `=`.
+fn listed_options() -> BTreeSet<String> {
+    let help = String::from_utf8(run(&["--help"], b"").stdout).expect("it is text");
+    let lines = help.lines().filter(|line| line.trim_start().starts_with('-'));
+    let words = lines.flat_map(|line| line.split([' ', ',']).filter(|word| word.len() > 1));
+    let options = words.filter(|word| word.starts_with('-'));
+    options.map(|word| word.split_inclusive('=').next().expect("it isn't empty").into()).collect()
+}
+
+/// The program takes the options that it lists, and each shell completes them and their values.
+#[test]
+fn options_are_completed() {
+    let listed = listed_options();
+    assert!(listed.len() == 11 && listed.contains("-x") && listed.contains("--width="));
+    let component = file("completed", FUNCTION);
+    for option in &listed {
+        let value = match option.as_str() {
+            "--section=" => "import",
+            "--color=" => "never",
+            "--width=" => "9",
+            _ => "",
+        };
+        assert!(dump(&[&format!("{option}{value}")], &component).status.success(), "{option}");
+    }
+    // what the program compares arguments with
+    let source = include_str!("../../src/arguments.rs").split('"');
+    let taken: BTreeSet<&str> = source.filter(|text| text.starts_with('-')).collect();
+    let mut named: BTreeSet<&str> = listed.iter().map(|text| text.trim_end_matches('=')).collect();
+    named.extend(["-", "--"]);
+    assert_eq!(taken, named);
+    for (shell, options) in completions::options("wenc-dump") {
+        assert_eq!(options, listed, "{shell}");
+    }
+    for (shell, file) in completions::files("wenc-dump") {
+        let (_, kinds) = file.split_once("custom").expect("the first kind");
+        let (kinds, _) = kinds.split_once("tag").expect("the last kind");
+        let kinds = kinds.split([' ', '\n', '\\']).filter(|word| !word.is_empty());
+        let kinds: Vec<&str> = ["custom"].into_iter().chain(kinds).chain(["tag"]).collect();
+        assert_eq!(kinds.join(", "), KINDS, "{shell}");
+        assert!(file.contains("always auto never"), "{shell}");
+    }
+    completions::are_read_by_shells("wenc-dump");
+}
+
+#[cfg(unix)]
+#[test]
+fn bash_completes_words() {
+    let of_core = ["core-module", "core-instance", "core-type"];
+    for (words, found) in [
+        (&["--c"][..], &["--check", "--color="][..]),
+        (&["--color", "=", "a"], &["always", "auto"]),
+        (&["--color", "="], &["always", "auto", "never"]),
+        (&["x.wasm", "--section", "core-"], &of_core),
+        (&["--section", "=", "imp"], &["import"]),
+        (&["--width", "=", ""], &[]),
+        (&["--section", "import", "-h"], &["-h"]),
+        (&[""], &[]),
+        (&["--", "--c"], &[]),
+    ] {
+        completions::bash_gives("wenc-dump", words, found);
     }
 }
 
