@@ -28,6 +28,7 @@ macro_rules! collections {
         }
 
         impl Clone for $name {
+            #[inline]
             fn clone(&self) -> Self {
                 Self($crate::error::or_panic(self.0.try_clone()))
             }

@@ -22,6 +22,7 @@ macro_rules! eq_by_bytes {
         $(
             /// Values with the same bytes are equal. An unfinished value isn't equal to any.
             impl PartialEq for $name {
+                #[inline]
                 fn eq(&self, other: &Self) -> bool {
                     let of = |value: &Self| $crate::eq_by_bytes::encoded(&value.0);
                     matches!((of(self), of(other)), (Some(one), Some(two)) if one == two)
@@ -30,6 +31,7 @@ macro_rules! eq_by_bytes {
 
             /// Prints the bytes.
             impl core::fmt::Debug for $name {
+                #[inline]
                 fn fmt(&self, f: &mut core::fmt::Formatter<'_>) -> core::fmt::Result {
                     let mut printed = f.debug_struct(stringify!($name));
                     match $crate::eq_by_bytes::encoded(&self.0) {

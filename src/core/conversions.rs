@@ -117,6 +117,7 @@ macro_rules! borrowed {
         impl TryFrom<&$name> for proved::$proved {
             type Error = Error;
 
+            #[inline]
             fn try_from($ty: &$name) -> Result<Self, Error> {
                 $checked
             }
@@ -164,6 +165,7 @@ encode! {
 }
 
 impl From<&proved::FuncType> for FuncType {
+    #[inline]
     fn from(ty: &proved::FuncType) -> Self {
         let [params, results] = [ty.params(), ty.results()].map(|types| types.iter().copied());
         Self::new(params.map(Into::into), results.map(Into::into))
@@ -171,12 +173,14 @@ impl From<&proved::FuncType> for FuncType {
 }
 
 impl From<&proved::StructType> for StructType {
+    #[inline]
     fn from(proved::StructType { fields }: &proved::StructType) -> Self {
         Self { fields: fields.iter().map(|field| (*field).into()).collect() }
     }
 }
 
 impl From<&proved::CompositeType> for CompositeType {
+    #[inline]
     fn from(ty: &proved::CompositeType) -> Self {
         let inner = match ty {
             proved::CompositeType::Func(ty) => CompositeInnerType::Func(ty.into()),
@@ -188,6 +192,7 @@ impl From<&proved::CompositeType> for CompositeType {
 }
 
 impl From<&proved::SubType> for SubType {
+    #[inline]
     fn from(ty: &proved::SubType) -> Self {
         Self {
             is_final: ty.is_final,

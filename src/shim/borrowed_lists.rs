@@ -21,12 +21,14 @@ macro_rules! lists {
         }
 
         impl<'a $(, $member: View<'a> + fmt::Debug)?> fmt::Debug for $name<'a $(, $member)?> {
+            #[inline]
             fn fmt(&self, f: &mut fmt::Formatter<'_>) -> fmt::Result {
                 f.debug_list().entries(*self).finish()
             }
         }
 
         impl<'a $(, $member: View<'a> + PartialEq)?> PartialEq for $name<'a $(, $member)?> {
+            #[inline]
             fn eq(&self, other: &Self) -> bool {
                 self.left == other.left && Iterator::eq(*self, *other)
             }
@@ -35,6 +37,7 @@ macro_rules! lists {
         impl<'a $(, $member: View<'a> + Eq)?> Eq for $name<'a $(, $member)?> {}
 
         impl<'a $(, $member: View<'a> + Hash)?> Hash for $name<'a $(, $member)?> {
+            #[inline]
             fn hash<H: Hasher>(&self, state: &mut H) {
                 self.left.hash(state);
                 self.for_each(|member| member.hash(state));

@@ -105,7 +105,7 @@ impl<T> VecUsing<T> for Vec<T> {
     fn push_using(&mut self, value: T) -> Result<(), AllocFailed<T>> {
         if self.len() == self.capacity() {
             // A larger value would be copied for the call, even where there is room.
-            if size_of::<T>() <= size_of::<usize>() {
+            if const { size_of::<T>() <= size_of::<usize>() } {
                 return push_growing(self, value);
             }
             if grow(self, 1).is_err() {
