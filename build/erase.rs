@@ -16,7 +16,7 @@
 //! - *adds*: the names that are in scope by default, before a file's first item; the derives that
 //!   users of Rust expect of a type ([`known::TREES`], [`known::DERIVED_TOO`]); `Display` and
 //!   `Error` after an enum that derives `Error`; `pub` to `main`; `#[inline]` to the functions in
-//!   [`INLINED`];
+//!   [`INLINED`]; conditions to the items that exist only with a feature ([`with_conditions`]);
 //! - *refuses*: everything else that it doesn't know, such as a module with a body, and a `Clone`
 //!   or a `clone` that the source defines itself. No crate is better than one that does something
 //!   else than was proved.
@@ -30,12 +30,16 @@ mod allocators;
 mod antt;
 #[path = "erase/attributes.rs"]
 mod attributes;
+#[path = "erase/conditions.rs"]
+mod conditions;
 #[path = "erase/known.rs"]
 pub mod known;
 #[path = "erase/lexer.rs"]
 mod lexer;
 
-use known::{ALLOCATING, HANDED, INLINED, KEYWORDS, MAKING, NARROWED, PLAIN};
+#[allow(unused_imports, reason = "the build script has crates of features")]
+pub use conditions::{TREE, WALK, is_owned};
+use known::{ALLOCATING, HANDED, INLINED, KEYWORDS, MAKING, NARROWED, OWNED, PLAIN};
 use lexer::{Kind, Token, tokens};
 use std::borrow::Cow;
 
@@ -62,6 +66,16 @@ pub fn without_ghosts(source: &str) -> Result<String, Refused> {
         }
     }
     Ok(whole)
+}
+
+/// Puts a condition before each item of an erased file that exists only with a feature: the modules
+/// in [`known::PARTIAL`], what names a type in [`known::OWNED`] in its head, and imports of these,
+/// which are parted from the others. What follows an attribute is `end`, a blank or a line end.
+pub fn with_conditions(rust: &str, end: char) -> Result<String, Refused> {
+    let tokens = tokens(rust)?;
+    let mut eraser = Eraser::new("", &[], &tokens);
+    eraser.conditions(end)?;
+    Ok(eraser.finish())
 }
 
 /// A file that is being erased.
@@ -246,9 +260,14 @@ impl<'a> Eraser<'a> {
             ("pub", "(") if self.at(i + 4) == "fn" => self.at(i + 5),
             _ => "",
         };
-        let mut words = (0..i).rev().map(|j| self.at(j));
-        let block = words.find(|word| ["impl", "trait"].contains(word));
-        INLINED.contains(&name) && ["{", "}", ";", ""].contains(&last) && block != Some("trait")
+        let block = (0..i).rev().find(|j| ["impl", "trait"].contains(&self.at(*j)));
+        // The encodings of trees aren't on the way of a call.
+        let is_kept = |j| {
+            let mut head = (j..i).map(|j| self.at(j)).take_while(|word| *word != "{");
+            let is_tree = name == "encode" && head.any(|word| OWNED.contains(&word));
+            self.at(j) == "impl" && !is_tree
+        };
+        INLINED.contains(&name) && ["{", "}", ";", ""].contains(&last) && block.is_none_or(is_kept)
     }
 
     /// Returns the name of the type whose members are in an `impl` or a `struct`, or of the trait.

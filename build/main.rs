@@ -18,8 +18,11 @@ use std::path::{Path, PathBuf};
 const WRITER: [&str; 6] =
     ["wenc_base", "wenc_parts", "wenc_types", "wenc_canon", "wenc_sections", "wenc_builder"];
 
-/// The crates of the feature `reader`.
-const READER: [&str; 5] = ["wenc_read", "wenc_view", "wenc_decode", "wenc_list", "wasm_encoder"];
+/// The crates of the feature `walk`.
+const WALK: [&str; 3] = ["wenc_read", "wenc_view", "wenc_list"];
+
+/// The crates of the feature `tree`.
+const TREE: [&str; 2] = ["wenc_decode", "wasm_encoder"];
 
 /// The crates of the programs.
 const PROGRAMS: [&str; 2] = ["wenc", "rebuild"];
@@ -43,7 +46,7 @@ fn main() {
     match words.iter().map(String::as_str).collect::<Vec<_>>()[..] {
         [] => build(),
         ["--code", folder] => write_code(sources, Path::new(folder)),
-        [folder] => erase_all(sources, Path::new(folder), |name, known, text| {
+        [folder] => erase_all(sources, Path::new(folder), '\n', |name, known, text| {
             erase::erase(name, known, text).map(|erased| tidy::tidy(text, &erased))
         }),
         _ => panic!("usage: erase [--code] FOLDER"),
@@ -67,32 +70,78 @@ fn build() {
         println!("cargo::rustc-cfg=script");
     }
     let out = PathBuf::from(variable("OUT_DIR")).join("proved");
-    erase_all(&top.join("crates"), &out, erase::erase);
+    erase_all(&top.join("crates"), &out, ' ', erase::erase);
 }
 
 /// Returns the crates, each group with the condition under which it is compiled.
-fn parts() -> [(&'static [&'static str], &'static str); 4] {
+fn parts() -> [(&'static [&'static str], &'static str); 5] {
     [
         (&WRITER, ""),
-        (&READER, "#[cfg(any(feature = \"reader\", script, test))]\n"),
-        (&PROGRAMS, "#[cfg(any(script, test))]\n"),
-        (&TESTS, "#[cfg(all(test, not(script)))]\n"),
+        (&WALK, erase::WALK),
+        (&TREE, erase::TREE),
+        (&PROGRAMS, "any(script, test)"),
+        (&TESTS, "all(test, not(script))"),
     ]
 }
 
 /// Makes another text of a source, given the name of its crate, and all crates.
 type Make = fn(&str, &[&str], &str) -> Result<String, erase::Refused>;
 
-/// Writes the code of all crates of a folder into another folder.
-fn write_code(sources: &Path, out: &Path) {
-    for name in parts().iter().flat_map(|(names, _)| *names) {
-        let folders = (&*sources.join(name).join("src"), &*out.join(name).join("src"));
-        make_folder((name, &[]), folders, "rt", |_, _, text| erase::without_ghosts(text));
+/// What becomes of the files of a crate.
+struct Making<'a> {
+    /// The name of the crate, and all crates.
+    names: (&'a str, &'a [&'a str]),
+    extension: &'static str,
+    make: Make,
+    /// What follows a condition, if items have some that their crate doesn't have.
+    end: Option<char>,
+}
+
+impl Making<'_> {
+    /// Makes a file of each file of a folder and its subfolders.
+    fn folder(&self, from: &Path, to: &Path) {
+        let made = fs::create_dir_all(to);
+        made.unwrap_or_else(|error| panic!("{}: {error}", to.display()));
+        let entries = fs::read_dir(from);
+        for entry in entries.unwrap_or_else(|error| panic!("{}: {error}", from.display())) {
+            let path = entry.expect("the folder can be read").path();
+            let target = to.join(path.file_name().expect("it has a name"));
+            if path.is_dir() {
+                self.folder(&path, &target);
+            } else if path.extension().is_some_and(|extension| extension == "rt") {
+                let text = fs::read_to_string(&path);
+                let text = text.unwrap_or_else(|error| panic!("{}: {error}", path.display()));
+                match self.made(&path, &text) {
+                    Ok(made) => write(&target.with_extension(self.extension), &made),
+                    Err((line, why)) => panic!("{}:{line}: {why}", path.display()),
+                }
+            }
+        }
+    }
+
+    /// Returns what a file with this name becomes.
+    fn made(&self, file: &Path, text: &str) -> Result<String, erase::Refused> {
+        let (name, known) = self.names;
+        let made = (self.make)(name, known, text)?;
+        let module = file.file_stem().and_then(|stem| stem.to_str()).unwrap_or("");
+        match self.end.filter(|_| !erase::is_owned(module)) {
+            Some(end) => erase::with_conditions(&made, end),
+            None => Ok(made),
+        }
     }
 }
 
-/// Erases all crates of a folder into another folder.
-fn erase_all(sources: &Path, out: &Path, make: Make) {
+/// Writes the code of all crates of a folder into another folder.
+fn write_code(sources: &Path, out: &Path) {
+    for name in parts().iter().flat_map(|(names, _)| *names) {
+        let make: Make = |_, _, text| erase::without_ghosts(text);
+        let making = Making { names: (name, &[]), extension: "rt", make, end: None };
+        making.folder(&sources.join(name).join("src"), &out.join(name).join("src"));
+    }
+}
+
+/// Erases all crates of a folder into another folder. `end` is what follows a condition.
+fn erase_all(sources: &Path, out: &Path, end: char, make: Make) {
     let parts = parts();
     let known: Vec<&str> =
         parts.iter().flat_map(|(names, _)| *names).chain(&BY_HAND).copied().collect();
@@ -101,10 +150,15 @@ fn erase_all(sources: &Path, out: &Path, make: Make) {
     for (names, condition) in parts {
         for name in names {
             let source = sources.join(name).join("src");
-            make_folder((name, &known), (&source, &out.join(name)), "rs", make);
+            let end = Some(end).filter(|_| ["", erase::WALK].contains(&condition));
+            Making { names: (name, &known), extension: "rs", make, end }
+                .folder(&source, &out.join(name));
             let root = if source.join("lib.rt").exists() { "lib.rs" } else { "main.rs" };
             let path = format!("#[path = \"{name}/{root}\"]\n");
-            declared += &format!("{condition}{ALLOWED}{path}pub mod {name};\n");
+            if !condition.is_empty() {
+                declared += &format!("#[cfg({condition})]\n");
+            }
+            declared += &format!("{ALLOWED}{path}pub mod {name};\n");
         }
     }
     write(&out.join("crates.rs"), &declared);
@@ -112,32 +166,6 @@ fn erase_all(sources: &Path, out: &Path, make: Make) {
 
 fn variable(name: &str) -> String {
     std::env::var(name).unwrap_or_else(|_| panic!("cargo sets {name}"))
-}
-
-/// Makes a file, with this extension, of each file of a folder and its subfolders.
-fn make_folder(
-    (name, known): (&str, &[&str]),
-    (from, to): (&Path, &Path),
-    extension: &str,
-    make: Make,
-) {
-    let made = fs::create_dir_all(to);
-    made.unwrap_or_else(|error| panic!("{}: {error}", to.display()));
-    let entries = fs::read_dir(from);
-    for entry in entries.unwrap_or_else(|error| panic!("{}: {error}", from.display())) {
-        let path = entry.expect("the folder can be read").path();
-        let target = to.join(path.file_name().expect("it has a name"));
-        if path.is_dir() {
-            make_folder((name, known), (&path, &target), extension, make);
-        } else if path.extension().is_some_and(|extension| extension == "rt") {
-            let text = fs::read_to_string(&path);
-            let text = text.unwrap_or_else(|error| panic!("{}: {error}", path.display()));
-            match make(name, known, &text) {
-                Ok(made) => write(&target.with_extension(extension), &made),
-                Err((line, why)) => panic!("{}:{line}: {why}", path.display()),
-            }
-        }
-    }
 }
 
 fn write(path: &Path, text: &str) {

@@ -111,6 +111,8 @@ impl Page {
         let (of, head, arms) = parts.expect("it is as the eraser writes it");
         self.blank();
         self.push("", &format!("impl ::core::fmt::Display{of}{{"));
+        let head = head.trim_start().trim_start_matches(INLINE);
+        self.push("    ", INLINE);
         self.push("    ", &format!("{}{{", head.trim_start()));
         self.push("        ", "match self {");
         for arm in arms.split_inclusive("),") {

@@ -2,7 +2,7 @@
 //! what the second does:
 //!
 //! ```sh
-//! cargo run -r --features reader --example compose -- PROVIDER CONSUMER OUT
+//! cargo run -r --features walk --example compose -- PROVIDER CONSUMER OUT
 //! ```
 //!
 //! The provider imports nothing, and exports all that the consumer imports, under the same names.

@@ -1,7 +1,7 @@
 //! Makes one component with the items of two:
 //!
 //! ```sh
-//! cargo run -r --features reader --example merge -- ONE OTHER OUT
+//! cargo run -r --features tree --example merge -- ONE OTHER OUT
 //! ```
 //!
 //! The items of the second follow those of the first, and each index that they contain is changed

@@ -1,7 +1,7 @@
 //! Renames an import of a component:
 //!
 //! ```sh
-//! cargo run -r --features reader --example rename -- COMPONENT OLD NEW OUT
+//! cargo run -r --features tree --example rename -- COMPONENT OLD NEW OUT
 //! ```
 //!
 //! All else stays the same byte for byte, including padded numbers: only the import, and the size

@@ -1,7 +1,7 @@
 //! Removes the custom sections of a component, such as debug names and producers:
 //!
 //! ```sh
-//! cargo run -r --features reader --example strip -- COMPONENT OUT
+//! cargo run -r --features walk --example strip -- COMPONENT OUT
 //! ```
 //!
 //! Nested components lose theirs too; all else stays the same byte for byte. `Sections` reads the

@@ -9,7 +9,7 @@ use core::ops::Range;
 /// An item of a core module, which borrows from the module (WebAssembly 3.0, binary format, "Import
 /// Section", "Export Section" and "Start Section").
 ///
-/// Needs the feature `reader`.
+/// Needs the feature `walk`.
 #[derive(Clone, Copy, Debug, PartialEq, Eq)]
 pub enum CoreItem<'a> {
     /// An import.
@@ -118,7 +118,7 @@ impl<'a> CoreSection<'a> {
 /// An iterator over the items of a section of a core module, each with its byte offsets in the
 /// module. It ends after an error.
 ///
-/// Needs the feature `reader`.
+/// Needs the feature `walk`.
 #[derive(Clone, Debug)]
 pub struct CoreItems<'a> {
     /// The kind of the section; `None` if none of it is read, and after an error.

@@ -9,7 +9,7 @@ use core::ops::Range;
 
 /// A section of a core module (WebAssembly 3.0, binary format, "Sections").
 ///
-/// Needs the feature `reader`.
+/// Needs the feature `walk`.
 #[derive(Clone, Debug, PartialEq, Eq)]
 pub struct CoreSection<'a> {
     /// Its id, from 0 to 255.
@@ -32,7 +32,7 @@ impl CoreSection<'_> {
 /// The sections of a core module, in order (WebAssembly 3.0, binary format, "Modules"). Their
 /// contents aren't read, except for the names of custom sections, and their order isn't checked.
 ///
-/// Needs the feature `reader`.
+/// Needs the feature `walk`.
 ///
 /// The iterator ends after an error.
 ///
@@ -134,7 +134,7 @@ impl<'a> Iterator for CoreSections<'a> {
 
 /// Why a core module can't be read.
 ///
-/// Needs the feature `reader`.
+/// Needs the feature `walk`.
 #[derive(Clone, Copy, Debug, PartialEq, Eq, Hash)]
 #[non_exhaustive]
 pub enum ModuleFault {

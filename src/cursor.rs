@@ -5,7 +5,9 @@ mod nested;
 mod out_of_range;
 
 use crate::proved::wenc_list::{self as proved, SectionRefusal};
-use crate::tree::{ItemTree, Space};
+#[cfg(feature = "tree")]
+use crate::tree::ItemTree;
+use crate::tree::Space;
 use crate::twins::twins;
 use crate::view::{ItemView, NameView};
 use crate::{
@@ -16,13 +18,15 @@ use core::fmt;
 use core::iter;
 use core::ops::Range;
 
-pub use items::{Items, Trees};
+pub use items::Items;
+#[cfg(feature = "tree")]
+pub use items::Trees;
 pub use nested::NestedSections;
 pub use out_of_range::OutOfRange;
 
 /// An iterator over the sections of a component.
 ///
-/// Needs the feature `reader`.
+/// Needs the feature `walk`.
 ///
 /// Sections and items are read as [`list`](crate::list) reads them, but one at a time. Each comes
 /// with its range of byte offsets in the component. [`items`](Self::items) borrow from the
@@ -137,6 +141,9 @@ impl<'a> Sections<'a> {
     }
 
     /// Returns the items as [`items`](Self::items) does, but owned.
+    ///
+    /// Needs the feature `tree`.
+    #[cfg(feature = "tree")]
     pub fn trees(self) -> impl Iterator<Item = Result<(Range<usize>, ItemTree), ListFault>> + 'a {
         self.each_of(|_| true, |section| section.trees())
     }
@@ -178,10 +185,16 @@ impl<'a> Sections<'a> {
     ///
     /// The first fault of a section or of an item.
     pub fn index_count(self, space: Space) -> Result<u128, ListFault> {
-        self.items().try_fold(0, |count, item| match item?.1.defined_indices() {
-            Some((of, more)) if of == space => Ok(count + u128::from(more)),
-            _ => Ok(count),
-        })
+        let mut count = 0;
+        for section in self {
+            let mut items = section?.items();
+            while let Some(item) = items.next_apart() {
+                if let Some((_, more)) = item?.1.defined_indices().filter(|(of, _)| *of == space) {
+                    count += u128::from(more);
+                }
+            }
+        }
+        Ok(count)
     }
 
     twins! {
@@ -303,7 +316,7 @@ impl<'a> Iterator for Sections<'a> {
 /// A section of a component. Appended to another component, as a
 /// [`ComponentSection`](crate::ComponentSection), it is copied byte for byte.
 ///
-/// Needs the feature `reader`.
+/// Needs the feature `walk`.
 ///
 /// ```
 /// use wenc::{Component, ComponentSectionId, Sections};
@@ -374,6 +387,9 @@ impl<'a> SectionReader<'a> {
     }
 
     /// Returns the section's items, owned.
+    ///
+    /// Needs the feature `tree`.
+    #[cfg(feature = "tree")]
     pub fn trees(&self) -> Trees<'a> {
         Trees(self.items())
     }

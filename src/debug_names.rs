@@ -5,7 +5,9 @@ use crate::proved::wenc_sections::names::NAMES_LABEL;
 use crate::proved::wenc_view::text_of;
 use crate::shim::alloc::{AllocError, Global};
 use crate::shim::string::StringUsing;
-use crate::tree::{ItemTree, Space};
+#[cfg(feature = "tree")]
+use crate::tree::ItemTree;
+use crate::tree::Space;
 use crate::twins::twins;
 use crate::{Cause, ComponentNameSection, ComponentSectionId, Error, NameMap, SectionItem};
 use alloc::string::String;
@@ -21,7 +23,7 @@ mod reader;
 /// Section"][names]), which the custom section `component-name` contains. If that names something
 /// twice, the first name is kept.
 ///
-/// Needs the feature `reader`.
+/// Needs the feature `walk`.
 ///
 /// [names]: https://github.com/WebAssembly/component-model/blob/main/design/mvp/Binary.md#name-section
 ///
@@ -48,7 +50,7 @@ mod reader;
 /// );
 /// # Ok::<(), wenc::ListFault>(())
 /// ```
-#[derive(Clone, Debug, Default, PartialEq, Eq)]
+#[derive(Clone, Debug, PartialEq, Eq)]
 pub struct DebugNames {
     component: Option<String>,
     /// The names of items, by the number of their space.
@@ -61,10 +63,11 @@ impl DebugNames {
 
     /// Creates an empty set of debug names.
     pub fn new() -> Self {
-        Self::default()
+        Self { component: None, items: [const { ByIndex::new() }; 13] }
     }
 
     /// Reads the names in these items, as far as they can be read.
+    #[cfg(feature = "tree")]
     pub(crate) fn of<'a>(items: impl Iterator<Item = &'a ItemTree>) -> Result<Self, Error> {
         let mut names = Self::new();
         for item in items {
@@ -164,6 +167,12 @@ impl DebugNames {
     }
 }
 
+impl Default for DebugNames {
+    fn default() -> Self {
+        Self::new()
+    }
+}
+
 /// Ignores names that can't be read, which are no fault of the component.
 fn unless_bad(read: Result<(), NamesFault>) -> Result<(), Error> {
     match read {
@@ -179,6 +188,7 @@ fn unless_bad(read: Result<(), NamesFault>) -> Result<(), Error> {
 ///
 /// Panics if an allocation fails or the section is larger than 4294967295 bytes.
 impl From<&DebugNames> for ComponentNameSection {
+    #[inline]
     fn from(names: &DebugNames) -> Self {
         let mut section = Self::new();
         if let Some(name) = names.component() {
@@ -197,7 +207,7 @@ impl From<&DebugNames> for ComponentNameSection {
 
 /// Why debug names can't be read.
 ///
-/// Needs the feature `reader`.
+/// Needs the feature `walk`.
 #[derive(Clone, Copy, Debug, PartialEq, Eq, Hash)]
 #[non_exhaustive]
 pub enum NamesFault {

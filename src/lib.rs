@@ -29,12 +29,12 @@
 //! );
 //! ```
 //!
-//! With the feature `reader`, [`list`] reads a component into values of [`tree`], from which
-//! `tree::build` builds it again. [`Sections`] reads it section by section, and item by item into
-//! values of [`view`], without allocating. Each section can be written again byte for byte
-//! ([`SectionReader`]) or item by item ([`ItemSection`]). To renumber what was read,
-//! `ItemTree::indices_mut` visits each index that an item contains; `Sections::out_of_range` finds
-//! those that are out of range.
+//! With the feature `walk`, [`Sections`] reads a component section by section, and item by item into
+//! values of [`view`], without allocating; a section can be written again byte for byte
+//! ([`SectionReader`]), and `Sections::out_of_range` finds indices that are out of range. With the
+//! feature `tree`, [`list`] reads a component into values of [`tree`], from which `tree::build`
+//! builds it again, and a section can be written item by item ([`ItemSection`]). To renumber what
+//! was read, `ItemTree::indices_mut` visits each index that an item contains.
 //!
 //! # What is proved
 //!
@@ -79,22 +79,28 @@
 //!
 //! # Features
 //!
-//! The crate is `no_std` and needs `alloc`. It has one feature, which is off by default:
+//! The crate is `no_std` and needs `alloc`. Its features are off by default, since each makes it
+//! take longer to compile:
 //!
-//! - `reader` adds the reading of components, and items as values: [`list`], [`Sections`],
-//!   [`CoreSections`], [`DebugNames`], [`ProducersReader`], [`ItemSection`], [`tree`] and [`view`].
-//!   The crate then takes longer to compile.
-// Without the feature there is nothing to link to but its description.
-#![cfg_attr(not(feature = "reader"), doc = "")]
-#![cfg_attr(not(feature = "reader"), doc = "[`list`]: #features")]
-#![cfg_attr(not(feature = "reader"), doc = "[`Sections`]: #features")]
-#![cfg_attr(not(feature = "reader"), doc = "[`SectionReader`]: #features")]
-#![cfg_attr(not(feature = "reader"), doc = "[`ItemSection`]: #features")]
-#![cfg_attr(not(feature = "reader"), doc = "[`CoreSections`]: #features")]
-#![cfg_attr(not(feature = "reader"), doc = "[`DebugNames`]: #features")]
-#![cfg_attr(not(feature = "reader"), doc = "[`ProducersReader`]: #features")]
-#![cfg_attr(not(feature = "reader"), doc = "[`tree`]: #features")]
-#![cfg_attr(not(feature = "reader"), doc = "[`view`]: #features")]
+//! - `walk` adds the reading of components, whose items borrow from its bytes: [`Sections`],
+//!   [`CoreSections`], [`DebugNames`], [`ProducersReader`], [`view`], and of [`tree`] what is of
+//!   borrowed and of owned items: `Node`, `Space`, `Scope`, `IndexCounts` and core types.
+//! - `tree` adds items that own what they contain, to `walk`: [`list`], [`ItemSection`], the other
+//!   types of [`tree`], and the calls that take or return them.
+//! - `reader` is the same as `tree`.
+// Without the features there is nothing to link to but their description.
+#![cfg_attr(not(feature = "tree"), doc = "")]
+#![cfg_attr(not(feature = "tree"), doc = "[`list`]: #features")]
+#![cfg_attr(not(feature = "tree"), doc = "[`ItemSection`]: #features")]
+#![cfg_attr(not(feature = "walk"), doc = "[`Sections`]: #features")]
+#![cfg_attr(not(feature = "walk"), doc = "[`SectionReader`]: #features")]
+#![cfg_attr(not(feature = "walk"), doc = "[`CoreSections`]: #features")]
+#![cfg_attr(not(feature = "walk"), doc = "[`DebugNames`]: #features")]
+#![cfg_attr(not(feature = "walk"), doc = "[`ProducersReader`]: #features")]
+#![cfg_attr(not(feature = "walk"), doc = "[`tree`]: #features")]
+#![cfg_attr(not(feature = "walk"), doc = "[`view`]: #features")]
+// Documentation of what walks links to what owns.
+#![cfg_attr(not(feature = "tree"), allow(rustdoc::broken_intra_doc_links))]
 #![no_std]
 #![forbid(unsafe_code)]
 #![deny(missing_docs)]
@@ -109,56 +115,62 @@ mod adapters;
 mod collections;
 mod component;
 mod core;
-#[cfg(feature = "reader")]
+#[cfg(feature = "walk")]
 mod core_items;
-#[cfg(feature = "reader")]
+#[cfg(feature = "walk")]
 mod core_sections;
-#[cfg(feature = "reader")]
+#[cfg(feature = "walk")]
 mod cursor;
-#[cfg(feature = "reader")]
+#[cfg(feature = "walk")]
 mod debug_names;
 mod encode;
 mod encoders;
 mod eq_by_bytes;
 mod error;
-#[cfg(feature = "reader")]
+#[cfg(feature = "walk")]
 mod list;
-#[cfg(feature = "reader")]
+#[cfg(feature = "walk")]
 mod producers;
 mod proved;
 mod raw;
-#[cfg(feature = "reader")]
+#[cfg(feature = "walk")]
 mod rewrite;
-// Without `reader`, parts of it aren't used.
-#[cfg_attr(not(feature = "reader"), allow(dead_code, unused_imports))]
+// Without `tree`, parts of it aren't used.
+#[cfg_attr(not(feature = "tree"), allow(dead_code, unused_imports))]
 // It reserves first what it then calls.
 #[allow(clippy::disallowed_methods)]
 mod shim;
-#[cfg(feature = "reader")]
+#[cfg(feature = "walk")]
 pub mod tree;
 mod twins;
-#[cfg(feature = "reader")]
+#[cfg(feature = "walk")]
 pub mod view;
 
 pub use self::core::*;
 pub use component::*;
-#[cfg(feature = "reader")]
+#[cfg(feature = "walk")]
 pub use core_items::{CoreItem, CoreItems};
-#[cfg(feature = "reader")]
+#[cfg(feature = "walk")]
 pub use core_sections::{CoreSection, CoreSections, ModuleFault};
-#[cfg(feature = "reader")]
-pub use cursor::{Items, NestedSections, OutOfRange, SectionReader, Sections, Trees};
-#[cfg(feature = "reader")]
+#[cfg(feature = "tree")]
+pub use cursor::Trees;
+#[cfg(feature = "walk")]
+pub use cursor::{Items, NestedSections, OutOfRange, SectionReader, Sections};
+#[cfg(feature = "walk")]
 pub use debug_names::{DebugName, DebugNames, NamesFault, NamesReader};
 pub use encode::{Encode, encoding_size};
 pub use error::{Error, Unsupported};
-#[cfg(feature = "reader")]
-pub use list::{Bytes, Cause, Definitions, Found, ListFault, ListedSection, Listing, Unread, list};
-#[cfg(feature = "reader")]
+#[cfg(feature = "walk")]
+pub use list::{Bytes, Cause, Found, ListFault, Unread};
+#[cfg(feature = "tree")]
+pub use list::{Definitions, ListedSection, Listing, list};
+#[cfg(feature = "walk")]
 pub use producers::{Producer, ProducersFault, ProducersReader};
 pub use raw::RawSection;
-#[cfg(feature = "reader")]
-pub use rewrite::{ItemSection, SectionItem};
+#[cfg(feature = "tree")]
+pub use rewrite::ItemSection;
+#[cfg(feature = "walk")]
+pub use rewrite::SectionItem;
 
 /// What was proved of the sources in `crates/`: by which logic and which kits, the number of
 /// functions with a proof (without those of a `derive`), the number of edits of the code that the

@@ -1,28 +1,33 @@
 //! Listing a component.
 
 use crate::ComponentSectionId;
-use crate::proved::wasm_encoder as proved;
-use crate::proved::wenc_list::{ListRefusal, SectionItems, SectionRefusal, list_or_refusal};
+#[cfg(feature = "tree")]
+use crate::proved::wenc_list::{ListRefusal, list_or_refusal};
+use crate::proved::wenc_list::{SectionItems, SectionRefusal};
 use crate::proved::wenc_read::NestedRefusal;
+#[cfg(feature = "tree")]
 use crate::shim::alloc::Global;
 use core::fmt;
 use found::item_of;
 
+#[cfg(feature = "tree")]
+pub use crate::proved::wenc_list::{ListedSection, Listing};
 pub use cause::{Bytes, Cause};
 pub use found::Found;
-pub use proved::{ListedSection, Listing};
+#[cfg(feature = "tree")]
 pub use queries::Definitions;
 pub use unread::Unread;
 
 mod cause;
 mod found;
+#[cfg(feature = "tree")]
 mod queries;
 mod unread;
 
 /// Why a component can't be listed. A place is a byte offset in the component; for a section, the
 /// offset of its id.
 ///
-/// Needs the feature `reader`.
+/// Needs the feature `walk`.
 ///
 /// ```
 /// use wenc::{Cause, ComponentSectionId, ListFault, Unread, list};
@@ -86,6 +91,7 @@ pub enum ListFault {
 
 impl ListFault {
     /// Converts the proved error of these bytes.
+    #[cfg(feature = "tree")]
     fn new(bytes: &[u8], refusal: ListRefusal<'_>) -> Self {
         match refusal {
             ListRefusal::Memory => Self::NoMemory,
@@ -228,7 +234,7 @@ impl core::error::Error for ListFault {}
 /// Definitions"][definitions]). The bytes have at most one reading, and this is it. Core modules
 /// and nested components are returned as bytes, which aren't read.
 ///
-/// Needs the feature `reader`.
+/// Needs the feature `tree`.
 ///
 /// Besides what this crate encodes, it accepts numbers that are padded to at most 5 bytes (10 for
 /// 64-bit ones), padded type indices among value types, a nullable abstract reference as its heap
@@ -267,6 +273,7 @@ impl core::error::Error for ListFault {}
 /// assert_eq!(list(&bytes[..13]), Err(ListFault::BadSection { place: 8, cause }));
 /// # Ok::<(), ListFault>(())
 /// ```
+#[cfg(feature = "tree")]
 pub fn list(bytes: &[u8]) -> Result<Listing, ListFault> {
     list_or_refusal(Global, bytes).map_err(|refusal| ListFault::new(bytes, refusal))
 }

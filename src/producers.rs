@@ -7,7 +7,7 @@ use core::fmt;
 
 /// A tool that produced a module or a component.
 ///
-/// Needs the feature `reader`.
+/// Needs the feature `walk`.
 #[derive(Clone, Copy, Debug, PartialEq, Eq, Hash)]
 pub struct Producer<'a> {
     /// The field that lists it, such as `processed-by`.
@@ -21,7 +21,7 @@ pub struct Producer<'a> {
 /// An iterator over the tools that a custom section `producers` lists ([tool conventions,
 /// "Producers Section"][producers]). It ends after an error.
 ///
-/// Needs the feature `reader`.
+/// Needs the feature `walk`.
 ///
 /// [producers]: https://github.com/WebAssembly/tool-conventions/blob/main/ProducersSection.md
 ///
@@ -96,7 +96,7 @@ impl fmt::Debug for ProducersReader<'_> {
 
 /// Why producers can't be read.
 ///
-/// Needs the feature `reader`.
+/// Needs the feature `walk`.
 #[derive(Clone, Copy, Debug, PartialEq, Eq, Hash)]
 pub struct ProducersFault {
     /// The byte offset of the first field or tool that can't be read, or of the bytes after the

@@ -10,8 +10,8 @@ pub use crate::shim::hex;
 #[path = "../tests/proved/mod.rs"]
 pub(crate) mod tests;
 
-/// The items of `wasm_encoder` that the facade uses, without those that read.
-#[cfg(not(any(feature = "reader", test)))]
+/// The items of `wasm_encoder` that the facade uses, without those that own.
+#[cfg(not(any(feature = "tree", test)))]
 pub mod wasm_encoder {
     pub use super::wenc_base::*;
     pub use super::wenc_builder::*;

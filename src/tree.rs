@@ -1,6 +1,8 @@
 //! Items of a component as values, which [`list`](crate::list) returns and [`build`] takes.
 //!
-//! Needs the feature `reader`. Import what is used, or `tree` itself, but not `tree::*`, which
+//! Needs the feature `tree`, but for what borrowed items have, too, which needs `walk`: [`Node`] and
+//! what it contains, [`Space`], [`Scope`], [`IndexCounts`], [`Scopes`], [`CanonOf`], and core types
+//! other than those with lists. Import what is used, or `tree` itself, but not `tree::*`, which
 //! would replace std's `Box` by the [`Box`] of this module.
 //!
 //! They own their strings and lists in std's `String` and `Vec`.
@@ -51,73 +53,52 @@
 //! # Ok::<(), wenc::Error>(())
 //! ```
 
+#[cfg(feature = "tree")]
+mod build;
+#[cfg(feature = "tree")]
 mod collections;
+#[cfg(feature = "tree")]
 mod conversions;
+#[cfg(feature = "tree")]
 mod encode;
 mod fields;
 mod indices;
 mod node;
 mod space;
 
-use crate::Error;
 use crate::proved::wasm_encoder as proved;
+#[cfg(feature = "tree")]
 use crate::shim::alloc::{AllocError, Global};
-use crate::shim::iter::CollectUsing;
-use alloc::vec::Vec;
 
+#[cfg(feature = "tree")]
 pub use crate::shim::boxed::Box;
+#[cfg(feature = "tree")]
+pub use build::{Built, build};
 pub use fields::{IndexCounts, Scopes};
-pub use indices::{IndexUse, OuterFault, Scope};
+pub use indices::Scope;
+#[cfg(feature = "tree")]
+pub use indices::{IndexUse, OuterFault};
 pub use node::{Child, Fields, List, Node, UsedIndex};
 // The types of the same names in the crate's root include what proposals add.
-pub use proved::{
-    AbstractHeapType as CoreAbstractHeapType, ArrayType as CoreArrayType,
-    CompositeType as CoreCompositeType, EntityType as CoreEntityType, FieldType as CoreFieldType,
-    FuncType as CoreFuncType, GlobalType as CoreGlobalType, HeapType as CoreHeapType,
-    MemoryType as CoreMemoryType, RefType as CoreRefType, StorageType as CoreStorageType,
-    StructType as CoreStructType, SubType as CoreSubType, TableType as CoreTableType,
-    TagType as CoreTagType, ValType as CoreValType,
-};
+#[cfg(feature = "tree")]
+use proved::ValType;
+#[cfg(feature = "tree")]
 use proved::{
     AbstractHeapType, ArrayType, CompositeType, EntityType, FieldType, FuncType, GlobalType,
-    HeapType, MemoryType, RefType, StorageType, StructType, SubType, TableType, TagType, ValType,
+    HeapType, MemoryType, RefType, StorageType, StructType, SubType, TableType, TagType,
 };
 pub use proved::{
-    AliasTree, CanonOf, CanonTree, CaseTree, Command, ComponentDecl, CoreInstanceTree,
-    CoreTypeTree, DefinedTree, GroupTree, InstanceDecl, InstanceTree, ItemTree, ModuleDecl,
-    NameOptions, NameTree, Space, TypeTree,
+    AbstractHeapType as CoreAbstractHeapType, ArrayType as CoreArrayType,
+    EntityType as CoreEntityType, FieldType as CoreFieldType, GlobalType as CoreGlobalType,
+    HeapType as CoreHeapType, MemoryType as CoreMemoryType, RefType as CoreRefType,
+    StorageType as CoreStorageType, TableType as CoreTableType, TagType as CoreTagType,
+    ValType as CoreValType,
 };
-
-/// A component built from commands, and the index that each command returned.
-#[derive(Clone, Debug, PartialEq, Eq, Hash)]
-pub struct Built {
-    /// For each command, the index of its item, or its error. Custom sections and names have no
-    /// index.
-    pub answers: Vec<Result<Option<u32>, Error>>,
-    /// The bytes of the component.
-    pub bytes: Vec<u8>,
-}
-
-/// Runs commands in order on a new builder, and finishes it. A command that fails adds nothing, and
-/// the commands after it still run.
-///
-/// # Errors
-///
-/// [`NoMemory`](Error::NoMemory) for the builder or the results, or the error of a type that can't
-/// be encoded; no further command runs then.
-///
-/// ```
-/// use wenc::tree::{Command, build};
-///
-/// let name = String::from("x");
-/// let built = build(&[Command::AppendNames, Command::Custom { name, data: vec![7] }])?;
-/// assert_eq!(built.answers, [Ok(None), Ok(None)]);
-/// assert_eq!(built.bytes, b"\0asm\x0d\0\x01\0\0\x03\x01x\x07");
-/// # Ok::<(), wenc::Error>(())
-/// ```
-pub fn build(commands: &[Command]) -> Result<Built, Error> {
-    let proved::Built { answers, bytes } = proved::build(Global, commands)?;
-    let answers = answers.into_iter().map(|result| result.map_err(Error::from));
-    let answers = answers.collect_using(Global).map_err(|_| Error::NoMemory)?;
-    Ok(Built { answers, bytes })
-}
+#[cfg(feature = "tree")]
+pub use proved::{
+    AliasTree, CanonTree, CaseTree, Command, ComponentDecl, CompositeType as CoreCompositeType,
+    CoreInstanceTree, CoreTypeTree, DefinedTree, FuncType as CoreFuncType, GroupTree, InstanceDecl,
+    InstanceTree, ItemTree, ModuleDecl, NameOptions, NameTree, StructType as CoreStructType,
+    SubType as CoreSubType, TypeTree,
+};
+pub use proved::{CanonOf, Space};

@@ -2,7 +2,8 @@
 
 /// Defines each call twice: with upstream's name, where it panics on an error, and with `try_` in
 /// front, where it returns the error. The body is that of the latter. Without a body, the proved
-/// call of the same name is made, with the same arguments or those after `as`.
+/// call of the same name is made, with the same arguments or those after `as`. What documents each
+/// call by its name is expanded for rustdoc alone.
 macro_rules! twins {
     () => {};
     (
@@ -64,9 +65,9 @@ macro_rules! twins {
         ///
         /// # Panics
         ///
-        #[doc = concat!(
+        #[cfg_attr(doc, doc = concat!(
             "Panics if [`", stringify!($tried), "`](Self::", stringify!($tried), ") fails."
-        )]
+        ))]
         #[inline]
         #[track_caller]
         pub fn $name $($generics)* ($($receiver)*, $($params)*) -> $output
@@ -75,10 +76,10 @@ macro_rules! twins {
             $crate::error::or_panic($self.$tried($($args)*))
         }
 
-        #[doc = concat!(
+        #[cfg_attr(doc, doc = concat!(
             "Does what [`", stringify!($name), "`](Self::", stringify!($name), ") does, but \
              returns an error instead of panicking."
-        )]
+        ))]
         ///
         /// # Errors
         ///

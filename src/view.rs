@@ -1,6 +1,6 @@
 //! Values that borrow from the bytes of a component.
 //!
-//! Needs the feature `reader`.
+//! Needs the feature `walk`.
 //!
 //! A type `..View<'a>` borrows its strings and its lists from the bytes that were read, and is
 //! `Copy`. The type of the same name in [`tree`](crate::tree), mostly a `..Tree`, owns them, and
@@ -15,7 +15,7 @@
 //! allocates. A member that is requested twice is read twice, and the declarations of a nested type
 //! once more for each type around it.
 //!
-//! [`to_tree`](ItemView::to_tree) copies a value; [`node`](ItemView::node) has its fields and its
+//! [`to_tree`](ItemView::to_tree) copies a value (feature `tree`); [`node`](ItemView::node) has its fields and its
 //! indices, without a copy.
 //!
 //! Equality and hashes are those of the values: lists are equal if their members are, however
@@ -38,15 +38,11 @@
 //! # Ok::<(), ListFault>(())
 //! ```
 
-use crate::proved::wenc_decode::TreeOf;
-use crate::shim::alloc::Global;
-use crate::tree::{
-    CanonTree, CaseTree, CoreCompositeType, CoreInstanceTree, CoreSubType, CoreTypeTree,
-    DefinedTree, GroupTree, InstanceTree, ItemTree, ModuleDecl, NameTree, TypeTree,
-};
-use crate::twins::twins;
-use crate::{ComponentExternName, Error};
+use crate::ComponentExternName;
 use alloc::borrow::Cow;
+
+#[cfg(feature = "tree")]
+mod copied;
 
 pub use crate::proved::wenc_list::ItemView;
 pub use crate::proved::wenc_view::composites::{
@@ -59,41 +55,11 @@ pub use crate::proved::wenc_view::{
 };
 
 impl<'a> From<NameView<'a>> for ComponentExternName<'a> {
+    #[inline]
     fn from(name: NameView<'a>) -> Self {
         let NameView { name, implements, version_suffix, external_id } = name;
         let [implements, version_suffix, external_id] =
             [implements, version_suffix, external_id].map(|option| option.map(Cow::Borrowed));
         Self { name: Cow::Borrowed(name), implements, version_suffix, external_id }
     }
-}
-
-/// Defines how a borrowed value is copied.
-macro_rules! copied {
-    ($($view:ident => $tree:ident,)+) => {$(
-        impl $view<'_> {
-            twins! {
-                /// Returns an owned copy, which can be changed and written. It takes memory for
-                /// all strings and lists in it.
-                fn to_tree | try_to_tree(&self) -> $tree {
-                    $tree::tree_of(Global, *self).map_err(|_| Error::NoMemory)
-                }
-            }
-        }
-    )+};
-}
-
-copied! {
-    CanonView => CanonTree,
-    CaseView => CaseTree,
-    CoreCompositeView => CoreCompositeType,
-    CoreInstanceView => CoreInstanceTree,
-    CoreSubView => CoreSubType,
-    CoreTypeView => CoreTypeTree,
-    DefinedView => DefinedTree,
-    GroupView => GroupTree,
-    InstanceView => InstanceTree,
-    ItemView => ItemTree,
-    ModuleDeclView => ModuleDecl,
-    NameView => NameTree,
-    TypeView => TypeTree,
 }

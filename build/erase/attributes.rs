@@ -81,7 +81,7 @@ impl Eraser<'_> {
     }
 
     /// Returns the name of the public type that begins here with its other attributes.
-    fn public_type(&self, i: usize) -> Result<&str, Refused> {
+    pub(super) fn public_type(&self, i: usize) -> Result<&str, Refused> {
         let mut item = i;
         while self.at(item) == "#" {
             item = self.close(item + 1)?;
@@ -106,7 +106,7 @@ impl Eraser<'_> {
         }
         let formatter = "f: &mut ::core::fmt::Formatter<'_>) -> ::core::fmt::Result";
         let display = format!(
-            "impl ::core::fmt::Display for {name} {{ fn fmt(&self, {formatter} \
+            "impl ::core::fmt::Display for {name} {{ #[inline] fn fmt(&self, {formatter} \
              {{ match self {{{arms} }} }} }}"
         );
         self.put(end - 1, format!("}} {display} impl ::core::error::Error for {name} {{}}"));

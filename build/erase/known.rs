@@ -1,5 +1,7 @@
 //! The closed lists of the eraser: the names that it knows.
 
+use super::conditions::{TREE, WALK};
+
 /// Methods that can fail or have an allocator in Rattle, and have the same names, but neither, in
 /// Rust's library.
 pub const ALLOCATING: [&str; 6] =
@@ -9,11 +11,12 @@ pub const ALLOCATING: [&str; 6] =
 pub const MAKING: [&str; 2] = ["new", "with_capacity"];
 
 /// Functions on the way of a call that adds an item: compiled into the caller's crate, they take
-/// fewer instructions (`benches/count`).
-pub const INLINED: [&str; 28] = [
+/// fewer instructions (`benches/count`). And `clone`, which few users call.
+pub const INLINED: [&str; 29] = [
     "add_slot_row",
     "alias",
     "alias_export",
+    "clone",
     "component",
     "component_raw",
     "core_alias_export",
@@ -151,4 +154,62 @@ pub const NARROWED: [(&str, &str); 10] = [
     ("ListOf", "bytes"),
     ("ListOf", "left"),
     ("NameTree", "as_name"),
+];
+
+/// The modules that exist only with a feature, each with its condition.
+pub const PARTIAL: [(&str, &str); 9] = [
+    ("canon_tree", WALK),
+    ("core_type_tree", TREE),
+    ("defined_tree", TREE),
+    ("groups", TREE),
+    ("instance_trees", TREE),
+    ("item", TREE),
+    ("listing", TREE),
+    ("trees", TREE),
+    ("type_tree", TREE),
+];
+
+/// Core types that users see only with a feature, each with its condition: without it, they aren't
+/// compared, printed or hashed.
+pub const INNER: [(&str, &str); 17] = [
+    ("AbstractHeapType", WALK),
+    ("ArrayType", WALK),
+    ("CompositeType", TREE),
+    ("EntityType", WALK),
+    ("FieldType", WALK),
+    ("FuncType", TREE),
+    ("GlobalType", WALK),
+    ("HeapType", WALK),
+    ("MemoryType", WALK),
+    ("RefType", WALK),
+    ("Space", WALK),
+    ("StorageType", WALK),
+    ("StructType", TREE),
+    ("SubType", TREE),
+    ("TableType", WALK),
+    ("TagType", WALK),
+    ("ValType", WALK),
+];
+
+/// Types and traits that exist only with the feature `tree`, as what has them in its head does.
+pub const OWNED: [&str; 19] = [
+    "AliasTree",
+    "CanonTree",
+    "CaseTree",
+    "ComponentDecl",
+    "CoreInstanceTree",
+    "CoreTypeTree",
+    "DefinedTree",
+    "GroupTree",
+    "InstanceDecl",
+    "InstanceTree",
+    "ItemTree",
+    "ListedSection",
+    "Listing",
+    "ModuleDecl",
+    "NameOptions",
+    "NameTree",
+    "Operands",
+    "TreeOf",
+    "TypeTree",
 ];

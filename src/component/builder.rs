@@ -12,7 +12,7 @@ mod functions;
 
 mod instances;
 
-#[cfg(feature = "reader")]
+#[cfg(feature = "tree")]
 mod commands;
 
 mod counts;

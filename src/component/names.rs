@@ -3,7 +3,7 @@
 use crate::collections::collections;
 use crate::eq_by_bytes::eq_by_bytes;
 use crate::proved::wasm_encoder as proved;
-#[cfg(feature = "reader")]
+#[cfg(feature = "walk")]
 use crate::tree::Space;
 use crate::twins::twins;
 use crate::{ComponentSection, CustomSection, NameMap};
@@ -38,13 +38,13 @@ eq_by_bytes! { ComponentNameSection }
 /// Defines the calls that name items of one kind.
 macro_rules! naming {
     ($($name:ident $tried:ident $space:ident $what:literal;)*) => {
-        #[cfg(feature = "reader")]
+        #[cfg(feature = "walk")]
         impl ComponentNameSection {
             twins! {
                 /// Names items in an index space: does what the call of that space does, such as
                 /// [`funcs`](Self::funcs) for [`Space::Funcs`].
                 ///
-                /// Needs the feature `reader`.
+                /// Needs the feature `walk`.
                 ///
                 /// ```
                 /// use wenc::tree::Space;

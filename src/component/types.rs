@@ -3,7 +3,7 @@
 
 mod component_type;
 mod core_type;
-#[cfg(feature = "reader")]
+#[cfg(feature = "walk")]
 mod counts;
 mod defined_type;
 mod func_type;

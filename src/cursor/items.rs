@@ -1,19 +1,22 @@
 //! Reading a section item by item.
 
-use crate::proved::wenc_decode::TreeOf;
 use crate::proved::wenc_list as proved;
 use crate::proved::wenc_read::NestedRefusal;
-use crate::shim::alloc::Global;
-use crate::tree::ItemTree;
 use crate::view::ItemView;
 use crate::{ComponentSectionId, ListFault};
 use core::fmt;
 use core::ops::Range;
 
+#[cfg(feature = "tree")]
+pub use trees::Trees;
+
+#[cfg(feature = "tree")]
+mod trees;
+
 /// An iterator over the items of a section, each with its byte offsets in the component. It ends
 /// after an error. The items borrow from the component's bytes, and nothing is allocated.
 ///
-/// Needs the feature `reader`.
+/// Needs the feature `walk`.
 #[derive(Clone, Copy)]
 pub struct Items<'a> {
     bytes: &'a [u8],
@@ -68,6 +71,12 @@ impl<'a> Items<'a> {
         Some(Self::new(bytes, proved::SectionItems { id, place, ends, left: count, rest }))
     }
 
+    /// Does what `next` does, which is compiled into its callers, out of line.
+    #[inline(never)]
+    pub(crate) fn next_apart(&mut self) -> Option<<Self as Iterator>::Item> {
+        self.next()
+    }
+
     /// Returns the byte offsets and the number of the items that are left; `None` after an error.
     pub fn left(&self) -> Option<(Range<usize>, u32)> {
         self.left.map(|left| (left.reached()..left.ends, left.left))
@@ -109,31 +118,5 @@ impl fmt::Debug for Items<'_> {
     fn fmt(&self, f: &mut fmt::Formatter<'_>) -> fmt::Result {
         let offset = self.left().map(|(range, _)| range.start);
         f.debug_struct("Items").field("offset", &offset).finish_non_exhaustive()
-    }
-}
-
-/// An iterator over the items of a section, as [`Items`], but each is owned.
-///
-/// Needs the feature `reader`.
-#[derive(Clone, Copy, Debug)]
-pub struct Trees<'a>(pub(super) Items<'a>);
-
-/// # Errors
-///
-/// As [`Items`], or [`ListFault::NoMemory`].
-impl Iterator for Trees<'_> {
-    type Item = Result<(Range<usize>, ItemTree), ListFault>;
-
-    #[inline(always)]
-    fn next(&mut self) -> Option<Self::Item> {
-        let (range, item) = match self.0.next()? {
-            Ok(item) => item,
-            Err(fault) => return Some(Err(fault)),
-        };
-        let tree = ItemTree::tree_of(Global, item).map(|tree| (range, tree));
-        Some(tree.map_err(|_| {
-            self.0.left = None;
-            ListFault::NoMemory
-        }))
     }
 }

@@ -12,7 +12,7 @@ use core::mem;
 /// component follow the section that contains it. All byte offsets are counted from the start of
 /// the outermost component.
 ///
-/// Needs the feature `reader`.
+/// Needs the feature `walk`.
 ///
 /// Nothing is allocated up to depth 8, and from there on one number for each further depth.
 ///

@@ -90,7 +90,7 @@ impl<'a> Finder<'a> {
             if let Some(found) = self.found.pop_front() {
                 return Ok(Some(found));
             }
-            match self.items.as_mut().and_then(Iterator::next).transpose()? {
+            match self.items.as_mut().and_then(Items::next_apart).transpose()? {
                 Some((range, item)) => self.find_in(range.start, &item)?,
                 None if !self.enter_section()? => return Ok(None),
                 None => {}

@@ -12,13 +12,18 @@ const PAGE: usize = 512;
 
 /// The names of items in the order of their indices: a `BTreeMap<u32, String>` of two levels, whose
 /// insertions return an error if an allocation fails, where std's abort.
-#[derive(Clone, Default)]
+#[derive(Clone)]
 pub(crate) struct ByIndex {
     /// Pages of names. None is empty.
     pages: Vec<Vec<(u32, String)>>,
 }
 
 impl ByIndex {
+    /// Creates a map without names.
+    pub const fn new() -> Self {
+        Self { pages: Vec::new() }
+    }
+
     /// Returns `true` if there are no names.
     pub fn is_empty(&self) -> bool {
         self.pages.is_empty()
@@ -112,6 +117,7 @@ impl ByIndex {
 
 /// Maps are equal if they have the same names, regardless of their pages.
 impl PartialEq for ByIndex {
+    #[inline]
     fn eq(&self, other: &Self) -> bool {
         self.iter().eq(other.iter())
     }
@@ -120,6 +126,7 @@ impl PartialEq for ByIndex {
 impl Eq for ByIndex {}
 
 impl fmt::Debug for ByIndex {
+    #[inline]
     fn fmt(&self, f: &mut fmt::Formatter<'_>) -> fmt::Result {
         f.debug_map().entries(self.iter()).finish()
     }

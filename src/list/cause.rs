@@ -6,7 +6,7 @@ use core::ops::RangeInclusive;
 
 /// Why bytes can't be read, and from which byte on. Each place is a byte offset.
 ///
-/// Needs the feature `reader`.
+/// Needs the feature `walk`.
 #[derive(Clone, Copy, Debug, PartialEq, Eq, Hash)]
 #[non_exhaustive]
 pub enum Cause {

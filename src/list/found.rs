@@ -7,7 +7,7 @@ use core::fmt;
 /// What bytes are that don't begin with the header of a component, or of a core module, by their
 /// first ones.
 ///
-/// Needs the feature `reader`.
+/// Needs the feature `walk`.
 ///
 /// ```
 /// use wenc::{CoreSections, Found, ListFault, ModuleFault, list};

@@ -92,7 +92,7 @@ impl Listing {
     /// # Ok::<(), Box<dyn std::error::Error>>(())
     /// ```
     pub fn definitions(&self) -> Result<Definitions<'_>, Error> {
-        let mut items: [Vec<_>; 13] = Default::default();
+        let mut items = [const { Vec::new() }; 13];
         let mut counts = [0_u64; 13];
         for item in self.items() {
             let Some((space, count @ 1..)) = item.defined_indices() else { continue };
@@ -116,7 +116,7 @@ impl Listing {
 /// The items of a listing by the indices that they define, returned by [`Listing::definitions`]. A
 /// lookup takes time logarithmic in the number of items.
 ///
-/// Needs the feature `reader`.
+/// Needs the feature `tree`.
 #[derive(Clone, Debug)]
 pub struct Definitions<'a> {
     /// For each space, by its number: the items, each with the first index that it defines.

@@ -3,7 +3,7 @@
 /// The first part of a section's content that can't be read. Each `place` is a byte offset in the
 /// component, or in the core module.
 ///
-/// Needs the feature `reader`.
+/// Needs the feature `walk`.
 #[derive(Clone, Copy, Debug, PartialEq, Eq, Hash)]
 pub enum Unread {
     /// The number of its items, so that none of them is read.

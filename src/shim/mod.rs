@@ -4,7 +4,7 @@
 
 pub mod alloc;
 pub mod borrow;
-#[cfg(any(feature = "reader", script, test))]
+#[cfg(any(feature = "walk", script, test))]
 mod borrowed_lists;
 pub mod boxed;
 pub mod convert;

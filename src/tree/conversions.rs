@@ -20,6 +20,7 @@ use alloc::string::String;
 /// # Ok::<(), wenc::Error>(())
 /// ```
 impl From<&ProducersSection> for Command {
+    #[inline]
     fn from(section: &ProducersSection) -> Self {
         let command = crate::proved::wasm_encoder::producers_command(super::Global, &section.0);
         crate::error::or_panic(command)
@@ -27,12 +28,14 @@ impl From<&ProducersSection> for Command {
 }
 
 impl<'a> From<&'a AliasTree> for Alias<'a> {
+    #[inline]
     fn from(alias: &'a AliasTree) -> Self {
         alias.as_alias()
     }
 }
 
 impl<'a> From<&'a NameTree> for ComponentExternName<'a> {
+    #[inline]
     fn from(name: &'a NameTree) -> Self {
         fn borrowed(text: &Option<String>) -> Option<Cow<'_, str>> {
             text.as_deref().map(Cow::Borrowed)
@@ -49,6 +52,7 @@ impl<'a> From<&'a NameTree> for ComponentExternName<'a> {
 
 /// The texts are moved, not copied.
 impl From<NameTree> for ComponentExternName<'_> {
+    #[inline]
     fn from(NameTree { name, options }: NameTree) -> Self {
         fn owned<'a>(text: Option<String>) -> Option<Cow<'a, str>> {
             text.map(Cow::Owned)
@@ -65,6 +69,7 @@ impl From<NameTree> for ComponentExternName<'_> {
 }
 
 impl From<Alias<'_>> for AliasTree {
+    #[inline]
     fn from(alias: Alias<'_>) -> Self {
         match alias {
             Alias::InstanceExport { instance, kind, name } => {
@@ -79,6 +84,7 @@ impl From<Alias<'_>> for AliasTree {
 }
 
 impl From<ComponentExternName<'_>> for NameTree {
+    #[inline]
     fn from(name: ComponentExternName<'_>) -> Self {
         let ComponentExternName { name, implements, version_suffix, external_id } = name;
         let [implements, version_suffix, external_id] =
@@ -93,6 +99,7 @@ impl From<ComponentExternName<'_>> for NameTree {
 }
 
 impl From<&str> for NameTree {
+    #[inline]
     fn from(name: &str) -> Self {
         String::from(name).into()
     }

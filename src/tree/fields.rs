@@ -7,29 +7,36 @@
 //!
 //! - `Types`, or another [`Space`]: an index in that space, or an option or a list of such;
 //! - `(last Types)`: such an index, which is encoded after the other fields;
-//! - `(count, space)`: an index in that space of the scope that is `count` further out;
+//! - `outer`: an index, where `in (count, space)` follows the fields: in that space of the scope
+//!   that is `count` further out;
 //! - `inner`: the declarations of a type that has index spaces of its own;
 //! - `group`: core types that may refer to each other.
 //!
 //! What follows `=>` are the indices that a variant defines, if it is a declaration.
 
+#[cfg(feature = "tree")]
+mod owned;
 mod place;
-#[cfg(test)]
+#[cfg(all(test, feature = "tree"))]
 mod random;
+mod shape;
 mod values;
 
-use super::indices::Visitor;
-use super::node::{Child, Fields, List, Named, Node, named};
+use super::node::Node;
+#[cfg(feature = "tree")]
 use super::{
-    AliasTree, CanonTree, CaseTree, ComponentDecl, CoreAbstractHeapType, CoreArrayType,
-    CoreCompositeType, CoreEntityType, CoreFieldType, CoreFuncType, CoreGlobalType, CoreHeapType,
-    CoreInstanceTree, CoreMemoryType, CoreRefType, CoreStorageType, CoreStructType, CoreSubType,
-    CoreTableType, CoreTagType, CoreTypeTree, CoreValType, DefinedTree, GroupTree, InstanceDecl,
-    InstanceTree, ItemTree, ModuleDecl, NameOptions, NameTree, Scope, Space, TypeTree,
+    AliasTree, CaseTree, ComponentDecl, CoreCompositeType, CoreInstanceTree, CoreStructType,
+    CoreSubType, CoreTypeTree, DefinedTree, GroupTree, InstanceDecl, InstanceTree, ItemTree,
+    ModuleDecl, NameOptions, NameTree, TypeTree,
+};
+use super::{
+    CanonOf, CoreAbstractHeapType, CoreEntityType, CoreFieldType, CoreGlobalType, CoreHeapType,
+    CoreMemoryType, CoreRefType, CoreStorageType, CoreTableType, CoreTagType, CoreValType, Scope,
+    Space,
 };
 use crate::view::{
-    CanonView, CaseView, ComponentDeclView, CoreInstanceView, CoreSubView, CoreTypeView,
-    DefinedView, GroupView, InstanceDeclView, InstanceView, ItemView, ModuleDeclView, TypeView,
+    CaseView, ComponentDeclView, CoreInstanceView, CoreSubView, CoreTypeView, DefinedView,
+    GroupView, InstanceDeclView, InstanceView, ItemView, ModuleDeclView, TypeView,
 };
 use crate::{
     Alias, CanonicalOption, ComponentExportKind, ComponentOuterAliasKind, ComponentTypeRef,
@@ -37,8 +44,14 @@ use crate::{
 };
 use core::ops::ControlFlow;
 
+#[cfg(feature = "tree")]
+pub(super) use owned::each_index;
+#[cfg(feature = "tree")]
+use owned::{TreeMut, indices_of_enum, indices_of_struct};
 pub(super) use place::Place;
 pub use place::{IndexCounts, Scopes};
+pub(super) use shape::Named;
+use shape::{Kind, Role, Shape, Values, filled, named, role, shape};
 
 /// A function that takes the elements of a list, each with the bytes that it was read from, until
 /// it breaks.
@@ -49,41 +62,40 @@ pub(super) trait Tree {
     /// Returns the value at this place as a node.
     fn node<'n>(&'n self, place: Place<'n>) -> Node<'n>;
 
-    /// Returns the fields of the value at this place, if it has some.
-    fn fields<'n>(&'n self, _: Place<'n>) -> Named<'n> {
-        [None; 4]
-    }
-
-    /// Returns the node of a part that only the owned type has as a value by itself.
-    fn part<'n>(&'n self, place: Place<'n>) -> Node<'n> {
-        self.node(place)
-    }
-
-    /// Returns the fields of that part, if it has some.
-    fn part_fields<'n>(&'n self, _: Place<'n>) -> Named<'n> {
-        [None; 4]
-    }
-
-    /// Returns the number of elements of the list.
-    fn len(&self) -> usize {
-        0
-    }
-
-    /// Visits the elements of the list, in order.
-    fn each_element(&self, _: &mut Visit<'_>) -> ControlFlow<()> {
-        ControlFlow::Continue(())
-    }
-
     /// Returns the space and the number of the indices that the declaration defines.
     fn defined(&self) -> Option<(Space, u32)> {
         None
     }
 }
 
-/// An owned value, whose indices may be changed.
-pub(super) trait TreeMut: Tree {
-    /// Visits each index in the value at this place, in the order in which they are encoded.
-    fn each_index(&mut self, _: Place<'_>, _: &mut Visitor<'_>) {}
+/// A value with fields.
+pub(super) trait Whole {
+    /// Returns the fields of the value at this place.
+    fn fields<'n>(&'n self, place: Place<'n>) -> Named<'n>;
+}
+
+/// A part of a borrowed value that is a value by itself in the owned type.
+pub(super) trait Part {
+    /// Returns the part at this place as a node.
+    fn part<'n>(&'n self, place: Place<'n>) -> Node<'n>;
+
+    /// Returns the fields of the part, if it has some.
+    fn part_fields<'n>(&'n self, place: Place<'n>) -> Named<'n>;
+}
+
+/// The elements of a list.
+pub(super) trait Elements {
+    /// Returns the number of them.
+    fn len(&self) -> usize;
+
+    /// Visits them in order.
+    fn each(&self, visit: &mut Visit<'_>) -> ControlFlow<()>;
+}
+
+/// A variant or a struct, whose shape is constant.
+trait Shaped {
+    /// Sets the values of the fields, and returns the shape.
+    fn shape<'n>(&'n self, values: &mut Values<&'n dyn Tree>) -> &'static Shape;
 }
 
 /// Returns an index in this space, which a declaration defines.
@@ -96,178 +108,179 @@ fn group(len: impl TryInto<u32>) -> Option<(Space, u32)> {
     Some((Space::CoreTypes, len.try_into().unwrap_or(u32::MAX)))
 }
 
-/// Returns the place of a field.
-macro_rules! place {
-    ($place:ident $field:ident) => {
-        $place
-    };
-    ($place:ident $field:ident inner) => {
-        $place.inner()
-    };
-    ($place:ident $field:ident group) => {
-        $place.within($field)
-    };
-    ($place:ident $field:ident ($count:expr, $space:expr)) => {
-        $place.outer($count, $space)
-    };
-    ($place:ident $field:ident (last $space:ident)) => {
-        $place.outer(0, Space::$space).last()
-    };
-    ($place:ident $field:ident $space:ident) => {
-        $place.outer(0, Space::$space)
-    };
-}
+/// Implements `Tree` and `Whole` for a type by its shape.
+macro_rules! by_shape {
+    ([$($generics:tt)*] $ty:ty, $($defined:tt)*) => {
+        impl $($generics)* Tree for $ty {
+            fn node<'n>(&'n self, place: Place<'n>) -> Node<'n> {
+                let mut values = Values::new();
+                self.shape(&mut values).node(&values, self, place)
+            }
 
-/// Visits the indices of a field, in the `first` pass or in the `last`.
-macro_rules! visit {
-    (first $visitor:ident $place:ident $field:ident (last $space:ident)) => {};
-    (first $visitor:ident $place:ident $field:ident $($role:tt)?) => {
-        $field.each_index(place!($place $field $($role)?), $visitor);
-    };
-    (last $visitor:ident $place:ident $field:ident (last $space:ident)) => {
-        visit!(first $visitor $place $field $space);
-    };
-    (last $($other:tt)*) => {};
-}
+            $($defined)*
+        }
 
-/// Makes the node of a variant.
-macro_rules! node {
-    ($of:ident $place:ident $name:ident) => {
-        Node::Word(stringify!($name))
-    };
-    ($of:ident $place:ident $name:ident($field:ident $(: $role:tt)?)) => {
-        Node::Variant(stringify!($name), Child::new($field, place!($place $field $($role)?)))
-    };
-    ($of:ident $place:ident $name:ident { $($fields:tt)+ }) => {
-        Node::Struct(stringify!($name), Fields::new($of, $place))
-    };
-}
-
-/// Makes the fields of a variant, or of a struct.
-macro_rules! fields {
-    ($place:ident { $($field:ident $(: $role:tt)?),+ }) => {
-        named([$((stringify!($field), Child::new($field, place!($place $field $($role)?)))),+])
-    };
-    ($place:ident $($other:tt)?) => {
-        [None; 4]
+        impl $($generics)* Whole for $ty {
+            fn fields<'n>(&'n self, place: Place<'n>) -> Named<'n> {
+                let mut values = Values::new();
+                self.shape(&mut values).named(&values, place)
+            }
+        }
     };
 }
 
 /// Returns what a variant defines, if anything.
-macro_rules! defined {
+macro_rules! definition {
     () => {
-        None
+        Option::None
     };
     ($defined:expr) => {
         $defined
     };
 }
 
-/// Implements `Tree` for an enum, by its variants.
-macro_rules! node_of_enum {
-    ($ty:ty, {
+/// Defines what the variants of an enum define, if any does.
+macro_rules! defined {
+    ({
         $($name:ident $(($one:ident $(: $of:tt)?))? $({ $($field:ident $(: $role:tt)?),+ })?
-            $(=> $defined:expr)?),+ $(,)?
+            $(in $outer:tt)?),+ $(,)?
+    }) => {};
+    ({
+        $($name:ident $(($one:ident $(: $of:tt)?))? $({ $($field:ident $(: $role:tt)?),+ })?
+            $(in $outer:tt)? $(=> $defined:expr)?),+ $(,)?
     }) => {
-        #[allow(unused_variables, reason = "not all variants have fields, or define indices")]
-        impl Tree for $ty {
-            fn node<'n>(&'n self, place: Place<'n>) -> Node<'n> {
-                match self {$(
-                    Self::$name $(($one))? $({ $($field),+ })? => node!(
-                        self place $name $(($one $(: $of)?))? $({ $($field $(: $role)?),+ })?
-                    ),
-                )+}
-            }
-
-            fn fields<'n>(&'n self, place: Place<'n>) -> Named<'n> {
-                match self {$(
-                    Self::$name $(($one))? $({ $($field),+ })? => fields!(
-                        place $(($one))? $({ $($field $(: $role)?),+ })?
-                    ),
-                )+}
-            }
-
-            fn defined(&self) -> Option<(Space, u32)> {
-                match self {$(
-                    Self::$name $(($one))? $({ $($field),+ })? => defined!($($defined)?),
-                )+}
+        #[allow(unused_variables, reason = "not all fields say what is defined")]
+        fn defined(&self) -> Option<(Space, u32)> {
+            match self {
+                $(Self::$name $(($one))? $({ $($field),+ })? => definition!($($defined)?),)+
             }
         }
     };
 }
 
-/// Implements `TreeMut` for an enum, by its variants.
-macro_rules! indices_of_enum {
-    ($ty:ty, {
+/// Defines the shapes of an enum, which are called as the variants.
+macro_rules! shapes {
+    ({
         $($name:ident $(($one:ident $(: $of:tt)?))? $({ $($field:ident $(: $role:tt)?),+ })?
-            $(=> $defined:expr)?),+ $(,)?
+            $(in $outer:tt)? $(=> $defined:expr)?),+ $(,)?
     }) => {
-        #[allow(unused_variables, reason = "not all variants have fields with indices")]
-        impl TreeMut for $ty {
-            fn each_index(&mut self, place: Place<'_>, visitor: &mut Visitor<'_>) {
+        $(static $name: Shape = shape!(
+            $name $(($one $(: $of)?))? $({ $($field $(: $role)?),+ })?
+        );)+
+    };
+}
+
+/// Implements `Tree` for an enum, by its variants.
+macro_rules! node_of_enum {
+    ([$($generics:tt)*] $ty:ty, {
+        $($name:ident $(($one:ident $(: $of:tt)?))? $({ $($field:ident $(: $role:tt)?),+ })?
+            $(in $outer:tt)? $(=> $defined:expr)?),+ $(,)?
+    }) => {
+        impl $($generics)* Shaped for $ty {
+            #[allow(unused_variables, reason = "not all enums have fields")]
+            fn shape<'n>(&'n self, values: &mut Values<&'n dyn Tree>) -> &'static Shape {
                 match self {$(
-                    Self::$name $(($one))? $({ $($field),+ })? => {
-                        $(visit!(first visitor place $one $($of)?);)?
-                        $($(visit!(first visitor place $field $($role)?);)+)?
-                        $($(visit!(last visitor place $field $($role)?);)+)?
-                    }
+                    Self::$name $(($one))? $({ $($field),+ })? => filled!(
+                        values $name [$($outer)?] $($one)? $($($field)+)?
+                    ),
                 )+}
             }
         }
+
+        by_shape! { [$($generics)*] $ty, defined! { {
+            $($name $(($one $(: $of)?))? $({ $($field $(: $role)?),+ })?
+                $(in $outer)? $(=> $defined)?),+
+        } } }
     };
 }
 
 /// Implements `Tree` and `TreeMut` for enums, and in tests `Random`.
 macro_rules! enums {
     () => {};
-    ($tree:ident = $view:ident $variants:tt $($rest:tt)*) => {
-        node_of_enum! { $view<'_>, $variants }
-        enums! { $tree $variants $($rest)* }
+    (@shaped $variants:tt $($impls:tt)*) => {
+        #[allow(non_upper_case_globals, reason = "they are called as the variants")]
+        const _: () = {
+            shapes! { $variants }
+            $($impls)*
+        };
     };
-    ($tree:ident $variants:tt $($rest:tt)*) => {
-        node_of_enum! { $tree, $variants }
-        indices_of_enum! { $tree, $variants }
-        #[cfg(test)]
+    ($tree:ident = $ty:ident<$of:ident> $variants:tt $($rest:tt)*) => {
+        enums! { @shaped $variants
+            node_of_enum! { [<$of: Tree>] $ty<$of>, $variants }
+            #[cfg(feature = "tree")]
+            indices_of_enum! { [<$of: TreeMut>] $ty<$of>, $variants }
+        }
+        #[cfg(all(test, feature = "tree"))]
+        random::random_enum! { super::$tree, $variants }
+        enums! { $($rest)* }
+    };
+    ($tree:ident = $view:ident $variants:tt $($rest:tt)*) => {
+        enums! { @shaped $variants
+            node_of_enum! { [] $view<'_>, $variants }
+            #[cfg(feature = "tree")]
+            node_of_enum! { [] $tree, $variants }
+            #[cfg(feature = "tree")]
+            indices_of_enum! { [] $tree, $variants }
+        }
+        #[cfg(all(test, feature = "tree"))]
         random::random_enum! { $tree, $variants }
+        enums! { $($rest)* }
+    };
+    ($view:ident<'_> $variants:tt) => {
+        enums! { @shaped $variants node_of_enum! { [] $view<'_>, $variants } }
+    };
+    ($ty:ident $variants:tt $($rest:tt)*) => {
+        enums! { @shaped $variants
+            node_of_enum! { [] $ty, $variants }
+            #[cfg(feature = "tree")]
+            indices_of_enum! { [] $ty, $variants }
+        }
+        #[cfg(all(test, feature = "tree"))]
+        random::random_enum! { $ty, $variants }
         enums! { $($rest)* }
     };
 }
 
-/// Implements `Tree` for a struct, by its fields. Its name is that of the owned one.
+/// Implements `Tree` for a struct, by its fields.
 macro_rules! node_of_struct {
-    ($name:ident, $ty:ty, { $($field:ident $(: $role:tt)?),+ }) => {
-        impl Tree for $ty {
-            fn node<'n>(&'n self, place: Place<'n>) -> Node<'n> {
-                Node::Record(stringify!($name), Fields::new(self, place))
-            }
-
-            fn fields<'n>(&'n self, place: Place<'n>) -> Named<'n> {
+    ($ty:ty, { $($field:ident $(: $role:tt)?),+ }) => {
+        impl Shaped for $ty {
+            fn shape<'n>(&'n self, values: &mut Values<&'n dyn Tree>) -> &'static Shape {
                 let Self { $($field),+ } = self;
-                fields!(place { $($field $(: $role)?),+ })
+                filled!(values SHAPE [] $($field)+)
             }
         }
+
+        by_shape! { [] $ty, }
     };
 }
 
-/// Implements `Tree` and `TreeMut` for structs, and in tests `Random`.
+/// Implements `Tree` and `TreeMut` for structs, and in tests `Random`. A name is that of the owned
+/// one.
 macro_rules! structs {
     () => {};
     ($tree:ident = $view:ident $fields:tt $($rest:tt)*) => {
-        node_of_struct! { $tree, $view<'_>, $fields }
-        structs! { $tree $fields $($rest)* }
+        const _: () = {
+            static SHAPE: Shape = shape!(Record $tree $fields);
+            node_of_struct! { $view<'_>, $fields }
+            #[cfg(feature = "tree")]
+            node_of_struct! { $tree, $fields }
+            #[cfg(feature = "tree")]
+            indices_of_struct! { $tree, $fields }
+        };
+        #[cfg(all(test, feature = "tree"))]
+        random::random_struct! { $tree, $fields }
+        structs! { $($rest)* }
     };
-    ($tree:ident { $($field:ident $(: $role:tt)?),+ } $($rest:tt)*) => {
-        node_of_struct! { $tree, $tree, { $($field $(: $role)?),+ } }
-
-        impl TreeMut for $tree {
-            fn each_index(&mut self, place: Place<'_>, visitor: &mut Visitor<'_>) {
-                let Self { $($field),+ } = self;
-                $(visit!(first visitor place $field $($role)?);)+
-            }
-        }
-
-        #[cfg(test)]
-        random::random_struct! { $tree, $($field)+ }
+    ($ty:ident $fields:tt $($rest:tt)*) => {
+        const _: () = {
+            static SHAPE: Shape = shape!(Record $ty $fields);
+            node_of_struct! { $ty, $fields }
+            #[cfg(feature = "tree")]
+            indices_of_struct! { $ty, $fields }
+        };
+        #[cfg(all(test, feature = "tree"))]
+        random::random_struct! { $ty, $fields }
         structs! { $($rest)* }
     };
 }
@@ -278,25 +291,37 @@ structs! {
     CoreGlobalType { val_type, mutable }
     CoreMemoryType { minimum, maximum, memory64, shared }
     CoreRefType { nullable, heap_type }
-    CoreStructType { fields }
     CoreSubType = CoreSubView { is_final, supertype_idx: CoreTypes, composite_type }
     CoreTableType { element_type, table64, minimum, maximum }
     CoreTagType { func_type_idx: CoreTypes }
+}
+
+// Borrowed, they have fields of their own.
+#[cfg(feature = "tree")]
+structs! {
+    CoreStructType { fields }
     NameOptions { implements, version_suffix, external_id }
     NameTree { name, options }
 }
 
-node_of_enum! { CoreItem<'_>, {
-    Import { module, name, ty },
-    Export { name, kind, index: (0, (*kind).into()) },
-    Start { function: CoreFuncs },
-} }
+#[cfg(feature = "tree")]
+enums! {
+    CoreCompositeType { Func(ty), Array(ty), Struct(ty) }
+}
+
+enums! {
+    CoreItem<'_> {
+        Import { module, name, ty },
+        Export { name, kind, index: outer } in (0, (*kind).into()),
+        Start { function: CoreFuncs },
+    }
+}
 
 enums! {
     AliasTree = Alias {
         InstanceExport { instance: Instances, kind, name } => one(*kind),
         CoreInstanceExport { instance: CoreInstances, kind, name } => one(*kind),
-        Outer { kind, count, index: (*count, (*kind).into()) } => one(*kind),
+        Outer { kind, count, index: outer } in (*count, (*kind).into()) => one(*kind),
     }
 
     CanonicalOption {
@@ -324,8 +349,6 @@ enums! {
     CoreAbstractHeapType {
         Func, Extern, Any, None, NoExtern, NoFunc, Eq, Struct, Array, I31, Exn, NoExn
     }
-
-    CoreCompositeType { Func(ty), Array(ty), Struct(ty) }
 
     CoreEntityType {
         Function(index: CoreTypes) => one(Space::CoreFuncs),
@@ -380,7 +403,7 @@ enums! {
         Instance(instance), Alias(alias), Type(ty), Canon(canon),
         Start { function: Funcs, args: Values, results },
         Import { name, ty },
-        Export { name, kind, index: (0, (*kind).into()), ty },
+        Export { name, kind, index: outer, ty } in (0, (*kind).into()),
         Custom { name, data },
     }
 
@@ -389,7 +412,7 @@ enums! {
     ModuleDecl = ModuleDeclView {
         Import { module, name, ty } => ty.defined(),
         Type(ty: group) => ty.defined(),
-        Alias { count, index: (*count, Space::CoreTypes) } => one(Space::CoreTypes),
+        Alias { count, index: outer } in (*count, Space::CoreTypes) => one(Space::CoreTypes),
         Export { name, ty },
     }
 
@@ -407,7 +430,7 @@ enums! {
         Resource { rep, dtor: CoreFuncs },
     }
 
-    CanonTree = CanonView {
+    CanonTree = CanonOf<O> {
         Lift { core_func: CoreFuncs, ty: (last Types), options },
         Lower { func: Funcs, options },
         ResourceNew(index: Types), ResourceDrop(index: Types), ResourceRep(index: Types),

@@ -1,7 +1,9 @@
 //! Items as nodes with named fields.
 
-use super::fields::{IndexCounts, Place, Scopes, Tree, Visit};
-use super::{ItemTree, Scope, Space, ValType};
+use super::fields::{Elements, IndexCounts, Part, Place, Scopes, Tree, Visit, Whole};
+#[cfg(feature = "tree")]
+use super::{ItemTree, ValType};
+use super::{Scope, Space};
 use crate::CoreItem;
 use crate::view::{
     CanonView, CaseView, ComponentDeclView, CoreCompositeView, CoreInstanceView, CoreSubView,
@@ -192,10 +194,11 @@ pub struct Child<'a> {
 enum Source<'a> {
     Tree(&'a dyn Tree),
     /// A part of a value.
-    Part(&'a dyn Tree),
+    Part(&'a dyn Part),
     /// An option that is a part of a value.
-    Present(&'a dyn Tree),
+    Present(&'a dyn Part),
     /// The parameters or the results of a core function type.
+    #[cfg(feature = "tree")]
     Types(&'a [ValType]),
 }
 
@@ -208,25 +211,28 @@ impl<'a> Child<'a> {
         Self::of(Source::Tree(tree), place)
     }
 
-    pub(super) fn part(whole: &'a dyn Tree, place: Place<'a>) -> Self {
+    pub(super) fn part(whole: &'a dyn Part, place: Place<'a>) -> Self {
         Self::of(Source::Part(whole), place)
     }
 
-    pub(super) fn present(whole: &'a dyn Tree, place: Place<'a>) -> Self {
+    pub(super) fn present(whole: &'a dyn Part, place: Place<'a>) -> Self {
         Self::of(Source::Present(whole), place)
     }
 
+    #[cfg(feature = "tree")]
     pub(super) fn types(types: &'a [ValType], place: Place<'a>) -> Self {
         Self::of(Source::Types(types), place)
     }
 
     /// Returns the node of this value.
     pub fn node(self) -> Node<'a> {
+        let place = self.place;
         match self.source {
-            Source::Tree(tree) => tree.node(self.place),
-            Source::Part(whole) => whole.part(self.place),
-            Source::Present(whole) => Node::Present(Self::part(whole, self.place)),
-            Source::Types(_) => Node::List(List(self)),
+            Source::Tree(tree) => tree.node(place),
+            Source::Part(whole) => whole.part(place),
+            Source::Present(whole) => Node::Present(Self::part(whole, place)),
+            #[cfg(feature = "tree")]
+            Source::Types(types) => Node::List(List { listed: Listed::Types(types), place }),
         }
     }
 
@@ -251,11 +257,22 @@ impl fmt::Debug for Child<'_> {
 
 /// The elements of a list in a [`Node`].
 #[derive(Clone, Copy)]
-pub struct List<'a>(Child<'a>);
+pub struct List<'a> {
+    listed: Listed<'a>,
+    place: Place<'a>,
+}
+
+#[derive(Clone, Copy)]
+enum Listed<'a> {
+    Elements(&'a dyn Elements),
+    /// The parameters or the results of a core function type.
+    #[cfg(feature = "tree")]
+    Types(&'a [ValType]),
+}
 
 impl<'a> List<'a> {
-    pub(super) fn new(list: &'a dyn Tree, place: Place<'a>) -> Self {
-        Self(Child::new(list, place))
+    pub(super) fn new(list: &'a dyn Elements, place: Place<'a>) -> Self {
+        Self { listed: Listed::Elements(list), place }
     }
 
     /// Returns `true` if there are no elements. Nothing is read.
@@ -265,9 +282,10 @@ impl<'a> List<'a> {
 
     /// Returns the number of elements. Nothing is read.
     pub fn len(self) -> usize {
-        match self.0.source {
-            Source::Types(types) => types.len(),
-            Source::Tree(list) | Source::Part(list) | Source::Present(list) => list.len(),
+        match self.listed {
+            Listed::Elements(list) => list.len(),
+            #[cfg(feature = "tree")]
+            Listed::Types(types) => types.len(),
         }
     }
 
@@ -295,7 +313,7 @@ impl<'a> List<'a> {
     }
 
     fn each_child(self, visit: &mut dyn FnMut(Child<'_>) -> ControlFlow<()>) -> ControlFlow<()> {
-        let (place, around) = self.0.place.elements();
+        let (place, around) = self.place.elements();
         if let Some(around) = around {
             return self.each_declaration(around, place, visit);
         }
@@ -323,11 +341,10 @@ impl<'a> List<'a> {
     }
 
     fn each_element(self, visit: &mut Visit<'_>) -> ControlFlow<()> {
-        match self.0.source {
-            Source::Types(types) => types.iter().try_for_each(|ty| visit(ty, None)),
-            Source::Tree(list) | Source::Part(list) | Source::Present(list) => {
-                list.each_element(visit)
-            }
+        match self.listed {
+            Listed::Elements(list) => list.each(visit),
+            #[cfg(feature = "tree")]
+            Listed::Types(types) => types.iter().try_for_each(|ty| visit(ty, None)),
         }
     }
 }
@@ -344,25 +361,25 @@ impl fmt::Debug for List<'_> {
 
 /// The fields of a value in a [`Node`].
 #[derive(Clone, Copy)]
-pub struct Fields<'a>(Child<'a>);
+pub struct Fields<'a> {
+    fielded: Fielded<'a>,
+    place: Place<'a>,
+}
 
-/// The names and the values of some fields: nodes would be large with them.
-pub(super) type Named<'a> = [Option<(&'static str, Child<'a>)>; 4];
-
-/// Returns the names and the values of fields.
-pub(super) fn named<'a, const LEN: usize>(all: [(&'static str, Child<'a>); LEN]) -> Named<'a> {
-    const { assert!(LEN <= 4) };
-    core::array::from_fn(|at| all.get(at).copied())
+#[derive(Clone, Copy)]
+enum Fielded<'a> {
+    Whole(&'a dyn Whole),
+    Part(&'a dyn Part),
 }
 
 impl<'a> Fields<'a> {
-    pub(super) fn new(whole: &'a dyn Tree, place: Place<'a>) -> Self {
-        Self(Child::new(whole, place))
+    pub(super) fn new(whole: &'a dyn Whole, place: Place<'a>) -> Self {
+        Self { fielded: Fielded::Whole(whole), place }
     }
 
     /// The fields of a part of a value.
-    pub(super) fn part(whole: &'a dyn Tree, place: Place<'a>) -> Self {
-        Self(Child::part(whole, place))
+    pub(super) fn part(whole: &'a dyn Part, place: Place<'a>) -> Self {
+        Self { fielded: Fielded::Part(whole), place }
     }
 
     /// Returns the names and the values, in the order of the Rust type.
@@ -374,10 +391,9 @@ impl<'a> Fields<'a> {
     /// calls itself stays small.
     #[inline(never)]
     fn get(self, at: usize) -> Option<(&'static str, Child<'a>)> {
-        let named = match self.0.source {
-            Source::Tree(tree) => tree.fields(self.0.place),
-            Source::Part(whole) | Source::Present(whole) => whole.part_fields(self.0.place),
-            Source::Types(_) => return None,
+        let named = match self.fielded {
+            Fielded::Whole(whole) => whole.fields(self.place),
+            Fielded::Part(whole) => whole.part_fields(self.place),
         };
         named.get(at).copied().flatten()
     }
@@ -400,6 +416,7 @@ impl fmt::Debug for Fields<'_> {
     }
 }
 
+#[cfg(feature = "tree")]
 impl ItemTree {
     /// Returns the item as a node: the variant of this type that it is.
     pub fn node(&self) -> Node<'_> {

@@ -5,6 +5,7 @@
 mod tidy;
 
 use super::erase;
+use super::reader::has_conditions;
 
 const CRATES: [&str; 3] = ["wenc_base", "wenc_parts", "hex"];
 const PRELUDE: &str = "use crate::shim::prelude::*; ";
@@ -294,6 +295,101 @@ fn paths_that_are_not_known() {
     refuses("/// ```\n// x\n/// ```\nfn f() {}\n", 2, "an example outside of documentation");
 }
 
+/// The Rust becomes this with its conditions, in which `T` and `W` stand for the attributes.
+#[track_caller]
+fn is_conditional(rust: &str, wanted: &str) {
+    let attribute = |feature| format!("#[cfg(any(feature = \"{feature}\", script, test))] ");
+    let wanted = wanted.replace("T ", &attribute("tree")).replace("W ", &attribute("walk"));
+    assert_eq!(erase::with_conditions(rust, ' '), Ok(wanted.clone()));
+    // each on a line of its own, as the package has it
+    let laid_out = erase::with_conditions(rust, '\n').map(|rust| rust.replace('\n', " "));
+    assert_eq!(laid_out, Ok(wanted.replace('\n', " ")));
+}
+
+#[test]
+fn what_owns_has_a_condition() {
+    for (rust, wanted) in [
+        ("mod trees;", "T mod trees;"),
+        ("pub mod canon_tree;", "W pub mod canon_tree;"),
+        ("mod types;", "mod types;"),
+        ("pub enum TypeTree {\nA(TypeTree),\n}", "T pub enum TypeTree {\nA(TypeTree),\n}"),
+        ("enum A { B(TypeTree) }", "enum A { B(TypeTree) }"),
+        (
+            "impl Encode for TypeTree { fn f(t: TypeTree) {} }",
+            "T impl Encode for TypeTree { fn f(t: TypeTree) {} }",
+        ),
+        (
+            "impl A { fn f(a: [u8; 2], t: &TypeTree) {} fn g() {} }",
+            "impl A { T fn f(a: [u8; 2], t: &TypeTree) {} fn g() {} }",
+        ),
+        (
+            "#[inline] pub(in a) fn f() -> Option<ItemTree>;",
+            "#[inline] T pub(in a) fn f() -> Option<ItemTree>;",
+        ),
+        ("fn f() { ItemTree::g() }", "fn f() { ItemTree::g() }"),
+    ] {
+        is_conditional(rust, wanted);
+    }
+}
+
+#[test]
+fn core_types_are_compared_by_a_feature() {
+    let parted = |kept: &str, feature, others| {
+        format!("{kept}#[cfg_attr(any(feature = \"{feature}\", script, test), derive({others}))]")
+    };
+    for (rust, wanted) in [
+        (
+            "#[derive(Clone, Copy, Debug, Eq)] pub enum ValType { A }",
+            parted("#[derive(Clone, Copy)] ", "walk", "Debug, Eq") + " pub enum ValType { A }",
+        ),
+        (
+            "#[derive(Clone, Hash)] #[derive(Eq)] pub struct SubType;",
+            parted("", "tree", "Clone, Hash") + &parted(" ", "tree", "Eq") + " pub struct SubType;",
+        ),
+        (
+            "#[derive(Clone, Copy, Eq)] enum ValType { A }",
+            "#[derive(Clone, Copy, Eq)] enum ValType { A }".into(),
+        ),
+        ("#[derive(Eq)] pub struct Other;", "#[derive(Eq)] pub struct Other;".into()),
+        ("impl Delimited for ValType {}", "impl Delimited for ValType {}".into()),
+    ] {
+        is_conditional(rust, &wanted);
+    }
+    is_conditional("impl DelimitedEq for ValType {}", "W impl DelimitedEq for ValType {}");
+    is_conditional("impl DelimitedEq for SubType {}", "T impl DelimitedEq for SubType {}");
+}
+
+#[test]
+fn imports_are_parted_by_their_conditions() {
+    for (rust, wanted) in [
+        ("use a::{B, C};", "use a::{B, C};"),
+        ("use a::TypeTree;", "T use a::TypeTree;"),
+        ("pub use a::{TypeTree, ItemTree};", "T pub use a::{TypeTree, ItemTree};"),
+        ("pub use trees::{A, B};", "T pub use trees::{A, B};"),
+        ("use crate::canon_tree::A;", "W use crate::canon_tree::A;"),
+        ("use a::{TypeTree, B, C};", "T use a::TypeTree; use a::{B, C};"),
+        ("use a::{B, TypeTree};", "T use a::TypeTree; use a::{B};"),
+        (
+            "pub(in a) use b::{AliasTree, C, NameTree,};",
+            "T pub(in a) use b::{AliasTree, NameTree}; pub(in a) use b::{C, };",
+        ),
+        ("use canon_tree::{A, CanonTree};", "T use canon_tree::CanonTree; W use canon_tree::{A};"),
+    ] {
+        is_conditional(rust, wanted);
+    }
+    let why = "an item without an end";
+    assert_eq!(erase::with_conditions("a;\nuse b", ' '), Err((2, why)));
+    assert_eq!(erase::with_conditions("fn f()", ' '), Err((1, why)));
+}
+
+#[test]
+fn modules_of_trees_have_one_condition() {
+    assert!(erase::is_owned("type_tree") && erase::is_owned("listing"));
+    assert!(!erase::is_owned("canon_tree") && !erase::is_owned("types"));
+    assert!(has_conditions("wenc_types", "types") && !has_conditions("wenc_types", "type_tree"));
+    assert!(has_conditions("wenc_sections", "canon_tree") && !has_conditions("wenc_decode", "lib"));
+}
+
 /// Rattle with all that is left out, as the published package has it.
 const PAGE: &str = "\
 //! A crate.
@@ -387,6 +483,7 @@ pub enum Fault {
 }
 
 impl ::core::fmt::Display for Fault {
+    #[inline]
     fn fmt(&self, f: &mut ::core::fmt::Formatter<'_>) -> ::core::fmt::Result {
         match self {
             Fault::At { place, .. } => write!(f, \"at {place}\"),

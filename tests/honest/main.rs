@@ -17,7 +17,7 @@ mod proof;
 mod reader;
 
 use allocators::LEFT_OUT;
-use erase::known::{DERIVED_TOO, NARROWED, TREES};
+use erase::known::{DERIVED_TOO, NARROWED, PARTIAL, TREES};
 use lexer::{Token, lex};
 use reader::{WAYS, compare, read};
 use std::collections::BTreeMap;
@@ -67,13 +67,19 @@ fn gather(name: &str, from: &Path, to: &Path, found: &mut Vec<(String, PathBuf, 
     }
 }
 
+/// The module that a file has.
+fn module(path: &Path) -> &str {
+    path.file_stem().and_then(|stem| stem.to_str()).unwrap_or("")
+}
+
 #[test]
 fn erased_sources_are_the_sources() {
     let mut counts = BTreeMap::new();
     let sources = sources();
     assert!(sources.len() > 150, "only {} files", sources.len());
     for (name, path, old, new) in sources {
-        if let Err(why) = read(&name, &old, &new, HAS_LINES, &mut counts) {
+        let names = (&*name, module(&path));
+        if let Err(why) = read(names, &old, &new, HAS_LINES, &mut counts) {
             panic!("{}:{why}", path.display());
         }
     }
@@ -81,6 +87,7 @@ fn erased_sources_are_the_sources() {
     let ways = WAYS.into_iter().chain(LEFT_OUT.map(|(row, _)| row));
     let unused: Vec<&str> = ways.filter(|way| !counts.contains_key(way)).collect();
     assert!(unused.is_empty(), "nothing differs in these ways any more: {unused:?}");
+    assert_eq!(counts["module of a feature"], PARTIAL.len());
     assert_eq!(counts["derive of a tree"], TREES.len());
     assert_eq!(counts["derive of more"], DERIVED_TOO.len());
     assert_eq!(counts["member that stays in this crate"], NARROWED.len());
@@ -111,7 +118,7 @@ const UNKNOWN: [(&str, &str); 16] = [
 fn what_means_something_else_in_rust_is_found() {
     let read = |source: &str, rust: &str| {
         let rust = format!("use crate::shim::prelude::*; {rust}");
-        read("named", source, &rust, true, &mut BTreeMap::new())
+        read(("named", ""), source, &rust, true, &mut BTreeMap::new())
     };
     for (source, rust) in UNKNOWN {
         assert!(read(source, rust).is_err(), "{source}");
@@ -140,12 +147,13 @@ fn each_token_counts() {
     let (mut planted, mut counts) = (0, BTreeMap::new());
     for (name, path, old, new) in sources.into_iter().step_by(5) {
         let longer = format!("{new}\n");
-        assert_eq!(read(&name, &old, &longer, HAS_LINES, &mut counts).is_err(), HAS_LINES);
+        let names = (&*name, module(&path));
+        assert_eq!(read(names, &old, &longer, HAS_LINES, &mut counts).is_err(), HAS_LINES);
         let (old, mut new) = (lex(&old), lex(&new));
         for at in 0..if new.len() < 500 { new.len() } else { 0 } {
             let place = format!("{}:{}", path.display(), new[at].line);
             let mut is_found =
-                |new: &[Token]| compare(&name, &old, new, HAS_LINES, &mut counts).is_err();
+                |new: &[Token]| compare(names, &old, new, HAS_LINES, &mut counts).is_err();
             let token = new.remove(at);
             assert!(is_found(&new), "{place}: left out");
             new.insert(at, Token { line: token.line, text: format!("{}x", token.text) });

@@ -2,12 +2,13 @@
 //! differ. The tokens of the source say which way it is, and what the Rust has instead.
 
 use super::allocators;
-use super::erase::known::{DERIVED_TOO, NARROWED, TREES};
+use super::erase::TREE;
+use super::erase::known::{DERIVED_TOO, INNER, NARROWED, OWNED, PARTIAL, TREES};
 use super::lexer::{Token, lex};
 use std::collections::BTreeMap;
 
 /// The ways, each of which some source takes.
-pub const WAYS: [&str; 25] = [
+pub const WAYS: [&str; 31] = [
     "kept",
     "prelude",
     "attribute of the prover left out",
@@ -33,7 +34,28 @@ pub const WAYS: [&str; 25] = [
     "macro that is handed an allocator",
     "main is pub",
     "function that is inlined",
+    "module of a feature",
+    "item of a feature",
+    "import of a feature",
 ];
+
+/// The crates in which items have conditions of their own.
+const PARTED: [&str; 9] = [
+    "wenc_base",
+    "wenc_parts",
+    "wenc_types",
+    "wenc_canon",
+    "wenc_sections",
+    "wenc_builder",
+    "wenc_read",
+    "wenc_view",
+    "wenc_list",
+];
+
+/// Whether items of this crate's module have conditions: those of a module of trees have its own.
+pub fn has_conditions(crate_name: &str, module: &str) -> bool {
+    PARTED.contains(&crate_name) && !PARTIAL.contains(&(module, TREE))
+}
 
 /// What both have next: the way, how many tokens of the source, and the tokens of the Rust.
 struct Step {
@@ -46,16 +68,16 @@ fn step(way: &'static str, old: usize, new: impl Into<String>) -> Step {
     Step { way, old, new: new.into() }
 }
 
-/// Reads a source of this crate beside its Rust, and counts each way in which they part. Refuses
+/// Reads a source of this crate and module beside its Rust, and counts each way in which they part. Refuses
 /// what is in no way, and where lines count, what is in another line.
 pub fn read(
-    crate_name: &str,
+    names: (&str, &str),
     old: &str,
     new: &str,
     has_lines: bool,
     counts: &mut BTreeMap<&'static str, usize>,
 ) -> Result<(), String> {
-    compare(crate_name, &lex(old), &lex(new), has_lines, counts)?;
+    compare(names, &lex(old), &lex(new), has_lines, counts)?;
     let lines = (old.lines().count(), new.lines().count());
     if lines.0 == lines.1 || !has_lines {
         Ok(())
@@ -67,7 +89,7 @@ pub fn read(
 /// Reads the tokens of a source beside those of its Rust, and counts each way in which they part.
 /// Refuses what is in no way.
 pub fn compare(
-    crate_name: &str,
+    (crate_name, module): (&str, &str),
     old: &[Token],
     new: &[Token],
     has_lines: bool,
@@ -76,7 +98,8 @@ pub fn compare(
     let names = allocators::names(old);
     let mut old = old.to_vec();
     allocators::leave_out(&mut old, &names, counts);
-    let mut source = Source::new(crate_name, &old, &names);
+    let has_conditions = has_conditions(crate_name, module);
+    let mut source = Source::new(crate_name, &old, &names, has_conditions);
     let mut rest = new;
     if !rest.is_empty() {
         // It stands in the line of what documents the first item.
@@ -89,8 +112,15 @@ pub fn compare(
             return Err(format!("{}: {:?} is {why}", first.line, first.text));
         }
         let line = has_lines.then_some(first.line);
-        let is_attribute = rest.first().is_some_and(|next| next.text == "#");
-        if is_attribute && ["fn", "pub"].contains(&&*first.text) {
+        if source.has_conditions {
+            if let Some((way, condition)) = source.condition() {
+                take(way, line, &condition, &mut rest)
+                    .map_err(|why| format!("{}: {why}", first.line))?;
+                *counts.entry(way).or_default() += 1;
+            }
+        }
+        let is_inlined = rest.len() > 2 && rest[0].text == "#" && rest[2].text == "inline";
+        if is_inlined && ["fn", "pub"].contains(&&*first.text) {
             take("function that is inlined", line, "#[inline]", &mut rest)?;
             *counts.entry("function that is inlined").or_default() += 1;
         }
@@ -134,11 +164,23 @@ struct Source<'a> {
     at: usize,
     /// Where an enum of errors ends, and what is written there.
     error: Option<(usize, String)>,
+    /// Where an import ends that is parted from what owns.
+    parted: usize,
+    /// Where an item of a feature ends.
+    owned: usize,
+    /// Whether its items have conditions.
+    has_conditions: bool,
 }
 
 impl<'a> Source<'a> {
-    fn new(crate_name: &'a str, tokens: &'a [Token], allocators: &'a [String]) -> Self {
-        Source { crate_name, tokens, allocators, at: 0, error: None }
+    fn new(
+        crate_name: &'a str,
+        tokens: &'a [Token],
+        allocators: &'a [String],
+        has_conditions: bool,
+    ) -> Self {
+        let (at, error, parted, owned) = (0, None, 0, 0);
+        Source { crate_name, tokens, allocators, at, error, parted, owned, has_conditions }
     }
 
     /// The token so many after this.
@@ -194,6 +236,90 @@ impl<'a> Source<'a> {
         }
     }
 
+    /// What is compiled with a feature only: the condition of the item that begins here, after the
+    /// imports that are parted from this one.
+    fn condition(&mut self) -> Option<(&'static str, String)> {
+        if !["", "{", "}", ";", "]"].contains(&self.before(1)) || self.at < self.owned {
+            return None;
+        }
+        let keyword = match (self.text(0), self.text(1)) {
+            ("pub", "(") => 1 + self.block(1),
+            ("pub", _) => 1,
+            _ => 0,
+        };
+        match self.text(keyword) {
+            "mod" => {
+                let of = PARTIAL.iter().find(|(name, _)| *name == self.text(keyword + 1))?;
+                Some(("module of a feature", format!("#[cfg({})]", of.1)))
+            }
+            "use" => self.import(keyword),
+            "enum" | "fn" | "impl" | "struct" | "type" => {
+                let mut end = keyword;
+                while !["{", ";", ""].contains(&self.text(end)) {
+                    // the length of an array follows a semicolon
+                    end += if self.text(end) == "[" { self.block(end) } else { 1 };
+                }
+                let has = |name: &str| (keyword..end).any(|at| self.text(at) == name);
+                let inner = || INNER.iter().find(|(name, _)| has("DelimitedEq") && has(name));
+                let condition = match OWNED.into_iter().any(has) {
+                    true => TREE,
+                    false => inner()?.1,
+                };
+                self.owned = self.at + end + self.block(end);
+                Some(("item of a feature", format!("#[cfg({condition})]")))
+            }
+            _ => None,
+        }
+    }
+
+    /// The condition of an import.
+    fn import(&mut self, keyword: usize) -> Option<(&'static str, String)> {
+        let way = "import of a feature";
+        let end = (keyword..).find(|ahead| [";", ""].contains(&self.text(*ahead)))?;
+        let open = (keyword..end).find(|ahead| self.text(*ahead) == "{");
+        let path = keyword + 1..open.unwrap_or(end);
+        let whole = PARTIAL.iter().find(|(name, _)| path.clone().any(|at| self.text(at) == *name));
+        let names = open.map_or(end - 1..end, |open| open + 1..end - 1);
+        let names: Vec<&str> = names.map(|at| self.text(at)).filter(|word| *word != ",").collect();
+        let (owned, others): (Vec<&str>, Vec<&str>) =
+            names.into_iter().partition(|name| OWNED.contains(name));
+        let whole = whole.map(|(_, condition)| *condition);
+        if owned.is_empty() || others.is_empty() || whole == Some(TREE) {
+            let condition = whole.filter(|_| owned.is_empty() || whole == Some(TREE));
+            let condition = condition.or_else(|| (!owned.is_empty()).then_some(TREE))?;
+            return Some((way, format!("#[cfg({condition})]")));
+        }
+        self.parted = self.at + end;
+        let begin: Vec<String> = (0..path.end).map(|at| self.renamed(at)).collect();
+        let owned =
+            if owned.len() == 1 { owned[0].into() } else { format!("{{{}}}", owned.join(",")) };
+        let whole = whole.map_or(String::new(), |condition| format!("#[cfg({condition})]"));
+        Some((way, format!("#[cfg({TREE})] {} {owned}; {whole}", begin.join(" "))))
+    }
+
+    /// A token of a path, with the root that it has in Rust.
+    fn renamed(&self, ahead: usize) -> String {
+        let is_root = self.text(ahead + 1) == "::" && self.text(ahead - 1) != "::";
+        match self.text(ahead) {
+            "crate" if is_root => format!("crate::proved::{}", self.crate_name),
+            "std" if is_root => "crate::shim".into(),
+            word if is_root && CRATES.contains(&word) => format!("crate::proved::{word}"),
+            word => word.into(),
+        }
+    }
+
+    /// A name, with its comma, that another import has.
+    fn parted(&self) -> Option<Step> {
+        let way = "import of a feature";
+        let is_owned = |ahead| OWNED.contains(&self.text(ahead));
+        match (self.text(0), self.text(1)) {
+            _ if self.at >= self.parted => None,
+            (_, ",") if is_owned(0) => Some(step(way, 2, "")),
+            (",", _) if is_owned(1) && self.text(2) == "}" => Some(step(way, 2, "")),
+            _ => None,
+        }
+    }
+
     /// Whether a trait stands here that is asked for: behind a colon or a plus, and in front of
     /// what ends or goes on with the list.
     fn is_bound(&self) -> bool {
@@ -204,7 +330,7 @@ impl<'a> Source<'a> {
         if let Some((_, text)) = self.error.take_if(|(at, _)| *at == self.at) {
             return step("Display and Error of an error", 1, text);
         }
-        let found = self.attribute().or_else(|| self.name());
+        let found = self.parted().or_else(|| self.attribute()).or_else(|| self.name());
         found.unwrap_or_else(|| step("kept", 1, self.text(0)))
     }
 
@@ -218,11 +344,34 @@ impl<'a> Source<'a> {
             "tactic" | "cycle" => Some(step("attribute of the prover left out", len, "")),
             "error" => Some(step("text of an error left out", len, "")),
             "derive_where" => {
-                Some(step("derive_where is derive", len, self.shown(len).replacen("_where", "", 1)))
+                let shown = self.shown(len).replacen("_where", "", 1);
+                Some(self.of_inner(step("derive_where is derive", len, shown)))
             }
-            "derive" => Some(self.derive(len)),
+            "derive" => {
+                let derived = self.derive(len);
+                Some(self.of_inner(derived))
+            }
             _ => None,
         }
+    }
+
+    /// A derive, of which a type of a feature has a part by that only.
+    fn of_inner(&self, step: Step) -> Step {
+        let owner = self.public_type(step.old);
+        let Some((_, condition)) = INNER.iter().find(|(name, _)| *name == owner) else {
+            return step;
+        };
+        let Some((_, names)) = step.new.split_once('(').filter(|_| self.has_conditions) else {
+            return step;
+        };
+        let names: Vec<&str> =
+            names.split([' ', ',', ')', ']']).filter(|of| !of.is_empty()).collect();
+        let is_copy = names.contains(&"Copy");
+        let (kept, others): (Vec<&str>, Vec<&str>) =
+            names.into_iter().partition(|of| is_copy && ["Clone", "Copy"].contains(of));
+        let kept = if is_copy { format!("#[derive({})]", kept.join(",")) } else { String::new() };
+        let new = format!("{kept} #[cfg_attr({condition}, derive({}))]", others.join(","));
+        Step { new, ..step }
     }
 
     /// These tokens, with blanks between them.
@@ -280,7 +429,7 @@ impl<'a> Source<'a> {
         }
         let text = format!(
             "}} impl ::core::fmt::Display for {name} {{
-                fn fmt(&self, f: &mut ::core::fmt::Formatter<'_>) -> ::core::fmt::Result {{
+                #[inline] fn fmt(&self, f: &mut ::core::fmt::Formatter<'_>) -> ::core::fmt::Result {{
                     match self {{ {arms} }}
                 }}
             }}

@@ -2,18 +2,18 @@
 //! after a failed call, and what `build` makes. `tests/reading` has the others.
 
 pub mod built;
-#[cfg(feature = "reader")]
+#[cfg(feature = "tree")]
 mod causes;
-#[cfg(feature = "reader")]
+#[cfg(feature = "tree")]
 mod changed;
-#[cfg(feature = "reader")]
+#[cfg(feature = "tree")]
 mod damaged;
-#[cfg(feature = "reader")]
+#[cfg(feature = "tree")]
 mod expected;
 mod failed;
 mod read;
 mod refusals;
-#[cfg(feature = "reader")]
+#[cfg(feature = "tree")]
 #[path = "../common/sections.rs"]
 mod sections;
 
@@ -26,7 +26,7 @@ fn component(sections: &[u8]) -> Vec<u8> {
 
 /// Reads the component as a listing, as owned items and as borrowed ones: they are the same, or all
 /// end with the same fault, which is returned once.
-#[cfg(feature = "reader")]
+#[cfg(feature = "tree")]
 #[track_caller]
 fn read(bytes: &[u8]) -> Result<crate::Listing, crate::ListFault> {
     let listing = crate::list(bytes);

@@ -1,5 +1,5 @@
 //! Reading components and core modules, and writing what was read.
-#![cfg(feature = "reader")]
+#![cfg(feature = "tree")]
 #![allow(unsafe_code, reason = "a global allocator is unsafe")]
 
 mod commands;

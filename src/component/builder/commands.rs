@@ -15,7 +15,7 @@ impl ComponentBuilder {
         /// section. An import, an export and a builtin have their own debug name, and a start and a
         /// custom section have none: the one that is passed isn't used.
         ///
-        /// Needs the feature `reader`.
+        /// Needs the feature `tree`.
         ///
         /// ```
         /// use wenc::{ComponentBuilder, Sections};
@@ -82,7 +82,7 @@ impl ComponentBuilder {
     /// `None` for a custom section and for names. An item that [`list`](crate::list) returns
     /// becomes a command by `From`; [`build`](crate::tree::build) runs commands on a new builder.
     ///
-    /// Needs the feature `reader`.
+    /// Needs the feature `tree`.
     ///
     /// # Errors
     ///

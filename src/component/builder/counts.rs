@@ -1,7 +1,7 @@
 //! The number of items of each kind in a builder.
 
 use crate::component::ComponentBuilder;
-#[cfg(feature = "reader")]
+#[cfg(feature = "walk")]
 use crate::tree::Space;
 use core::fmt;
 
@@ -23,12 +23,12 @@ macro_rules! counts {
             )*
         }
 
-        #[cfg(feature = "reader")]
+        #[cfg(feature = "walk")]
         impl ComponentBuilder {
             /// Returns the number of items in an index space: what the call of that space returns,
             /// such as [`func_count`](Self::func_count) for [`Space::Funcs`].
             ///
-            /// Needs the feature `reader`.
+            /// Needs the feature `walk`.
             ///
             /// ```
             /// use wenc::tree::Space;
@@ -47,6 +47,7 @@ macro_rules! counts {
 
         /// Prints whether the builder is finished, and the counts that aren't 0.
         impl fmt::Debug for ComponentBuilder {
+            #[inline]
             fn fmt(&self, f: &mut fmt::Formatter<'_>) -> fmt::Result {
                 let mut printed = f.debug_struct("ComponentBuilder");
                 printed.field("is_finished", &self.is_finished());

@@ -3,7 +3,7 @@
 use crate::collections::{collections, parents};
 use crate::component::sections;
 use crate::encoders::{Public, encoders, on};
-#[cfg(feature = "reader")]
+#[cfg(feature = "tree")]
 use crate::tree::CoreTypeTree;
 use crate::twins::twins;
 use crate::{CoreTypeEncoder, ModuleType};
@@ -36,12 +36,12 @@ impl<'a> ComponentCoreTypeEncoder<'a> {
     }
 }
 
-#[cfg(feature = "reader")]
+#[cfg(feature = "tree")]
 impl ComponentCoreTypeEncoder<'_> {
     twins! {
         /// Encodes a type given as a tree, which ends the type.
         ///
-        /// Needs the feature `reader`.
+        /// Needs the feature `tree`.
         fn tree | try_tree(self, ty: &CoreTypeTree) -> () {
             Ok(on!(self.by, CoreBy, encoder => encoder.tree(ty))?)
         }

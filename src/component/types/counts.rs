@@ -10,7 +10,7 @@ macro_rules! counts {
             /// Returns the number of items in an index space: of core types, types and instances.
             /// `None` for another space, whose items aren't counted.
             ///
-            /// Needs the feature `reader`.
+            /// Needs the feature `walk`.
             ///
             /// ```
             /// use wenc::tree::Space;

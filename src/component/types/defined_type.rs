@@ -4,7 +4,7 @@ use super::{ComponentValType, PrimitiveValType};
 use crate::Error;
 use crate::adapters::{Labelled, List, is_array};
 use crate::encoders::{encoders, on};
-#[cfg(feature = "reader")]
+#[cfg(feature = "tree")]
 use crate::tree::DefinedTree;
 use crate::twins::twins;
 
@@ -179,12 +179,12 @@ impl ComponentDefinedTypeEncoder<'_> {
     }
 }
 
-#[cfg(feature = "reader")]
+#[cfg(feature = "tree")]
 impl ComponentDefinedTypeEncoder<'_> {
     twins! {
         /// Encodes a type given as a tree.
         ///
-        /// Needs the feature `reader`.
+        /// Needs the feature `tree`.
         fn tree | try_tree(self, ty: &DefinedTree) -> () {
             Ok(on!(self.by, DefinedBy, encoder => encoder.tree(ty))?)
         }

@@ -3,7 +3,7 @@
 use super::{ComponentDefinedTypeEncoder, ComponentFuncTypeEncoder, ComponentType, InstanceType};
 use crate::ValType;
 use crate::encoders::{Public, encoders, on};
-#[cfg(feature = "reader")]
+#[cfg(feature = "tree")]
 use crate::tree::TypeTree;
 use crate::twins::twins;
 
@@ -56,12 +56,12 @@ impl<'a> ComponentTypeEncoder<'a> {
     }
 }
 
-#[cfg(feature = "reader")]
+#[cfg(feature = "tree")]
 impl ComponentTypeEncoder<'_> {
     twins! {
         /// Encodes a type given as a tree, which ends the type.
         ///
-        /// Needs the feature `reader`.
+        /// Needs the feature `tree`.
         ///
         /// ```
         /// use wenc::tree::{DefinedTree, TypeTree};

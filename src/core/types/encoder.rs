@@ -6,7 +6,7 @@ use super::{
 use crate::encoders::{encoders, on};
 use crate::proved::wasm_encoder as proved;
 use crate::proved::wenc_base::ByteTypes;
-#[cfg(feature = "reader")]
+#[cfg(feature = "tree")]
 use crate::tree::GroupTree;
 use crate::twins::twins;
 use crate::{Error, Unsupported};
@@ -133,12 +133,12 @@ impl CoreTypeEncoder<'_> {
     }
 }
 
-#[cfg(feature = "reader")]
+#[cfg(feature = "tree")]
 impl CoreTypeEncoder<'_> {
     twins! {
         /// Encodes a type or a recursion group given as a tree.
         ///
-        /// Needs the feature `reader`.
+        /// Needs the feature `tree`.
         ///
         /// ```
         /// use wenc::tree::{

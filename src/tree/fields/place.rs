@@ -1,6 +1,6 @@
 //! Where a value is, which determines what an index is of, and whether there is such an index.
 
-use super::{Scope, Space, Tree};
+use super::{Scope, Space};
 use crate::tree::Node;
 use crate::view::ItemView;
 
@@ -19,8 +19,15 @@ use crate::view::ItemView;
 /// assert_eq!((counts.of(Space::Types), counts.of(Space::Funcs)), (1, 1));
 /// # Ok::<(), wenc::ListFault>(())
 /// ```
-#[derive(Clone, Copy, Debug, Default, PartialEq, Eq, Hash)]
+#[derive(Clone, Copy, Debug, PartialEq, Eq, Hash)]
 pub struct IndexCounts([u64; Space::ALL.len()]);
+
+impl Default for IndexCounts {
+    #[inline]
+    fn default() -> Self {
+        Self([0; Space::ALL.len()])
+    }
+}
 
 impl IndexCounts {
     /// Returns the number of indices in a space.
@@ -135,9 +142,9 @@ impl<'s> Place<'s> {
         Place { scopes: Some(scopes), ..self }
     }
 
-    /// Returns the place of this group of core types.
-    pub fn within(self, group: &impl Tree) -> Self {
-        Self { group: group.defined().map_or(0, |(_, count)| count), ..self }
+    /// Returns the place of a group of core types that defines these indices.
+    pub fn within(self, defined: Option<(Space, u32)>) -> Self {
+        Self { group: defined.map_or(0, |(_, count)| count), ..self }
     }
 
     /// Returns the place of an index in a space of the scope that is `count` further out.

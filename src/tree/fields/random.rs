@@ -1,7 +1,7 @@
 //! Random items, by the table of fields, and what reading gives of them.
 
-use super::{CoreArrayType, CoreFuncType, CoreValType, NameOptions};
-use crate::tree::{Box, Global, ItemTree};
+use super::NameOptions;
+use crate::tree::{Box, CoreArrayType, CoreFuncType, CoreValType, Global, ItemTree};
 use crate::{Component, ItemSection, Sections};
 use std::fmt::Debug;
 use std::format;
@@ -35,7 +35,7 @@ pub(super) trait Random: Debug {
 macro_rules! random_enum {
     ($ty:ty, {
         $($name:ident $(($one:ident $(: $of:tt)?))? $({ $($field:ident $(: $role:tt)?),+ })?
-            $(=> $defined:expr)?),+ $(,)?
+            $(in $outer:tt)? $(=> $defined:expr)?),+ $(,)?
     }) => {
         impl random::Random for $ty {
             fn random(choices: &mut random::Choices) -> Self {
@@ -53,7 +53,7 @@ macro_rules! random_enum {
 
 /// Implements `Random` for a struct, by its fields.
 macro_rules! random_struct {
-    ($name:ident, $($field:ident)+) => {
+    ($name:ident, { $($field:ident $(: $role:tt)?),+ }) => {
         impl random::Random for $name {
             fn random(choices: &mut random::Choices) -> Self {
                 Self { $($field: random::Random::random(choices)),+ }

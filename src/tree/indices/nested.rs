@@ -122,7 +122,8 @@ impl<'a> Visited<'a> {
         section: SectionReader<'a>,
         visit: &mut dyn FnMut(IndexUse<'_>),
     ) -> Result<(), OuterFault> {
-        for item in section.trees() {
+        let mut items = section.trees();
+        while let Some(item) = items.next_apart() {
             let (_, mut item) = item?;
             item.try_indices_mut(|IndexUse { space, scope, index }| {
                 let Scope::Component(out) = scope else { return };

@@ -1,0 +1,273 @@
+//! The fields of owned types, and their indices, which may be changed.
+
+use super::shape::{Kind, Role, Shape, Values};
+use super::values::leaves;
+use super::{Elements, Named, Node, Place, Tree, Visit, Whole, named};
+use crate::shim::vec::VecUsing;
+use crate::tree::indices::{IndexUse, Visitor};
+use crate::tree::node::{Child, Fields, List};
+use crate::tree::{
+    AllocError, Box, CoreArrayType, CoreFuncType, CoreHeapType, CoreRefType, CoreValType, Global,
+    Space,
+};
+use alloc::string::String;
+use alloc::vec::Vec;
+use core::ops::ControlFlow;
+
+/// An owned value, whose indices may be changed.
+pub(in crate::tree) trait TreeMut: Tree {
+    /// Sets the values of the fields, and returns the shape. A value without a shape, but with
+    /// indices, is set itself.
+    fn shape_mut<'n>(&'n mut self, _: &mut Values<&'n mut dyn TreeMut>) -> Option<&'static Shape> {
+        None
+    }
+
+    /// Visits the indices in the value at this place, which has no shape.
+    fn visit(&mut self, _: Place<'_>, _: &mut Visitor<'_>) {}
+}
+
+/// Visits each index in the value at this place, in the order in which they are encoded. It calls
+/// itself for lists, and for all but one of the fields, so that nested types take little stack.
+pub(in crate::tree) fn each_index(
+    mut tree: &mut dyn TreeMut,
+    mut place: Place<'_>,
+    visitor: &mut Visitor<'_>,
+) {
+    loop {
+        let mut values = Values::new();
+        let Some(shape) = tree.shape_mut(&mut values) else {
+            return values.itself().map_or((), |tree| tree.visit(place, visitor));
+        };
+        // the field that is visited behind those before it
+        let mut left: Option<(&mut dyn TreeMut, Place<'_>)> = None;
+        for (value, role) in values.into_fields(shape) {
+            let place = role.place(place, || value.defined());
+            match left {
+                Some((_, Place { is_last: true, .. })) => each_index(value, place, visitor),
+                _ => {
+                    if let Some((value, place)) = left.replace((value, place)) {
+                        each_index(value, place, visitor);
+                    }
+                }
+            }
+        }
+        match left {
+            Some(field) => (tree, place) = field,
+            None => return,
+        }
+    }
+}
+
+/// Implements `TreeMut` for an enum, by its variants.
+macro_rules! indices_of_enum {
+    ([$($generics:tt)*] $ty:ty, {
+        $($name:ident $(($one:ident $(: $of:tt)?))? $({ $($field:ident $(: $role:tt)?),+ })?
+            $(in $outer:tt)? $(=> $defined:expr)?),+ $(,)?
+    }) => {
+        impl $($generics)* TreeMut for $ty {
+            #[allow(unused_variables, reason = "not all enums have fields")]
+            fn shape_mut<'n>(
+                &'n mut self,
+                values: &mut Values<&'n mut dyn TreeMut>,
+            ) -> Option<&'static Shape> {
+                Some(match self {$(
+                    Self::$name $(($one))? $({ $($field),+ })? => filled!(
+                        values $name [$($outer)?] $($one)? $($($field)+)?
+                    ),
+                )+})
+            }
+        }
+    };
+}
+
+/// Implements `TreeMut` for a struct, by its fields.
+macro_rules! indices_of_struct {
+    ($ty:ident, { $($field:ident $(: $role:tt)?),+ }) => {
+        impl TreeMut for $ty {
+            fn shape_mut<'n>(
+                &'n mut self,
+                values: &mut Values<&'n mut dyn TreeMut>,
+            ) -> Option<&'static Shape> {
+                let Self { $($field),+ } = self;
+                Some(filled!(values SHAPE [] $($field)+))
+            }
+        }
+    };
+}
+
+pub(super) use {indices_of_enum, indices_of_struct};
+
+leaves! {
+    String, text => Node::Text(text);
+    Vec<u8>, bytes => Node::Bytes(bytes);
+}
+
+impl TreeMut for bool {}
+impl TreeMut for u64 {}
+impl TreeMut for String {}
+impl TreeMut for Vec<u8> {}
+
+impl TreeMut for u32 {
+    fn shape_mut<'n>(
+        &'n mut self,
+        values: &mut Values<&'n mut dyn TreeMut>,
+    ) -> Option<&'static Shape> {
+        values.set_itself(self)
+    }
+
+    fn visit(&mut self, place: Place<'_>, visitor: &mut Visitor<'_>) {
+        if let Some((space, scope)) = place.index_of() {
+            (visitor.visit)(IndexUse { space, scope, index: self });
+        }
+    }
+}
+
+impl<T: Tree> Tree for Vec<T> {
+    fn node<'n>(&'n self, place: Place<'n>) -> Node<'n> {
+        Node::List(List::new(self, place))
+    }
+}
+
+impl<T: Tree> Elements for Vec<T> {
+    fn len(&self) -> usize {
+        self.as_slice().len()
+    }
+
+    fn each(&self, visit: &mut Visit<'_>) -> ControlFlow<()> {
+        let mut rest = self.as_slice();
+        while let [value, more @ ..] = rest {
+            visit(value, None)?;
+            rest = more;
+        }
+        ControlFlow::Continue(())
+    }
+}
+
+impl<T: TreeMut> TreeMut for Vec<T> {
+    fn shape_mut<'n>(
+        &'n mut self,
+        values: &mut Values<&'n mut dyn TreeMut>,
+    ) -> Option<&'static Shape> {
+        values.set_itself(self)
+    }
+
+    fn visit(&mut self, place: Place<'_>, visitor: &mut Visitor<'_>) {
+        let mut rest = self.as_mut_slice();
+        while let [value, more @ ..] = rest {
+            each_index(value, place, visitor);
+            rest = more;
+        }
+    }
+}
+
+/// The shape of a value that is another one: it has no node.
+static INNER: Shape = Shape::new(Kind::Variant, "", &[("0", Role::Plain)]);
+
+impl<T: TreeMut> TreeMut for Option<T> {
+    fn shape_mut<'n>(
+        &'n mut self,
+        values: &mut Values<&'n mut dyn TreeMut>,
+    ) -> Option<&'static Shape> {
+        Some(values.one(&INNER, self.as_mut()?))
+    }
+}
+
+impl<T: Tree> Tree for Box<T> {
+    fn node<'n>(&'n self, place: Place<'n>) -> Node<'n> {
+        (**self).node(place)
+    }
+
+    fn defined(&self) -> Option<(Space, u32)> {
+        (**self).defined()
+    }
+}
+
+impl<T: TreeMut> TreeMut for Box<T> {
+    fn shape_mut<'n>(
+        &'n mut self,
+        values: &mut Values<&'n mut dyn TreeMut>,
+    ) -> Option<&'static Shape> {
+        Some(values.one(&INNER, &mut **self))
+    }
+}
+
+impl<N: Tree, T: TreeMut> TreeMut for (N, T) {
+    fn shape_mut<'n>(
+        &'n mut self,
+        values: &mut Values<&'n mut dyn TreeMut>,
+    ) -> Option<&'static Shape> {
+        Some(values.one(&INNER, &mut self.1))
+    }
+}
+
+impl<N: Tree, K: Tree + Copy + Into<Space>> TreeMut for (N, K, u32) {
+    fn shape_mut<'n>(
+        &'n mut self,
+        values: &mut Values<&'n mut dyn TreeMut>,
+    ) -> Option<&'static Shape> {
+        values.set_itself(self)
+    }
+
+    fn visit(&mut self, place: Place<'_>, visitor: &mut Visitor<'_>) {
+        let (_, kind, index) = self;
+        index.visit(place.outer(0, (*kind).into()), visitor);
+    }
+}
+
+impl TreeMut for CoreArrayType {
+    fn shape_mut<'n>(
+        &'n mut self,
+        values: &mut Values<&'n mut dyn TreeMut>,
+    ) -> Option<&'static Shape> {
+        Some(values.one(&INNER, &mut self.0))
+    }
+}
+
+impl Tree for CoreFuncType {
+    fn node<'n>(&'n self, place: Place<'n>) -> Node<'n> {
+        Node::Record("CoreFuncType", Fields::new(self, place))
+    }
+}
+
+impl Whole for CoreFuncType {
+    fn fields<'n>(&'n self, place: Place<'n>) -> Named<'n> {
+        named(&[
+            ("params", Child::types(self.params(), place)),
+            ("results", Child::types(self.results(), place)),
+        ])
+    }
+}
+
+impl TreeMut for CoreFuncType {
+    fn shape_mut<'n>(
+        &'n mut self,
+        values: &mut Values<&'n mut dyn TreeMut>,
+    ) -> Option<&'static Shape> {
+        values.set_itself(self)
+    }
+
+    fn visit(&mut self, place: Place<'_>, visitor: &mut Visitor<'_>) {
+        let types = self.params().iter().chain(self.results());
+        if !types.into_iter().any(has_index) {
+            return;
+        }
+        // the lists can't be changed in place
+        let lists = (copy(self.params()), copy(self.results()));
+        let (Ok(mut params), Ok(mut results)) = lists else {
+            visitor.is_refused = true;
+            return;
+        };
+        params.visit(place, visitor);
+        results.visit(place, visitor);
+        *self = Self::from_lists(params, results);
+    }
+}
+
+fn has_index(ty: &CoreValType) -> bool {
+    matches!(ty, CoreValType::Ref(CoreRefType { heap_type: CoreHeapType::Concrete(_), .. }))
+}
+
+/// Copies a list of types.
+fn copy(types: &[CoreValType]) -> Result<Vec<CoreValType>, AllocError> {
+    Vec::from_slice(Global, types)
+}
