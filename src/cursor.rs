@@ -3,11 +3,12 @@
 mod items;
 mod nested;
 mod out_of_range;
+mod steps;
 
 use crate::proved::wenc_list::{self as proved, SectionRefusal};
 #[cfg(feature = "tree")]
 use crate::tree::ItemTree;
-use crate::tree::Space;
+use crate::tree::{IndexCounts, Space};
 use crate::twins::twins;
 use crate::view::{ItemView, NameView};
 use crate::{
@@ -23,6 +24,7 @@ pub use items::Items;
 pub use items::Trees;
 pub use nested::NestedSections;
 pub use out_of_range::OutOfRange;
+pub(crate) use steps::{Step, Steps};
 
 /// An iterator over the sections of a component.
 ///
@@ -185,16 +187,14 @@ impl<'a> Sections<'a> {
     ///
     /// The first fault of a section or of an item.
     pub fn index_count(self, space: Space) -> Result<u128, ListFault> {
-        let mut count = 0;
+        let mut counts = IndexCounts::default();
         for section in self {
             let mut items = section?.items();
             while let Some(item) = items.next_apart() {
-                if let Some((_, more)) = item?.1.defined_indices().filter(|(of, _)| *of == space) {
-                    count += u128::from(more);
-                }
+                counts.add(&item?.1);
             }
         }
-        Ok(count)
+        Ok(counts.of(space).into())
     }
 
     twins! {

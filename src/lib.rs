@@ -31,10 +31,11 @@
 //!
 //! With the feature `walk`, [`Sections`] reads a component section by section, and item by item into
 //! values of [`view`], without allocating; a section can be written again byte for byte
-//! ([`SectionReader`]), and `Sections::out_of_range` finds indices that are out of range. With the
-//! feature `tree`, [`list`] reads a component into values of [`tree`], from which `tree::build`
-//! builds it again, and a section can be written item by item ([`ItemSection`]). To renumber what
-//! was read, `ItemTree::indices_mut` visits each index that an item contains.
+//! ([`SectionReader`]), and `Sections::out_of_range` finds indices that are out of range. [`scope`]
+//! has what each index means, through aliases and exports. With the feature `tree`, [`list`] reads
+//! a component into values of [`tree`], from which `tree::build` builds it again, and a section can
+//! be written item by item ([`ItemSection`]). To renumber what was read, `ItemTree::indices_mut`
+//! visits each index that an item contains.
 //!
 //! # What is proved
 //!
@@ -83,8 +84,8 @@
 //! take longer to compile:
 //!
 //! - `walk` adds the reading of components, whose items borrow from its bytes: [`Sections`],
-//!   [`CoreSections`], [`DebugNames`], [`ProducersReader`], [`view`], and of [`tree`] what is of
-//!   borrowed and of owned items: `Node`, `Space`, `Scope`, `IndexCounts` and core types.
+//!   [`CoreSections`], [`DebugNames`], [`ProducersReader`], [`scope`], [`view`], and of [`tree`]
+//!   what is of borrowed and of owned items: `Node`, `Space`, `Scope`, `IndexCounts` and core types.
 //! - `tree` adds items that own what they contain, to `walk`: [`list`], [`ItemSection`], the other
 //!   types of [`tree`], and the calls that take or return them.
 //! - `reader` is the same as `tree`.
@@ -97,10 +98,14 @@
 #![cfg_attr(not(feature = "walk"), doc = "[`CoreSections`]: #features")]
 #![cfg_attr(not(feature = "walk"), doc = "[`DebugNames`]: #features")]
 #![cfg_attr(not(feature = "walk"), doc = "[`ProducersReader`]: #features")]
+#![cfg_attr(not(feature = "walk"), doc = "[`scope`]: #features")]
 #![cfg_attr(not(feature = "walk"), doc = "[`tree`]: #features")]
 #![cfg_attr(not(feature = "walk"), doc = "[`view`]: #features")]
 // Documentation of what walks links to what owns.
-#![cfg_attr(not(feature = "tree"), allow(rustdoc::broken_intra_doc_links))]
+#![cfg_attr(
+    all(feature = "walk", not(feature = "tree")),
+    allow(rustdoc::broken_intra_doc_links, rustdoc::private_intra_doc_links)
+)]
 #![no_std]
 #![forbid(unsafe_code)]
 #![deny(missing_docs)]
@@ -135,6 +140,8 @@ mod proved;
 mod raw;
 #[cfg(feature = "walk")]
 mod rewrite;
+#[cfg(feature = "walk")]
+pub mod scope;
 // Without `tree`, parts of it aren't used.
 #[cfg_attr(not(feature = "tree"), allow(dead_code, unused_imports))]
 // It reserves first what it then calls.
@@ -163,7 +170,7 @@ pub use error::{Error, Unsupported};
 #[cfg(feature = "walk")]
 pub use list::{Bytes, Cause, Found, ListFault, Unread};
 #[cfg(feature = "tree")]
-pub use list::{Definitions, ListedSection, Listing, list};
+pub use list::{ListedSection, Listing, list};
 #[cfg(feature = "walk")]
 pub use producers::{Producer, ProducersFault, ProducersReader};
 pub use raw::RawSection;

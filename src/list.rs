@@ -14,8 +14,6 @@ use found::item_of;
 pub use crate::proved::wenc_list::{ListedSection, Listing};
 pub use cause::{Bytes, Cause};
 pub use found::Found;
-#[cfg(feature = "tree")]
-pub use queries::Definitions;
 pub use unread::Unread;
 
 mod cause;

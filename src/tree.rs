@@ -78,6 +78,7 @@ pub use fields::{IndexCounts, Scopes};
 pub use indices::Scope;
 #[cfg(feature = "tree")]
 pub use indices::{IndexUse, OuterFault};
+pub(crate) use indices::{defined_in_module, space_of};
 pub use node::{Child, Fields, List, Node, UsedIndex};
 // The types of the same names in the crate's root include what proposals add.
 #[cfg(feature = "tree")]

@@ -4,7 +4,7 @@
 //!
 //! A type `..View<'a>` borrows its strings and its lists from the bytes that were read, and is
 //! `Copy`. The type of the same name in [`tree`](crate::tree), mostly a `..Tree`, owns them, and
-//! can be changed and written, as [`ItemView`] and [`ItemTree`],
+//! can be changed and written, as [`ItemView`] and [`ItemTree`](crate::tree::ItemTree),
 //! [`ComponentDeclView`] and [`ComponentDecl`](crate::tree::ComponentDecl). What an
 //! [`AliasTree`](crate::tree::AliasTree) owns, an [`Alias`](crate::Alias) borrows, as in upstream's
 //! API. Types without strings and lists are the same in both.

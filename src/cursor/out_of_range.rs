@@ -1,10 +1,11 @@
 //! The indices in a component that its index spaces don't have.
 
-use super::{Items, NestedSections};
+use super::NestedSections;
+use super::steps::{Step, Steps};
+use crate::ListFault;
 use crate::shim::vec::VecUsing;
 use crate::tree::{IndexCounts, Scope, Scopes, Space, UsedIndex};
 use crate::view::ItemView;
-use crate::{ComponentSectionId, ListFault};
 use alloc::collections::VecDeque;
 use alloc::vec::Vec;
 
@@ -27,9 +28,7 @@ pub struct OutOfRange {
 
 /// Finds the indices in a component that are out of range.
 pub(super) struct Finder<'a> {
-    sections: NestedSections<'a>,
-    /// The items of the current section; `None` if it is a component.
-    items: Option<Items<'a>>,
+    steps: Steps<'a>,
     /// What the components around the next item have so far, the outermost first.
     counts: Vec<IndexCounts>,
     /// What was found in the last item.
@@ -38,30 +37,10 @@ pub(super) struct Finder<'a> {
 
 impl<'a> Finder<'a> {
     pub(super) fn new(sections: NestedSections<'a>) -> Self {
-        Self { sections, items: None, counts: Vec::new(), found: VecDeque::new() }
+        Self { steps: Steps::new(sections), counts: Vec::new(), found: VecDeque::new() }
     }
 
-    /// Goes on with the next section. Returns whether there is one.
-    fn enter_section(&mut self) -> Result<bool, ListFault> {
-        let Some((depth, section)) = self.sections.next().transpose()? else { return Ok(false) };
-        if self.counts.is_empty() {
-            self.enter_component()?;
-        }
-        // a nested component is defined where it ends
-        // 32 bits: each component in another has 8 bytes at least.
-        while self.counts.len() > depth + 1 {
-            self.counts.pop();
-            self.define(&ItemView::Component(&[]));
-        }
-        let is_component = section.id() == ComponentSectionId::Component.into();
-        self.items = if is_component { None } else { Some(section.items()) };
-        if is_component {
-            self.enter_component()?;
-        }
-        Ok(true)
-    }
-
-    fn enter_component(&mut self) -> Result<(), ListFault> {
+    fn enter(&mut self) -> Result<(), ListFault> {
         self.counts.push_using(IndexCounts::default()).map_err(|_| ListFault::NoMemory)
     }
 
@@ -90,10 +69,18 @@ impl<'a> Finder<'a> {
             if let Some(found) = self.found.pop_front() {
                 return Ok(Some(found));
             }
-            match self.items.as_mut().and_then(Items::next_apart).transpose()? {
-                Some((range, item)) => self.find_in(range.start, &item)?,
-                None if !self.enter_section()? => return Ok(None),
-                None => {}
+            let Some(step) = self.steps.next()? else { return Ok(None) };
+            if self.counts.is_empty() {
+                self.enter()?;
+            }
+            match step {
+                Step::Enter(..) => self.enter()?,
+                // a nested component is defined where it ends
+                Step::Leave => {
+                    self.counts.pop();
+                    self.define(&ItemView::Component(&[]));
+                }
+                Step::Item { place, item, .. } => self.find_in(place, &item)?,
             }
         }
     }

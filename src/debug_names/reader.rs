@@ -8,7 +8,7 @@ use crate::tree::Space;
 
 /// A debug name.
 ///
-/// Needs the feature `reader`.
+/// Needs the feature `walk`.
 #[derive(Clone, Copy, Debug, PartialEq, Eq, Hash)]
 pub struct DebugName<'a> {
     /// The space and the index of the item; `None` for the component itself.
@@ -22,7 +22,7 @@ pub struct DebugName<'a> {
 /// first name is kept by [`DebugNames`](super::DebugNames). The names borrow from the section, and
 /// nothing is allocated. It ends after an error.
 ///
-/// Needs the feature `reader`.
+/// Needs the feature `walk`.
 ///
 /// [names]: https://github.com/WebAssembly/component-model/blob/main/design/mvp/Binary.md#name-section
 ///

@@ -14,9 +14,9 @@ pub(super) use visited::Visitor;
 
 #[cfg(feature = "tree")]
 use super::ItemTree;
-use super::Space;
 use super::fields::Tree;
-use crate::view::ItemView;
+use super::{CoreEntityType, Space};
+use crate::view::{ItemView, ModuleDeclView};
 
 /// A component or a type with index spaces of its own, as seen from an item (component model,
 /// explainer, "Index Spaces").
@@ -65,3 +65,14 @@ macro_rules! defined_indices {
 #[cfg(feature = "tree")]
 defined_indices! { ItemTree }
 defined_indices! { ItemView<'_> }
+
+/// Returns the index space in which a declaration of a module type defines indices, and their
+/// number.
+pub(crate) fn defined_in_module(decl: &ModuleDeclView<'_>) -> Option<(Space, u32)> {
+    decl.defined()
+}
+
+/// Returns the index space of core items of a type.
+pub(crate) fn space_of(ty: &CoreEntityType) -> Option<Space> {
+    ty.defined().map(|(space, _)| space)
+}

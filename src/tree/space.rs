@@ -1,6 +1,7 @@
 //! The list of index spaces.
 
 use super::Space;
+use core::fmt;
 
 impl Space {
     /// All index spaces, each at its [`number`](Self::number).
@@ -25,4 +26,25 @@ impl Space {
         Self::Components,
         Self::Types,
     ];
+}
+
+/// The sort of what is in the space, as the standard's text format writes it: `core module`, `func`.
+impl fmt::Display for Space {
+    fn fmt(&self, f: &mut fmt::Formatter<'_>) -> fmt::Result {
+        f.pad(match self {
+            Self::CoreModules => "core module",
+            Self::CoreFuncs => "core func",
+            Self::CoreTypes => "core type",
+            Self::CoreMemories => "core memory",
+            Self::CoreTables => "core table",
+            Self::CoreInstances => "core instance",
+            Self::CoreTags => "core tag",
+            Self::CoreGlobals => "core global",
+            Self::Funcs => "func",
+            Self::Instances => "instance",
+            Self::Values => "value",
+            Self::Components => "component",
+            Self::Types => "type",
+        })
+    }
 }

@@ -8,7 +8,7 @@ use super::lexer::{Token, lex};
 use std::collections::BTreeMap;
 
 /// The ways, each of which some source takes.
-pub const WAYS: [&str; 31] = [
+pub const WAYS: [&str; 28] = [
     "kept",
     "prelude",
     "attribute of the prover left out",
@@ -38,6 +38,12 @@ pub const WAYS: [&str; 31] = [
     "item of a feature",
     "import of a feature",
 ];
+
+/// Whether it is one of the crates.
+fn is_crate(name: &str) -> bool {
+    let is_known = ["hex", "rebuild", "wasm_encoder"].contains(&name);
+    is_known || name.starts_with("wenc") || name.starts_with("proved_")
+}
 
 /// The crates in which items have conditions of their own.
 const PARTED: [&str; 9] = [
@@ -303,7 +309,7 @@ impl<'a> Source<'a> {
         match self.text(ahead) {
             "crate" if is_root => format!("crate::proved::{}", self.crate_name),
             "std" if is_root => "crate::shim".into(),
-            word if is_root && CRATES.contains(&word) => format!("crate::proved::{word}"),
+            word if is_root && is_crate(word) => format!("crate::proved::{word}"),
             word => word.into(),
         }
     }
@@ -514,10 +520,8 @@ impl<'a> Source<'a> {
             }
             "std" => Some(step("root of std", 1, "crate::shim")),
             word => {
-                let is_known = ["hex", "rebuild", "wasm_encoder"].contains(&word);
-                let is_crate = is_known || word.starts_with("wenc") || word.starts_with("proved_");
                 let root = || step("root of another crate", 1, format!("crate::proved::{word}"));
-                is_crate.then(root)
+                is_crate(word).then(root)
             }
         }
     }

@@ -2,7 +2,8 @@
 //! counts of a listing are upstream's, for which a group is one type.
 
 use crate::{component, nested, section};
-use wenc::tree::{IndexCounts, ItemTree, Scope, Space};
+use wenc::scope::Definitions;
+use wenc::tree::{IndexCounts, Scope, Space};
 use wenc::{ListFault, Sections, list};
 
 /// A group of a function, a structure and an array, and a function with a parameter.
@@ -16,18 +17,25 @@ fn types() -> Vec<u8> {
     section(3, &[&[2], GROUP, FUNCTION].concat())
 }
 
+/// The byte offset of the item that has this index of a core type.
+fn at(component: &[u8], index: u32) -> Option<usize> {
+    let definitions = Definitions::new(component, 0).expect("it is read");
+    definitions.component().get(TYPES, index).ok().map(|found| found.place())
+}
+
 #[test]
 fn each_type_has_its_definition() {
     let bytes = component(&types());
+    let wanted = [Some(11), Some(11), Some(11), Some(21), None];
+    assert_eq!([0, 1, 2, 3, 4].map(|index| at(&bytes, index)), wanted);
     let listing = list(&bytes).expect("it is listed");
-    let items: Vec<_> = listing.items().collect();
-    let definitions = listing.definitions().expect("there is memory");
-    let at =
-        |found: Option<&ItemTree>| found.map(|found| usize::from(!std::ptr::eq(found, items[0])));
-    let wanted = [Some(0), Some(0), Some(0), Some(1), None];
-    assert_eq!([0, 1, 2, 3, 4].map(|index| at(listing.definition(TYPES, index))), wanted);
-    assert_eq!([0, 1, 2, 3, 4].map(|index| at(definitions.get(TYPES, index))), wanted);
-    assert_eq!((items.len(), listing.count(TYPES)), (2, 2));
+    assert_eq!((listing.items().count(), listing.count(TYPES)), (2, 2));
+    let definitions = Definitions::new(&bytes, 0).expect("it is read");
+    let group = definitions.component().get(TYPES, 2).expect("it is in the group");
+    assert_eq!(
+        (group.index(), group.count(), definitions.component().count(TYPES)),
+        (Some(0), 3, 4)
+    );
 }
 
 #[test]
@@ -46,16 +54,19 @@ fn each_type_is_counted() {
     }
     assert_eq!(found, [Some((TYPES, 3)), Some((TYPES, 1))]);
     assert_eq!(counts.of(TYPES), 4);
+    let mut again = IndexCounts::default();
+    found.into_iter().for_each(|defined| again.define(defined));
+    assert_eq!(again, counts);
 }
 
 /// A group without types defines nothing.
 #[test]
 fn an_empty_group() {
-    let listing = list(&component(&section(3, b"\x02\x4e\0\x5f\0"))).expect("it is listed");
-    let definitions = listing.definitions().expect("there is memory");
-    let last = listing.items().last();
-    assert_eq!((listing.definition(TYPES, 0), definitions.get(TYPES, 0)), (last, last));
-    assert_eq!((listing.definition(TYPES, 1), definitions.get(TYPES, 1)), (None, None));
+    let bytes = component(&section(3, b"\x02\x4e\0\x5f\0"));
+    assert_eq!([0, 1].map(|index| at(&bytes, index)), [Some(13), None]);
+    let definitions = Definitions::new(&bytes, 0).expect("it is read");
+    let group = definitions.component().definitions().next().expect("the group");
+    assert_eq!((group.space(), group.index(), group.count()), (Some(TYPES), None, 0));
 }
 
 /// Which indices of core types are out of range, with their places, and how many there are.

@@ -3,8 +3,9 @@
 
 use crate::refuse::requested;
 use std::collections::BTreeMap;
+use wenc::scope::Definitions;
 use wenc::tree::{ItemTree, OuterFault, Scope, Space};
-use wenc::{Component, DebugNames, ListFault, NestedComponentSection, RawSection, Sections, list};
+use wenc::{Component, DebugNames, ListFault, NestedComponentSection, RawSection, Sections};
 
 /// A number of at most 28 bits, padded to four bytes.
 fn number(number: usize) -> [u8; 4] {
@@ -90,21 +91,89 @@ fn imports(count: usize) -> Vec<u8> {
     [&Component::HEADER[..], &front, &imports].concat()
 }
 
+/// Returns the definitions of a component, of at most this many scopes, items, declarations and
+/// members of lists.
+fn defined(component: &[u8], count: usize) -> Definitions<'_> {
+    let (read, requested) = requested(|| Definitions::new(component, usize::MAX));
+    // lists that double, each of a part of what the documentation states
+    assert!(requested <= 4 * (288 + 216) * count, "{requested}");
+    read.expect("it is read")
+}
+
 #[test]
 fn each_of_many_indices_has_its_definition() {
-    let listing = list(&imports(500_000)).expect("it is listed");
-    let definitions = listing.definitions().expect("there is memory");
+    let component = imports(500_000);
+    let definitions = defined(&component, 500_000);
+    let scope = definitions.component();
     let ((), requested) = requested(|| {
-        for _ in 0..50 {
-            for (index, item) in (0..).zip(listing.items()) {
-                let found = definitions.get(Space::Funcs, index).expect("it is there");
-                assert!(std::ptr::eq(found, item), "{index}");
+        for _ in 0..10 {
+            for (index, place) in (0..500_000).zip((17..).step_by(4)) {
+                let found = scope.resolve(Space::Funcs, index).expect("it is there");
+                assert_eq!((found.place(), found.index()), (place, Some(index)));
             }
         }
     });
     assert_eq!(requested, 0);
-    assert_eq!(definitions.get(Space::Funcs, 500_000), None);
-    assert_eq!(definitions.get(Space::Types, 0), None);
+    assert!(scope.get(Space::Funcs, 500_000).is_err() && scope.get(Space::Types, 0).is_err());
+}
+
+/// A million exports, each of the one before.
+#[test]
+fn exports_of_exports_are_followed() {
+    let exports: Vec<u8> =
+        (0..1_000_000).flat_map(|of| [&[0, 0, 1][..], &number(of), &[0]].concat()).collect();
+    let front = [&[0x0b][..], &number(4 + exports.len()), &number(1_000_000)].concat();
+    let component = [&imports(1), &front[..], &exports].concat();
+    let definitions = defined(&component, 1_000_001);
+    let scope = definitions.component();
+    for index in 0..=1_000_000 {
+        assert_eq!(scope.resolve(Space::Funcs, index).map(|found| found.place()), Ok(17));
+    }
+    let last = definitions.component().definitions().last().expect("an export");
+    assert_eq!(last.index(), Some(1_000_000));
+}
+
+/// An instance with as many exports as aliases of these, the last export first.
+#[test]
+fn many_exports_of_one_instance_are_found() {
+    const COUNT: usize = 100_000;
+    let name = |at: usize| [&[6][..], format!("{at:06}").as_bytes()].concat();
+    let ty: Vec<u8> =
+        (0..COUNT).flat_map(|at| [b"\x04\0", &name(at)[..], b"\x03\x01"].concat()).collect();
+    let aliases: Vec<u8> =
+        (0..COUNT).rev().flat_map(|at| [b"\x03\0\0", &name(at)[..]].concat()).collect();
+    let section = |id, count: usize, content: &[u8]| {
+        [&[id][..], &number(4 + content.len()), &number(count), content].concat()
+    };
+    let types = section(7, 1, &[&[0x42][..], &number(COUNT), &ty].concat());
+    let import = section(10, 1, b"\0\0\x05\0");
+    let sections = [types, import, section(6, COUNT, &aliases)].concat();
+    let component = [&Component::HEADER[..], &sections].concat();
+    let definitions = defined(&component, 2 * COUNT + 2);
+    for (index, at) in (1..).zip((0..COUNT).rev()) {
+        let found = definitions.component().resolve(Space::Types, index).expect("it is there");
+        assert_eq!(found.place(), 22 + 11 * at);
+    }
+}
+
+/// Components in one another, each but the first with an alias of a type of the outermost.
+#[test]
+fn outer_aliases_are_followed_in_deep_components() {
+    const DEPTH: usize = 100_000;
+    let sections = [0x06, 0x08, 0x01, 0x03, 0x02];
+    let sections = [&sections[..], &number(DEPTH), &[0]].concat();
+    let component = deep(DEPTH, &sections);
+    let ty = [0x07, 0x02, 0x01, 0x79];
+    let component = [&component[..8], &ty, &component[8..]].concat();
+    let definitions = defined(&component, DEPTH + 3);
+    let mut scope = definitions.component();
+    for _ in 0..DEPTH {
+        scope = scope.get(Space::Components, 0).expect("it is there").inner().expect("a scope");
+    }
+    assert_eq!(scope.resolve(Space::Types, 0).map(|found| found.place()), Ok(11));
+    assert!(Definitions::new(&component, DEPTH).is_ok());
+    let fault = Definitions::new(&component, DEPTH - 1).err();
+    assert!(matches!(fault, Some(ListFault::TooDeep { .. })), "{fault:?}");
 }
 
 /// A subsection with these names, of functions.

@@ -1,6 +1,7 @@
 //! What a listing has, by kind.
 
 use crate::component;
+use wenc::scope::Definitions;
 use wenc::tree::{ItemTree, Space};
 use wenc::{ComponentExportKind as Kind, ComponentTypeRef as Ref, Listing, list};
 
@@ -28,21 +29,21 @@ fn imports_and_exports() {
     assert_eq!(listing.into_items().collect::<Vec<_>>(), items);
 }
 
+/// The number of the item that defines an index.
+fn item_of(sections: &[u8], space: Space, index: u32) -> Option<usize> {
+    let component = component(sections);
+    let definitions = Definitions::new(&component, 0).expect("it is read");
+    let found = definitions.component().get(space, index).ok()?;
+    definitions.component().definitions().position(|of| of == found)
+}
+
 #[test]
 fn each_index_has_its_definition() {
     // a function, no value, three values, another function, one value
-    let listing = listed(
-        b"\x0a\x05\x01\x00\x00\x01\x07\x09\x03\x01\x00\x00\x09\x03\x02\x00\x03\
-        \x0a\x05\x01\x00\x00\x01\x08\x09\x03\x03\x00\x01",
-    );
-    let items: Vec<_> = listing.items().collect();
-    let definitions = listing.definitions().expect("there is memory");
-    let found = |space, index| {
-        let found = definitions.get(space, index);
-        assert_eq!(found, listing.definition(space, index));
-        let found = found?;
-        items.iter().position(|item| std::ptr::eq(*item, found))
-    };
+    let bytes = b"\x0a\x05\x01\x00\x00\x01\x07\x09\x03\x01\x00\x00\x09\x03\x02\x00\x03\
+        \x0a\x05\x01\x00\x00\x01\x08\x09\x03\x03\x00\x01";
+    let listing = listed(bytes);
+    let found = |space, index| item_of(bytes, space, index);
     assert_eq!([0, 1].map(|index| found(Space::Funcs, index)), [Some(0), Some(3)]);
     let of_values = [Some(2), Some(2), Some(2), Some(4), None];
     assert_eq!([0, 1, 2, 3, 4].map(|index| found(Space::Values, index)), of_values);
@@ -50,18 +51,16 @@ fn each_index_has_its_definition() {
     assert_eq!((listing.count(Space::Values), listing.count(Space::Funcs)), (4, 2));
     assert_eq!(listing.count(Space::Types), 0);
 
-    let many = listed(b"\x09\x07\x00\x00\xff\xff\xff\xff\x0f\x09\x03\x01\x00\x02");
-    let last = many.definition(Space::Values, u32::MAX);
-    assert_eq!(last, many.items().nth(1));
-    assert_eq!(many.definition(Space::Values, u32::MAX - 1), many.items().next());
-    let definitions = many.definitions().expect("there is memory");
-    assert_eq!(definitions.get(Space::Values, u32::MAX), last);
-    assert_eq!(definitions.get(Space::Values, u32::MAX - 1), many.items().next());
+    let many = b"\x09\x07\x00\x00\xff\xff\xff\xff\x0f\x09\x03\x01\x00\x02";
+    let found = |index| item_of(many, Space::Values, index);
+    assert_eq!([u32::MAX, u32::MAX - 1].map(found), [Some(1), Some(0)]);
     // values that have no index are no others'
-    let many = listed(&b"\x09\x07\x00\x00\xff\xff\xff\xff\x0f".repeat(3));
-    let definitions = many.definitions().expect("there is memory");
-    assert_eq!(definitions.get(Space::Values, 0), many.items().next());
-    assert_eq!(definitions.get(Space::Values, u32::MAX), many.items().nth(1));
+    let many = b"\x09\x07\x00\x00\xff\xff\xff\xff\x0f".repeat(3);
+    assert_eq!([0, u32::MAX].map(|index| item_of(&many, Space::Values, index)), [Some(0), Some(1)]);
+    let component = component(&many);
+    let definitions = Definitions::new(&component, 0).expect("it is read");
+    assert_eq!(definitions.component().count(Space::Values), 3 * u64::from(u32::MAX));
+    assert_eq!(definitions.component().definitions().last().expect("the third").index(), None);
 }
 
 #[test]

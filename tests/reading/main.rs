@@ -11,6 +11,7 @@ mod cursor;
 mod debug_names;
 #[cfg(not(target_family = "wasm"))]
 mod deep;
+mod definitions;
 mod faults;
 mod groups;
 #[path = "../common/hex.rs"]

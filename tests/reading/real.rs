@@ -2,6 +2,7 @@
 
 use crate::corpus;
 use crate::seen::{is_name, is_same};
+use wenc::scope::{Definitions, Meaning};
 use wenc::tree::{ItemTree, Space};
 use wenc::*;
 
@@ -28,7 +29,7 @@ fn components() {
         all.components += 1;
         all.items += are_items(sections, &listing);
         are_found(sections, &listing, &mut all);
-        are_defined(&listing);
+        are_defined(&bytes, &listing);
         are_read_on(&bytes);
         are_nested(&bytes, &mut all);
         listing.items().for_each(|item| are_in_modules(item, &mut all));
@@ -83,21 +84,22 @@ fn are_found(sections: Sections<'_>, listing: &Listing, all: &mut Found) {
 }
 
 /// Each item defines the indices from the count of those before it on.
-fn are_defined(listing: &Listing) {
-    let definitions = listing.definitions().expect("there is memory");
+fn are_defined(bytes: &[u8], listing: &Listing) {
+    let definitions = Definitions::new(bytes, 100).expect("it is read");
     let mut next = [0u32; 13];
-    for item in listing.items() {
+    for (item, of) in listing.items().zip(definitions.component().definitions()) {
+        let Meaning::Item(view) = of.meaning() else { panic!("{item:?}") };
+        assert!(is_same(view, item), "{item:?}");
         let Some((space, count)) = item.indices() else { continue };
         let index = &mut next[space.number()];
-        for found in [listing.definition(space, *index), definitions.get(space, *index)] {
-            assert!(std::ptr::eq(found.expect("it is there"), item), "{space:?} {index}");
-        }
+        assert_eq!(definitions.component().get(space, *index), Ok(of), "{space:?} {index}");
         *index += count;
     }
     for space in Space::ALL {
         let index = next[space.number()];
         assert_eq!(listing.count(space), index.into());
-        assert_eq!((listing.definition(space, index), definitions.get(space, index)), (None, None));
+        assert_eq!(definitions.component().count(space), index.into());
+        assert!(definitions.component().get(space, index).is_err());
     }
 }
 

@@ -5,6 +5,7 @@
 
 use crate::again::{built, items};
 use crate::corpus;
+use crate::definitions::is_missing;
 use crate::side_by_side::side_by_side;
 use crate::toolchain::{Linker, linker};
 use wenc::tree::{Command, IndexUse, ItemTree, Scope, Space, UsedIndex};
@@ -17,7 +18,7 @@ use wenc::{
 /// How deep components may nest.
 const LIMIT: usize = 100;
 
-fn found(component: &[u8]) -> Vec<OutOfRange> {
+pub fn found(component: &[u8]) -> Vec<OutOfRange> {
     let sections = Sections::new(component).expect("it is a component");
     let found: Result<_, ListFault> = sections.out_of_range(LIMIT).collect();
     found.expect("it is read")
@@ -25,10 +26,10 @@ fn found(component: &[u8]) -> Vec<OutOfRange> {
 
 /// The values that indices get, by their numbers in the order of the component and of those in it;
 /// `None` keeps an index.
-type To<'a> = dyn Fn(usize) -> Option<u32> + 'a;
+pub type To<'a> = dyn Fn(usize) -> Option<u32> + 'a;
 
 /// Returns the component with these values for its indices, of which the first has this number.
-fn with_indices(bytes: &[u8], next: &mut usize, to: &To<'_>) -> Vec<u8> {
+pub fn with_indices(bytes: &[u8], next: &mut usize, to: &To<'_>) -> Vec<u8> {
     let mut component = Component::new();
     for section in Sections::new(bytes).expect("it is a component") {
         let section = section.expect("it is read");
@@ -235,6 +236,11 @@ fn indices_are_raised_and_moved() {
     let (indices, raised): (Vec<_>, Vec<_>) = found.into_iter().unzip();
     let (indices, raised) = (indices.iter().sum::<usize>(), raised.concat());
     assert_eq!((components.len(), indices, raised.len()), (40, 2707, 3498));
+    let faults = side_by_side(raised.len() / 4, |at| {
+        let (space, raised) = &raised[4 * at + 3];
+        is_missing("raised", *space, raised)
+    });
+    assert!(faults.iter().sum::<usize>() > 1_000, "{faults:?}");
     let Some(linker) = linker else { return };
     // The validator is a process for each.
     let refused = side_by_side(raised.len() / 16, |at| is_refused(&linker, &raised[16 * at + 15]));

@@ -10,6 +10,7 @@
 mod again;
 mod corpus;
 mod debug_names;
+mod definitions;
 mod docs;
 mod examples;
 mod features;

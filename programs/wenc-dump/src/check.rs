@@ -1,12 +1,11 @@
-//! The check of indices.
+//! The indices of the components around an item, and their check.
 
 use super::fault::Failure;
-use super::words;
 use std::fmt::{self, Display};
 use wenc::tree::{IndexCounts, Node, Scope, Scopes, UsedIndex};
 use wenc::view::ItemView;
 
-/// The state of the check, if it is wanted.
+/// How many indices there are, and the state of the check, if it is wanted.
 pub struct Check {
     is_on: bool,
     /// What the components around the next item have so far, the outermost first.
@@ -46,7 +45,12 @@ impl Check {
         }
     }
 
-    /// Returns the scopes of the next item.
+    /// Returns what the innermost component has so far.
+    pub fn innermost(&self) -> Option<&IndexCounts> {
+        self.counts.last()
+    }
+
+    /// Returns the scopes of the next item, if the check is wanted.
     pub fn scopes(&self) -> Option<Scopes<'_>> {
         self.is_on.then(|| Scopes::new(&self.counts))
     }
@@ -63,7 +67,6 @@ pub struct OutOfRange<'a>(pub &'a UsedIndex);
 impl Display for OutOfRange<'_> {
     fn fmt(&self, f: &mut fmt::Formatter<'_>) -> fmt::Result {
         let UsedIndex { space, scope, index, count } = self.0;
-        let space = words::space(*space);
         write!(f, "no {space} {index}: {space} space ")?;
         match scope {
             Scope::Component(0) => {}

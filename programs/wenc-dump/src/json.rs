@@ -4,7 +4,6 @@ use super::cause::Cause;
 use super::fault::Fault;
 use super::report::{Content, Contents, Entry, Label, Part, Report, Rest};
 use super::walk::DEPTH;
-use super::words;
 use std::ffi::OsStr;
 use std::fmt::{self, Display, Write as _};
 use std::io::{self, Write};
@@ -110,7 +109,7 @@ impl<'o, W: Write> Json<'o, W> {
         let Some(Label { space, from, count, name }) = label else {
             return self.put(",\"space\":null,\"index\":null,\"count\":0,\"name\":null");
         };
-        self.field(",", "space", Some(Quoted(words::space(*space))))?;
+        self.field(",", "space", Some(Quoted(space)))?;
         self.field(",", "index", *from)?;
         self.field(",", "count", Some(count))?;
         self.field(",", "name", name.map(Quoted))
@@ -253,7 +252,7 @@ impl<'o, W: Write> Json<'o, W> {
         match entry {
             Entry::Name(of, name) => {
                 let (space, index) = of.unzip();
-                self.field(lead, "space", space.map(words::space).map(Quoted))?;
+                self.field(lead, "space", space.map(Quoted))?;
                 self.field(",", "index", index)?;
                 self.field(",", "name", Some(Quoted(name)))
             }
@@ -328,7 +327,7 @@ impl<W: Write> Report for Json<'_, W> {
             Scope::Component(out) => ("component", out),
             Scope::Type(depth) => ("type", depth),
         };
-        self.field(lead, "space", Some(Quoted(words::space(used.space))))?;
+        self.field(lead, "space", Some(Quoted(used.space)))?;
         self.field(",", key, Some(scope))?;
         self.field(",", "index", Some(used.index))?;
         self.field(",", "count", Some(used.count.unwrap_or_default()))?;

@@ -4,10 +4,10 @@ use super::cause::{self, Cause};
 use super::fault::{Failure, Fault};
 use super::phrase;
 use super::report::{Content, Contents, Core, Part, Report};
-use super::walk::{Indices, Walk};
+use super::walk::{Walk, label};
 use super::words;
 use std::ops::Range;
-use wenc::tree::{CoreEntityType, Space};
+use wenc::tree::{CoreEntityType, IndexCounts, Space};
 use wenc::{CoreItem, CoreSection, CoreSections, ModuleFault, SectionId};
 
 /// Returns the space in which an item has an index, if any.
@@ -50,15 +50,15 @@ impl<R: Report> Walk<'_, '_, R> {
         mut sections: CoreSections,
     ) -> Result<(), Failure> {
         let at = module.start;
-        let mut next = Indices::default();
+        let mut counts = IndexCounts::default();
         let mut here = sections.clone();
         while let Some(section) = sections.next() {
             match (section, here.next_raw()) {
-                (Ok(section), _) => self.core_section(at, &section, None, &mut next)?,
+                (Ok(section), _) => self.core_section(at, &section, None, &mut counts)?,
                 (Err(ModuleFault::BadSection { cause, .. }), Some((range, raw))) => {
                     let section = CoreSection { id: raw.id, name: None, data: raw.data, range };
                     let cause = Some(Cause::Read(cause.moved(at)));
-                    self.core_section(at, &section, cause, &mut next)?;
+                    self.core_section(at, &section, cause, &mut counts)?;
                     sections = here.clone();
                 }
                 (Err(fault), _) => self.unread(Fault::of_module(at, fault, None), module.end)?,
@@ -74,7 +74,7 @@ impl<R: Report> Walk<'_, '_, R> {
         at: usize,
         section: &CoreSection,
         no_name: Option<Cause>,
-        next: &mut Indices,
+        counts: &mut IndexCounts,
     ) -> Result<(), Failure> {
         let are_shown = are_shown(section);
         let contents = section.name.map_or(Contents::Other, Contents::of_core);
@@ -98,10 +98,12 @@ impl<R: Report> Walk<'_, '_, R> {
         }
         for item in section.items() {
             match item {
-                Ok((range, item)) => self.core_item(at, section, range, &item, next)?,
+                Ok((range, item)) => self.core_item(at, section, range, &item, counts)?,
                 Err(fault) => {
                     let fault = Fault::of_module(at, fault, None);
-                    next.note(&fault);
+                    if !fault.is_behind_items() {
+                        counts.add_unknown();
+                    }
                     self.unread_of(fault, range.end, !are_shown)?;
                 }
             }
@@ -116,15 +118,16 @@ impl<R: Report> Walk<'_, '_, R> {
         section: &CoreSection,
         range: Range<usize>,
         item: &CoreItem,
-        next: &mut Indices,
+        counts: &mut IndexCounts,
     ) -> Result<(), Failure> {
         let data_start = section.range.end - section.data.len();
         self.report.open(&Part::Item {
             range: at + range.start..at + range.end,
-            label: space(item).map(|space| next.take(space, 1, None)),
+            label: space(item).map(|space| label(Some(counts), space, 1, None)),
             content: Content::Node(&phrase::of_item(item.node()), &[]),
             bytes: &section.data[range.start - data_start..range.end - data_start],
         })?;
+        counts.define(space(item).map(|space| (space, 1)));
         Ok(self.report.close()?)
     }
 }

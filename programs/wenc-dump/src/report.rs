@@ -109,7 +109,7 @@ pub struct Label<'a> {
     /// Their space.
     pub space: Space,
     /// The first of them; `None` if an item before it can't be read.
-    pub from: Option<u128>,
+    pub from: Option<u64>,
     /// The number of indices.
     pub count: u32,
     /// The debug name of the first.

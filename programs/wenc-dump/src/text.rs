@@ -114,13 +114,13 @@ impl<'o, W: Write> Text<'o, W> {
     }
 
     fn label(&mut self, label: &Label) -> io::Result<()> {
-        let word = words::space(label.space);
+        let word = label.space;
         match (label.count, label.from) {
             (0, _) => write!(self, "no {word}")?,
             (_, None) => self.piece(Hue::Index, format_args!("{word} ?"))?,
             (1, Some(from)) => self.piece(Hue::Index, format_args!("{word} {from}"))?,
             (count, Some(from)) => {
-                let to = from + u128::from(count) - 1;
+                let to = from + u64::from(count) - 1;
                 self.piece(Hue::Index, format_args!("{word} {from} to {to}"))?;
             }
         }
@@ -174,7 +174,7 @@ impl<'o, W: Write> Text<'o, W> {
         match entry {
             Entry::Name(None, name) => self.named("component ", Some(name)),
             Entry::Name(Some((space, index)), name) => {
-                self.piece(Hue::Index, format_args!("{} {index}", words::space(*space)))?;
+                self.piece(Hue::Index, format_args!("{space} {index}"))?;
                 self.named(" ", Some(name))
             }
             Entry::Tool(Producer { field, name, version }) => {

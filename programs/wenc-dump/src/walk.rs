@@ -9,7 +9,7 @@ use super::report::{Content, Contents, Label, Part, Report, Rest};
 use super::words;
 use std::io;
 use std::ops::Range;
-use wenc::tree::Space;
+use wenc::tree::{IndexCounts, Space};
 use wenc::view::ItemView;
 use wenc::{CoreSections, DebugNames, ListFault, SectionReader, Sections};
 
@@ -30,34 +30,17 @@ pub struct Walk<'f, 'r, R> {
     check: Check,
 }
 
-/// The next index of each space.
-#[derive(Default)]
-pub(super) struct Indices {
-    next: [u128; 13],
-    /// Whether an item can't be read, so that further indices are unknown.
-    are_lost: bool,
-}
-
-impl Indices {
-    /// Takes this number of indices of a space, which have these debug names.
-    pub(super) fn take<'a>(
-        &mut self,
-        space: Space,
-        count: u32,
-        names: Option<&'a DebugNames>,
-    ) -> Label<'a> {
-        let next = &mut self.next[space.number()];
-        let from = (!self.are_lost).then_some(*next);
-        *next += u128::from(count);
-        let index = from.and_then(|from| u32::try_from(from).ok()).filter(|_| count > 0);
-        let name = names.zip(index).and_then(|(names, index)| names.get(space, index));
-        Label { space, from, count, name }
-    }
-
-    /// Notes that this can't be read.
-    pub(super) fn note(&mut self, fault: &Fault) {
-        self.are_lost |= !fault.is_behind_items();
-    }
+/// Returns the label of the next indices of a space, which have these debug names.
+pub(super) fn label<'a>(
+    counts: Option<&IndexCounts>,
+    space: Space,
+    count: u32,
+    names: Option<&'a DebugNames>,
+) -> Label<'a> {
+    let from = counts.filter(|counts| !counts.are_unknown()).map(|counts| counts.of(space));
+    let index = from.and_then(|from| u32::try_from(from).ok()).filter(|_| count > 0);
+    let name = names.zip(index).and_then(|(names, index)| names.get(space, index));
+    Label { space, from, count, name }
 }
 
 /// Reports the component or the core module with these bytes, and passes on its faults, with those
@@ -92,9 +75,8 @@ fn names_of(sections: Sections) -> Result<DebugNames, Failure> {
 
 impl<'f, R: Report> Walk<'f, '_, R> {
     /// Notes that an item or a section of the innermost component can't be read.
-    fn note(&mut self, fault: &Fault, next: &mut Indices) {
-        next.note(fault);
-        if next.are_lost {
+    fn note(&mut self, fault: &Fault) {
+        if !fault.is_behind_items() {
             self.check.add_unknown();
         }
     }
@@ -165,12 +147,11 @@ impl<'f, R: Report> Walk<'f, '_, R> {
         self.names.try_reserve(1)?;
         self.names.push(names);
         self.check.enter()?;
-        let mut next = Indices::default();
         let bytes = &self.bytes[..end];
         let misfit = sections.offset().map_or(Ok(None), |from| misfit(bytes, from))?;
-        self.sections_to(sections, end, misfit, &mut next)?;
+        self.sections_to(sections, end, misfit)?;
         if let Some(behind) = misfit.and_then(|misfit| Sections::at(bytes, misfit.end)) {
-            self.sections_to(behind, end, None, &mut next)?;
+            self.sections_to(behind, end, None)?;
         }
         self.check.leave();
         self.names.pop();
@@ -184,7 +165,6 @@ impl<'f, R: Report> Walk<'f, '_, R> {
         mut sections: Sections<'f>,
         end: usize,
         misfit: Option<Misfit>,
-        next: &mut Indices,
     ) -> Result<(), Failure> {
         let mut here = sections;
         while let Some(section) = sections.next() {
@@ -197,10 +177,10 @@ impl<'f, R: Report> Walk<'f, '_, R> {
                 self.is_in_misfit = true;
             }
             match (section, frame) {
-                (Ok(section), _) => self.section(section, next)?,
+                (Ok(section), _) => self.section(section)?,
                 (Err(fault), None) => self.unread(Fault::List(fault, None), end)?,
                 (Err(fault), Some((range, raw))) => {
-                    self.unread_section(range, raw.id, fault, next)?;
+                    self.unread_section(range, raw.id, fault)?;
                     sections = here;
                 }
             }
@@ -218,7 +198,6 @@ impl<'f, R: Report> Walk<'f, '_, R> {
         range: Range<usize>,
         id: u8,
         fault: ListFault,
-        next: &mut Indices,
     ) -> Result<(), Failure> {
         let fault = match fault {
             ListFault::BadSection { place, .. } => Fault::UnknownSection(place, id),
@@ -226,23 +205,23 @@ impl<'f, R: Report> Walk<'f, '_, R> {
         };
         let (end, word) = (range.end, words::section(id));
         self.report.open(&Part::Section { range, id, word, count: None, core: None })?;
-        self.note(&fault, next);
+        self.note(&fault);
         self.unread(fault, end)?;
         Ok(self.report.close()?)
     }
 
-    fn section(&mut self, section: SectionReader<'f>, next: &mut Indices) -> Result<(), Failure> {
+    fn section(&mut self, section: SectionReader<'f>) -> Result<(), Failure> {
         let (range, id, count) = (section.range(), section.id(), Some(section.count()));
         let word = words::section(id);
         self.report.open(&Part::Section { range, id, word, count, core: None })?;
         for item in section.items() {
             let fault = match item {
                 Ok((range, ItemView::Component(_))) => {
-                    self.nested(range, section, next)?;
+                    self.nested(range, section)?;
                     continue;
                 }
                 Ok((range, item)) => {
-                    self.item(range, &item, next)?;
+                    self.item(range, &item)?;
                     continue;
                 }
                 Err(ListFault::NoMemory) => return Err(Failure::NoMemory),
@@ -251,26 +230,21 @@ impl<'f, R: Report> Walk<'f, '_, R> {
                 }
                 Err(fault) => Fault::List(fault, None),
             };
-            self.note(&fault, next);
+            self.note(&fault);
             self.unread(fault, section.range().end)?;
         }
         Ok(self.report.close()?)
     }
 
     /// Reports a nested component.
-    fn nested(
-        &mut self,
-        range: Range<usize>,
-        section: SectionReader<'f>,
-        next: &mut Indices,
-    ) -> Result<(), Failure> {
+    fn nested(&mut self, range: Range<usize>, section: SectionReader<'f>) -> Result<(), Failure> {
         let place = range.start;
         let sections = section.component();
         let own = match sections {
             Ok(Some(sections)) => names_of(sections)?,
             _ => DebugNames::new(),
         };
-        let label = Some(next.take(Space::Components, 1, self.names.last()));
+        let label = Some(label(self.check.innermost(), Space::Components, 1, self.names.last()));
         let (content, end) = (Content::Component(own.component()), range.end);
         self.report.open(&Part::Item { range, label, content, bytes: &[] })?;
         match sections {
@@ -301,14 +275,10 @@ impl<'f, R: Report> Walk<'f, '_, R> {
     }
 
     /// Reports an item that isn't a component.
-    fn item(
-        &mut self,
-        range: Range<usize>,
-        item: &ItemView,
-        next: &mut Indices,
-    ) -> Result<(), Failure> {
+    fn item(&mut self, range: Range<usize>, item: &ItemView) -> Result<(), Failure> {
         let names = self.names.last();
-        let label = item.defined_indices().map(|(space, count)| next.take(space, count, names));
+        let counts = self.check.innermost();
+        let label = item.defined_indices().map(|(space, count)| label(counts, space, count, names));
         let bytes = &self.bytes[range.clone()];
         let scopes = self.check.scopes();
         let node = phrase::of_item(node_in(item, scopes.as_ref()));

@@ -1,7 +1,6 @@
 //! Words for numbers of the format, and for counts.
 
 use std::fmt::{self, Display};
-use wenc::tree::Space;
 use wenc::{ComponentSectionId, SectionId};
 
 /// Returns the word for a section of a component; `None` if its id is above 11.
@@ -40,25 +39,6 @@ pub fn core_section(id: u8) -> Option<&'static str> {
         SectionId::DataCount => "data count",
         SectionId::Tag => "tag",
     })
-}
-
-/// Returns the word for an index space.
-pub fn space(space: Space) -> &'static str {
-    match space {
-        Space::CoreModules => "core module",
-        Space::CoreFuncs => "core func",
-        Space::CoreTypes => "core type",
-        Space::CoreMemories => "core memory",
-        Space::CoreTables => "core table",
-        Space::CoreInstances => "core instance",
-        Space::CoreTags => "core tag",
-        Space::CoreGlobals => "core global",
-        Space::Funcs => "func",
-        Space::Instances => "instance",
-        Space::Values => "value",
-        Space::Components => "component",
-        Space::Types => "type",
-    }
 }
 
 /// A number of things: "1 byte", "2 bytes".

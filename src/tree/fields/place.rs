@@ -45,8 +45,14 @@ impl IndexCounts {
         self.0 = [u64::MAX; Space::ALL.len()];
     }
 
-    /// Adds indices in a space.
-    pub(in crate::tree) fn define(&mut self, defined: Option<(Space, u32)>) {
+    /// Returns whether there was an item that can't be read.
+    pub fn are_unknown(&self) -> bool {
+        self.0 == [u64::MAX; Space::ALL.len()]
+    }
+
+    /// Adds this many indices in a space, which [`defined_indices`](ItemView::defined_indices) of
+    /// an item returns.
+    pub fn define(&mut self, defined: Option<(Space, u32)>) {
         if let Some((space, count)) = defined {
             let all = &mut self.0[space.number()];
             *all = all.saturating_add(count.into());

@@ -3,6 +3,7 @@
 use super::{GRANTED, NAME, SINCE, calmly, refusing};
 use std::fmt::{self, Debug, Write};
 use std::panic::{AssertUnwindSafe, catch_unwind};
+use wenc::scope::Definitions;
 use wenc::*;
 
 /// The iterator's values with each allocation failing in turn: the value that needs it is this
@@ -67,6 +68,26 @@ fn indices_out_of_range() {
         assert_eq!(all().filter(|one| one.is_ok()).count(), found);
         each_is_refused(all, ListFault::NoMemory, requests);
     }
+}
+
+/// What is kept of each definition: scopes, names, types that are read, and what isn't followed.
+#[test]
+fn definitions() {
+    // an instance type, and a nested component whose export is of no type
+    let inner = b"\x04\x11\0asm\x0d\0\x01\0\x0b\x07\x01\0\x01e\x03\x09\0";
+    let ty = b"\x07\x09\x01\x42\x01\x04\0\x01f\x03\x01";
+    let component = [&Component::HEADER[..], ty, inner].concat();
+    let mut requests = 0;
+    loop {
+        let (read, is_refused) = refusing(requests, || Definitions::new(&component, 8));
+        assert_eq!(read.err(), is_refused.then_some(ListFault::NoMemory), "request {requests}");
+        if !is_refused {
+            break;
+        }
+        requests += 1;
+    }
+    // scopes, open ones, definitions, names before and after sorting, types, and faults
+    assert!(requests >= 7, "{requests}");
 }
 
 /// A writer that discards what is printed.

@@ -126,16 +126,6 @@ fn items_are_found() {
 }
 
 #[test]
-fn definitions_are_found() {
-    let listing = list(&component(0)).expect("it is listed");
-    let found = each_is_refused(1, |refusals| {
-        let definitions = refusals.call(|| listing.definitions());
-        definitions.get(Space::Components, 0).map(std::ptr::from_ref)
-    });
-    assert_eq!(found, listing.items().next().map(std::ptr::from_ref));
-}
-
-#[test]
 fn indices_of_a_core_type_are_visited() {
     let component = b"\0asm\x0d\0\x01\0\x03\x0c\x01\x60\x02\x64\0\x63\0\x02\x64\0\x63\0";
     let mut items = list(component).expect("it is listed").into_items();

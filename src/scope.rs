@@ -1,0 +1,266 @@
+//! What the indices of a component mean.
+//!
+//! Needs the feature `walk`.
+//!
+//! [`Definitions`] reads a component once, with the components that are nested in it and the types
+//! that have index spaces of their own: component types, instance types and module types. Each of
+//! these is a [`Scope`], in which an index of a [`Space`] has a [`Definition`]: an item, an import,
+//! a declaration, or something that is *the same as* another definition, such as an alias. That one
+//! may be in another scope; [`resolve`](Definition::resolve) follows them to the last.
+//!
+//! ```
+//! use wenc::scope::{Definitions, Meaning};
+//! use wenc::tree::Space;
+//! use wenc::view::{ItemView, TypeView};
+//!
+//! // the type of an instance that exports a function, an import of such an instance, and an alias
+//! // of its function, which is exported
+//! let component = b"\0asm\x0d\0\x01\0\
+//!     \x07\x0e\x01\x42\x02\x01\x40\0\x01\0\x04\0\x01f\x01\0\
+//!     \x0a\x06\x01\0\x01i\x05\0\x06\x06\x01\x01\0\0\x01f\x0b\x07\x01\0\x01g\x01\0\0";
+//! let definitions = Definitions::new(component, 100)?;
+//! let scope = definitions.component();
+//!
+//! // function 1, the export, is the same as function 0, the alias
+//! let export = scope.get(Space::Funcs, 1)?;
+//! assert!(matches!(export.meaning(), Meaning::Item(ItemView::Export { .. })));
+//! let alias = export.target()?.expect("it is the same as another");
+//! assert_eq!(alias.index(), Some(0));
+//!
+//! // it is a function that the type of the instance declares
+//! let function = export.resolve()?;
+//! let Meaning::Declared { name, .. } = function.meaning() else { panic!("it is declared") };
+//! assert_eq!((name.name, function.place()), ("f", 18));
+//!
+//! // its type is one of that type's own
+//! let ty = function.ty()?.expect("it has a type");
+//! assert!(matches!(ty.meaning(), Meaning::Item(ItemView::Type(TypeView::Func { .. }))));
+//! assert_eq!((ty.place(), ty.index()), (13, Some(0)));
+//! # Ok::<(), Box<dyn std::error::Error>>(())
+//! ```
+
+mod build;
+mod definition;
+mod fault;
+mod follow;
+mod meaning;
+
+use crate::tree::Space;
+use alloc::vec::Vec;
+use core::{fmt, iter};
+
+pub use definition::Definition;
+pub use fault::ScopeFault;
+pub use meaning::Meaning;
+
+/// No definition, or no scope.
+const NONE: u32 = u32::MAX;
+
+/// The definitions of a component, in all of its scopes.
+///
+/// Needs the feature `walk`.
+///
+/// On a 64-bit machine each item, each declaration of a type, and each export or argument in the
+/// list of an instance takes at most 288 bytes of memory, and a scope that isn't at its end 216
+/// more; a list that grows takes up to twice as much. Each byte is read once, and once more for
+/// each type around it. What a definition is the same as is found when it is read, so that
+/// [`resolve`](Definition::resolve) follows any number of exports and aliases in the time of one.
+pub struct Definitions<'a> {
+    /// In the order in which they are defined: a type after its declarations.
+    entries: Vec<Entry<'a>>,
+    /// In the order in which they begin.
+    frames: Vec<Frame>,
+    /// The exports of each scope, by their names.
+    names: Vec<(&'a str, u32)>,
+    /// What can't be followed, in the order of the entries.
+    faults: Vec<(u32, ScopeFault)>,
+}
+
+/// A definition.
+struct Entry<'a> {
+    meaning: Meaning<'a>,
+    place: usize,
+    /// The first of its indices.
+    first: u64,
+    /// The number of its indices.
+    count: u32,
+    space: Option<Space>,
+    /// The scope in which its own indices are meant.
+    scope: u32,
+    /// The entry of the index before it in its space, or itself if it is the first.
+    previous: u32,
+    /// An entry further before it, so that each is found in a logarithmic number of steps.
+    jump: u32,
+    /// The number of entries in its space that are before it.
+    depth: u32,
+    /// The next definition of the scope, or of the instance's list.
+    next: u32,
+    /// What it is the same as.
+    target: u32,
+    /// The last of those that it is the same as: itself if it isn't, or can't be followed.
+    last: u32,
+    /// The scope that it opens.
+    inner: u32,
+}
+
+/// A scope, or the list of exports or of arguments in an instance.
+struct Frame {
+    place: usize,
+    /// The scope around it.
+    outer: u32,
+    /// The number of entries before its own.
+    start: u32,
+    /// Its first and its last entry.
+    ends: (u32, u32),
+    /// Its exports, in `names`.
+    names: (u32, u32),
+    /// The newest entry of each space.
+    newest: [u32; Space::ALL.len()],
+}
+
+impl<'a> Definitions<'a> {
+    /// Returns the scope of the outermost component.
+    pub fn component(&self) -> Scope<'_, 'a> {
+        Scope { all: self, number: 0, before: NONE, place: 0 }
+    }
+
+    fn entry(&self, number: u32) -> &Entry<'a> {
+        &self.entries[number as usize]
+    }
+
+    fn frame(&self, number: u32) -> &Frame {
+        &self.frames[number as usize]
+    }
+
+    /// Returns the newest entry of a space that is among the first entries.
+    fn newest(&self, scope: u32, before: u32, space: Space) -> Option<u32> {
+        self.seek(self.frame(scope).newest[space.number()], |number, _| number < before)
+    }
+
+    /// Returns the newest entry, from this one on, that is wanted: so are all those before it.
+    fn seek(&self, mut number: u32, is_wanted: impl Fn(u32, &Entry) -> bool) -> Option<u32> {
+        if number == NONE {
+            return None;
+        }
+        loop {
+            let entry = self.entry(number);
+            if is_wanted(number, entry) {
+                return Some(number);
+            }
+            if entry.previous == number {
+                return None;
+            }
+            let is_near = is_wanted(entry.jump, self.entry(entry.jump));
+            number = if is_near { entry.previous } else { entry.jump };
+        }
+    }
+
+    /// Returns the number of indices in a space that the first entries define.
+    fn count(&self, scope: u32, before: u32, space: Space) -> u64 {
+        self.newest(scope, before, space).map_or(0, |number| self.entry(number).end())
+    }
+
+    /// Returns the entry of an index among the first entries, for what is at this byte offset.
+    fn find(
+        &self,
+        (scope, before, place): (u32, u32, usize),
+        space: Space,
+        index: u32,
+    ) -> Result<u32, ScopeFault> {
+        let newest = self.frame(scope).newest[space.number()];
+        let is_wanted = |number, entry: &Entry| number < before && entry.first <= u64::from(index);
+        let found = self.seek(newest, is_wanted);
+        let found = found.filter(|number| u64::from(index) < self.entry(*number).end());
+        found.ok_or_else(|| {
+            let count = self.count(scope, before, space);
+            ScopeFault::OutOfRange { place, space, index, count }
+        })
+    }
+}
+
+impl<'a> Entry<'a> {
+    /// Returns the index after its own.
+    fn end(&self) -> u64 {
+        self.first.saturating_add(self.count.into())
+    }
+}
+
+impl fmt::Debug for Definitions<'_> {
+    fn fmt(&self, f: &mut fmt::Formatter<'_>) -> fmt::Result {
+        f.debug_struct("Definitions").field("len", &self.entries.len()).finish_non_exhaustive()
+    }
+}
+
+/// The index spaces of a component, or of a type that has some of its own, as a whole or as far as
+/// they are defined before one of their definitions (component model, explainer, "Index Spaces").
+///
+/// Needs the feature `walk`.
+#[derive(Clone, Copy)]
+pub struct Scope<'s, 'a> {
+    all: &'s Definitions<'a>,
+    number: u32,
+    /// The number of the entry before which definitions are seen.
+    before: u32,
+    /// The byte offset of what refers to them.
+    place: usize,
+}
+
+impl<'s, 'a> Scope<'s, 'a> {
+    /// Returns the byte offset at which the component begins, or the item or declaration that the
+    /// type is.
+    pub fn place(self) -> usize {
+        self.all.frame(self.number).place
+    }
+
+    /// Returns the number of indices in a space.
+    pub fn count(self, space: Space) -> u64 {
+        self.all.count(self.number, self.before, space)
+    }
+
+    /// Returns what an index is.
+    ///
+    /// # Errors
+    ///
+    /// [`ScopeFault::OutOfRange`], with the byte offset of the definition before which this scope
+    /// is seen, or otherwise of the scope.
+    pub fn get(self, space: Space, index: u32) -> Result<Definition<'s, 'a>, ScopeFault> {
+        let number = self.all.find((self.number, self.before, self.place), space, index)?;
+        Ok(Definition::new(self.all, number))
+    }
+
+    /// Returns what an index is in the end, as [`Definition::resolve`] does.
+    ///
+    /// # Errors
+    ///
+    /// Those of [`get`](Self::get) and of [`Definition::resolve`].
+    pub fn resolve(self, space: Space, index: u32) -> Result<Definition<'s, 'a>, ScopeFault> {
+        self.get(space, index)?.resolve()
+    }
+
+    /// Returns the scope around this one, as it is before it; `None` for the outermost component.
+    pub fn outer(self) -> Option<Self> {
+        let &Frame { outer, start, place, .. } = self.all.frame(self.number);
+        (outer != NONE).then_some(Self { number: outer, before: start, place, ..self })
+    }
+
+    /// Returns the definitions in their order, with exports, custom sections and others that define
+    /// no index.
+    pub fn definitions(self) -> impl Iterator<Item = Definition<'s, 'a>> {
+        let numbered = move |number: u32| (number < self.before).then_some(number);
+        let first = numbered(self.all.frame(self.number).ends.0);
+        let numbers = iter::successors(first, move |number| numbered(self.all.entry(*number).next));
+        numbers.map(move |number| Definition::new(self.all, number))
+    }
+
+    /// Returns the export with this name, or the first of several. A valid component has one.
+    pub fn export(self, name: &str) -> Option<Definition<'s, 'a>> {
+        let (_, number) = *self.all.exports_named(self.number, name).first()?;
+        (number < self.before).then(|| Definition::new(self.all, number))
+    }
+}
+
+impl fmt::Debug for Scope<'_, '_> {
+    fn fmt(&self, f: &mut fmt::Formatter<'_>) -> fmt::Result {
+        f.debug_struct("Scope").field("place", &self.place()).finish_non_exhaustive()
+    }
+}

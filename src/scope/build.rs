@@ -1,0 +1,255 @@
+//! Reading the definitions of a component.
+
+use super::meaning::Declarations;
+use super::{Definitions, Entry, Frame, Meaning, NONE};
+use crate::cursor::{Step, Steps};
+use crate::shim::vec::VecUsing;
+use crate::tree::{IndexCounts, Space};
+use crate::view::{CoreInstanceView, InstanceView, ItemView};
+use crate::{ListFault, Sections};
+use alloc::vec::Vec;
+use core::mem;
+
+impl<'a> Definitions<'a> {
+    /// Reads a component with the components that are nested in it, up to `limit` deep.
+    ///
+    /// # Errors
+    ///
+    /// The first fault of a section or of an item, [`ListFault::TooDeep`] for a component that is
+    /// nested deeper, and [`ListFault::NoMemory`]. Indices that can't be followed are no error
+    /// here.
+    pub fn new(bytes: &'a [u8], limit: usize) -> Result<Self, ListFault> {
+        let mut steps = Steps::new(Sections::new(bytes)?.nested(limit));
+        let (entries, frames, names, faults) = Default::default();
+        let all = Self { entries, frames, names, faults };
+        let mut reader = Reader { all, open: Vec::new(), names: Vec::new(), types: Vec::new() };
+        reader.enter(0, Meaning::Item(ItemView::Component(bytes)))?;
+        while let Some(step) = steps.next()? {
+            match step {
+                Step::Enter(place, bytes) => {
+                    reader.enter(place, Meaning::Item(ItemView::Component(bytes)))?;
+                }
+                Step::Leave => reader.leave_and_define()?,
+                Step::Item { place, end, item } => reader.item(place, end, item)?,
+            }
+        }
+        reader.leave()?;
+        Ok(reader.all)
+    }
+}
+
+/// What was read so far.
+struct Reader<'a> {
+    all: Definitions<'a>,
+    /// The scopes around the next definition, the outermost first.
+    open: Vec<Open<'a>>,
+    /// The exports of these.
+    names: Vec<(&'a str, u32)>,
+    /// The declarations that are left of the types around the next one.
+    types: Vec<Declarations<'a>>,
+}
+
+/// A scope whose definitions are being read.
+struct Open<'a> {
+    /// Its number.
+    scope: u32,
+    /// What defines it in the scope around it, and its byte offset.
+    opener: (usize, Meaning<'a>),
+    counts: IndexCounts,
+    /// The number of exports in the scopes around it.
+    names: usize,
+    /// Whether it is a list in an instance, whose indices are meant in the scope around it.
+    is_list: bool,
+}
+
+/// Returns a number of definitions, which take more memory than there are numbers.
+fn numbered(len: usize) -> Result<u32, ListFault> {
+    u32::try_from(len).ok().filter(|number| *number != NONE).ok_or(ListFault::NoMemory)
+}
+
+fn push<T>(all: &mut Vec<T>, value: T) -> Result<(), ListFault> {
+    all.push_using(value).map_err(|_| ListFault::NoMemory)
+}
+
+impl<'a> Reader<'a> {
+    /// Begins the scope of what is at this byte offset.
+    fn enter(&mut self, place: usize, opener: Meaning<'a>) -> Result<(), ListFault> {
+        let (scope, start) = (numbered(self.all.frames.len())?, numbered(self.all.entries.len())?);
+        let outer = self.open.last().map_or(NONE, |open| open.scope);
+        let (ends, newest) = ((NONE, NONE), [NONE; Space::ALL.len()]);
+        push(&mut self.all.frames, Frame { place, outer, start, ends, names: (0, 0), newest })?;
+        let (counts, names) = (IndexCounts::default(), self.names.len());
+        let is_list = matches!(opener.space(), Some(Space::Instances | Space::CoreInstances));
+        push(&mut self.open, Open { scope, opener: (place, opener), counts, names, is_list })
+    }
+
+    /// Ends the innermost scope. Returns it.
+    fn leave(&mut self) -> Result<Option<Open<'a>>, ListFault> {
+        let Some(open) = self.open.pop() else { return Ok(None) };
+        let names = &mut self.names[open.names..];
+        names.sort_unstable();
+        let from = numbered(self.all.names.len())?;
+        self.all.names.extend_from_slice_using(names).map_err(|_| ListFault::NoMemory)?;
+        self.all.frames[open.scope as usize].names = (from, numbered(self.all.names.len())?);
+        self.names.truncate(open.names);
+        Ok(Some(open))
+    }
+
+    /// Ends the innermost scope, and defines it in the one around it.
+    fn leave_and_define(&mut self) -> Result<(), ListFault> {
+        let Some(Open { scope, opener: (place, meaning), .. }) = self.leave()? else {
+            return Ok(());
+        };
+        self.define(place, meaning, scope)
+    }
+
+    /// Adds an item at this byte offset, of a section that ends at this one.
+    fn item(&mut self, place: usize, end: usize, item: ItemView<'a>) -> Result<(), ListFault> {
+        self.meaning(place, Meaning::Item(item))?;
+        while let Some(declarations) = self.types.last_mut() {
+            let place = end.saturating_sub(declarations.bytes_left());
+            match declarations.next() {
+                Some(meaning) => self.meaning(place, meaning)?,
+                None => {
+                    self.types.pop();
+                    self.leave_and_define()?;
+                }
+            }
+        }
+        Ok(())
+    }
+
+    /// Adds a definition, or begins its scope if it is a type that has one.
+    fn meaning(&mut self, place: usize, meaning: Meaning<'a>) -> Result<(), ListFault> {
+        if let Some(declarations) = meaning.declarations() {
+            push(&mut self.types, declarations)?;
+            return self.enter(place, meaning);
+        }
+        match meaning {
+            Meaning::Item(ItemView::Instance(instance)) => self.instance(place, meaning, instance),
+            Meaning::Item(ItemView::CoreInstance(instance)) => {
+                self.core_instance(place, meaning, instance)
+            }
+            _ => self.define(place, meaning, NONE),
+        }
+    }
+
+    /// Adds an instance, with its exports or arguments.
+    fn instance(
+        &mut self,
+        place: usize,
+        meaning: Meaning<'a>,
+        instance: InstanceView<'a>,
+    ) -> Result<(), ListFault> {
+        match instance {
+            InstanceView::Instantiate { args, .. } => {
+                let args = args.map(|(name, kind, index)| Meaning::Argument { name, kind, index });
+                self.list(place, meaning, args)
+            }
+            InstanceView::Exports(exports) => {
+                let exports = exports.map(|(name, kind, index)| ItemView::Export {
+                    name,
+                    kind,
+                    index,
+                    ty: None,
+                });
+                self.list(place, meaning, exports.map(Meaning::Item))
+            }
+        }
+    }
+
+    /// Adds a core instance, with its exports or arguments.
+    fn core_instance(
+        &mut self,
+        place: usize,
+        meaning: Meaning<'a>,
+        instance: CoreInstanceView<'a>,
+    ) -> Result<(), ListFault> {
+        match instance {
+            CoreInstanceView::Instantiate { args, .. } => {
+                let args = args.map(|(name, argument)| Meaning::CoreArgument { name, argument });
+                self.list(place, meaning, args)
+            }
+            CoreInstanceView::Exports(exports) => {
+                let exports =
+                    exports.map(|(name, kind, index)| Meaning::CoreExport { name, kind, index });
+                self.list(place, meaning, exports)
+            }
+        }
+    }
+
+    /// Adds an instance with this list.
+    fn list(
+        &mut self,
+        place: usize,
+        instance: Meaning<'a>,
+        mut list: impl Iterator<Item = Meaning<'a>>,
+    ) -> Result<(), ListFault> {
+        self.enter(place, instance)?;
+        list.try_for_each(|member| self.define(place, member, NONE))?;
+        self.leave_and_define()
+    }
+
+    /// Adds a definition at this byte offset, and the scope that it is.
+    fn define(&mut self, place: usize, meaning: Meaning<'a>, inner: u32) -> Result<(), ListFault> {
+        let number = numbered(self.all.entries.len())?;
+        let is_list = self.open.last().is_some_and(|open| open.is_list);
+        let innermost = self.open.len().saturating_sub(1 + usize::from(is_list));
+        let around = |out| Some(self.open.get(innermost.checked_sub(out)?)?.scope);
+        let (target, last) = match self.all.target_of(around, &meaning, place) {
+            Ok(target) => target.map_or((NONE, number), |to| (to, self.all.entry(to).last)),
+            Err(fault) => {
+                push(&mut self.all.faults, (number, fault))?;
+                (NONE, number)
+            }
+        };
+        let scope = self.open.get(innermost).map_or(NONE, |open| open.scope);
+        let (first, count, space, depth) = (0, 0, meaning.space(), 0);
+        let (previous, jump, next) = (number, number, NONE);
+        #[rustfmt::skip]
+        let mut entry = Entry {
+            meaning, place, first, count, space, scope, previous, jump, depth, next, target, last,
+            inner,
+        };
+        if let Some((space, count @ 1..)) = meaning.defined().filter(|_| !is_list) {
+            (entry.count, entry.first) = (count, self.open[innermost].counts.of(space));
+            self.open[innermost].counts.define(Some((space, count)));
+            self.chain(space, number, &mut entry);
+        }
+        self.link(number, meaning.export())?;
+        push(&mut self.all.entries, entry)
+    }
+
+    /// Puts an entry after those of its space.
+    fn chain(&mut self, space: Space, number: u32, entry: &mut Entry<'a>) {
+        let newest = &mut self.all.frames[entry.scope as usize].newest[space.number()];
+        let previous = mem::replace(newest, number);
+        if previous == NONE {
+            return;
+        }
+        let near = self.all.entry(previous);
+        let far = self.all.entry(near.jump);
+        let further = self.all.entry(far.jump);
+        // two jumps of one length become one, as in a skew binary number
+        let is_same = near.depth - far.depth == far.depth - further.depth;
+        entry.jump = if is_same { far.jump } else { previous };
+        (entry.previous, entry.depth) = (previous, near.depth + 1);
+    }
+
+    /// Adds an entry to the innermost scope, and to its exports if it has a name.
+    fn link(&mut self, number: u32, name: Option<&'a str>) -> Result<(), ListFault> {
+        if let Some(name) = name {
+            push(&mut self.names, (name, number))?;
+        }
+        let Some(open) = self.open.last() else { return Ok(()) };
+        let (first, last) = &mut self.all.frames[open.scope as usize].ends;
+        if *first == NONE {
+            *first = number;
+        }
+        match mem::replace(last, number) {
+            NONE => {}
+            before => self.all.entries[before as usize].next = number,
+        }
+        Ok(())
+    }
+}

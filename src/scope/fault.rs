@@ -1,0 +1,82 @@
+//! What can't be followed.
+
+use crate::tree::Space;
+use core::fmt;
+
+/// Why an index can't be followed to its definition. A place is the byte offset of the item or
+/// declaration that has the index, from the start of the outermost component.
+///
+/// Needs the feature `walk`.
+///
+/// It isn't an [`Error`](crate::Error), which says what can't be encoded.
+#[derive(Clone, Copy, Debug, PartialEq, Eq)]
+#[non_exhaustive]
+pub enum ScopeFault {
+    /// The space has no such index before the item.
+    OutOfRange {
+        /// The byte offset of the item.
+        place: usize,
+        /// The index space.
+        space: Space,
+        /// The index.
+        index: u32,
+        /// The number of indices in the space before the item; 0 if there is no such scope.
+        count: u64,
+    },
+    /// The instance has no export with the name that an alias has.
+    NoExport {
+        /// The byte offset of the alias.
+        place: usize,
+        /// The space that the export is to be in.
+        space: Space,
+    },
+    /// The instance has an export with the name that an alias has, of another kind.
+    OtherExport {
+        /// The byte offset of the alias.
+        place: usize,
+        /// The space that the export is to be in.
+        space: Space,
+        /// The space that it is in.
+        found: Space,
+    },
+    /// The type of a component, an instance or a core module is that of something else.
+    OtherType {
+        /// The byte offset of the import or the declaration with that type.
+        place: usize,
+        /// The space that the type is of.
+        space: Space,
+    },
+}
+
+impl ScopeFault {
+    /// Returns the byte offset of the item or declaration that has the index.
+    pub fn place(&self) -> usize {
+        match *self {
+            Self::OutOfRange { place, .. }
+            | Self::NoExport { place, .. }
+            | Self::OtherExport { place, .. }
+            | Self::OtherType { place, .. } => place,
+        }
+    }
+}
+
+impl fmt::Display for ScopeFault {
+    fn fmt(&self, f: &mut fmt::Formatter<'_>) -> fmt::Result {
+        match *self {
+            Self::OutOfRange { place, space, index, count } => {
+                write!(f, "no {space} {index} at {place:#x}: the space has {count}")
+            }
+            Self::NoExport { place, space } => {
+                write!(f, "no {space} is exported by the name at {place:#x}")
+            }
+            Self::OtherExport { place, space, found } => {
+                write!(f, "no {space} is exported by the name at {place:#x}: found {found}")
+            }
+            Self::OtherType { place, space } => {
+                write!(f, "the type at {place:#x} is of no {space}")
+            }
+        }
+    }
+}
+
+impl core::error::Error for ScopeFault {}

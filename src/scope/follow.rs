@@ -1,0 +1,113 @@
+//! Following definitions to those that they are the same as.
+
+use super::meaning::Same;
+use super::{Definitions, Meaning, NONE, ScopeFault};
+use crate::ComponentTypeRef;
+use crate::tree::Space;
+use crate::view::{CoreInstanceView, CoreTypeView, InstanceView, ItemView, TypeView};
+
+impl Definitions<'_> {
+    /// Returns why this entry itself can't be followed.
+    pub(super) fn fault_of(&self, number: u32) -> Option<ScopeFault> {
+        let at = self.faults.binary_search_by_key(&number, |(number, _)| *number).ok()?;
+        Some(self.faults[at].1)
+    }
+
+    /// Returns the last entry that this one is the same as.
+    pub(super) fn last_of(&self, number: u32) -> Result<u32, ScopeFault> {
+        let last = self.entry(number).last;
+        self.fault_of(last).map_or(Ok(last), Err)
+    }
+
+    /// Returns the exports of a scope with this name, the first one first.
+    pub(super) fn exports_named(&self, scope: u32, name: &str) -> &[(&str, u32)] {
+        let (from, to) = self.frame(scope).names;
+        let names = &self.names[from as usize..to as usize];
+        let from = names.partition_point(|(other, _)| *other < name);
+        let len = names[from..].iter().take_while(|(other, _)| *other == name).count();
+        &names[from..from + len]
+    }
+
+    /// Returns what an index is in the end that is meant where this entry is.
+    fn resolved(&self, number: u32, space: Space, index: u32) -> Result<u32, ScopeFault> {
+        let entry = self.entry(number);
+        self.last_of(self.find((entry.scope, number, entry.place), space, index)?)
+    }
+
+    /// Returns the scope with the exports of an entry that is no other; `None` if there is none.
+    pub(super) fn exports_of(&self, number: u32) -> Result<Option<u32>, ScopeFault> {
+        let entry = self.entry(number);
+        let of = |space, index| self.exports_of(self.resolved(number, space, index)?);
+        match (entry.meaning, entry.meaning.type_ref()) {
+            (_, Some(ty)) => self.exports_by(number, ty),
+            (Meaning::Item(ItemView::Instance(InstanceView::Instantiate { component, .. })), _) => {
+                of(Space::Components, component)
+            }
+            (
+                Meaning::Item(ItemView::CoreInstance(CoreInstanceView::Instantiate {
+                    module, ..
+                })),
+                _,
+            ) => of(Space::CoreModules, module),
+            _ => Ok((entry.inner != NONE).then_some(entry.inner)),
+        }
+    }
+
+    /// Returns the scope with the exports of an import or a declared export of this type.
+    fn exports_by(&self, number: u32, ty: ComponentTypeRef) -> Result<Option<u32>, ScopeFault> {
+        let (space, index) = match ty {
+            ComponentTypeRef::Module(index) => (Space::CoreTypes, index),
+            ComponentTypeRef::Instance(index) | ComponentTypeRef::Component(index) => {
+                (Space::Types, index)
+            }
+            _ => return Ok(None),
+        };
+        let found = self.entry(self.resolved(number, space, index)?);
+        let is_such = matches!(
+            (ty, found.meaning),
+            (
+                ComponentTypeRef::Module(_),
+                Meaning::Item(ItemView::CoreType(CoreTypeView::Module(_)))
+            ) | (
+                ComponentTypeRef::Instance(_),
+                Meaning::Item(ItemView::Type(TypeView::Instance(_)))
+            ) | (
+                ComponentTypeRef::Component(_),
+                Meaning::Item(ItemView::Type(TypeView::Component(_)))
+            )
+        );
+        let place = self.entry(number).place;
+        let other = ScopeFault::OtherType { place, space: ty.kind().into() };
+        if is_such { Ok(Some(found.inner)) } else { Err(other) }
+    }
+
+    /// Returns the entry that this one at this byte offset is the same as, given the scopes that are
+    /// so many further out. `None` if it is no other.
+    pub(super) fn target_of(
+        &self,
+        around: impl Fn(usize) -> Option<u32>,
+        meaning: &Meaning<'_>,
+        place: usize,
+    ) -> Result<Option<u32>, ScopeFault> {
+        let found = |out, space, index| {
+            let missing = ScopeFault::OutOfRange { place, space, index, count: 0 };
+            let scope = usize::try_from(out).ok().and_then(&around).ok_or(missing)?;
+            self.find((scope, NONE, place), space, index)
+        };
+        let (of, name, space) = match meaning.same() {
+            None => return Ok(None),
+            Some(Same::Index(out, space, index)) => return found(out, space, index).map(Some),
+            Some(Same::Export((space, index), name, of)) => (found(0, space, index)?, name, of),
+        };
+        let Some(scope) = self.exports_of(self.last_of(of)?)? else { return Ok(None) };
+        let named = self.exports_named(scope, name);
+        let spaces = || named.iter().filter_map(|(_, number)| self.entry(*number).space);
+        match spaces().position(|found| found == space) {
+            Some(at) => Ok(Some(named[at].1)),
+            None => Err(match spaces().next() {
+                Some(found) => ScopeFault::OtherExport { place, space, found },
+                None => ScopeFault::NoExport { place, space },
+            }),
+        }
+    }
+}

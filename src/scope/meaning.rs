@@ -1,0 +1,200 @@
+//! What a definition is.
+
+use crate::tree::{Space, defined_in_module, space_of};
+use crate::view::{
+    ComponentDeclView, ComponentDecls, CoreTypeView, InstanceDeclView, InstanceDecls, ItemView,
+    ListOf, ModuleDeclView, NameView, TypeView,
+};
+use crate::{Alias, ComponentExportKind, ComponentTypeRef, ExportKind, ModuleArg, TypeBounds};
+
+/// What a [`Definition`](super::Definition) is.
+///
+/// Needs the feature `walk`.
+#[derive(Clone, Copy)]
+pub enum Meaning<'a> {
+    /// An item of a component; or a type, a core type, an alias or an import that a component type
+    /// or an instance type declares, as that item.
+    Item(ItemView<'a>),
+    /// An export that a component type or an instance type declares.
+    Declared {
+        /// Its name.
+        name: NameView<'a>,
+        /// Its type.
+        ty: ComponentTypeRef,
+    },
+    /// A declaration of a module type.
+    Module(ModuleDeclView<'a>),
+    /// An argument of a component's instantiation: an item by the name of an import.
+    Argument {
+        /// The name of the import.
+        name: &'a str,
+        /// The kind of the item.
+        kind: ComponentExportKind,
+        /// The index of the item.
+        index: u32,
+    },
+    /// An argument of a core module's instantiation.
+    CoreArgument {
+        /// The name of the module to import from.
+        name: &'a str,
+        /// The core instance.
+        argument: ModuleArg,
+    },
+    /// An export in the list of a core instance. One in the list of an instance is an
+    /// [`Item`](Self::Item).
+    CoreExport {
+        /// Its name.
+        name: &'a str,
+        /// The kind of the core item.
+        kind: ExportKind,
+        /// The index of the core item.
+        index: u32,
+    },
+}
+
+/// What a definition is the same as.
+pub(super) enum Same<'a> {
+    /// What has this index, this many scopes further out.
+    Index(u32, Space, u32),
+    /// What an instance exports, whose space and index come first.
+    Export((Space, u32), &'a str, Space),
+}
+
+impl<'a> Meaning<'a> {
+    /// Returns the space in which it defines indices, and their number.
+    pub(super) fn defined(&self) -> Option<(Space, u32)> {
+        match self {
+            Self::Item(item) => item.defined_indices(),
+            Self::Declared { ty, .. } => Some((ty.kind().into(), 1)),
+            Self::Module(decl) => defined_in_module(decl),
+            _ => None,
+        }
+    }
+
+    /// Returns the space of what it is.
+    pub(super) fn space(&self) -> Option<Space> {
+        match self {
+            Self::Argument { kind, .. } => Some((*kind).into()),
+            Self::CoreArgument { argument: ModuleArg::Instance(_), .. } => {
+                Some(Space::CoreInstances)
+            }
+            Self::CoreExport { kind, .. } => Some((*kind).into()),
+            Self::Module(ModuleDeclView::Export { ty, .. }) => space_of(ty),
+            _ => self.defined().map(|(space, _)| space),
+        }
+    }
+
+    /// Returns its name among the exports of its scope.
+    pub(super) fn export(&self) -> Option<&'a str> {
+        match *self {
+            Self::Item(ItemView::Export { name, .. }) | Self::Declared { name, .. } => {
+                Some(name.name)
+            }
+            Self::Module(ModuleDeclView::Export { name, .. })
+            | Self::Argument { name, .. }
+            | Self::CoreArgument { name, .. }
+            | Self::CoreExport { name, .. } => Some(name),
+            _ => None,
+        }
+    }
+
+    /// Returns the type of an import or of a declared export.
+    pub(super) fn type_ref(&self) -> Option<ComponentTypeRef> {
+        match *self {
+            Self::Item(ItemView::Import { ty, .. }) | Self::Declared { ty, .. } => Some(ty),
+            _ => None,
+        }
+    }
+
+    /// Returns what it is the same as.
+    pub(super) fn same(&self) -> Option<Same<'a>> {
+        if let Some(ComponentTypeRef::Type(TypeBounds::Eq(index))) = self.type_ref() {
+            return Some(Same::Index(0, Space::Types, index));
+        }
+        match *self {
+            Self::Item(ItemView::Export { kind, index, .. })
+            | Self::Argument { kind, index, .. } => Some(Same::Index(0, kind.into(), index)),
+            Self::Item(ItemView::Alias(Alias::Outer { kind, count, index })) => {
+                Some(Same::Index(count, kind.into(), index))
+            }
+            Self::Item(ItemView::Alias(Alias::InstanceExport { instance, kind, name })) => {
+                Some(Same::Export((Space::Instances, instance), name, kind.into()))
+            }
+            Self::Item(ItemView::Alias(Alias::CoreInstanceExport { instance, kind, name })) => {
+                Some(Same::Export((Space::CoreInstances, instance), name, kind.into()))
+            }
+            Self::Module(ModuleDeclView::Alias { count, index }) => {
+                Some(Same::Index(count, Space::CoreTypes, index))
+            }
+            Self::CoreArgument { argument: ModuleArg::Instance(index), .. } => {
+                Some(Same::Index(0, Space::CoreInstances, index))
+            }
+            Self::CoreExport { kind, index, .. } => Some(Same::Index(0, kind.into(), index)),
+            _ => None,
+        }
+    }
+
+    /// Returns the declarations of a type that has index spaces of its own.
+    pub(super) fn declarations(&self) -> Option<Declarations<'a>> {
+        match *self {
+            Self::Item(ItemView::Type(TypeView::Component(all))) => {
+                Some(Declarations::Component(all))
+            }
+            Self::Item(ItemView::Type(TypeView::Instance(all))) => {
+                Some(Declarations::Instance(all))
+            }
+            Self::Item(ItemView::CoreType(CoreTypeView::Module(all))) => {
+                Some(Declarations::Module(all))
+            }
+            _ => None,
+        }
+    }
+}
+
+impl<'a> From<InstanceDeclView<'a>> for Meaning<'a> {
+    fn from(decl: InstanceDeclView<'a>) -> Self {
+        match decl {
+            InstanceDeclView::CoreType(ty) => Self::Item(ItemView::CoreType(ty)),
+            InstanceDeclView::Type(ty) => Self::Item(ItemView::Type(ty)),
+            InstanceDeclView::Alias(alias) => Self::Item(ItemView::Alias(alias)),
+            InstanceDeclView::Export { name, ty } => Self::Declared { name, ty },
+        }
+    }
+}
+
+impl<'a> From<ComponentDeclView<'a>> for Meaning<'a> {
+    fn from(decl: ComponentDeclView<'a>) -> Self {
+        match decl {
+            ComponentDeclView::Import { name, ty } => Self::Item(ItemView::Import { name, ty }),
+            ComponentDeclView::Decl(decl) => decl.into(),
+        }
+    }
+}
+
+/// The declarations of a type that are left.
+#[derive(Clone, Copy)]
+pub(super) enum Declarations<'a> {
+    Component(ComponentDecls<'a>),
+    Instance(InstanceDecls<'a>),
+    Module(ListOf<'a, ModuleDeclView<'a>>),
+}
+
+impl<'a> Declarations<'a> {
+    /// Returns the number of bytes from the next declaration to the end of the section.
+    pub fn bytes_left(&self) -> usize {
+        match self {
+            Self::Component(all) => all.bytes.len(),
+            Self::Instance(all) => all.bytes.len(),
+            Self::Module(all) => all.bytes.len(),
+        }
+    }
+
+    /// Returns the next declaration.
+    pub fn next(&mut self) -> Option<Meaning<'a>> {
+        match self {
+            Self::Component(all) => all.next().map(Meaning::from),
+            Self::Instance(all) => all.next().map(Meaning::from),
+            Self::Module(all) => all.next().map(Meaning::Module),
+        }
+    }
+}

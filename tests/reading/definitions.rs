@@ -1,0 +1,349 @@
+//! What indices mean: each kind of alias in each scope, what isn't the same as another, and what
+//! can't be followed.
+
+use crate::{component, nested, section};
+use wenc::scope::{Definition, Definitions, Meaning, Scope, ScopeFault};
+use wenc::tree::Space;
+use wenc::view::{InstanceView, ItemView, ModuleDeclView, TypeView};
+
+fn read(component: &[u8]) -> Definitions<'_> {
+    Definitions::new(component, 100).expect("it is read")
+}
+
+/// The byte offset of what an index is in the end.
+fn resolved(scope: Scope<'_, '_>, space: Space, index: u32) -> Result<usize, ScopeFault> {
+    scope.resolve(space, index).map(Definition::place)
+}
+
+/// The scope of a component or of a type.
+fn inner<'s, 'a>(scope: Scope<'s, 'a>, space: Space, index: u32) -> Scope<'s, 'a> {
+    scope.get(space, index).expect("it is there").inner().expect("it has a scope")
+}
+
+/// A section of one byte's count of these.
+fn many(id: u8, members: &[&[u8]]) -> Vec<u8> {
+    let count = u8::try_from(members.len()).expect("they are few");
+    section(id, &[&[count], &members.concat()[..]].concat())
+}
+
+/// Calls a function with a component that has these types, and in one of its scopes an import or an
+/// export of an instance of type 0, and these aliases; and with that scope: that of the component,
+/// of one in it, of a component type and of an instance type. The last two have a type before.
+fn in_each_scope(types: &[&[u8]], aliases: &[&[u8]], check: impl Fn(Scope<'_, '_>)) {
+    let instance = section(10, b"\x01\0\x01x\x05\0");
+    check(
+        read(&component(&[many(7, types), instance.clone(), many(6, aliases)].concat()))
+            .component(),
+    );
+    let outer = many(6, &[b"\x03\x02\x01\0"]);
+    let within = nested(&[outer, instance, many(6, aliases)].concat());
+    let all = component(&[many(7, types), within].concat());
+    check(inner(read(&all).component(), Space::Components, 0));
+    for kind in [0x41, 0x42] {
+        let count = u8::try_from(aliases.len() + 2).expect("they are few");
+        let front = [&[kind, count][..], b"\x02\x03\x02\x01\0\x04\0\x01x\x05\0"].concat();
+        let declared = aliases.iter().flat_map(|of| [b"\x02", *of].concat());
+        let ty: Vec<u8> = front.into_iter().chain(declared).collect();
+        let all = component(&many(7, &[types, &[&ty]].concat()));
+        let all = read(&all);
+        let last = u32::try_from(types.len()).expect("they are few");
+        check(inner(all.component(), Space::Types, last));
+    }
+}
+
+/// A type of instances that export each kind of item.
+const EACH_KIND: &[u8] = b"\x42\x0a\0\x50\0\x01\x40\0\x01\0\x01\x41\0\x01\x42\0\
+    \x04\0\x01m\0\x11\0\x04\0\x01f\x01\0\x04\0\x01v\x02\x79\x04\0\x01t\x03\x01\
+    \x04\0\x01i\x05\x02\x04\0\x01c\x04\x01";
+
+/// Aliases of these, their space, and where the exports are declared, if the type is at 11.
+const OF_EACH_KIND: [(&[u8], Space, usize); 6] = [
+    (b"\0\x11\0\0\x01m", Space::CoreModules, 27),
+    (b"\x01\0\0\x01f", Space::Funcs, 34),
+    (b"\x02\0\0\x01v", Space::Values, 40),
+    (b"\x03\0\0\x01t", Space::Types, 46),
+    (b"\x05\0\0\x01i", Space::Instances, 52),
+    (b"\x04\0\0\x01c", Space::Components, 58),
+];
+
+#[test]
+fn exports_of_instances() {
+    let aliases = OF_EACH_KIND.map(|(alias, ..)| alias);
+    in_each_scope(&[EACH_KIND], &aliases, |scope| {
+        for (_, space, place) in OF_EACH_KIND {
+            // type 0 is that of instance 0, or an alias of it
+            let index = u32::from(matches!(space, Space::Types | Space::Instances));
+            assert_eq!(resolved(scope, space, index), Ok(place), "{space:?}");
+            let alias = scope.get(space, index).expect("it is there");
+            let Meaning::Item(ItemView::Alias(_)) = alias.meaning() else { panic!("{alias:?}") };
+            let target = alias.target().expect("it is followed").expect("it is the same");
+            assert_eq!(target, alias.resolve().expect("it is followed"));
+            assert_eq!(target.space(), Some(space));
+        }
+        let instance = scope.resolve(Space::Instances, 1).expect("it is declared");
+        let Ok(Some(ty)) = instance.ty() else { panic!("it has a type") };
+        assert_eq!(ty.place(), 24);
+        assert!(matches!(ty.meaning(), Meaning::Item(ItemView::Type(TypeView::Instance(_)))));
+        let exports = instance.exports().expect("it is followed").expect("it has some");
+        assert_eq!((exports.place(), exports.definitions().count()), (24, 0));
+    });
+}
+
+/// A core type, a module of its type, a type and a component, and where they are.
+fn outermost() -> Vec<u8> {
+    let module = section(10, b"\x01\0\x01m\0\x11\0");
+    [many(3, &[b"\x50\0"]), module, many(7, &[b"\x79"]), nested(b"")].concat()
+}
+
+/// Their aliases from so many scopes further in.
+fn outer_aliases(count: u8) -> [(Vec<u8>, Space, usize); 4] {
+    [
+        (vec![0, 0x11, 2, count, 0], Space::CoreModules, 16),
+        (vec![0, 0x10, 2, count, 0], Space::CoreTypes, 11),
+        (vec![3, 2, count, 0], Space::Types, 25),
+        (vec![4, 2, count, 0], Space::Components, 28),
+    ]
+}
+
+/// Expects that the scope has these aliases, and what they are of.
+fn has_aliases(scope: Scope<'_, '_>, count: u8) {
+    for (_, space, place) in outer_aliases(count) {
+        let index = u32::try_from(scope.count(space)).expect("they are few") - 1;
+        assert_eq!(resolved(scope, space, index), Ok(place), "{space:?}");
+    }
+}
+
+#[test]
+fn outer_items() {
+    let aliases = |count| outer_aliases(count).map(|(alias, ..)| alias);
+    let items = |count| many(6, &aliases(count).each_ref().map(Vec::as_slice));
+    // of the component itself, of the one around it, and of the one around that
+    let two = nested(&nested(&items(2)));
+    let all = component(&[outermost(), items(0), nested(&items(1)), two].concat());
+    let all = read(&all);
+    // components 0 and 1 are the item and its alias, before those with aliases
+    has_aliases(all.component().get(Space::Components, 2).unwrap().scope(), 0);
+    has_aliases(inner(all.component(), Space::Components, 2), 1);
+    let middle = inner(all.component(), Space::Components, 3);
+    let innermost = inner(middle, Space::Components, 0);
+    has_aliases(innermost, 2);
+    assert_eq!(innermost.outer().unwrap().place(), middle.place());
+    assert!(all.component().outer().is_none());
+
+    for kinds in [[0x41, 0x41], [0x41, 0x42], [0x42, 0x41], [0x42, 0x42]] {
+        let declared = |count| {
+            aliases(count).iter().flat_map(|of| [b"\x02", &of[..]].concat()).collect::<Vec<u8>>()
+        };
+        let innermost = [&[1, kinds[1], 4][..], &declared(2)].concat();
+        let ty = [&[kinds[0], 5][..], &declared(1), &innermost].concat();
+        let all = component(&[outermost(), many(7, &[&ty])].concat());
+        let all = read(&all);
+        let ty = all.component().get(Space::Types, 1).unwrap();
+        let (scope, types) = (ty.inner().unwrap(), ty.inner().unwrap().count(Space::Types));
+        assert_eq!(types, 2);
+        has_aliases(inner(scope, Space::Types, 1), 2);
+        has_aliases(scope.get(Space::Types, 1).unwrap().scope(), 1);
+    }
+}
+
+/// A module type has aliases of core types alone, here from one and two scopes further out.
+#[test]
+fn outer_core_types() {
+    let core = many(3, &[b"\x60\0\0", b"\x50\x02\x02\x10\x01\x01\0\x03\x01e\0\0"]);
+    let all = component(&core);
+    let all = read(&all);
+    let module = inner(all.component(), Space::CoreTypes, 1);
+    assert_eq!(resolved(module, Space::CoreTypes, 0), Ok(11));
+    let export = module.export("e").expect("it is declared");
+    assert_eq!((export.space(), export.index()), (Some(Space::CoreFuncs), None));
+    assert!(matches!(export.meaning(), Meaning::Module(ModuleDeclView::Export { .. })));
+
+    let ty = b"\x42\x01\0\x50\x01\x02\x10\x01\x02\0";
+    let all = component(&[many(3, &[b"\x60\0\0"]), many(7, &[ty])].concat());
+    let all = read(&all);
+    let ty = inner(all.component(), Space::Types, 0);
+    let module = inner(ty, Space::CoreTypes, 0);
+    assert_eq!(resolved(module, Space::CoreTypes, 0), Ok(11));
+}
+
+/// What an imported core module exports, by its type, also through a list of exports.
+#[test]
+fn exports_of_core_instances() {
+    let module = b"\x50\x07\x01\x60\0\0\x03\x01f\0\0\x03\x01t\x01\x70\0\0\x03\x01m\x02\0\0\
+        \x03\x01g\x03\x7f\0\x03\x01x\x04\0\0\x03\x01h\0\0";
+    let kinds: [(u8, u8, Space, usize); 5] = [
+        (0, b'f', Space::CoreFuncs, 17),
+        (1, b't', Space::CoreTables, 22),
+        (2, b'm', Space::CoreMemories, 29),
+        (3, b'g', Space::CoreGlobals, 35),
+        (4, b'x', Space::CoreTags, 41),
+    ];
+    let aliases = |instance| kinds.map(|(kind, name, ..)| vec![0, kind, 1, instance, 1, name]);
+    let items = |instance| many(6, &aliases(instance).each_ref().map(Vec::as_slice));
+    let exports = kinds.map(|(kind, name, ..)| vec![1, name, kind, 0]);
+    let list = [&[1, 5][..], &exports.concat()].concat();
+    let import = section(10, b"\x01\0\x01m\0\x11\0");
+    let instances = [many(2, &[b"\0\0\0"]), items(0), many(2, &[&list]), items(1)].concat();
+    let all = component(&[many(3, &[module]), import, instances].concat());
+    let all = read(&all);
+    for (_, name, space, place) in kinds {
+        for index in [0, 1] {
+            assert_eq!(resolved(all.component(), space, index), Ok(place), "{space:?} {index}");
+        }
+        let instance = all.component().get(Space::CoreInstances, 1).unwrap();
+        let name = char::from(name).to_string();
+        let export = instance.inner().unwrap().export(&name).expect("it is in the list");
+        assert_eq!((export.space(), export.index()), (Some(space), None));
+        assert_eq!(export.resolve().map(Definition::place), Ok(place));
+    }
+    // the bytes of a module aren't read: an alias of what it exports is no other
+    let module = section(1, b"\0asm\x01\0\0\0");
+    let core = many(2, &[b"\0\0\0", b"\0\0\x01\x01a\x12\0"]);
+    let all = component(&[module, core, items(0)].concat());
+    let all = read(&all);
+    let alias = all.component().get(Space::CoreTables, 0).unwrap();
+    assert_eq!((alias.target(), alias.resolve()), (Ok(None), Ok(alias)));
+    let argument = inner(all.component(), Space::CoreInstances, 1);
+    let argument = argument.export("a").expect("it is an argument").target().unwrap().unwrap();
+    assert_eq!(argument.index(), Some(0));
+}
+
+/// Exports of instances of a component, of lists, and of what is exported again.
+#[test]
+fn exports_of_components() {
+    // exports its type 0 as `t`, which is type 1, and that as `u`
+    let inner = [many(7, &[b"\x79"]), section(11, b"\x02\0\x01t\x03\0\0\0\x01u\x03\x01\0")];
+    let instance = many(5, &[b"\0\0\x01\x01a\x04\0"]);
+    let alias = many(6, &[b"\x03\0\0\x01u"]);
+    let list = many(5, &[b"\x01\x01\0\x01v\x03\0"]);
+    let last = [many(6, &[b"\x03\0\x01\x01v"]), section(11, b"\x01\0\x01w\x03\x01\0")];
+    let sections = [nested(&inner.concat()), instance, alias, list, last.concat()];
+    let all = component(&sections.concat());
+    let all = read(&all);
+    let scope = all.component();
+    // the type in the component in the component
+    for index in [0, 1, 2] {
+        assert_eq!(resolved(scope, Space::Types, index), Ok(21), "{index}");
+    }
+    let one = scope.get(Space::Types, 0).unwrap().target().unwrap().unwrap();
+    assert_eq!((one.index(), one.scope().outer().unwrap().place()), (Some(2), 0));
+    // what comes before an export is seen from it, not the export itself
+    assert_eq!(one.scope().count(Space::Types), 2);
+    let missing = ScopeFault::OutOfRange { place: 31, space: Space::Types, index: 2, count: 2 };
+    assert_eq!(one.scope().get(Space::Types, 2), Err(missing));
+
+    let instance = scope.get(Space::Instances, 0).unwrap();
+    let Meaning::Item(ItemView::Instance(InstanceView::Instantiate { component: 0, .. })) =
+        instance.meaning()
+    else {
+        panic!("it is instantiated")
+    };
+    let names = |scope: Scope<'_, '_>| {
+        let exports = scope.definitions().filter_map(|of| match of.meaning() {
+            Meaning::Item(ItemView::Export { name, .. }) => Some(name.name.to_owned()),
+            Meaning::Argument { name, .. } => Some(name.to_owned()),
+            _ => None,
+        });
+        exports.collect::<Vec<_>>()
+    };
+    assert_eq!(names(instance.exports().unwrap().unwrap()), ["t", "u"]);
+    assert_eq!(names(instance.inner().unwrap()), ["a"]);
+    let argument = instance.inner().unwrap().export("a").unwrap();
+    assert_eq!(
+        argument.resolve().map(Definition::place),
+        scope.get(Space::Components, 0).map(Definition::place)
+    );
+    let list = scope.get(Space::Instances, 1).unwrap();
+    assert_eq!(names(list.exports().unwrap().unwrap()), ["v"]);
+    assert_eq!(names(scope), ["w"]);
+}
+
+/// Types with the bound `Eq` are the same as another; functions and instances have their types.
+#[test]
+fn types_of_definitions() {
+    // type 0 is a function's, types 1 and 2 are imports of the same, and so is function 0's
+    let imports = b"\x04\0\x01a\x03\0\0\0\x01b\x03\0\x01\0\x01f\x01\x02\0\x01r\x03\x01";
+    let all = component(&[many(7, &[b"\x40\0\x01\0"]), section(10, imports)].concat());
+    let all = read(&all);
+    let scope = all.component();
+    assert_eq!([1, 2].map(|index| resolved(scope, Space::Types, index)), [Ok(11); 2]);
+    let function = scope.get(Space::Funcs, 0).unwrap();
+    assert_eq!(function.ty().unwrap().map(Definition::place), Some(11));
+    let resource = scope.get(Space::Types, 3).unwrap();
+    assert!(matches!((resource.ty(), resource.exports()), (Ok(None), Ok(None))));
+    assert_eq!(resource.resolve(), Ok(resource));
+}
+
+/// What can't be followed, with its byte offset, and how that is told.
+#[test]
+fn faults() {
+    let out = |place, space, index, count| ScopeFault::OutOfRange { place, space, index, count };
+    let types = many(7, &[EACH_KIND]);
+    let import = section(10, b"\x01\0\x01x\x05\0");
+    let cases: [(Vec<u8>, ScopeFault, &str); 9] = [
+        // the export of a type that it is itself, and that of one after it
+        (
+            section(11, b"\x01\0\x01e\x03\0\0"),
+            out(11, Space::Types, 0, 0),
+            "no type 0 at 0xb: the space has 0",
+        ),
+        (
+            many(6, &[b"\x03\x02\0\x07"]),
+            out(11, Space::Types, 7, 0),
+            "no type 7 at 0xb: the space has 0",
+        ),
+        (
+            many(6, &[b"\x03\x02\x01\0"]),
+            out(11, Space::Types, 0, 0),
+            "no type 0 at 0xb: the space has 0",
+        ),
+        (
+            many(6, &[b"\x03\0\x05\x01e"]),
+            out(11, Space::Instances, 5, 0),
+            "no instance 5 at 0xb: the space has 0",
+        ),
+        (
+            section(10, b"\x01\0\x01e\x03\0\x01"),
+            out(11, Space::Types, 1, 0),
+            "no type 1 at 0xb: the space has 0",
+        ),
+        (
+            [&types[..], &import, &many(6, &[b"\x03\0\0\x02no"])].concat(),
+            ScopeFault::NoExport { place: 75, space: Space::Types },
+            "no type is exported by the name at 0x4b",
+        ),
+        (
+            [&types[..], &import, &many(6, &[b"\x03\0\0\x01f"])].concat(),
+            ScopeFault::OtherExport { place: 75, space: Space::Types, found: Space::Funcs },
+            "no type is exported by the name at 0x4b: found func",
+        ),
+        (
+            [many(7, &[b"\x79"]), import.clone(), many(6, &[b"\x03\0\0\x01f"])].concat(),
+            ScopeFault::OtherType { place: 15, space: Space::Instances },
+            "the type at 0xf is of no instance",
+        ),
+        (
+            [import, many(6, &[b"\x03\0\0\x01f"])].concat(),
+            out(11, Space::Types, 0, 0),
+            "no type 0 at 0xb: the space has 0",
+        ),
+    ];
+    for (sections, fault, text) in cases {
+        let all = component(&sections);
+        let all = read(&all);
+        let last = all.component().definitions().last().expect("an item");
+        assert_eq!((last.resolve(), last.target()), (Err(fault), Err(fault)), "{sections:x?}");
+        assert_eq!(fault.to_string(), text);
+        // so is what is the same as it
+        let again = component(&[&sections[..], &section(11, b"\x01\0\x01z\x03\0\0")].concat());
+        let again = read(&again);
+        if all.component().count(Space::Types) == 1 {
+            let last = again.component().definitions().last().expect("an item");
+            assert_eq!(last.resolve(), Err(fault));
+            assert_ne!(last.target(), Ok(None));
+        }
+    }
+    let all = component(b"");
+    let missing = ScopeFault::OutOfRange { place: 0, space: Space::Values, index: 0, count: 0 };
+    assert_eq!(read(&all).component().get(Space::Values, 0).err(), Some(missing));
+}
