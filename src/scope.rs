@@ -61,7 +61,7 @@ const NONE: u32 = u32::MAX;
 /// Needs the feature `walk`.
 ///
 /// On a 64-bit machine each item, each declaration of a type, and each export or argument in the
-/// list of an instance takes at most 288 bytes of memory, and a scope that isn't at its end 216
+/// list of an instance takes at most 296 bytes of memory, and a scope that isn't at its end 216
 /// more; a list that grows takes up to twice as much. Each byte is read once, and once more for
 /// each type around it. What a definition is the same as is found when it is read, so that
 /// [`resolve`](Definition::resolve) follows any number of exports and aliases in the time of one.
@@ -99,6 +99,8 @@ struct Entry<'a> {
     target: u32,
     /// The last of those that it is the same as: itself if it isn't, or can't be followed.
     last: u32,
+    /// The first of those that it is the same as, with itself, that has a type.
+    typed: u32,
     /// The scope that it opens.
     inner: u32,
 }
@@ -118,6 +120,18 @@ struct Frame {
     newest: [u32; Space::ALL.len()],
 }
 
+impl Frame {
+    /// A scope without definitions: the outermost if there is no memory for it.
+    const EMPTY: Self = Self {
+        place: 0,
+        outer: NONE,
+        start: 0,
+        ends: (NONE, NONE),
+        names: (0, 0),
+        newest: [NONE; Space::ALL.len()],
+    };
+}
+
 impl<'a> Definitions<'a> {
     /// Returns the scope of the outermost component.
     pub fn component(&self) -> Scope<'_, 'a> {
@@ -129,7 +143,7 @@ impl<'a> Definitions<'a> {
     }
 
     fn frame(&self, number: u32) -> &Frame {
-        &self.frames[number as usize]
+        self.frames.get(number as usize).unwrap_or(&Frame::EMPTY)
     }
 
     /// Returns the newest entry of a space that is among the first entries.

@@ -19,22 +19,33 @@ impl<'a> Definitions<'a> {
     /// nested deeper, and [`ListFault::NoMemory`]. Indices that can't be followed are no error
     /// here.
     pub fn new(bytes: &'a [u8], limit: usize) -> Result<Self, ListFault> {
-        let mut steps = Steps::new(Sections::new(bytes)?.nested(limit));
+        let (definitions, fault) = Self::up_to_fault(bytes, limit);
+        fault.map_or(Ok(definitions), Err)
+    }
+
+    /// Reads a component as [`new`](Self::new) does. Returns what comes before its first fault, and
+    /// the fault.
+    ///
+    /// ```
+    /// use wenc::scope::Definitions;
+    /// use wenc::tree::Space;
+    ///
+    /// // a type, and a section of exports without an item
+    /// let component = b"\0asm\x0d\0\x01\0\x07\x02\x01\x79\x0b\x01\x01";
+    /// let (definitions, fault) = Definitions::up_to_fault(component, 100);
+    /// assert_eq!(definitions.component().count(Space::Types), 1);
+    /// assert_eq!(fault, Definitions::new(component, 100).err());
+    /// assert!(fault.is_some());
+    /// ```
+    pub fn up_to_fault(bytes: &'a [u8], limit: usize) -> (Self, Option<ListFault>) {
         let (entries, frames, names, faults) = Default::default();
         let all = Self { entries, frames, names, faults };
         let mut reader = Reader { all, open: Vec::new(), names: Vec::new(), types: Vec::new() };
-        reader.enter(0, Meaning::Item(ItemView::Component(bytes)))?;
-        while let Some(step) = steps.next()? {
-            match step {
-                Step::Enter(place, bytes) => {
-                    reader.enter(place, Meaning::Item(ItemView::Component(bytes)))?;
-                }
-                Step::Leave => reader.leave_and_define()?,
-                Step::Item { place, end, item } => reader.item(place, end, item)?,
-            }
+        let mut fault = reader.read(bytes, limit).err();
+        while !reader.open.is_empty() {
+            fault = fault.or(reader.leave().err());
         }
-        reader.leave()?;
-        Ok(reader.all)
+        (reader.all, fault)
     }
 }
 
@@ -72,12 +83,26 @@ fn push<T>(all: &mut Vec<T>, value: T) -> Result<(), ListFault> {
 }
 
 impl<'a> Reader<'a> {
+    fn read(&mut self, bytes: &'a [u8], limit: usize) -> Result<(), ListFault> {
+        self.enter(0, Meaning::Item(ItemView::Component(bytes)))?;
+        let mut steps = Steps::new(Sections::new(bytes)?.nested(limit));
+        while let Some(step) = steps.next()? {
+            match step {
+                Step::Enter(place, bytes) => {
+                    self.enter(place, Meaning::Item(ItemView::Component(bytes)))?;
+                }
+                Step::Leave => self.leave_and_define()?,
+                Step::Item { place, end, item } => self.item(place, end, item)?,
+            }
+        }
+        Ok(())
+    }
+
     /// Begins the scope of what is at this byte offset.
     fn enter(&mut self, place: usize, opener: Meaning<'a>) -> Result<(), ListFault> {
         let (scope, start) = (numbered(self.all.frames.len())?, numbered(self.all.entries.len())?);
         let outer = self.open.last().map_or(NONE, |open| open.scope);
-        let (ends, newest) = ((NONE, NONE), [NONE; Space::ALL.len()]);
-        push(&mut self.all.frames, Frame { place, outer, start, ends, names: (0, 0), newest })?;
+        push(&mut self.all.frames, Frame { place, outer, start, ..Frame::EMPTY })?;
         let (counts, names) = (IndexCounts::default(), self.names.len());
         let is_list = matches!(opener.space(), Some(Space::Instances | Space::CoreInstances));
         push(&mut self.open, Open { scope, opener: (place, opener), counts, names, is_list })
@@ -196,20 +221,24 @@ impl<'a> Reader<'a> {
         let is_list = self.open.last().is_some_and(|open| open.is_list);
         let innermost = self.open.len().saturating_sub(1 + usize::from(is_list));
         let around = |out| Some(self.open.get(innermost.checked_sub(out)?)?.scope);
-        let (target, last) = match self.all.target_of(around, &meaning, place) {
-            Ok(target) => target.map_or((NONE, number), |to| (to, self.all.entry(to).last)),
-            Err(fault) => {
-                push(&mut self.all.faults, (number, fault))?;
-                (NONE, number)
+        let (mut target, mut last, mut typed) = (NONE, number, NONE);
+        match self.all.target_of(around, &meaning, place) {
+            Ok(None) => {}
+            Ok(Some(to)) => {
+                (target, last, typed) = (to, self.all.entry(to).last, self.all.entry(to).typed);
             }
-        };
+            Err(fault) => push(&mut self.all.faults, (number, fault))?,
+        }
+        if meaning.type_index().is_some() {
+            typed = number;
+        }
         let scope = self.open.get(innermost).map_or(NONE, |open| open.scope);
         let (first, count, space, depth) = (0, 0, meaning.space(), 0);
         let (previous, jump, next) = (number, number, NONE);
         #[rustfmt::skip]
         let mut entry = Entry {
             meaning, place, first, count, space, scope, previous, jump, depth, next, target, last,
-            inner,
+            typed, inner,
         };
         if let Some((space, count @ 1..)) = meaning.defined().filter(|_| !is_list) {
             (entry.count, entry.first) = (count, self.open[innermost].counts.of(space));

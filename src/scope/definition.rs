@@ -1,9 +1,7 @@
 //! One definition.
 
 use super::{Definitions, Meaning, NONE, Scope, ScopeFault};
-use crate::ComponentTypeRef;
 use crate::tree::Space;
-use crate::view::{CanonView, ItemView};
 use core::fmt;
 
 /// An item or a declaration, or an export or an argument in the list of an instance.
@@ -95,29 +93,23 @@ impl<'s, 'a> Definition<'s, 'a> {
         Ok(Self { number, ..self })
     }
 
-    /// Returns the type that an import, a declared export or a lifted function refers to, resolved.
-    /// `None` if this definition has no such type: it is resolved first.
+    /// Returns the type of a function, an instance, a component or a core module, resolved: that of
+    /// an import or a declared export, the one that is ascribed to an export, or a lifted
+    /// function's; of this definition, or of the next one that it is the same as and that has one.
+    /// `None` if there is none.
     ///
     /// # Errors
     ///
     /// Why this definition or its type can't be followed.
     pub fn ty(self) -> Result<Option<Self>, ScopeFault> {
-        let last = self.resolve()?;
-        let meaning = last.meaning();
-        let (space, index) = match (meaning.type_ref(), meaning) {
-            (Some(ComponentTypeRef::Module(index)), _) => (Space::CoreTypes, index),
-            (
-                Some(
-                    ComponentTypeRef::Func(index)
-                    | ComponentTypeRef::Instance(index)
-                    | ComponentTypeRef::Component(index),
-                ),
-                _,
-            ) => (Space::Types, index),
-            (_, Meaning::Item(ItemView::Canon(CanonView::Lift { ty, .. }))) => (Space::Types, ty),
-            _ => return Ok(None),
-        };
-        last.scope().resolve(space, index).map(Some)
+        self.all.last_of(self.number)?;
+        let typed = self.all.entry(self.number).typed;
+        if typed == NONE {
+            return Ok(None);
+        }
+        let of = Self { number: typed, ..self };
+        let Some((space, index)) = of.meaning().type_index() else { return Ok(None) };
+        of.scope().resolve(space, index).map(Some)
     }
 
     /// Returns the scope whose exports an instance or a component has, after resolving it: that of

@@ -1,7 +1,7 @@
 //! Following definitions to those that they are the same as.
 
 use super::meaning::Same;
-use super::{Definitions, Meaning, NONE, ScopeFault};
+use super::{Definitions, Entry, Meaning, NONE, ScopeFault};
 use crate::ComponentTypeRef;
 use crate::tree::Space;
 use crate::view::{CoreInstanceView, CoreTypeView, InstanceView, ItemView, TypeView};
@@ -38,51 +38,47 @@ impl Definitions<'_> {
     pub(super) fn exports_of(&self, number: u32) -> Result<Option<u32>, ScopeFault> {
         let entry = self.entry(number);
         let of = |space, index| self.exports_of(self.resolved(number, space, index)?);
-        match (entry.meaning, entry.meaning.type_ref()) {
-            (_, Some(ty)) => self.exports_by(number, ty),
-            (Meaning::Item(ItemView::Instance(InstanceView::Instantiate { component, .. })), _) => {
+        match entry.meaning {
+            Meaning::Item(ItemView::Import { .. }) | Meaning::Declared { .. } => {
+                self.exports_by_type(number)
+            }
+            Meaning::Item(ItemView::Instance(InstanceView::Instantiate { component, .. })) => {
                 of(Space::Components, component)
             }
-            (
-                Meaning::Item(ItemView::CoreInstance(CoreInstanceView::Instantiate {
-                    module, ..
-                })),
-                _,
-            ) => of(Space::CoreModules, module),
+            Meaning::Item(ItemView::CoreInstance(CoreInstanceView::Instantiate {
+                module, ..
+            })) => of(Space::CoreModules, module),
             _ => Ok((entry.inner != NONE).then_some(entry.inner)),
         }
     }
 
-    /// Returns the scope with the exports of an import or a declared export of this type.
-    fn exports_by(&self, number: u32, ty: ComponentTypeRef) -> Result<Option<u32>, ScopeFault> {
-        let (space, index) = match ty {
-            ComponentTypeRef::Module(index) => (Space::CoreTypes, index),
-            ComponentTypeRef::Instance(index) | ComponentTypeRef::Component(index) => {
-                (Space::Types, index)
-            }
-            _ => return Ok(None),
+    /// Returns the scope with the exports of an import or a declared export.
+    fn exports_by_type(&self, number: u32) -> Result<Option<u32>, ScopeFault> {
+        let &Entry { meaning, place, .. } = self.entry(number);
+        let (Some(ty), Some((space, index))) = (meaning.type_ref(), meaning.type_index()) else {
+            return Ok(None);
         };
         let found = self.entry(self.resolved(number, space, index)?);
-        let is_such = matches!(
-            (ty, found.meaning),
+        match (ty, found.meaning) {
+            (ComponentTypeRef::Func(_), _) => Ok(None),
             (
                 ComponentTypeRef::Module(_),
-                Meaning::Item(ItemView::CoreType(CoreTypeView::Module(_)))
-            ) | (
-                ComponentTypeRef::Instance(_),
-                Meaning::Item(ItemView::Type(TypeView::Instance(_)))
-            ) | (
-                ComponentTypeRef::Component(_),
-                Meaning::Item(ItemView::Type(TypeView::Component(_)))
+                Meaning::Item(ItemView::CoreType(CoreTypeView::Module(_))),
             )
-        );
-        let place = self.entry(number).place;
-        let other = ScopeFault::OtherType { place, space: ty.kind().into() };
-        if is_such { Ok(Some(found.inner)) } else { Err(other) }
+            | (
+                ComponentTypeRef::Instance(_),
+                Meaning::Item(ItemView::Type(TypeView::Instance(_))),
+            )
+            | (
+                ComponentTypeRef::Component(_),
+                Meaning::Item(ItemView::Type(TypeView::Component(_))),
+            ) => Ok(Some(found.inner)),
+            _ => Err(ScopeFault::OtherType { place, space: ty.kind().into() }),
+        }
     }
 
-    /// Returns the entry that this one at this byte offset is the same as, given the scopes that are
-    /// so many further out. `None` if it is no other.
+    /// Returns the entry that this one at this byte offset is the same as, given the scopes that
+    /// are so many further out. `None` if it is no other.
     pub(super) fn target_of(
         &self,
         around: impl Fn(usize) -> Option<u32>,

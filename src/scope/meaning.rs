@@ -2,8 +2,8 @@
 
 use crate::tree::{Space, defined_in_module, space_of};
 use crate::view::{
-    ComponentDeclView, ComponentDecls, CoreTypeView, InstanceDeclView, InstanceDecls, ItemView,
-    ListOf, ModuleDeclView, NameView, TypeView,
+    CanonView, ComponentDeclView, ComponentDecls, CoreTypeView, InstanceDeclView, InstanceDecls,
+    ItemView, ListOf, ModuleDeclView, NameView, TypeView,
 };
 use crate::{Alias, ComponentExportKind, ComponentTypeRef, ExportKind, ModuleArg, TypeBounds};
 
@@ -98,20 +98,46 @@ impl<'a> Meaning<'a> {
         }
     }
 
-    /// Returns the type of an import or of a declared export.
-    pub(super) fn type_ref(&self) -> Option<ComponentTypeRef> {
+    /// Returns the type of an import or of a declared export, or the one that is ascribed to an
+    /// export.
+    pub fn type_ref(&self) -> Option<ComponentTypeRef> {
         match *self {
             Self::Item(ItemView::Import { ty, .. }) | Self::Declared { ty, .. } => Some(ty),
+            Self::Item(ItemView::Export { ty, .. }) => ty,
+            _ => None,
+        }
+    }
+
+    /// Returns the space and the index of the type of what it is: by its own type, or that of a
+    /// lifted function.
+    pub(super) fn type_index(&self) -> Option<(Space, u32)> {
+        match (self.type_ref(), self) {
+            (Some(ComponentTypeRef::Module(index)), _) => Some((Space::CoreTypes, index)),
+            (
+                Some(
+                    ComponentTypeRef::Func(index)
+                    | ComponentTypeRef::Instance(index)
+                    | ComponentTypeRef::Component(index),
+                ),
+                _,
+            ) => Some((Space::Types, index)),
+            (_, Self::Item(ItemView::Canon(CanonView::Lift { ty, .. }))) => {
+                Some((Space::Types, *ty))
+            }
             _ => None,
         }
     }
 
     /// Returns what it is the same as.
     pub(super) fn same(&self) -> Option<Same<'a>> {
-        if let Some(ComponentTypeRef::Type(TypeBounds::Eq(index))) = self.type_ref() {
-            return Some(Same::Index(0, Space::Types, index));
-        }
         match *self {
+            Self::Item(ItemView::Import {
+                ty: ComponentTypeRef::Type(TypeBounds::Eq(index)),
+                ..
+            })
+            | Self::Declared { ty: ComponentTypeRef::Type(TypeBounds::Eq(index)), .. } => {
+                Some(Same::Index(0, Space::Types, index))
+            }
             Self::Item(ItemView::Export { kind, index, .. })
             | Self::Argument { kind, index, .. } => Some(Same::Index(0, kind.into(), index)),
             Self::Item(ItemView::Alias(Alias::Outer { kind, count, index })) => {

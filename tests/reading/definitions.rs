@@ -2,6 +2,7 @@
 //! can't be followed.
 
 use crate::{component, nested, section};
+use wenc::ComponentTypeRef;
 use wenc::scope::{Definition, Definitions, Meaning, Scope, ScopeFault};
 use wenc::tree::Space;
 use wenc::view::{InstanceView, ItemView, ModuleDeclView, TypeView};
@@ -208,9 +209,8 @@ fn exports_of_core_instances() {
     assert_eq!(argument.index(), Some(0));
 }
 
-/// Exports of instances of a component, of lists, and of what is exported again.
-#[test]
-fn exports_of_components() {
+/// A component that exports a type twice, an instance of it, and exports of exports of that.
+fn exporting() -> Vec<u8> {
     // exports its type 0 as `t`, which is type 1, and that as `u`
     let inner = [many(7, &[b"\x79"]), section(11, b"\x02\0\x01t\x03\0\0\0\x01u\x03\x01\0")];
     let instance = many(5, &[b"\0\0\x01\x01a\x04\0"]);
@@ -218,7 +218,13 @@ fn exports_of_components() {
     let list = many(5, &[b"\x01\x01\0\x01v\x03\0"]);
     let last = [many(6, &[b"\x03\0\x01\x01v"]), section(11, b"\x01\0\x01w\x03\x01\0")];
     let sections = [nested(&inner.concat()), instance, alias, list, last.concat()];
-    let all = component(&sections.concat());
+    component(&sections.concat())
+}
+
+/// Exports of instances of a component, of lists, and of what is exported again.
+#[test]
+fn exports_of_components() {
+    let all = exporting();
     let all = read(&all);
     let scope = all.component();
     // the type in the component in the component
@@ -269,70 +275,106 @@ fn types_of_definitions() {
     assert_eq!([1, 2].map(|index| resolved(scope, Space::Types, index)), [Ok(11); 2]);
     let function = scope.get(Space::Funcs, 0).unwrap();
     assert_eq!(function.ty().unwrap().map(Definition::place), Some(11));
+    assert_eq!(function.meaning().type_ref(), Some(ComponentTypeRef::Func(2)));
     let resource = scope.get(Space::Types, 3).unwrap();
     assert!(matches!((resource.ty(), resource.exports()), (Ok(None), Ok(None))));
     assert_eq!(resource.resolve(), Ok(resource));
 }
 
-/// What can't be followed, with its byte offset, and how that is told.
+/// An export has the type that is ascribed to it, and so has one of that; an alias hasn't.
 #[test]
-fn faults() {
-    let out = |place, space, index, count| ScopeFault::OutOfRange { place, space, index, count };
-    let types = many(7, &[EACH_KIND]);
+fn ascribed_types() {
+    // functions 0 and 1 are imports of types 0 and 1, 2 and 3 exports of 0 and 2, 4 one of 1
+    let types = many(7, &[b"\x40\0\x01\0", b"\x43\0\x01\0"]);
+    let imports = many(10, &[b"\0\x01a\x01\0", b"\0\x01b\x01\x01"]);
+    let exports: [&[u8]; 3] =
+        [b"\0\x01c\x01\0\x01\x01\x01", b"\0\x01d\x01\x02\0", b"\0\x01e\x01\x01\0"];
+    let all = component(&[types, imports, many(11, &exports)].concat());
+    let all = read(&all);
+    let ty = |index| {
+        let function = all.component().get(Space::Funcs, index).unwrap();
+        function.ty().unwrap().and_then(Definition::index)
+    };
+    assert_eq!([0, 1, 2, 3, 4].map(ty), [0, 1, 1, 1, 1].map(Some));
+    let targets = [0, 1, 2, 3, 4].map(|index| resolved(all.component(), Space::Funcs, index));
+    assert_eq!(targets, [22, 27, 22, 22, 27].map(Ok));
+}
+
+/// Items at 11 with an index that is out of range: its space, the index, and how that is told.
+fn missing() -> [(Vec<u8>, Space, u32, &'static str); 6] {
     let import = section(10, b"\x01\0\x01x\x05\0");
-    let cases: [(Vec<u8>, ScopeFault, &str); 9] = [
-        // the export of a type that it is itself, and that of one after it
+    [
+        // the export of a type that it is itself
+        (section(11, b"\x01\0\x01e\x03\0\0"), Space::Types, 0, "no type 0"),
+        (many(6, &[b"\x03\x02\0\x07"]), Space::Types, 7, "no type 7"),
+        (many(6, &[b"\x03\x02\x01\0"]), Space::Types, 0, "no type 0"),
+        (many(6, &[b"\x03\0\x05\x01e"]), Space::Instances, 5, "no instance 5"),
+        (section(10, b"\x01\0\x01e\x03\0\x01"), Space::Types, 1, "no type 1"),
+        // the type of an instance, of which an alias has an export
+        ([import, many(6, &[b"\x03\0\0\x01f"])].concat(), Space::Types, 0, "no type 0"),
+    ]
+}
+
+/// What can't be followed, with its byte offset, and how that is told.
+fn cases() -> Vec<(Vec<u8>, ScopeFault, String)> {
+    let out = missing().map(|(sections, space, index, text)| {
+        let fault = ScopeFault::OutOfRange { place: 11, space, index, count: 0 };
+        (sections, fault, format!("{text} at 0xb: the space has 0"))
+    });
+    let import = section(10, b"\x01\0\x01x\x05\0");
+    let exporting = [many(7, &[EACH_KIND]), import.clone()].concat();
+    let of = |name: &[u8]| [&exporting, &many(6, &[&[b"\x03\0\0", name].concat()])[..]].concat();
+    let (place, space) = (75, Space::Types);
+    let others = [
         (
-            section(11, b"\x01\0\x01e\x03\0\0"),
-            out(11, Space::Types, 0, 0),
-            "no type 0 at 0xb: the space has 0",
-        ),
-        (
-            many(6, &[b"\x03\x02\0\x07"]),
-            out(11, Space::Types, 7, 0),
-            "no type 7 at 0xb: the space has 0",
-        ),
-        (
-            many(6, &[b"\x03\x02\x01\0"]),
-            out(11, Space::Types, 0, 0),
-            "no type 0 at 0xb: the space has 0",
-        ),
-        (
-            many(6, &[b"\x03\0\x05\x01e"]),
-            out(11, Space::Instances, 5, 0),
-            "no instance 5 at 0xb: the space has 0",
-        ),
-        (
-            section(10, b"\x01\0\x01e\x03\0\x01"),
-            out(11, Space::Types, 1, 0),
-            "no type 1 at 0xb: the space has 0",
-        ),
-        (
-            [&types[..], &import, &many(6, &[b"\x03\0\0\x02no"])].concat(),
-            ScopeFault::NoExport { place: 75, space: Space::Types },
+            of(b"\x02no"),
+            ScopeFault::NoExport { place, space },
             "no type is exported by the name at 0x4b",
         ),
         (
-            [&types[..], &import, &many(6, &[b"\x03\0\0\x01f"])].concat(),
-            ScopeFault::OtherExport { place: 75, space: Space::Types, found: Space::Funcs },
+            of(b"\x01f"),
+            ScopeFault::OtherExport { place, space, found: Space::Funcs },
             "no type is exported by the name at 0x4b: found func",
         ),
         (
-            [many(7, &[b"\x79"]), import.clone(), many(6, &[b"\x03\0\0\x01f"])].concat(),
+            [many(7, &[b"\x79"]), import, many(6, &[b"\x03\0\0\x01f"])].concat(),
             ScopeFault::OtherType { place: 15, space: Space::Instances },
             "the type at 0xf is of no instance",
         ),
-        (
-            [import, many(6, &[b"\x03\0\0\x01f"])].concat(),
-            out(11, Space::Types, 0, 0),
-            "no type 0 at 0xb: the space has 0",
-        ),
     ];
-    for (sections, fault, text) in cases {
+    let others = others.map(|(sections, fault, text)| (sections, fault, text.to_owned()));
+    out.into_iter().chain(others).collect()
+}
+
+/// What comes before a section that can't be read, also in a nested component and a type.
+#[test]
+fn up_to_a_fault() {
+    let ty = many(7, &[b"\x79"]);
+    for (sections, types, is_whole) in [
+        ([&ty[..], b"\x0b\x01\x01"].concat(), 1, false),
+        ([&ty[..], &nested(b"\x07\x02\x01\x79\x07\x01\x01")].concat(), 1, false),
+        ([&ty[..], &section(7, b"\x02\x79\x42\x01\x01\x79\x07")].concat(), 3, false),
+        ([&ty[..], &section(7, b"\x02\x79\x42\x01\x01\x79")].concat(), 3, true),
+        (b"\x0c\0".to_vec(), 0, false),
+    ] {
+        let all = component(&sections);
+        let (definitions, fault) = Definitions::up_to_fault(&all, 100);
+        assert_eq!(fault, Definitions::new(&all, 100).err());
+        assert_eq!(fault.is_none(), is_whole, "{sections:x?}");
+        assert_eq!(definitions.component().count(Space::Types), types);
+    }
+    let (nothing, fault) = Definitions::up_to_fault(b"", 100);
+    assert!(fault.is_some() && nothing.component().definitions().next().is_none());
+}
+
+#[test]
+fn faults() {
+    for (sections, fault, text) in cases() {
         let all = component(&sections);
         let all = read(&all);
         let last = all.component().definitions().last().expect("an item");
         assert_eq!((last.resolve(), last.target()), (Err(fault), Err(fault)), "{sections:x?}");
+        assert!(text.contains(&format!(" at {:#x}", fault.place())), "{text}");
         assert_eq!(fault.to_string(), text);
         // so is what is the same as it
         let again = component(&[&sections[..], &section(11, b"\x01\0\x01z\x03\0\0")].concat());

@@ -69,3 +69,13 @@ fn each_space_is_at_its_number() {
         assert_eq!(space.number(), number);
     }
 }
+
+/// Sorts are told in the words of the standard's text format.
+#[test]
+fn each_space_has_its_sort() {
+    let core = ["module", "func", "type", "memory", "table", "instance", "tag", "global"];
+    let core = core.map(|word| format!("core {word}"));
+    let others = ["func", "instance", "value", "component", "type"].map(str::to_owned);
+    assert_eq!(Space::ALL.map(|space| space.to_string()).to_vec(), [&core[..], &others].concat());
+    assert_eq!(format!("{:>9}", Space::Funcs), "     func");
+}

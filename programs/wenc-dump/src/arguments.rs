@@ -15,6 +15,7 @@ modules with their imports and exports. The file - is standard input.
   -x, --hex           also print the bytes of items, in hexadecimal
       --check         also mark indices that are out of range
       --section=KIND  print only sections of this kind: a word as in the output, or an id
+      --wit           print the world of components, as WIT
       --json          print JSON, a line for each file
       --color=WHEN    colour the output: always, never or auto, on a terminal
       --width=N       fold items that don't fit in N columns
@@ -48,6 +49,8 @@ pub struct Options {
     pub hex: bool,
     /// Whether indices that are out of range are marked.
     pub check: bool,
+    /// Whether the world is printed, as WIT.
+    pub wit: bool,
     /// Whether JSON is printed.
     pub json: bool,
     /// The kinds of the sections that are printed; none for all.
@@ -113,6 +116,7 @@ pub fn request(mut arguments: impl Iterator<Item = OsString>) -> Result<Request,
             Some("-V" | "--version") => return Ok(Request::Version),
             Some("-x" | "--hex") => options.hex = true,
             Some("--check") => options.check = true,
+            Some("--wit") => options.wit = true,
             Some("--json") => options.json = true,
             Some("--") => are_files = true,
             _ if !are_files && is_option(&argument) => {

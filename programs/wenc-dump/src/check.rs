@@ -38,11 +38,9 @@ impl Check {
         }
     }
 
-    /// Adds an item that can't be read.
-    pub fn add_unknown(&mut self) {
-        if let Some(counts) = self.counts.last_mut() {
-            counts.add_unknown();
-        }
+    /// Returns what the innermost component has so far, to add to it.
+    pub fn innermost_mut(&mut self) -> Option<&mut IndexCounts> {
+        self.counts.last_mut()
     }
 
     /// Returns what the innermost component has so far.

@@ -2,6 +2,7 @@
 
 use super::cause::Cause;
 use super::chain::Misfit;
+use super::wit::Unwritten;
 use super::words::Counted;
 use std::collections::TryReserveError;
 use std::fmt::{self, Display};
@@ -36,6 +37,8 @@ pub enum Fault {
     Producers(usize, Cause),
     /// The number of indices that are out of range.
     OutOfRange(usize),
+    /// A part of a component's world that isn't written as WIT.
+    Unwritten(Unwritten),
 }
 
 impl Fault {
@@ -143,7 +146,10 @@ impl Fault {
 
     /// Returns the exit status of the program.
     pub fn status(&self) -> u8 {
-        if matches!(self, Self::NoMemory) { NO_MEMORY } else { 1 }
+        match self {
+            Self::NoMemory | Self::Unwritten(Unwritten::NoMemory) => NO_MEMORY,
+            _ => 1,
+        }
     }
 }
 
@@ -190,6 +196,7 @@ impl Display for Fault {
             Self::Producers(place, _) => write!(f, "bad producers at {place:#x}"),
             Self::OutOfRange(1) => f.write_str("1 index is out of range"),
             Self::OutOfRange(count) => write!(f, "{count} indices are out of range"),
+            Self::Unwritten(ref unwritten) => unwritten.fmt(f),
         }?;
         self.own_cause().map_or(Ok(()), |cause| write!(f, ": {cause}"))
     }

@@ -19,6 +19,7 @@ mod run;
 mod select;
 mod text;
 mod walk;
+mod wit;
 mod words;
 
 pub use colours::are_wanted as colours_are_wanted;

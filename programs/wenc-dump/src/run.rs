@@ -7,10 +7,13 @@ use super::json::Json;
 use super::report::Report;
 use super::select::Selected;
 use super::text::{COLUMNS, Style, Text};
-use super::walk::walk;
+use super::walk::{DEPTH, walk};
+use super::wit::Wit;
 use std::ffi::{OsStr, OsString};
 use std::io::{self, Read, Write};
 use std::{fmt, fs};
+use wenc::ListFault;
+use wenc::scope::Definitions;
 
 /// The streams that the program reads and writes.
 pub struct Streams<'s, I, O, E> {
@@ -86,7 +89,9 @@ fn dump(
                 complain(streams.err, format_args!("{}: {fault}\n", Escaped(file)));
             }
         };
-        let done = if options.json {
+        let done = if options.wit {
+            wit(streams.out, file, streams.input, tell)
+        } else if options.json {
             let mut json = Json::new(streams.out, options.hex);
             let mut json = Selected::new(&mut json, &options.sections);
             report(&mut json, (file, options.check), streams.input, tell)
@@ -146,6 +151,33 @@ fn bytes_of(file: &OsStr, input: &mut impl Read) -> io::Result<Vec<u8>> {
     let mut bytes = Vec::new();
     input.read_to_end(&mut bytes)?;
     Ok(bytes)
+}
+
+/// Prints the world of a component, as WIT, and passes on what isn't written.
+fn wit(
+    out: &mut impl Write,
+    file: &OsStr,
+    input: &mut impl Read,
+    tell: &mut dyn FnMut(&Fault),
+) -> io::Result<()> {
+    let bytes = match bytes_of(file, input) {
+        Ok(bytes) => bytes,
+        Err(error) => {
+            tell(&Fault::of_input(error));
+            return Ok(());
+        }
+    };
+    let (definitions, fault) = Definitions::up_to_fault(&bytes, DEPTH);
+    let (text, unwritten) = Wit::of(&definitions);
+    if !matches!(fault, Some(ListFault::NotAComponent { place: 0, .. })) {
+        print(out, &text)?;
+    }
+    let fault = fault.map(|fault| match fault {
+        ListFault::NoMemory => Fault::NoMemory,
+        fault => Fault::List(fault, None),
+    });
+    fault.into_iter().chain(unwritten.into_iter().map(Fault::Unwritten)).for_each(|of| tell(&of));
+    Ok(())
 }
 
 /// Reports a file, with indices that are out of range if they are wanted, and passes on each fault.

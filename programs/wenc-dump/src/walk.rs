@@ -43,6 +43,13 @@ pub(super) fn label<'a>(
     Label { space, from, count, name }
 }
 
+/// Notes that an item or a section can't be read.
+pub(super) fn note(counts: &mut IndexCounts, fault: &Fault) {
+    if !fault.is_behind_items() {
+        counts.add_unknown();
+    }
+}
+
 /// Reports the component or the core module with these bytes, and passes on its faults, with those
 /// of the check of indices if that is wanted. Before each, the report is written up to it.
 ///
@@ -76,8 +83,8 @@ fn names_of(sections: Sections) -> Result<DebugNames, Failure> {
 impl<'f, R: Report> Walk<'f, '_, R> {
     /// Notes that an item or a section of the innermost component can't be read.
     fn note(&mut self, fault: &Fault) {
-        if !fault.is_behind_items() {
-            self.check.add_unknown();
+        if let Some(counts) = self.check.innermost_mut() {
+            note(counts, fault);
         }
     }
 

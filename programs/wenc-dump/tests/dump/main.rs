@@ -23,6 +23,7 @@ mod side_by_side;
 mod size;
 mod text;
 mod values;
+mod wit;
 
 use std::fs;
 use std::io::Write;
@@ -108,5 +109,5 @@ fn expect_of(options: &[&str], file: &Path, out: &str, err: Option<&str>) {
 #[cfg(unix)]
 #[test]
 fn of_the_manual() {
-    manual::run(PROGRAM, 5);
+    manual::run(PROGRAM, 6);
 }

@@ -234,6 +234,7 @@ fn help_and_version() {
             "--section",
             "--color",
             "--width",
+            "--wit",
             "--json",
             "--help",
             "--version",

@@ -1,0 +1,210 @@
+//! Worlds as WIT: what is printed of the components of the corpus, beside the WIT that they were
+//! made of, and of others.
+
+mod reader;
+
+use crate::corpus::corpus;
+use crate::{FUNCTION, component, run};
+use reader::World;
+use std::collections::{BTreeMap, BTreeSet};
+use std::fs;
+use std::path::Path;
+use wenc::tree::Space;
+use wenc::view::{InstanceDeclView, ItemView, TypeView};
+use wenc::{
+    ComponentBuilder, ComponentDefinedTypeEncoder, ComponentExportKind, ComponentTypeRef,
+    ComponentValType, InstanceType, PrimitiveValType, Sections, TypeBounds,
+};
+use wenc_dump::Terminal;
+
+/// The names of what a component imports, each with those that an instance declares.
+type Imported = BTreeMap<String, BTreeSet<String>>;
+
+fn imported(component: &[u8]) -> Imported {
+    let (mut types, mut imported) = (Vec::new(), Imported::new());
+    for item in Sections::new(component).expect("a component").items() {
+        // what can't be read has no imports after it
+        let Ok((_, item)) = item else { break };
+        // what an instance of the type exports, if it is the type of one
+        let mut declared = BTreeSet::new();
+        if let ItemView::Type(TypeView::Instance(all)) = item {
+            declared.extend(all.filter_map(|decl| match decl {
+                InstanceDeclView::Export { name, .. } => Some(name.name.to_owned()),
+                _ => None,
+            }));
+        }
+        if let ItemView::Import { name, ty } = item {
+            let of = match ty {
+                ComponentTypeRef::Instance(index) => BTreeSet::clone(&types[index as usize]),
+                _ => BTreeSet::new(),
+            };
+            imported.insert(name.name.to_owned(), of);
+        }
+        if let Some((Space::Types, 1)) = item.defined_indices() {
+            types.push(declared);
+        }
+    }
+    imported
+}
+
+/// The world of a WIT file, without what the linker leaves out: imports that aren't used, and what
+/// isn't used of an interface that is imported alone.
+fn linked(wit: &str, component: &[u8]) -> World {
+    let (mut world, imported) = (reader::read(wit), imported(component));
+    let is_used = |name: &str| imported.contains_key(name);
+    world.imports.retain(|name| is_used(name));
+    world.items.retain(|name, item| item[0] == "export" || is_used(name));
+    let World { imports, exports, interfaces, .. } = &mut world;
+    interfaces.retain(|name, _| imports.contains(name) || exports.contains(name));
+    for (name, items) in interfaces.iter_mut().filter(|(name, _)| !exports.contains(*name)) {
+        items.retain(|item, _| imported[name].contains(item.as_str()));
+    }
+    world
+}
+
+#[test]
+fn worlds_are_those_of_the_corpus() {
+    let (mut whole, mut parts, mut items) = (0, 0, 0);
+    for entry in fs::read_dir(corpus("wasm")).expect("the corpus is there") {
+        let path = entry.expect("it is told").path();
+        let bytes = fs::read(&path).expect("it is read");
+        let name = path.file_stem().expect("a name").to_str().expect("plain letters");
+        let wit = fs::read_to_string(corpus(&format!("wit/{name}.wit"))).expect("it is read");
+        let (status, out, err) = run(&["--wit"], &bytes, Terminal::default());
+        let (printed, expected) = (reader::read(&out), linked(&wit, &bytes));
+        if status == 0 {
+            whole += 1;
+            items += printed.items.len() + printed.imports.len() + printed.exports.len();
+            items += printed.interfaces.values().map(BTreeMap::len).sum::<usize>();
+            assert_eq!((printed, err), (expected, String::new()), "{name}");
+            continue;
+        }
+        // what comes before the section that can't be read
+        parts += 1;
+        assert!(status == 1 && err.contains(" at 0x"), "{name}: {err}");
+        assert!(printed.imports == expected.imports && printed.exports.is_empty(), "{name}");
+    }
+    assert_eq!((whole, parts), (40, 6));
+    assert!(items > 400, "{items}");
+}
+
+/// What is printed of the component with these sections, within its world, and what is said of it.
+fn expect(sections: &[u8], world: &str, said: &str) {
+    let (status, out, err) = run(&["--wit"], &component(sections), Terminal::default());
+    let expected = format!("package root:component;\n\nworld root {{\n{world}}}\n");
+    let said: String = said.lines().map(|line| format!("-: {line}\n")).collect();
+    assert_eq!((&out, &err), (&expected, &said), "{sections:x?}");
+    assert_eq!(status, u8::from(!said.is_empty()));
+}
+
+#[test]
+fn what_is_no_world_is_told() {
+    expect(b"", "", "");
+    expect(FUNCTION, "  import f: func();\n", "");
+    // a core module, a value, and a type that is exported
+    let module = b"\x03\x03\x01\x50\0\x0a\x0c\x02\0\x01m\0\x11\0\0\x01f\x01\0";
+    expect(
+        module,
+        "  // no WIT: an import or export of another kind at 0x10\n  \
+           // no WIT: no type 0 at 0x16: the space has 0\n",
+        "no WIT: an import or export of another kind at 0x10\n\
+         no WIT: no type 0 at 0x16: the space has 0",
+    );
+    // a function that takes a record, which has no name
+    let record = b"\x07\x0d\x02\x72\x01\x01a\x79\x40\x01\x01r\0\x01\0\x0a\x06\x01\0\x01f\x01\x01";
+    let told = "no WIT: a type without a name at 0xb";
+    expect(record, &format!("  // {told}\n"), told);
+    // a type that isn't a function's
+    let other = b"\x07\x02\x01\x79\x0a\x06\x01\0\x01f\x01\0";
+    let told = "no WIT: a type that isn't a function's at 0xb";
+    expect(other, &format!("  // {told}\n"), told);
+    // the first section can be read
+    let cut = [FUNCTION, b"\x0a\x01\x01"].concat();
+    let told = "bad item 0 at 0x1a in the section at 0x17: the section ends where an import is \
+        expected";
+    expect(&cut, "  import f: func();\n", told);
+    // no component, of which nothing is printed
+    let (status, out, err) = run(&["--wit"], b"\0asm\x01\0\0\0", Terminal::default());
+    assert_eq!((status, &out[..]), (1, ""));
+    assert!(err.contains("no component's header at 0x0"), "{err}");
+}
+
+/// Names that are words of WIT, and interfaces with and without a package.
+#[test]
+fn names_are_told_from_words() {
+    let mut ty = InstanceType::new();
+    ty.export("use", ComponentTypeRef::Type(TypeBounds::SubResource));
+    let mut builder = ComponentBuilder::default();
+    let instance = ComponentTypeRef::Instance(builder.type_instance(None, &ty));
+    builder.import("a:list/type@1.0.0", instance);
+    builder.import("with", instance);
+    let (function, mut encoder) = builder.type_function(None);
+    encoder.params([("static", PrimitiveValType::U8)]).result(None);
+    builder.import("func", ComponentTypeRef::Func(function));
+    let expected = "package root:component;
+
+world root {
+  import a:%list/%type@1.0.0;
+  import %with: interface {
+    resource %use;
+  }
+  import %func: func(%static: u8);
+}
+
+package a:%list@1.0.0 {
+  interface %type {
+    resource %use;
+  }
+}
+";
+    let printed = run(&["--wit"], &builder.finish(), Terminal::default());
+    assert_eq!(printed, (0, expected.into(), String::new()));
+}
+
+/// README's component, of `examples/first.rs`, and its world there.
+#[test]
+fn of_the_readme() {
+    let mut builder = ComponentBuilder::default();
+    let (ty, mut function) = builder.type_function(None);
+    function.params([("n", PrimitiveValType::U32)]).result(None);
+    let f = builder.import("f", ComponentTypeRef::Func(ty));
+    builder.export("g", ComponentExportKind::Func, f, None);
+    let (status, out, _) = run(&["--wit"], &builder.finish(), Terminal::default());
+    let readme = Path::new(env!("CARGO_MANIFEST_DIR")).join("../../README.md");
+    let readme = fs::read_to_string(readme).expect("it is there");
+    let (_, world) = readme.split_once("\n    world").expect("the world is there");
+    let (world, _) = world.split_once("\n\n").expect("the block ends");
+    let world = format!("world{world}\n").replace("\n    ", "\n");
+    assert_eq!((status, out), (0, format!("package root:component;\n\n{world}")));
+}
+
+/// A component with the type `u8`, types that are each of the one before, and a function that takes
+/// the last.
+fn chained(count: u32, each: fn(ComponentDefinedTypeEncoder<'_>, ComponentValType)) -> Vec<u8> {
+    let mut builder = ComponentBuilder::default();
+    builder.type_defined(None).1.primitive(PrimitiveValType::U8);
+    for before in 0..count {
+        each(builder.type_defined(None).1, ComponentValType::Type(before));
+    }
+    let (function, mut encoder) = builder.type_function(None);
+    encoder.params([("x", ComponentValType::Type(count))]).result(None);
+    builder.import("f", ComponentTypeRef::Func(function));
+    builder.finish()
+}
+
+/// Types without names are written wherever they are used, up to a depth and a length.
+#[test]
+fn large_types_are_told() {
+    let of_lists = |count| chained(count, |ty, before| ty.list(before));
+    let (status, out, err) = run(&["--wit"], &of_lists(99), Terminal::default());
+    let ty = ["list<".repeat(99), "u8".into(), ">".repeat(99)].concat();
+    assert_eq!((status, &err[..]), (0, ""));
+    assert!(out.contains(&format!("  import f: func(x: {ty});\n")), "{out}");
+    let of_tuples = chained(60, |ty, before| ty.tuple([before, before]));
+    for component in [of_lists(100), of_tuples] {
+        let (status, out, err) = run(&["--wit"], &component, Terminal::default());
+        assert_eq!(status, 1);
+        assert!(err.starts_with("-: no WIT: a type that is too large at 0x"), "{err}");
+        assert!(out.len() < 200 && out.contains("// no WIT: "), "{out}");
+    }
+}
