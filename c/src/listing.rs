@@ -259,7 +259,7 @@ impl ItemFault {
         match name {
             DebugNames::SECTION => match NamesReader::new(data).find_map(fault_of)? {
                 NamesFault::BadSubsection { place, cause } => {
-                    let (place, cause) = (start + place, cause.moved(start));
+                    let (place, cause) = (start.saturating_add(place), cause.moved(start));
                     Some(Self::Names(NamesFault::BadSubsection { place, cause }))
                 }
                 fault => Some(Self::Names(fault)),
@@ -267,7 +267,7 @@ impl ItemFault {
             ProducersReader::SECTION => {
                 let ProducersFault { place, cause } =
                     ProducersReader::new(data).find_map(fault_of)?;
-                let (place, cause) = (start + place, cause.moved(start));
+                let (place, cause) = (start.saturating_add(place), cause.moved(start));
                 Some(Self::Producers(ProducersFault { place, cause }))
             }
             _ => None,

@@ -49,7 +49,7 @@ impl<'a> Steps<'a> {
             let (None, Some((_, section))) = (&left, self.section) else { return Ok(left) };
             self.section = None;
             if section.id() == ComponentSectionId::Component.into() {
-                self.depth += 1;
+                self.depth = self.depth.saturating_add(1);
                 return Ok(Some(Step::Enter(section.left.reached(), section.left.rest)));
             }
             self.items = Some(section.items());

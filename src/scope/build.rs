@@ -219,7 +219,7 @@ impl<'a> Reader<'a> {
     fn define(&mut self, place: usize, meaning: Meaning<'a>, inner: u32) -> Result<(), ListFault> {
         let number = numbered(self.all.entries.len())?;
         let is_list = self.open.last().is_some_and(|open| open.is_list);
-        let innermost = self.open.len().saturating_sub(1 + usize::from(is_list));
+        let innermost = self.open.len().saturating_sub(if is_list { 2 } else { 1 });
         let around = |out| Some(self.open.get(innermost.checked_sub(out)?)?.scope);
         let (mut target, mut last, mut typed) = (NONE, number, NONE);
         match self.all.target_of(around, &meaning, place) {

@@ -23,9 +23,8 @@ impl Definitions<'_> {
     pub(super) fn exports_named(&self, scope: u32, name: &str) -> &[(&str, u32)] {
         let (from, to) = self.frame(scope).names;
         let names = &self.names[from as usize..to as usize];
-        let from = names.partition_point(|(other, _)| *other < name);
-        let len = names[from..].iter().take_while(|(other, _)| *other == name).count();
-        &names[from..from + len]
+        let names = &names[names.partition_point(|(other, _)| *other < name)..];
+        &names[..names.iter().take_while(|(other, _)| *other == name).count()]
     }
 
     /// Returns what an index is in the end that is meant where this entry is.

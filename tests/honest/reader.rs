@@ -74,8 +74,8 @@ fn step(way: &'static str, old: usize, new: impl Into<String>) -> Step {
     Step { way, old, new: new.into() }
 }
 
-/// Reads a source of this crate and module beside its Rust, and counts each way in which they part. Refuses
-/// what is in no way, and where lines count, what is in another line.
+/// Reads a source of this crate and module beside its Rust, and counts each way in which they part.
+/// Refuses what is in no way, and where lines count, what is in another line.
 pub fn read(
     names: (&str, &str),
     old: &str,
@@ -435,7 +435,8 @@ impl<'a> Source<'a> {
         }
         let text = format!(
             "}} impl ::core::fmt::Display for {name} {{
-                #[inline] fn fmt(&self, f: &mut ::core::fmt::Formatter<'_>) -> ::core::fmt::Result {{
+                #[inline]
+                fn fmt(&self, f: &mut ::core::fmt::Formatter<'_>) -> ::core::fmt::Result {{
                     match self {{ {arms} }}
                 }}
             }}
