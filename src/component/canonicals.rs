@@ -61,7 +61,6 @@ impl CanonicalFunctionSection {
         ) -> &mut Self
         where {
             O: IntoIterator<Item = CanonicalOption>,
-            O::IntoIter: ExactSizeIterator,
         }
         {
             let mut options = options.into_iter();
@@ -74,7 +73,6 @@ impl CanonicalFunctionSection {
         fn lower | try_lower<O>(&mut self, func_index: u32, options: O) -> &mut Self
         where {
             O: IntoIterator<Item = CanonicalOption>,
-            O::IntoIter: ExactSizeIterator,
         }
         {
             let mut options = options.into_iter();
@@ -119,7 +117,6 @@ macro_rules! calls {
                 fn $list | $list_tried<O>(&mut self, $($arg: $ty,)* options: O) -> &mut Self
                 where {
                     O: IntoIterator<Item = CanonicalOption>,
-                    O::IntoIter: ExactSizeIterator,
                 }
                 {
                     let mut options = options.into_iter();

@@ -77,7 +77,6 @@ impl InstanceSection {
         fn instantiate | try_instantiate<A, S>(&mut self, module_index: u32, args: A) -> &mut Self
         where {
             A: IntoIterator<Item = (S, ModuleArg)>,
-            A::IntoIter: ExactSizeIterator,
             S: AsRef<str>,
         } {
             let mut args = named(args);
@@ -88,7 +87,6 @@ impl InstanceSection {
         fn export_items | try_export_items<E, S>(&mut self, exports: E) -> &mut Self
         where {
             E: IntoIterator<Item = (S, ExportKind, u32)>,
-            E::IntoIter: ExactSizeIterator,
             S: AsRef<str>,
         } {
             let mut exports = named_items(exports);
@@ -108,7 +106,6 @@ impl ComponentInstanceSection {
         ) -> &mut Self
         where {
             A: IntoIterator<Item = (S, ComponentExportKind, u32)>,
-            A::IntoIter: ExactSizeIterator,
             S: AsRef<str>,
         } {
             let mut args = named_items(args);
@@ -119,7 +116,6 @@ impl ComponentInstanceSection {
         fn export_items | try_export_items<'a, N, E>(&mut self, exports: E) -> &mut Self
         where {
             E: IntoIterator<Item = (N, ComponentExportKind, u32)>,
-            E::IntoIter: ExactSizeIterator,
             N: Into<ComponentExternName<'a>>,
         } {
             let named = |(name, kind, index): (N, _, _)| (name.into().into_proved(), kind, index);

@@ -19,7 +19,7 @@ pub struct OutOfRange {
     pub space: Space,
     /// The scope that the index space belongs to, as seen from the item.
     pub scope: Scope,
-    /// The index itself, from 0 to 4294967295.
+    /// The index itself.
     pub index: u32,
     /// The number of indices in the space, up to this item or declaration; 0 if there is no such
     /// scope. It is at most the index.

@@ -30,11 +30,11 @@ impl<'a> Definitions<'a> {
     /// use wenc::scope::Definitions;
     /// use wenc::tree::Space;
     ///
-    /// // a type, and a section of exports without an item
-    /// let component = b"\0asm\x0d\0\x01\0\x07\x02\x01\x79\x0b\x01\x01";
-    /// let (definitions, fault) = Definitions::up_to_fault(component, 100);
+    /// // a type, and an export of it, whose last byte is cut off
+    /// let component = b"\0asm\x0d\0\x01\0\x07\x02\x01\x79\x0b\x07\x01\0\x01t\x03\0\0";
+    /// let (definitions, fault) = Definitions::up_to_fault(&component[..20], 100);
     /// assert_eq!(definitions.component().count(Space::Types), 1);
-    /// assert_eq!(fault, Definitions::new(component, 100).err());
+    /// assert_eq!(fault, Definitions::new(&component[..20], 100).err());
     /// assert!(fault.is_some());
     /// ```
     pub fn up_to_fault(bytes: &'a [u8], limit: usize) -> (Self, Option<ListFault>) {
@@ -42,8 +42,8 @@ impl<'a> Definitions<'a> {
         let all = Self { entries, frames, names, faults };
         let mut reader = Reader { all, open: Vec::new(), names: Vec::new(), types: Vec::new() };
         let mut fault = reader.read(bytes, limit).err();
-        while !reader.open.is_empty() {
-            fault = fault.or(reader.leave().err());
+        while fault != Some(ListFault::NoMemory) && !reader.open.is_empty() {
+            fault = reader.leave().err().or(fault);
         }
         (reader.all, fault)
     }

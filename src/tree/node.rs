@@ -67,7 +67,7 @@ pub enum Node<'a> {
         space: Space,
         /// The scope that the index space belongs to, as seen from the item.
         scope: Scope,
-        /// The index itself, from 0 to 4294967295.
+        /// The index itself.
         index: u32,
     },
     /// An index that its space doesn't have, in the node of an item in its
@@ -77,7 +77,7 @@ pub enum Node<'a> {
         space: Space,
         /// The scope that the index space belongs to, as seen from the item.
         scope: Scope,
-        /// The index itself, from 0 to 4294967295.
+        /// The index itself.
         index: u32,
         /// The number of indices in the space, up to this item or declaration; 0 if there is no
         /// such scope.
@@ -104,7 +104,7 @@ pub struct UsedIndex {
     pub space: Space,
     /// The scope that the index space belongs to.
     pub scope: Scope,
-    /// The index itself, from 0 to 4294967295.
+    /// The index itself.
     pub index: u32,
     /// The number of indices in the space if the index is [out of range](Node::OutOfRange).
     pub count: Option<u64>,

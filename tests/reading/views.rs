@@ -5,8 +5,8 @@ use crate::component;
 use std::collections::HashSet;
 use std::fmt::Debug;
 use wenc::view::{
-    ComponentDeclView, CoreTypeView, DefinedView, GroupView, InstanceDeclView, ItemView, NameView,
-    TypeView,
+    ComponentDeclView, CoreTypeView, DefinedView, GroupView, InstanceDeclView, InstanceView,
+    ItemView, NameView, TypeView,
 };
 use wenc::*;
 
@@ -225,4 +225,27 @@ fn values_are_printed() {
         let wanted = format!("Type(Component([Decl(Type(Defined(Variant({list}))))]))");
         assert_eq!(format!("{item:?}"), wanted);
     });
+}
+
+/// Lists that were read are passed to encoders as they are.
+#[test]
+fn lists_are_encoded_again() {
+    // functions from a text to a flag, and instances of a component with an argument
+    let ty = b"\x07\x08\x01\x40\x01\x01s\x73\0\x7f";
+    let instance = b"\x05\x08\x01\0\0\x01\x01a\x01\0";
+    let sections = [&ty[..], instance].concat();
+    let read = component(&sections);
+    let mut builder = ComponentBuilder::default();
+    for item in Sections::new(&read).expect("a component").items() {
+        match item.expect("it is read").1 {
+            ItemView::Type(TypeView::Func { params, result, .. }) => {
+                builder.type_function(None).1.params(params).result(result);
+            }
+            ItemView::Instance(InstanceView::Instantiate { component, args }) => {
+                builder.instantiate(None, component, args);
+            }
+            item => panic!("{item:?}"),
+        }
+    }
+    assert_eq!(builder.finish(), read);
 }

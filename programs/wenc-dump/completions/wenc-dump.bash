@@ -22,7 +22,7 @@ _wenc_dump() {
         *)
             # other words are files
             [[ $word == -* ]] || return 0
-            words="-x --hex --check --section= --json --color= --width= -h --help -V --version"
+            words="-x --hex --check --wit --section= --json --color= --width= -h --help -V --version"
             ;;
     esac
     compopt +o default +o bashdefault

@@ -6,6 +6,7 @@ set -l kinds custom core-module core-instance core-type component instance alias
 
 complete -c wenc-dump -s x -l hex -d 'Also print the bytes of items, in hexadecimal'
 complete -c wenc-dump -l check -d 'Also mark indices that are out of range'
+complete -c wenc-dump -l wit -d 'Print the world of components, as WIT'
 complete -c wenc-dump -l section -x -a "$kinds" -d 'Print only sections of this kind'
 complete -c wenc-dump -l json -d 'Print JSON, a line for each file'
 complete -c wenc-dump -l color -x -a 'always auto never' -d 'Colour the output'

@@ -53,7 +53,6 @@ macro_rules! calls {
                 fn $list | $list_tried<O>(&mut self, $($lead: $lead_ty,)* options: O) -> u32
                 where {
                     O: IntoIterator<Item = CanonicalOption>,
-                    O::IntoIter: ExactSizeIterator,
                 }
                 {
                     with_list!(

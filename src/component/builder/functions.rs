@@ -20,7 +20,6 @@ impl ComponentBuilder {
         ) -> u32
         where {
             O: IntoIterator<Item = CanonicalOption>,
-            O::IntoIter: ExactSizeIterator,
         }
         {
             with_list!(
@@ -65,7 +64,6 @@ impl ComponentBuilder {
         ) -> u32
         where {
             O: IntoIterator<Item = CanonicalOption>,
-            O::IntoIter: ExactSizeIterator,
         }
         {
             with_list!(

@@ -22,7 +22,6 @@ impl ComponentBuilder {
         ) -> u32
         where {
             A: IntoIterator<Item = (&'a str, ModuleArg)>,
-            A::IntoIter: ExactSizeIterator,
         }
         {
             with_list!(
@@ -39,7 +38,6 @@ impl ComponentBuilder {
         ) -> u32
         where {
             E: IntoIterator<Item = (&'a str, ExportKind, u32)>,
-            E::IntoIter: ExactSizeIterator,
         }
         {
             with_list!(
@@ -58,7 +56,6 @@ impl ComponentBuilder {
         ) -> u32
         where {
             A: IntoIterator<Item = (S, ComponentExportKind, u32)>,
-            A::IntoIter: ExactSizeIterator,
             S: AsRef<str>,
         }
         {
@@ -87,7 +84,6 @@ impl ComponentBuilder {
         ) -> u32
         where {
             E: IntoIterator<Item = (N, ComponentExportKind, u32)>,
-            E::IntoIter: ExactSizeIterator,
             N: Into<ComponentExternName<'a>>,
         }
         {

@@ -68,7 +68,6 @@ impl ComponentDefinedTypeEncoder<'_> {
         fn record | try_record<'a, F, T>(self, fields: F) -> ()
         where {
             F: IntoIterator<Item = (&'a str, T)>,
-            F::IntoIter: ExactSizeIterator,
             T: Into<ComponentValType>,
         }
         {
@@ -79,7 +78,6 @@ impl ComponentDefinedTypeEncoder<'_> {
         fn variant | try_variant<'a, C>(self, cases: C) -> ()
         where {
             C: IntoIterator<Item = (&'a str, Option<ComponentValType>)>,
-            C::IntoIter: ExactSizeIterator,
         }
         {
             define!(self.variant, C: cases.into_iter() => (&str, Option<ComponentValType>))
@@ -115,7 +113,6 @@ impl ComponentDefinedTypeEncoder<'_> {
         fn tuple | try_tuple<I, T>(self, types: I) -> ()
         where {
             I: IntoIterator<Item = T>,
-            I::IntoIter: ExactSizeIterator,
             T: Into<ComponentValType>,
         }
         {
@@ -126,7 +123,6 @@ impl ComponentDefinedTypeEncoder<'_> {
         fn flags | try_flags<'a, I>(self, names: I) -> ()
         where {
             I: IntoIterator<Item = &'a str>,
-            I::IntoIter: ExactSizeIterator,
         }
         {
             define!(self.flags, I: names.into_iter() => &str)
@@ -136,7 +132,6 @@ impl ComponentDefinedTypeEncoder<'_> {
         fn enum_type | try_enum_type<'a, I>(self, tags: I) -> ()
         where {
             I: IntoIterator<Item = &'a str>,
-            I::IntoIter: ExactSizeIterator,
         }
         {
             define!(self.enum_type, I: tags.into_iter() => &str)

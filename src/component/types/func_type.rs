@@ -68,7 +68,6 @@ impl ComponentFuncTypeEncoder<'_> {
         fn params | try_params<'b, P, T>(&mut self, params: P) -> &mut Self
         where {
             P: IntoIterator<Item = (&'b str, T)>,
-            P::IntoIter: ExactSizeIterator,
             T: Into<ComponentValType>,
         }
         {

@@ -72,9 +72,7 @@ impl CoreTypeEncoder<'_> {
         fn function | try_function<P, R>(self, params: P, results: R) -> ()
         where {
             P: IntoIterator<Item = ValType>,
-            P::IntoIter: ExactSizeIterator,
             R: IntoIterator<Item = ValType>,
-            R::IntoIter: ExactSizeIterator,
         }
         {
             let (mut params_kept, mut results_kept) = (Values::new(), Values::new());
@@ -100,7 +98,6 @@ impl CoreTypeEncoder<'_> {
         fn struct_ | try_struct<F>(self, fields: F) -> ()
         where {
             F: IntoIterator<Item = FieldType>,
-            F::IntoIter: ExactSizeIterator,
         }
         {
             self.by.struct_(Converted::new().extend(fields)?)
@@ -123,7 +120,6 @@ impl CoreTypeEncoder<'_> {
         fn rec | try_rec<T>(self, types: T) -> ()
         where {
             T: IntoIterator<Item = SubType>,
-            T::IntoIter: ExactSizeIterator,
         }
         {
             let types = converted(types, |ty| proved::SubType::try_from(&ty))?;

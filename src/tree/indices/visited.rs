@@ -12,7 +12,7 @@ pub struct IndexUse<'a> {
     pub space: Space,
     /// The scope that the index space belongs to.
     pub scope: Scope,
-    /// The index itself, from 0 to 4294967295.
+    /// The index itself.
     pub index: &'a mut u32,
 }
 

@@ -86,7 +86,7 @@ fn listed_options() -> BTreeSet<String> {
 #[test]
 fn options_are_completed() {
     let listed = listed_options();
-    assert!(listed.len() == 11 && listed.contains("-x") && listed.contains("--width="));
+    assert!(listed.len() == 12 && listed.contains("-x") && listed.contains("--width="));
     let component = file("completed", FUNCTION);
     for option in &listed {
         let value = match option.as_str() {
