@@ -29,8 +29,8 @@
 //! );
 //! ```
 //!
-//! With the feature `walk`, [`Sections`] reads a component section by section, and item by item into
-//! values of [`view`], without allocating; a section can be written again byte for byte
+//! With the feature `walk`, [`Sections`] reads a component section by section, and item by item
+//! into values of [`view`], without allocating; a section can be written again byte for byte
 //! ([`SectionReader`]), and `Sections::out_of_range` finds indices that are out of range. [`scope`]
 //! has what each index means, through aliases and exports. With the feature `tree`, [`list`] reads
 //! a component into values of [`tree`], from which `tree::build` builds it again, and a section can
@@ -85,7 +85,8 @@
 //!
 //! - `walk` adds the reading of components, whose items borrow from its bytes: [`Sections`],
 //!   [`CoreSections`], [`DebugNames`], [`ProducersReader`], [`scope`], [`view`], and of [`tree`]
-//!   what is of borrowed and of owned items: `Node`, `Space`, `Scope`, `IndexCounts` and core types.
+//!   what is of borrowed and of owned items: `Node`, `Space`, `Scope`, `IndexCounts` and core
+//!   types.
 //! - `tree` adds items that own what they contain, to `walk`: [`list`], [`ItemSection`], the other
 //!   types of [`tree`], and the calls that take or return them.
 //! - `reader` is the same as `tree`.

@@ -1,7 +1,7 @@
 //! Items of a component as values, which [`list`](crate::list) returns and [`build`] takes.
 //!
-//! Needs the feature `tree`, but for what borrowed items have, too, which needs `walk`: [`Node`] and
-//! what it contains, [`Space`], [`Scope`], [`IndexCounts`], [`Scopes`], [`CanonOf`], and core types
+//! Needs the feature `tree`, but for what borrowed items have, too, which needs `walk`: [`Node`]
+//! and what it contains, [`Space`], [`Scope`], [`IndexCounts`], [`Scopes`], [`CanonOf`], and core types
 //! other than those with lists. Import what is used, or `tree` itself, but not `tree::*`, which
 //! would replace std's `Box` by the [`Box`] of this module.
 //!

@@ -28,7 +28,8 @@ impl Space {
     ];
 }
 
-/// The sort of what is in the space, as the standard's text format writes it: `core module`, `func`.
+/// The sort of what is in the space, as the standard's text format writes it: `core module`,
+/// `func`.
 impl fmt::Display for Space {
     fn fmt(&self, f: &mut fmt::Formatter<'_>) -> fmt::Result {
         f.pad(match self {

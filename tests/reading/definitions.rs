@@ -300,7 +300,7 @@ fn ascribed_types() {
     assert_eq!(targets, [22, 27, 22, 22, 27].map(Ok));
 }
 
-/// Items at 11 with an index that is out of range: its space, the index, and how that is told.
+/// Items at 11 with an index that is out of range: its space, the index, and the message.
 fn missing() -> [(Vec<u8>, Space, u32, &'static str); 6] {
     let import = section(10, b"\x01\0\x01x\x05\0");
     [
@@ -315,7 +315,7 @@ fn missing() -> [(Vec<u8>, Space, u32, &'static str); 6] {
     ]
 }
 
-/// What can't be followed, with its byte offset, and how that is told.
+/// What can't be followed, with its byte offset, and the message.
 fn cases() -> Vec<(Vec<u8>, ScopeFault, String)> {
     let out = missing().map(|(sections, space, index, text)| {
         let fault = ScopeFault::OutOfRange { place: 11, space, index, count: 0 };

@@ -70,7 +70,7 @@ fn each_space_is_at_its_number() {
     }
 }
 
-/// Sorts are told in the words of the standard's text format.
+/// Sorts are printed in the words of the standard's text format.
 #[test]
 fn each_space_has_its_sort() {
     let core = ["module", "func", "type", "memory", "table", "instance", "tag", "global"];

@@ -359,7 +359,8 @@ fn sentences_of_items() {
         (
             0,
             b"\x0ecomponent-name\x01\x02\0\x07",
-            "bad subsection of names at 0xf: 0x07 at 0x12, where 0x00 to 0x04 or 0x10 to 0x12 is expected",
+            "bad subsection of names at 0xf: \
+             0x07 at 0x12, where 0x00 to 0x04 or 0x10 to 0x12 is expected",
         ),
         (0, b"\x09producers\x01", "bad producers at 0xb: the bytes end at 0xb"),
         (12, b"\xff", ""),

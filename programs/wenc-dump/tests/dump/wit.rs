@@ -66,7 +66,7 @@ fn linked(wit: &str, component: &[u8]) -> World {
 fn worlds_are_those_of_the_corpus() {
     let (mut whole, mut parts, mut items) = (0, 0, 0);
     for entry in fs::read_dir(corpus("wasm")).expect("the corpus is there") {
-        let path = entry.expect("it is told").path();
+        let path = entry.expect("an entry").path();
         let bytes = fs::read(&path).expect("it is read");
         let name = path.file_stem().expect("a name").to_str().expect("plain letters");
         let wit = fs::read_to_string(corpus(&format!("wit/{name}.wit"))).expect("it is read");
