@@ -4,7 +4,8 @@ use crate::{Refused, Result, Status, numbers};
 use alloc::borrow::Cow;
 use alloc::vec::Vec;
 use core::ffi::CStr;
-use core::{ptr, slice, str};
+use core::ptr::{self, NonNull};
+use core::{slice, str};
 use wenc::{ComponentExternName, EntityType};
 
 /// A `bool` of C: true unless it is 0.
@@ -106,13 +107,13 @@ pub struct IndexName {
 /// # Errors
 ///
 /// Fails if the pointer is NULL, or the array would be too long.
-pub(crate) unsafe fn list<'a, T>(at: *const T, len: usize) -> Result<&'a [T]> {
+pub(crate) unsafe fn list<'a, T>(at: *const T, len: usize) -> Result<&'a [T], Status> {
     if len == 0 {
         Ok(&[])
     } else if is_possible(at, len) {
         Ok(unsafe { slice::from_raw_parts(at, len) })
     } else {
-        Err(Status::BadArgument.into())
+        Err(Status::BadArgument)
     }
 }
 
@@ -125,35 +126,35 @@ fn is_possible<T>(at: *const T, len: usize) -> bool {
 /// # Errors
 ///
 /// Fails also with `TooLarge` for more bytes than such a number counts, `TooMany` for more values.
-pub(crate) unsafe fn counted<'a, T>(at: *const T, len: usize) -> Result<&'a [T]> {
+pub(crate) unsafe fn counted<'a, T>(at: *const T, len: usize) -> Result<&'a [T], Status> {
     if u32::try_from(len).is_err() && is_possible(at, len) {
         let is_bytes = size_of::<T>() == 1;
-        return Err(if is_bytes { Status::TooLarge } else { Status::TooMany }.into());
+        return Err(if is_bytes { Status::TooLarge } else { Status::TooMany });
     }
     unsafe { list(at, len) }
 }
 
 /// Returns a UTF-8 string. Most are ASCII, which is faster to check.
-pub(crate) unsafe fn text<'a>(at: *const u8, len: usize) -> Result<&'a str> {
+pub(crate) unsafe fn text<'a>(at: *const u8, len: usize) -> Result<&'a str, Status> {
     let bytes = unsafe { counted(at, len) }?;
     if bytes.is_ascii() {
         return Ok(unsafe { str::from_utf8_unchecked(bytes) });
     }
-    Ok(str::from_utf8(bytes).map_err(|_| Status::Malformed)?)
+    str::from_utf8(bytes).map_err(|_| Status::Malformed)
 }
 
 /// Returns a debug name, or none.
 pub(crate) unsafe fn debug_name<'a>(name: *const Text) -> Result<Option<&'a str>> {
     let name = unsafe { name.as_ref() };
     name.map_or(Ok(None), |name| unsafe { name.optional() })
-        .map_err(|refused| refused.of(c"debug_name"))
+        .map_err(|status| Refused::from(status).of(c"debug_name"))
 }
 
 impl Text {
     pub const NONE: Self = Self { at: ptr::null(), len: 0 };
 
     /// Returns the string, unless there is none.
-    unsafe fn optional<'a>(&self) -> Result<Option<&'a str>> {
+    unsafe fn optional<'a>(&self) -> Result<Option<&'a str>, Status> {
         match (self.at.is_null(), self.len) {
             (true, 0) => Ok(None),
             (_, len) => unsafe { text(self.at, len) }.map(Some),
@@ -164,7 +165,7 @@ impl Text {
 impl Name {
     /// Returns the name with its options.
     pub(crate) unsafe fn read<'a>(&self) -> Result<ComponentExternName<'a>> {
-        let wrong = |refused: Refused| refused.of(c"name");
+        let wrong = |status: Status| Refused::from(status).of(c"name");
         let option = |option: Text| -> Result<Option<Cow<'a, str>>> {
             Ok(unsafe { option.optional() }.map_err(wrong)?.map(Into::into))
         };
@@ -201,12 +202,13 @@ pub(crate) unsafe fn named<'a, T>(
     of: impl Fn(u32, u32) -> Option<T> + 'a,
 ) -> Result<impl ExactSizeIterator<Item = (&'a str, T)>> {
     for (member, part) in parts.iter().enumerate() {
-        let wrong = |refused: Refused| refused.of(argument).at(member);
+        let wrong = |status: Status| Refused::from(status).of(argument).at(member);
         unsafe { text(part.name, part.name_len) }.map_err(wrong)?;
-        of(part.kind, part.number).ok_or(Refused::bad(argument).at(member))?;
+        of(part.kind, part.number).ok_or(Status::BadArgument).map_err(wrong)?;
     }
     Ok(parts.iter().map(move |part| {
-        let name = unsafe { list(part.name, part.name_len) }.unwrap_or_default();
+        let at = if part.name_len == 0 { NonNull::dangling().as_ptr() } else { part.name };
+        let name = unsafe { slice::from_raw_parts(at, part.name_len) };
         let name = unsafe { str::from_utf8_unchecked(name) };
         (name, of(part.kind, part.number).expect("it is known"))
     }))

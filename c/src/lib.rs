@@ -288,7 +288,7 @@ macro_rules! call {
             $f $i $s $b, [$($c)* $a: *const u8, $l: usize,]
             [$($r)*
                 let $a = $crate::arguments::text($a, $l)
-                    .map_err(|refused| refused.of($crate::name_of!($a)))?;
+                    .map_err(|status| $crate::Refused::from(status).of($crate::name_of!($a)))?;
             ] $($rest)*
         }
     };
@@ -300,7 +300,7 @@ macro_rules! call {
             $f $i $s $b, [$($c)* $a: *const $t, $l: usize,]
             [$($r)*
                 let $a = $crate::arguments::counted($a, $l)
-                    .map_err(|refused| refused.of($crate::name_of!($a)))?;
+                    .map_err(|status| $crate::Refused::from(status).of($crate::name_of!($a)))?;
             ] $($rest)*
         }
     };

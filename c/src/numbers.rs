@@ -224,7 +224,8 @@ fn reference(number: u32, index: u32) -> Option<CoreRefType> {
     let nullable = number & NULLABLE != 0;
     let heap_type = match number & !NULLABLE {
         CONCRETE => CoreHeapType::Concrete(index),
-        number => CoreHeapType::Abstract(nth(&HEAP_TYPES, number.checked_sub(6)?)?),
+        // A smaller number wraps to one past the end.
+        number => CoreHeapType::Abstract(nth(&HEAP_TYPES, number.wrapping_sub(6))?),
     };
     Some(CoreRefType { nullable, heap_type })
 }

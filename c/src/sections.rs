@@ -2,7 +2,7 @@
 
 use crate::arguments::{IndexName, Producer, known, list, text};
 use crate::session::Session;
-use crate::{Handle, Refused, Result, calls, numbers, other};
+use crate::{Handle, Refused, Result, Status, calls, numbers, other};
 use wenc::{
     ComponentNameSection, CustomSection, NameMap, ProducersField, ProducersSection,
     RawCustomSection, RawSection,
@@ -14,7 +14,7 @@ calls! {
     };
     wenc_raw_custom_section(bytes: *const u8, len: usize) = |session| {
         // They have their size in front, and may be more than that counts.
-        let bytes = list(bytes, len).map_err(|refused| refused.of(c"bytes"))?;
+        let bytes = list(bytes, len).map_err(|status| Refused::from(status).of(c"bytes"))?;
         match session {
             Session::Building(builder) => Ok(builder.try_raw_custom_section(bytes)?),
             _ => session.append(&RawCustomSection(bytes)).map(drop),
@@ -53,7 +53,7 @@ calls! {
         let space = known(c"space", numbers::space(space))?;
         let mut map = NameMap::new();
         for (member, named) in names.iter().enumerate() {
-            let wrong = |refused: Refused| refused.of(c"names").at(member);
+            let wrong = |status: Status| Refused::from(status).of(c"names").at(member);
             map.try_append(named.index, text(named.name, named.name_len).map_err(wrong)?)?;
         }
         Ok(section.try_names(space, &map)?)

@@ -191,6 +191,7 @@ impl Session {
         self.settled(written, index)
     }
 
+    #[inline(always)]
     fn begun_core_type(
         &mut self,
         debug_name: Option<&str>,
@@ -205,19 +206,23 @@ impl Session {
     }
 
     /// Returns the index of a type that an encoder wrote, or discards the type if that failed.
+    #[inline]
     fn settled(&mut self, written: Result<(), Error>, index: u32) -> Result<u32> {
-        written.map(|()| index).map_err(|error| {
-            match self {
-                Self::Building(to) => to.discard_unfinished(),
-                Self::ComponentType(to) => to.discard_unfinished(),
-                Self::InstanceType(to) => to.discard_unfinished(),
-                Self::ModuleType(to) => to.discard_unfinished(),
-                Self::CoreTypes(to) => to.discard_unfinished(),
-                Self::Types(to) => to.discard_unfinished(),
-                _ => false,
-            };
-            error.into()
-        })
+        written.map(|()| index).map_err(|error| self.discarded(error))
+    }
+
+    #[cold]
+    fn discarded(&mut self, error: Error) -> Refused {
+        match self {
+            Self::Building(to) => to.discard_unfinished(),
+            Self::ComponentType(to) => to.discard_unfinished(),
+            Self::InstanceType(to) => to.discard_unfinished(),
+            Self::ModuleType(to) => to.discard_unfinished(),
+            Self::CoreTypes(to) => to.discard_unfinished(),
+            Self::Types(to) => to.discard_unfinished(),
+            _ => false,
+        };
+        error.into()
     }
 
     /// Appends a section to a component that is made section by section. Sections have no indices.

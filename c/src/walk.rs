@@ -23,7 +23,7 @@ pub struct Walk {
 }
 
 impl Walk {
-    pub(crate) unsafe fn bytes<'a>(&self) -> Result<&'a [u8]> {
+    pub(crate) unsafe fn bytes<'a>(&self) -> Result<&'a [u8], Status> {
         unsafe { whole(self.bytes, self.len) }
     }
 
@@ -49,8 +49,8 @@ impl Walk {
 }
 
 /// Returns the bytes that a cursor borrows, which are never NULL.
-unsafe fn whole<'a>(at: *const u8, len: usize) -> Result<&'a [u8]> {
-    if at.is_null() { Err(Status::BadArgument.into()) } else { unsafe { list(at, len) } }
+unsafe fn whole<'a>(at: *const u8, len: usize) -> Result<&'a [u8], Status> {
+    if at.is_null() { Err(Status::BadArgument) } else { unsafe { list(at, len) } }
 }
 
 /// Moves a cursor, unless the call fails, and writes the result through a pointer from C.

@@ -73,56 +73,23 @@ impl<T: Filler> Converted<T> {
     where
         L::Item: TryInto<T, Error = Error>,
     {
-        self.extend_with(values, |_| ())
+        each_converted(values, |value| self.push(value))?;
+        Ok(self.as_slice())
     }
 
-    /// Converts the values, calls `each` with each of them, and returns them. Fails with the first
-    /// error. Compiled for arrays by their type, and once for other lists, as
-    /// [`with_list`](crate::adapters::with_list) does.
-    // In line, the compiler unrolls it for arrays.
-    #[inline(always)]
-    fn extend_with<L: IntoIterator>(
-        &mut self,
-        values: L,
-        each: impl FnMut(T),
-    ) -> Result<&[T], Error>
-    where
-        L::Item: TryInto<T, Error = Error>,
-    {
-        let mut values = values.into_iter();
-        if const { is_array::<L>() } {
-            self.convert(values, each)?;
-        } else {
-            self.convert_listed(List(&mut values), each)?;
-        }
-        Ok(if self.all.is_empty() { &self.few[..self.few_len] } else { &self.all })
-    }
-
-    fn convert_listed<U: TryInto<T, Error = Error>>(
-        &mut self,
-        values: List<'_, U>,
-        each: impl FnMut(T),
-    ) -> Result<(), Error> {
-        self.convert(values, each)
+    pub(super) fn as_slice(&self) -> &[T] {
+        if self.all.is_empty() { &self.few[..self.few_len] } else { &self.all }
     }
 
     #[inline(always)]
-    fn convert<U: TryInto<T, Error = Error>>(
-        &mut self,
-        values: impl Iterator<Item = U>,
-        mut each: impl FnMut(T),
-    ) -> Result<(), Error> {
-        for value in values {
-            let value = value.try_into()?;
-            each(value);
-            match self.few.get_mut(self.few_len) {
-                Some(place) => {
-                    *place = value;
-                    // 32 bits: it is less than `FEW`.
-                    self.few_len += 1;
-                }
-                None => self.push_to_all(value)?,
+    fn push(&mut self, value: T) -> Result<(), Fault> {
+        match self.few.get_mut(self.few_len) {
+            Some(place) => {
+                *place = value;
+                // 32 bits: it is less than `FEW`.
+                self.few_len += 1;
             }
+            None => self.push_to_all(value)?,
         }
         Ok(())
     }
@@ -138,30 +105,91 @@ impl<T: Filler> Converted<T> {
     }
 }
 
-/// Converted value types, with the list of their bytes as long as each has one.
+/// Calls `each` with each converted value. Fails with the first error. Compiled for arrays by their
+/// type, and once for other lists, as [`with_list`](crate::adapters::with_list) does.
+// In line, the compiler unrolls it for arrays.
+#[inline(always)]
+fn each_converted<L: IntoIterator, T>(
+    values: L,
+    each: impl FnMut(T) -> Result<(), Fault>,
+) -> Result<(), Error>
+where
+    L::Item: TryInto<T, Error = Error>,
+{
+    let mut values = values.into_iter();
+    if const { is_array::<L>() } {
+        each_in_line(values, each)
+    } else {
+        each_listed(List(&mut values), each)
+    }
+}
+
+fn each_listed<U: TryInto<T, Error = Error>, T>(
+    values: List<'_, U>,
+    each: impl FnMut(T) -> Result<(), Fault>,
+) -> Result<(), Error> {
+    each_in_line(values, each)
+}
+
+#[inline(always)]
+fn each_in_line<U: TryInto<T, Error = Error>, T>(
+    values: impl Iterator<Item = U>,
+    mut each: impl FnMut(T) -> Result<(), Fault>,
+) -> Result<(), Error> {
+    for value in values {
+        each(value.try_into()?)?;
+    }
+    Ok(())
+}
+
+/// Value types, as a list of their bytes as long as each has one and they are few, else converted.
 pub(super) struct Values {
-    types: Converted<proved::ValType>,
     bytes: ByteTypes,
-    have_bytes: bool,
+    /// All types, if they aren't in `bytes`.
+    types: Option<Converted<proved::ValType>>,
 }
 
 impl Values {
-    /// Creates it without values.
+    /// Creates it without types.
     #[inline]
     pub(super) fn new() -> Self {
-        Self { types: Converted::new(), bytes: ByteTypes::new(), have_bytes: true }
+        Self { bytes: ByteTypes::new(), types: None }
     }
 
-    /// Converts the values and returns them, with their bytes if each has one and they are few.
-    /// Fails with the first error.
+    /// Appends the types. Fails with the first error.
     #[inline(always)]
     pub(super) fn extend<L: IntoIterator<Item = ValType>>(
         &mut self,
-        values: L,
-    ) -> Result<(&[proved::ValType], Option<&ByteTypes>), Error> {
-        let Self { types, bytes, have_bytes } = self;
-        let types =
-            types.extend_with(values, |ty| *have_bytes = *have_bytes && bytes.push_using(ty))?;
-        Ok((types, have_bytes.then_some(&*bytes)))
+        types: L,
+    ) -> Result<(), Error> {
+        each_converted(types, |ty| match self.types {
+            None if self.bytes.push_using(ty) => Ok(()),
+            _ => self.push_converted(ty),
+        })
+    }
+
+    #[cold]
+    fn push_converted(&mut self, ty: proved::ValType) -> Result<(), Fault> {
+        self.converted()?.push(ty)
+    }
+
+    /// Returns their bytes, if each has one and they are few.
+    pub(super) fn bytes(&self) -> Option<&ByteTypes> {
+        self.types.is_none().then_some(&self.bytes)
+    }
+
+    /// Returns the converted types.
+    #[cold]
+    pub(super) fn converted(&mut self) -> Result<&mut Converted<proved::ValType>, Fault> {
+        match &mut self.types {
+            Some(types) => Ok(types),
+            none => {
+                let mut types = Converted::new();
+                for ty in (0..).map_while(|index| self.bytes.get(index)) {
+                    types.push(ty)?;
+                }
+                Ok(none.insert(types))
+            }
+        }
     }
 }

@@ -86,22 +86,24 @@ fn structs_and_groups() {
 /// Types of one byte, with one of two bytes at each place or without it.
 #[test]
 fn bytes_of_values() {
-    const NUMBERS: [(ValType, u8); 5] = [
+    const BYTES: [(ValType, u8); 7] = [
         (ValType::I32, 0x7f),
         (ValType::I64, 0x7e),
         (ValType::F32, 0x7d),
         (ValType::F64, 0x7c),
         (ValType::V128, 0x7b),
+        (ValType::FUNCREF, 0x70),
+        (ValType::EXTERNREF, 0x6f),
     ];
     let node = ValType::Ref(RefType { nullable: true, heap_type: HeapType::Concrete(0) });
     for (len, place) in (0..14).flat_map(|len| (0..=len).map(move |place| (len, place))) {
-        let types = (0..len).map(|at| if at == place { node } else { NUMBERS[at % 5].0 });
+        let types = (0..len).map(|at| if at == place { node } else { BYTES[at % 7].0 });
         let mut list = vec![u8::try_from(len).expect("it is short")];
         for at in 0..len {
             if at == place {
                 list.extend([0x63, 0]);
             } else {
-                list.push(NUMBERS[at % 5].1);
+                list.push(BYTES[at % 7].1);
             }
         }
         let mut section = CoreTypeSection::new();

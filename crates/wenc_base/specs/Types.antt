@@ -63,17 +63,23 @@ val_type F64 = byte 0x7c
 val_type V128 = byte 0x7b
 val_type (Ref r) = reference r
 
--- the number type or vector type with this byte
+-- the type with this encoding of one byte
 abbrev pub of_byte : ℕ → ValType
 of_byte b =
     if nat_eq b 0x7f then I32 else if nat_eq b 0x7e then I64 else if nat_eq b 0x7d then F32
-    else if nat_eq b 0x7c then F64 else V128
+    else if nat_eq b 0x7c then F64 else if nat_eq b 0x7b then V128
+    else Ref (record { nullable = true; heap_type = Abstract (if nat_eq b 0x70 then Func else Extern) })
+
+abbrev pub is_byte_reference : Bool → HeapType → Bool
+is_byte_reference true (Abstract Func) = true
+is_byte_reference true (Abstract Extern) = true
+is_byte_reference _ other = false
 
 -- The encoding is one byte.
 abbrev pub is_byte_type : ValType → Bool
-is_byte_type (Ref r) = false
+is_byte_type (Ref r) = is_byte_reference r.nullable r.heap_type
 is_byte_type other = true
 
--- A number type or a vector type is this byte.
+-- This byte encodes a type.
 abbrev pub IsByteType : ℕ → Type 0
 IsByteType b = Serves (byte b) (val_type (of_byte b))

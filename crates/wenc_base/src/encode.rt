@@ -442,8 +442,7 @@ impl<'a, T: Encode> Encode for Tagged<'a, T> {
     }
 }
 
-/// Inserts a byte before the bytes from `start` on, which allocates. If it fails, these are
-/// removed.
+/// Inserts a byte before the bytes from `start` on. If it fails, these are removed.
 #[cold]
 #[inline(never)]
 fn insert_before<A: Allocator>(byte: u8, start: usize, sink: &mut Vec<u8, A>) -> Result<(), Fault>

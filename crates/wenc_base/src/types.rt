@@ -1,6 +1,6 @@
 //! Core types: value types, reference types and heap types. The submodules have the types that core
 //! modules define.
-ghost use Rattle.std.specs.Prelude.{◌≡◌, IfOk, IfErr, OnOk, true};
+ghost use Rattle.std.specs.Prelude.{◌≡◌, IfOk, IfErr, is_ok};
 ghost use Rattle.wenc_base.specs.Prelude.{itself, serves_itself, val_type, val_type_lawful};
 ghost use Rattle.wenc_base.specs.Prelude.{read_val_type, reference, reference_lawful};
 ghost use Rattle.wenc_base.specs.Prelude.{read_reference, heap_type_lawful, read_heap_type};
@@ -46,12 +46,11 @@ pub enum ValType {
 }
 
 impl ValType {
-    /// Returns the encoding of a number type or a vector type, which is one byte, or the reference
-    /// type that it is.
+    /// Returns the encoding of a type that is one byte, or the reference type that it is.
     #[inline(always)]
     fn byte_or_reference(&self) -> Result<u8, &RefType>
         ensures byte { IfOk result (λ b. (self.now ≡ of_byte b) × IsByteType b) }
-        ensures one { OnOk result (is_byte_type self.now ≡ true) }
+        ensures one { is_byte_type self.now ≡ is_ok result }
         ensures reference { IfErr result (λ r. self.now ≡ Ref r.now) }
     {
         match self {
@@ -60,7 +59,11 @@ impl ValType {
             ValType::F32 => Ok(0x7d),
             ValType::F64 => Ok(0x7c),
             ValType::V128 => Ok(0x7b),
-            ValType::Ref(ty) => Err(ty),
+            ValType::Ref(ty) => match ty.heap_type {
+                HeapType::Abstract(AbstractHeapType::Func) if ty.nullable => Ok(0x70),
+                HeapType::Abstract(AbstractHeapType::Extern) if ty.nullable => Ok(0x6f),
+                _ => Err(ty),
+            },
         }
     }
 }

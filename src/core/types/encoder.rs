@@ -51,12 +51,9 @@ impl CoreTypeBy<'_> {
 
     #[cold]
     #[inline(never)]
-    fn function(
-        self,
-        params: &[proved::ValType],
-        results: &[proved::ValType],
-    ) -> Result<(), Error> {
-        let (params, results) = (params.iter().copied(), results.iter().copied());
+    fn function(self, params: &mut Values, results: &mut Values) -> Result<(), Error> {
+        let params = params.converted()?.as_slice().iter().copied();
+        let results = results.converted()?.as_slice().iter().copied();
         Ok(on!(self, CoreTypeBy + Module, encoder => encoder.function(params, results))?)
     }
 
@@ -75,10 +72,12 @@ impl CoreTypeEncoder<'_> {
             R: IntoIterator<Item = ValType>,
         }
         {
-            let (mut params_kept, mut results_kept) = (Values::new(), Values::new());
-            match (params_kept.extend(params)?, results_kept.extend(results)?) {
-                ((_, Some(params)), (_, Some(results))) => self.by.byte_function(params, results),
-                ((params, _), (results, _)) => self.by.function(params, results),
+            let (mut param_types, mut result_types) = (Values::new(), Values::new());
+            param_types.extend(params)?;
+            result_types.extend(results)?;
+            match (param_types.bytes(), result_types.bytes()) {
+                (Some(params), Some(results)) => self.by.byte_function(params, results),
+                _ => self.by.function(&mut param_types, &mut result_types),
             }
         }
 

@@ -41,19 +41,27 @@ fn lists_and_tuples() {
 
 #[test]
 fn value_types_of_one_byte() {
+    let reference =
+        |nullable, ty| ValType::Ref(RefType { nullable, heap_type: HeapType::Abstract(ty) });
+    let (func, extern_) = (AbstractHeapType::Func, AbstractHeapType::Extern);
+    let kept = [ValType::I32, ValType::I64, ValType::F32, ValType::F64, ValType::V128];
+    let kept = [&kept[..], &[reference(true, func), reference(true, extern_)]].concat();
     let mut types = ByteTypes::new();
     check(&types, b"\x00");
-    for ty in [ValType::I32, ValType::I64, ValType::F32, ValType::F64, ValType::V128] {
-        assert!(types.push_using(ty));
+    for ty in &kept {
+        assert!(types.push_using(*ty));
     }
-    let heap_type = HeapType::Abstract(AbstractHeapType::Func);
-    assert!(!types.push_using(ValType::Ref(RefType { nullable: true, heap_type })));
-    check(&types, b"\x05\x7f\x7e\x7d\x7c\x7b");
-    for _ in 5..11 {
+    for (nullable, ty) in [(false, func), (false, extern_), (true, AbstractHeapType::Any)] {
+        assert!(!types.push_using(reference(nullable, ty)));
+    }
+    check(&types, b"\x07\x7f\x7e\x7d\x7c\x7b\x70\x6f");
+    for _ in 7..11 {
         assert!(types.push_using(ValType::I64));
     }
     assert!(!types.push_using(ValType::I32));
-    check(&types, b"\x0b\x7f\x7e\x7d\x7c\x7b\x7e\x7e\x7e\x7e\x7e\x7e");
+    check(&types, b"\x0b\x7f\x7e\x7d\x7c\x7b\x70\x6f\x7e\x7e\x7e\x7e");
+    let all: Vec<_> = (0..12).map_while(|index| types.get(index)).collect();
+    assert_eq!(all, [&kept[..], &[ValType::I64; 4]].concat());
 }
 
 #[test]

@@ -3,7 +3,7 @@ ghost use Rattle.std.specs.Prelude.{◌≡◌, ℕ, ◌+◌, ◌<◌, ◌≤◌,
 ghost use Rattle.std.specs.Prelude.{OnErr, IfErr};
 ghost use Rattle.wenc_base.specs.Prelude.{IsMemory, unsigned_text};
 
-use super::Encode;
+use super::{Encode, insert_before};
 use crate::fault::Fault;
 use crate::short::Short;
 use std::alloc::Allocator;
@@ -25,6 +25,9 @@ pub fn put_number<A: Allocator>(
     ensures err { OnErr result (sink.new.items ≡ take start sink.old.items) }
     ensures warranted { IfErr result IsMemory }
 {
+    if number < 1 << 7 {
+        return insert_before(number as u8, start, sink);
+    }
     let mut text = Short::new();
     text.unsigned(u64::from(number));
     let text = text.as_slice();

@@ -1,7 +1,7 @@
-use Rattle.std.proofs.Common.{◌≡◌, ℕ, ◌++◌, List, length, take, drop, refl, ◌∙◌, arith, ap, length-append}
+use Rattle.std.proofs.Common.{◌≡◌, ℕ, ◌++◌, ◌∷◌, [], List, append_assoc, length, take, drop, refl, ◌∙◌, arith, ap, length-append}
 use Rattle.std.proofs.lemmas.List.{length-take-le, take-append-drop, take_at}
 use Rattle.wenc_base.specs.Number.{unsigned_text}
-use Rattle.wenc_base.proofs.Groups.{size_of_u32}
+use Rattle.wenc_base.proofs.Groups.{size_of_u32, groups_below}
 use Rattle.wenc_base.proofs.encode.front.put_number.Goals as goal
 
 pub unsigned-requires : goal.unsigned-requires
@@ -27,3 +27,11 @@ returns-in-Ok-clause-ok g c =
       length-append (take start old) (drop start old),
     )) in
     take_at c.put_in_front.new.bytes _ _ (omega (arith, same, c.as_mut_slice.ensures.len, ap length c.as_mut_slice.ensures.value)) ∙ put
+
+pub returns-then-number-clause-ok : goal.returns-then-number-clause-ok
+returns-then-number-clause-ok g c =
+    let old : List ℕ = c.args.sink.now.items in
+    rw (
+      groups_below 128 9 c.args.number c.if-number.true,
+      append_assoc (take c.args.start old) (c.args.number ∷ []) (drop c.args.start old),
+    ) c.insert_before.ensures.ok
