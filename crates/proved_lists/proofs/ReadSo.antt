@@ -1,16 +1,11 @@
 -- What was returned is read, by what the readers find.
 use Rattle.std.proofs.Common.{◌≡◌, ℕ, ◌<◌, ◌≤◌, List, Result, Ok, Err, IfOk, IfErr, inl, inr}
 use Rattle.std.proofs.lemmas.Bool.{cases_lt}
-use Rattle.wenc_base.specs.Piece.{Form, Wide}
-use Rattle.wenc_base.specs.Readers.{Bad, Deep, Reader}
-use Rattle.wenc_read.specs.Exact.{IsExactAt}
-use Rattle.wenc_read.specs.Gives.{Gives, flaw_of}
-use Rattle.wenc_read.specs.declared.refusal.NestedRefusal.{NestedRefusal}
+use Rattle.wenc_base.specs.Prelude.{Bad, Deep, Form, Reader, Wide}
+use Rattle.wenc_read.specs.Prelude.{Gives, IsExactAt, NestedRefusal, Refusal, flaw_of}
 use Rattle.wenc_read.specs.declared.refusal.NestedRefusal.TheVariants.{Flat, TooDeep}
-use Rattle.wenc_read.specs.declared.refusal.Refusal.{Refusal}
-use Rattle.wenc_types.specs.ComponentTypes.{DefType, def_type, depth}
-use Rattle.wenc_types.specs.reading.ComponentTypes.{read_type}
-use Rattle.wenc_view.specs.Gives.{GivesNested}
+use Rattle.wenc_types.specs.Prelude.{DefType, def_type, depth, read_type}
+use Rattle.wenc_view.specs.Prelude.{GivesNested}
 
 -- ---- what doesn't nest
 

@@ -4,11 +4,9 @@ use Rattle.std.proofs.Common.{◌≡◌, ℕ, ◌+◌, ◌-◌, ◌<◌, false, 
 use Rattle.std.proofs.Math.Seq.{drop-length}
 use Rattle.std.proofs.lemmas.Bool.{lt-ltb}
 use Rattle.std.proofs.lemmas.List.{take_at}
-use Rattle.wenc_base.specs.Holder.{HolderState, ContainsSome, content_size, is_finished}
-use Rattle.wenc_base.specs.Number.{number_size}
-use Rattle.wenc_base.specs.Openings.{HasMembers, member_begun, member_given_up}
+use Rattle.wenc_base.specs.Prelude.{ContainsSome, HasMembers, HolderState, Opening, content_size}
+use Rattle.wenc_base.specs.Prelude.{is_finished, member_begun, member_given_up, number_size}
 use Rattle.wenc_base.specs.declared.fault.Fault.TheVariants.{Unfinished}
-use Rattle.wenc_base.specs.declared.holder.openings.Opening.{Opening}
 
 -- nothing is behind bytes that are kept whole
 pub kept_whole : (n : ℕ) (bytes : List ℕ) → n ≡ length bytes → content_size 0 (length (drop n bytes)) < 4294967296

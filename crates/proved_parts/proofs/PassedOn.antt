@@ -3,9 +3,8 @@ use Rattle.std.proofs.Common.{◌≡◌, ℕ, List, [], ◌∷◌, None, refl}
 use Rattle.wenc_parts.specs.declared.exports.ComponentExportKind.TheVariants as kinds
 use Rattle.wenc_parts.specs.declared.imports.ComponentTypeRef.TheVariants as refs
 use Rattle.wenc_parts.specs.declared.imports.TypeBounds.TheVariants.{SubResource}
-use Rattle.wenc_parts.specs.Imports.{ExternName}
-use Rattle.wenc_builder.specs.Item.{Item}
-use Rattle.wenc_builder.specs.Entry.{import_entry, export_entry, items}
+use Rattle.wenc_parts.specs.Prelude.{ExternName}
+use Rattle.wenc_builder.specs.Prelude.{Item, export_entry, import_entry, items}
 
 abbrev pub both : ExternName → ExternName → ℕ → List Item
 both f h i = items (import_entry f (refs.«Type» SubResource) ∷ export_entry h kinds.«Type» i None ∷ [])

@@ -1,41 +1,39 @@
 -- Why every form is lawful: its values have a reader in common.
 use Rattle.std.proofs.Common.{[], true}
-use Rattle.wenc_base.specs.Composites.{Sub, Single, Rec, RecType, Func, final, standing}
-use Rattle.wenc_base.specs.Delimited.{IsReadable}
-use Rattle.wenc_base.specs.FormLaws.{FormLaws}
-use Rattle.wenc_base.specs.Types.{nullable}
-use Rattle.wenc_base.specs.declared.types.RefType.{RefType}
-use Rattle.wenc_base.specs.laws.Composites.{storage_type_lawful, field_type_lawful, composite_type_lawful, sub_type_lawful, group_lawful}
+use Rattle.wenc_base.specs.Prelude.{FormLaws, Func, IsReadable, Lawful, Reader, Rec, RecType}
+use Rattle.wenc_base.specs.Prelude.{RefType, Single, Sub, abstract_type_lawful, byte_list_lawful}
+use Rattle.wenc_base.specs.Prelude.{choose, composite_type_lawful}
+use Rattle.wenc_base.specs.Prelude.{core_export_kind_lawful as core_kind_lawful, counted_lawful}
+use Rattle.wenc_base.specs.Prelude.{custom_lawful, entity_type_lawful, field_type_lawful, final}
+use Rattle.wenc_base.specs.Prelude.{flag_lawful, form_laws, give, global_type_lawful, group_lawful}
+use Rattle.wenc_base.specs.Prelude.{heap_type_lawful, i64_lawful, index_lawful, last, list_lawful}
+use Rattle.wenc_base.specs.Prelude.{memory_type_lawful, name_association_lawful, name_lawful}
+use Rattle.wenc_base.specs.Prelude.{nowhere, nullable, option_lawful, producer_lawful}
+use Rattle.wenc_base.specs.Prelude.{producers_field_lawful, read_list, read_u32, reference_lawful}
+use Rattle.wenc_base.specs.Prelude.{standing, storage_type_lawful, sub_type_lawful}
+use Rattle.wenc_base.specs.Prelude.{table_type_lawful, tag_type_lawful, then, to, u32_lawful}
+use Rattle.wenc_base.specs.Prelude.{u64_lawful, val_type_lawful, ◌>>=◌}
 use Rattle.wenc_base.specs.laws.Delimited.{pair_readable}
-use Rattle.wenc_base.specs.laws.Entities.{table_type_lawful, memory_type_lawful, global_type_lawful, tag_type_lawful, entity_type_lawful}
-use Rattle.wenc_base.specs.laws.Exports.{core_export_kind_lawful as core_kind_lawful}
-use Rattle.wenc_base.specs.laws.Forms.{flag_lawful, name_lawful, byte_list_lawful, list_lawful, option_lawful, counted_lawful}
-use Rattle.wenc_sections.specs.laws.Pairs.{pair_lawful, triple_lawful}
-use Rattle.wenc_base.specs.reading.Forms.{read_list}
-use Rattle.wenc_base.specs.laws.Names.{name_association_lawful}
-use Rattle.wenc_base.specs.Readers.{Lawful, Reader, ◌>>=◌, give, nowhere, choose}
-use Rattle.wenc_base.specs.laws.Lawful.{form_laws, then, last}
-use Rattle.wenc_base.specs.laws.Numbers.{u32_lawful, u64_lawful, index_lawful, i64_lawful}
-use Rattle.wenc_base.specs.reading.Numbers.{read_u32}
-use Rattle.wenc_base.specs.laws.Sections.{custom_lawful, producer_lawful, producers_field_lawful, producers_section_lawful}
-use Rattle.wenc_base.specs.laws.Types.{abstract_type_lawful, heap_type_lawful, reference_lawful, val_type_lawful}
-use Rattle.wenc_base.specs.reading.Types.{to}
-use Rattle.wenc_canon.specs.laws.Canonicals.{canonical_option_lawful, field_lawful, fields_lawful, canonical_lawful}
-use Rattle.wenc_parts.specs.laws.Aliases.{outer_kind_lawful, alias_lawful}
-use Rattle.wenc_parts.specs.laws.Exports.{component_export_kind_lawful}
-use Rattle.wenc_parts.specs.laws.Imports.{type_bounds_lawful, type_reference_lawful, name_option_lawful, extern_name_lawful}
-use Rattle.wenc_parts.specs.laws.Instances.{module_argument_lawful}
-use Rattle.wenc_parts.specs.laws.SectionIds.{section_lawful}
-use Rattle.wenc_parts.specs.laws.Types.{primitive_lawful, value_type_lawful, result_list_lawful}
-use Rattle.wenc_sections.specs.Start.{Start, started, start_content}
-use Rattle.wenc_sections.specs.laws.Names.{sort_lawful, names_section_lawful}
-use Rattle.wenc_sections.specs.laws.Items.{import_lawful, inline_export_lawful, core_instance_lawful, instance_lawful, start_lawful}
-use Rattle.wenc_types.specs.laws.ComponentTypes.{type_lawful, instance_declaration_lawful, component_declaration_lawful}
-use Rattle.wenc_types.specs.laws.CoreTypes.{module_declaration_lawful, module_type_lawful, standing_row, core_type_lawful}
-use Rattle.wenc_types.specs.reading.CoreTypes.{standing_rows}
-use Rattle.wenc_types.specs.laws.DefinedTypes.{labelled_type_lawful, case_lawful, defined_type_lawful, function_type_lawful}
+use Rattle.wenc_sections.specs.Prelude.{Start, core_instance_lawful, import_lawful}
+use Rattle.wenc_sections.specs.Prelude.{inline_export_lawful, instance_lawful, names_section_lawful}
+use Rattle.wenc_sections.specs.Prelude.{pair_lawful, sort_lawful, start_content, start_lawful}
+use Rattle.wenc_sections.specs.Prelude.{started, triple_lawful}
+use Rattle.wenc_base.specs.laws.Sections.{producers_section_lawful}
+use Rattle.wenc_canon.specs.Prelude.{canonical_lawful, canonical_option_lawful}
+use Rattle.wenc_canon.specs.laws.Canonicals.{field_lawful, fields_lawful}
+use Rattle.wenc_parts.specs.Prelude.{alias_lawful, component_export_kind_lawful, extern_name_lawful}
+use Rattle.wenc_parts.specs.Prelude.{module_argument_lawful, outer_kind_lawful, primitive_lawful}
+use Rattle.wenc_parts.specs.Prelude.{result_list_lawful, section_lawful, type_bounds_lawful}
+use Rattle.wenc_parts.specs.Prelude.{type_reference_lawful, value_type_lawful}
+use Rattle.wenc_parts.specs.laws.Imports.{name_option_lawful}
+use Rattle.wenc_types.specs.Prelude.{case_lawful, component_declaration_lawful, core_type_lawful}
+use Rattle.wenc_types.specs.Prelude.{defined_type_lawful, instance_declaration_lawful}
+use Rattle.wenc_types.specs.Prelude.{labelled_type_lawful, module_declaration_lawful, standing_rows}
+use Rattle.wenc_types.specs.Prelude.{type_lawful}
+use Rattle.wenc_types.specs.laws.CoreTypes.{module_type_lawful, standing_row}
+use Rattle.wenc_types.specs.laws.DefinedTypes.{function_type_lawful}
 use Rattle.wasm_encoder.specs.AllForms as forms
-use Rattle.wasm_encoder.specs.AllForms.{FormName, form_of}
+use Rattle.wasm_encoder.specs.Prelude.{FormName, form_of}
 
 -- ---- parts of other forms
 

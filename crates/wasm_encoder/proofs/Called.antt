@@ -3,24 +3,18 @@ use Rattle.std.proofs.Common.{◌≡◌, ℕ, List, [], ◌∷◌, ◌++◌, Res
 use Rattle.std.proofs.lemmas.Option.{same_Some}
 use Rattle.std.specs.Option.{MatchOption}
 use Rattle.std.specs.Result.{MatchResult}
-use Rattle.wenc_base.specs.Fault.{IsWarranted, IsMemory, NoCause}
-use Rattle.wenc_base.specs.declared.fault.Fault.{Fault}
+use Rattle.wenc_base.specs.Prelude.{Fault, IsAmong, IsMemory, IsWarranted, NoCause, itself_among}
+use Rattle.wenc_base.specs.Prelude.{still_warranted}
 use Rattle.wenc_base.specs.declared.fault.Fault.TheVariants.{Memory, TooMany, TooLarge, Unfinished}
-use Rattle.wenc_base.specs.laws.Serves.{still_warranted, IsAmong, itself_among}
-use Rattle.wenc_builder.specs.Builder.{State}
-use Rattle.wenc_builder.specs.Entry.{Entry, items, EntryCause}
-use Rattle.wenc_builder.specs.Enters.{Enters, EntersWithoutIndex}
-use Rattle.wenc_builder.specs.Holds.{Holds}
-use Rattle.wenc_builder.specs.Item.{Item}
-use Rattle.wenc_builder.specs.Names.{named_entry, names_entry, AddsNames}
-use Rattle.wenc_builder.specs.Space.{index_of}
-use Rattle.wenc_sections.specs.Names.{Subsection}
+use Rattle.wenc_builder.specs.Prelude.{AddsNames, Enters, EntersWithoutIndex, Entry, EntryCause}
+use Rattle.wenc_builder.specs.Prelude.{Holds, Item, State, index_of, items, named_entry}
+use Rattle.wenc_builder.specs.Prelude.{names_entry}
+use Rattle.wenc_sections.specs.Prelude.{Subsection}
 use Rattle.wenc_builder.specs.laws.Answered.{answered, answered_with}
 use Rattle.wenc_builder.specs.laws.EntryCause.{entry_never_unfinished}
-use Rattle.wasm_encoder.specs.Command.{CommandTree, Add, AppendNames}
-use Rattle.wasm_encoder.specs.Cause.{added, index_added, added_cause, cause}
-use Rattle.wasm_encoder.specs.Ran.{IsRefusal}
-use Rattle.wasm_encoder.specs.inside.Steps.{Answers, indexed, without_index}
+use Rattle.wasm_encoder.specs.Prelude.{Add, Answers, AppendNames, CommandTree, IsRefusal, added}
+use Rattle.wasm_encoder.specs.Prelude.{cause, index_added, indexed, without_index}
+use Rattle.wasm_encoder.specs.Cause.{added_cause}
 
 -- what warrants an entry's refusal is never that something is unfinished
 pub refusal : (es : List Entry) (x : Entry) (fault : Fault) → IsWarranted (EntryCause es x) fault → IsRefusal (EntryCause es x) fault

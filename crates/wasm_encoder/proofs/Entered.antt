@@ -2,29 +2,22 @@
 use Rattle.std.proofs.Common.{◌≡◌, ℕ, List, [], ◌∷◌, ◌++◌, map, Bool, false, Ok, Option, refl, ap, subst, ◌∙◌}
 use Rattle.std.specs.Borrow.{Bor}
 use Rattle.std.specs.Iterator.Runs.{WholeRun}
-use Rattle.wenc_base.specs.Fault.{NoCause}
-use Rattle.wenc_base.specs.Forms.{list}
-use Rattle.wenc_base.specs.Parent.{Ends, EndsListed, EndsLists, Extended, Extends, ExtendsListed}
-use Rattle.wenc_base.specs.Piece.{byte, ◌▸◌}
-use Rattle.wenc_base.specs.Types.{val_type}
-use Rattle.wenc_base.specs.declared.types.ValType.{ValType}
-use Rattle.wenc_base.specs.laws.Serves.{either_free, left_free, right_free}
-use Rattle.wenc_builder.specs.Builder.{State, content_of, item_appended, item_begun, item_ended}
-use Rattle.wenc_builder.specs.Cause.{BeginCause, NoRoom}
-use Rattle.wenc_builder.specs.Entry.{core_type_entry, type_entry}
-use Rattle.wenc_builder.specs.ParentState.{no_room_in_section}
-use Rattle.wenc_builder.specs.laws.ParentState.{item_appended_twice}
+use Rattle.wenc_base.specs.Prelude.{Ends, EndsListed, EndsLists, Extended, Extends, ExtendsListed}
+use Rattle.wenc_base.specs.Prelude.{NoCause, ValType, byte, either_free, left_free, list}
+use Rattle.wenc_base.specs.Prelude.{right_free, val_type, ◌▸◌}
+use Rattle.wenc_builder.specs.Prelude.{BeginCause, NoRoom, State, content_of, core_type_entry}
+use Rattle.wenc_builder.specs.Prelude.{item_appended, item_appended_twice, item_begun, item_ended}
+use Rattle.wenc_builder.specs.Prelude.{no_room_in_section, type_entry}
 use Rattle.wenc_builder.specs.laws.Typed.{core_type_is_written, type_is_written}
-use Rattle.wenc_parts.specs.Types.{result_list}
-use Rattle.wenc_parts.specs.declared.types.ComponentValType.{ComponentValType}
-use Rattle.wenc_types.specs.ComponentTypes.{DefType, FunctionType, def_type}
-use Rattle.wenc_types.specs.CoreTypes.{CoreType, core_type}
-use Rattle.wenc_types.specs.DefinedTypes.{LabelledType, async_byte, labelled_type, borrowed_labelled_type}
-use Rattle.wenc_types.specs.FuncStages.{params_from}
-use Rattle.wenc_types.specs.declared.encoders.func_type.FuncStage.{FuncStage}
+use Rattle.wenc_parts.specs.Prelude.{ComponentValType, result_list}
+use Rattle.wenc_types.specs.Prelude.{CoreType, DefType, FuncStage, FunctionType, LabelledType}
+use Rattle.wenc_types.specs.Prelude.{async_byte, borrowed_labelled_type, core_type, def_type}
+use Rattle.wenc_types.specs.Prelude.{labelled_type, params_from}
 use Rattle.wenc_types.specs.declared.encoders.func_type.FuncStage.TheVariants.{Start, Tagged}
-use Rattle.wasm_encoder.specs.WrittenTypes.{AreEntered, CoreFunctionsAreEntered, FunctionsAreEntered, IsEntered, ListedAreEntered}
-use Rattle.wasm_encoder.specs.WrittenTypes.{core_function_entry, new_core_type, function_entry, new_type}
+use Rattle.wasm_encoder.specs.Prelude.{AreEntered, CoreFunctionsAreEntered, FunctionsAreEntered}
+use Rattle.wasm_encoder.specs.Prelude.{IsEntered, ListedAreEntered, core_function_entry}
+use Rattle.wasm_encoder.specs.Prelude.{function_entry}
+use Rattle.wasm_encoder.specs.WrittenTypes.{new_core_type, new_type}
 use Rattle.wasm_encoder.proofs.Typed.{written_whole}
 
 module _ {old parent new : State} (name : Option (List ℕ)) where

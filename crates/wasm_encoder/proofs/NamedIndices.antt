@@ -4,22 +4,14 @@ use Rattle.std.proofs.Common.{Err, refl, subst, ◌⊎◌, inl, inr, arith}
 use Rattle.std.proofs.lemmas.Option.{same_Some}
 use Rattle.std.specs.List.{AllByRecursion}
 use Rattle.std.specs.List.Sorted.{IsStrictlyIncreasing}
-use Rattle.wenc_base.specs.Names.{NameAssociation}
-use Rattle.wenc_base.specs.declared.fault.Fault.{Fault}
-use Rattle.wenc_builder.specs.Entry.{Entry, StartIsNameless, items, named_in, names_from, names}
-use Rattle.wenc_builder.specs.Item.{Item, StartItem, CustomItem, RawItem}
-use Rattle.wenc_builder.specs.Names.{named_entry}
-use Rattle.wenc_builder.specs.Space.{Indices, defines, number_in, defined_in, next_index}
-use Rattle.wenc_sections.specs.declared.space.Space.{Space}
+use Rattle.wenc_base.specs.Prelude.{Fault, NameAssociation}
+use Rattle.wenc_builder.specs.Prelude.{CustomItem, Entry, Indices, Item, RawItem, StartIsNameless}
+use Rattle.wenc_builder.specs.Prelude.{StartItem, defined_in, defines, items, named_entry, named_in}
+use Rattle.wenc_builder.specs.Prelude.{names, names_from, next_index, number_in}
+use Rattle.wenc_sections.specs.Prelude.{Space, Start, Subsection}
 use Rattle.wenc_sections.specs.laws.Space.{space_tells}
-use Rattle.wenc_sections.specs.Names.{Subsection}
-use Rattle.wenc_sections.specs.Start.{Start}
-use Rattle.wasm_encoder.specs.Cause.{added}
-use Rattle.wasm_encoder.specs.Command.{CommandTree, Add, Nest, AppendNames, command_view}
-use Rattle.wenc_builder.specs.Entry.{StartIsNameless}
-use Rattle.wasm_encoder.specs.Nameless.{AddsNameless}
-use Rattle.wasm_encoder.specs.Ran.{RanFrom, Ran}
-use Rattle.wasm_encoder.specs.declared.command.Command.{Command}
+use Rattle.wasm_encoder.specs.Prelude.{Add, AddsNameless, AppendNames, Command, CommandTree, Nest}
+use Rattle.wasm_encoder.specs.Prelude.{Ran, RanFrom, added, command_view}
 use Rattle.wasm_encoder.specs.declared.command.Command as commands
 
 -- ---- numbers that ascend

@@ -1,8 +1,7 @@
 -- Neighbours among the sections into which items are cut are of other kinds.
 use Rattle.std.proofs.Common.{◌≡◌, ◌≢◌, ℕ, List, [], ◌∷◌, ◌++◌, Option, Some, None, refl, subst, inl, inr}
 use Rattle.std.proofs.lemmas.Bool.Decides.{eqb_tells}
-use Rattle.wenc_builder.specs.Item.{Item, collected}
-use Rattle.wenc_builder.specs.Sections.{Section, Run, Alone, joined, runs}
+use Rattle.wenc_builder.specs.Prelude.{Alone, Item, Run, Section, collected, joined, runs}
 
 -- they don't collect items of one kind
 abbrev Differ : Section → Section → Type 0

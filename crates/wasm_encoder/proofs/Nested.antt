@@ -1,22 +1,16 @@
 -- A nested component: its commands on a builder of their own, step by step.
 use Rattle.std.proofs.Common.{◌≡◌, ℕ, List, [], ◌++◌, Ok, Err, Result, Option, inl, inr, refl, ap, ◌∙◌, Vec, String}
 use mathlib.Core.Former.{Count}
-use Rattle.wenc_base.specs.Fault.{NoCause}
-use Rattle.wenc_base.specs.declared.fault.Fault.{Fault}
-use Rattle.wenc_base.specs.laws.Serves.{IsAmong}
-use Rattle.wenc_builder.specs.Builder.{State}
-use Rattle.wenc_builder.specs.Entry.{Entry, items, EntryCause, component_entry}
-use Rattle.wenc_builder.specs.Enters.{Enters}
-use Rattle.wenc_builder.specs.Holds.{Holds}
-use Rattle.wenc_builder.specs.Sections.{whole}
+use Rattle.wenc_base.specs.Prelude.{Fault, IsAmong, NoCause}
+use Rattle.wenc_builder.specs.Prelude.{Enters, Entry, EntryCause, Holds, State, component_entry}
+use Rattle.wenc_builder.specs.Prelude.{items, whole}
 use Rattle.std.specs.Option.{option_map}
 use Rattle.std.specs.String.{string_bytes}
-use Rattle.wasm_encoder.specs.Command.{CommandTree, Nest, Commands, no_more, then, command_view, row_view}
-use Rattle.wasm_encoder.specs.inside.Steps.{commands_view}
-use Rattle.wasm_encoder.specs.Cause.{added, led, cause, first_cause}
-use Rattle.wasm_encoder.specs.Ran.{IsRefusal}
-use Rattle.wasm_encoder.specs.inside.Steps.{Answers, StepsLeft, indexed}
-use Rattle.wasm_encoder.specs.declared.command.Command.{Command, Row_of-Command, end_of-Command, more_of-Command, items-the_row-Command}
+use Rattle.wasm_encoder.specs.Prelude.{Answers, Command, CommandTree, Commands, IsRefusal, Nest}
+use Rattle.wasm_encoder.specs.Prelude.{StepsLeft, added, cause, command_view, commands_view}
+use Rattle.wasm_encoder.specs.Prelude.{first_cause, indexed, led, no_more, then}
+use Rattle.wasm_encoder.specs.Command.{row_view}
+use Rattle.wasm_encoder.specs.declared.command.Command.{Row_of-Command, end_of-Command, more_of-Command, items-the_row-Command}
 use Rattle.wasm_encoder.specs.declared.command.Command.{items_hidden-the_row-Command-0}
 use Rattle.wasm_encoder.specs.declared.command.Command as commands
 use Rattle.wasm_encoder.proofs.Called.{refusal_as, entered}

@@ -2,12 +2,11 @@
 use Rattle.std.proofs.Common.{◌≡◌, ℕ, List, [], ◌∷◌, ◌++◌, Option, Result, Ok, Err, refl, sym, inl, inr}
 use Rattle.std.specs.List.{AllByRecursion}
 use Rattle.std.specs.Prelude.{IsOk}
-use Rattle.wenc_base.specs.Fault.{NoCause}
-use Rattle.wenc_base.specs.declared.fault.Fault.{Fault}
-use Rattle.wenc_builder.specs.Entry.{Entry}
-use Rattle.wasm_encoder.specs.Cause.{added, answer_of, led, cause, first_cause}
-use Rattle.wasm_encoder.specs.Command.{CommandTree, Commands, no_more, then, commands_listed}
-use Rattle.wasm_encoder.specs.Ran.{RanFrom}
+use Rattle.wenc_base.specs.Prelude.{Fault, NoCause}
+use Rattle.wenc_builder.specs.Prelude.{Entry}
+use Rattle.wasm_encoder.specs.Prelude.{CommandTree, Commands, RanFrom, added, cause}
+use Rattle.wasm_encoder.specs.Prelude.{commands_listed, first_cause, led, no_more, then}
+use Rattle.wasm_encoder.specs.Cause.{answer_of}
 
 first_free : (es : List Entry) (c : CommandTree) (cs : Commands) → NoCause (first_cause es (then c cs)) → NoCause (cause es c)
 first_free es c cs none fault k = none fault (inl k)

@@ -5,15 +5,13 @@ use Rattle.std.proofs.Math.Bool.{Bool-set}
 use Rattle.std.proofs.Math.Logic.{∥∥₁_map, ∥∥₁_elim}
 use Rattle.std.proofs.lemmas.List.{drop_all}
 use Rattle.std.specs.Prelude.{IsTrue, OnErr}
-use Rattle.wenc_base.specs.declared.fault.Fault.{Fault}
-use Rattle.wenc_builder.specs.Builder.{State, builder_is_finished}
-use Rattle.wenc_builder.specs.Entry.{Entry}
-use Rattle.wenc_builder.specs.Holds.{Holds}
-use Rattle.wasm_encoder.specs.Command.{CommandTree, command_view}
-use Rattle.wasm_encoder.specs.Cause.{cause}
-use Rattle.wasm_encoder.specs.Ran.{IsRefusal, IsDue, entries_after, RanFrom, Ran, HasRun, RunsNext, IsStopped}
-use Rattle.wasm_encoder.specs.inside.Steps.{Answers, StepsStop, HasRunSome}
-use Rattle.wasm_encoder.specs.declared.command.Command.{Command}
+use Rattle.wenc_base.specs.Prelude.{Fault}
+use Rattle.wenc_builder.specs.Prelude.{Entry, Holds, State, builder_is_finished}
+use Rattle.wasm_encoder.specs.Prelude.{Answers, Command, CommandTree, HasRun, HasRunSome, IsRefusal}
+use Rattle.wasm_encoder.specs.Prelude.{IsStopped, Ran, RanFrom, RunsNext, cause, command_view}
+use Rattle.wasm_encoder.specs.Prelude.{entries_after}
+use Rattle.wasm_encoder.specs.Ran.{IsDue}
+use Rattle.wasm_encoder.specs.inside.Steps.{StepsStop}
 
 -- one command more
 ran_push : (es : List Entry) (cs : List CommandTree) (answers : List (Result (Option ℕ) Fault)) (all : List Entry) (c : CommandTree)

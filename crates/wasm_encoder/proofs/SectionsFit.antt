@@ -1,12 +1,10 @@
 -- A section of values of a form fits as these, and is read as these.
 use Rattle.std.proofs.Common.{◌≡◌, ℕ, List, ◌++◌, length, length-append}
 use Rattle.std.specs.List.{flat_map}
-use Rattle.wenc_base.specs.Forms.{counted}
-use Rattle.wenc_base.specs.Holder.{HolderState, Contains, content_size, held_section}
-use Rattle.wenc_base.specs.Number.{unsigned_text}
-use Rattle.wenc_base.specs.Piece.{Spelling}
-use Rattle.wenc_base.specs.laws.Holders.{section_text_of}
-use Rattle.wasm_encoder.specs.AllForms.{FormName, SectionsOf, value_of, form_of}
+use Rattle.wenc_base.specs.Prelude.{Contains, HolderState, Spelling, content_size, counted}
+use Rattle.wenc_base.specs.Prelude.{held_section, section_text_of, unsigned_text}
+use Rattle.wasm_encoder.specs.Prelude.{FormName, form_of, value_of}
+use Rattle.wasm_encoder.specs.AllForms.{SectionsOf}
 use Rattle.wasm_encoder.proofs.AllLawful.{laws_of}
 
 pub section_fits : (f : FormName) (h : HolderState) (values : List (value_of f)) → Contains (form_of f) h values → (held_section h).Fits

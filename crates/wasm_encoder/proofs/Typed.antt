@@ -1,21 +1,15 @@
 -- A type that is begun on a builder and written by an encoder.
 use Rattle.std.specs.Option.{option_map}
 use Rattle.std.proofs.Common.{◌≡◌, ℕ, List, [], ◌∷◌, ◌++◌, Ok, Err, Option, Some, refl, sym, ap, subst, ◌∙◌}
-use Rattle.wenc_base.specs.Fault.{IsWarranted, either, NoCause}
-use Rattle.wenc_base.specs.declared.fault.Fault.{Fault}
-use Rattle.wenc_base.specs.laws.Serves.{still_warranted, itself_among}
-use Rattle.wenc_builder.specs.Builder.{State, NewItem, item_begun, item_appended, item_ended, item_given_up}
-use Rattle.wenc_builder.specs.Cause.{BeginCause}
-use Rattle.wenc_builder.specs.Entry.{Entry, items, EntryCause}
-use Rattle.wenc_builder.specs.Holds.{Holds}
-use Rattle.wenc_builder.specs.Item.{item}
-use Rattle.wenc_builder.specs.ParentState.{no_room_in_section}
-use Rattle.wenc_builder.specs.Space.{Indices, next_index}
-use Rattle.wenc_builder.specs.laws.ParentState.{begun_given_up}
+use Rattle.wenc_base.specs.Prelude.{Fault, IsWarranted, NoCause, either, itself_among}
+use Rattle.wenc_base.specs.Prelude.{still_warranted}
+use Rattle.wenc_builder.specs.Prelude.{BeginCause, Entry, EntryCause, Holds, Indices, NewItem}
+use Rattle.wenc_builder.specs.Prelude.{State, begun_given_up, item, item_appended, item_begun}
+use Rattle.wenc_builder.specs.Prelude.{item_ended, item_given_up, items, next_index}
+use Rattle.wenc_builder.specs.Prelude.{no_room_in_section}
 use Rattle.wenc_builder.specs.laws.Typed.{IsWrittenType, WritingCause, opening_due, writing_due, written_free, written_holds}
-use Rattle.wasm_encoder.specs.Command.{Add}
+use Rattle.wasm_encoder.specs.Prelude.{Add, Answers, StepsLeft}
 use Rattle.wasm_encoder.specs.Ran.{IsTyped}
-use Rattle.wasm_encoder.specs.inside.Steps.{Answers, StepsLeft}
 use Rattle.wasm_encoder.proofs.Called.{refusal, due}
 
 -- why an item can't be written and ended by what was parent

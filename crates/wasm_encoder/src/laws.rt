@@ -4,15 +4,15 @@
 ghost use Rattle.std.specs.Prelude.{◌≡◌, ◌↔◌, ◌+◌, ℕ, ℤ, ◌^◌, ◌<◌, ◌++◌, ◌∷◌, [], List, FitsSigned};
 ghost use Rattle.std.specs.Prelude.{true, Ok};
 ghost use Rattle.std.specs.Int.{w64};
-ghost use Rattle.wasm_encoder.specs.Prelude.{Fault, IndexSpace, FormName, value_of, form_of};
+ghost use Rattle.wasm_encoder.specs.Prelude.{IndexSpace, FormName, value_of, form_of};
 ghost use Rattle.wenc_base.specs.Prelude.{RecType, rec_type, NoCause, FormLaws, name, counted};
 ghost use Rattle.wenc_base.specs.Prelude.{HolderState, Contains, EncodeCause, is_finished};
 ghost use Rattle.wenc_base.specs.Prelude.{held_members, held_section, Accepted, unsigned_text};
-ghost use Rattle.wenc_base.specs.Prelude.{signed_text, IsUnsignedText, IsSignedText, u32 as number};
-ghost use Rattle.wenc_base.specs.Prelude.{member_begun, member_appended, member_ended};
-ghost use Rattle.wenc_base.specs.Prelude.{member_given_up, Spelling, Strict, Wide, ◌▸◌};
-ghost use Rattle.wenc_base.specs.Prelude.{refused_for, verbatim, Producers, FieldCause};
-ghost use Rattle.wenc_base.specs.Prelude.{producers_field, producers_section, producers_held};
+ghost use Rattle.wenc_base.specs.Prelude.{signed_text, IsUnsignedText, IsSignedText, member_begun};
+ghost use Rattle.wenc_base.specs.Prelude.{member_appended, member_ended, member_given_up, Spelling};
+ghost use Rattle.wenc_base.specs.Prelude.{Strict, Wide, ◌▸◌, refused_for, verbatim, Producers};
+ghost use Rattle.wenc_base.specs.Prelude.{FieldCause, producers_field, producers_section};
+ghost use Rattle.wenc_base.specs.Prelude.{producers_held};
 ghost use Rattle.wenc_base.specs.declared.fault.Fault.TheVariants.{Unfinished};
 ghost use Rattle.wenc_builder.specs.Prelude.{Item, HasNoRaw, Section, runs, component, Reading};
 ghost use Rattle.wenc_builder.specs.Prelude.{whole, SectionsHaveNoRaw, AreEncodable, IsEncodable};
@@ -62,7 +62,7 @@ pub fn signed_text_in_words()
 pub fn texts_tell_values<T: Delimited>(a: &T, b: &T)
     ensures { (T.piece a.now).Fits → (T.piece b.now).Fits → (r s : List ℕ)
         → (T.piece a.now).text ++ r ≡ (T.piece b.now).text ++ s
-        → (T.seen a.now ≡ T.seen b.now) × (r ≡ s) }
+        → (T.reads_back.seen a.now ≡ T.reads_back.seen b.now) × (r ≡ s) }
 {}
 
 /// If the encodings of two comparable, encodable values, each followed by any bytes, are equal, so
@@ -78,7 +78,7 @@ pub fn texts_tell_equals<T: DelimitedEq>(a: &T, b: &T)
 /// A value of each `Delimited` type is read as it is written, strictly in no other way, and in one
 /// way only; no value's encoding begins another's; and an encodable value is no cause of an error.
 pub fn values_are_lawful<T: Delimited>()
-    ensures { FormLaws T.form }
+    ensures { FormLaws T.reads_back.form }
 {}
 
 /// If the encodings of two encodable values of one form, each followed by any bytes, are equal, so

@@ -2,17 +2,15 @@
 use Rattle.std.proofs.Common.{◌≡◌, ℕ, ◌+◌, List, [], ◌∷◌, ◌++◌, Option, Some, None, Result, Ok, Err, false, length, refl, sym, ap, ◌∙◌}
 use Rattle.std.proofs.Common.{append_assoc, append-nil, option_map, arith}
 use Rattle.wasm_encoder.specs.declared.command.Built.{Built}
-use Rattle.wasm_encoder.specs.Command.{CommandTree}
-use Rattle.wasm_encoder.specs.Ran.{RunsNext}
-use Rattle.wenc.specs.Script.{commands_from, with_line, line_command}
+use Rattle.wasm_encoder.specs.Prelude.{CommandTree, RunsNext}
+use Rattle.wenc.specs.Prelude.{Builds, Failure, RunsLine, commands_from, line_command}
+use Rattle.wenc.specs.Script.{with_line}
 use Rattle.std.specs.Prelude.{◌==◌}
 use Rattle.std.specs.Result.{IsErrAnd}
-use Rattle.wenc_base.specs.declared.fault.Fault.{Fault as FaultSpec}
-use Rattle.wenc_builder.specs.Builder.{State}
-use Rattle.wenc.specs.declared.failure.Failure.{Failure}
+use Rattle.wenc_base.specs.Prelude.{Fault as FaultSpec}
+use Rattle.wenc_builder.specs.Prelude.{State}
 use Rattle.wenc.specs.declared.failure.Failure.TheVariants.{BadLine, Fault}
-use Rattle.wenc.specs.Built.{Builds}
-use Rattle.wenc.specs.inside.Lines.{commands_of_line, RanLine, RunsLine}
+use Rattle.wenc.specs.inside.Lines.{commands_of_line, RanLine}
 
 -- commands, and then what is said
 abbrev pub put_before : List CommandTree → Result (List CommandTree) ℕ → Result (List CommandTree) ℕ

@@ -4,16 +4,15 @@ use Rattle.std.proofs.Common.{inl, append-nil, append_assoc, lit<}
 use Rattle.std.proofs.lemmas.Fmt.{decimal_digit}
 use Rattle.std.specs.Io.KnownBytes.{Appends, Keeps}
 use Rattle.hex.specs.Hex.{encode_lower}
-use Rattle.wenc_base.specs.declared.fault.Fault.{Fault as FaultSpec}
+use Rattle.wenc_base.specs.Prelude.{Fault as FaultSpec, IsMemory, fault_number}
 use Rattle.wenc_base.specs.declared.fault.Fault.TheVariants.{Memory, TooMany, TooLarge, Unfinished}
-use Rattle.wenc_base.specs.Fault.{IsMemory, fault_number}
-use Rattle.wenc.specs.declared.failure.Failure.{Failure}
+use Rattle.wenc.specs.Prelude.{AppendsFront, EndsRun, Failure, IsWholeRun, Reads, Reported, Says}
+use Rattle.wenc.specs.Prelude.{answer_line, answer_lines, fault_report, line_of, script, text_of}
 use Rattle.wenc.specs.declared.failure.Failure.TheVariants.{Arguments, BadLine, Fault, Transfer}
 use Rattle.wenc.specs.declared.program.Printout.{Printout}
-use Rattle.wenc.specs.Script.{script}
-use Rattle.wenc.specs.Printed.{line_of, answer_line, answer_lines, printed}
-use Rattle.wenc.specs.Run.{Prints, PrintsFront, EndsRun, AppendsFront, Says, fault_report, no_memory}
-use Rattle.wenc.specs.inside.Steps.{text_of, Translation, IsWholeRun, Reads, NotTranslated, Reported}
+use Rattle.wenc.specs.Printed.{printed}
+use Rattle.wenc.specs.Run.{Prints, PrintsFront, no_memory}
+use Rattle.wenc.specs.inside.Steps.{Translation, NotTranslated}
 
 pub keeps_same : (a : Option (List ℕ)) → Keeps a a
 keeps_same a = grind arith

@@ -9,10 +9,8 @@ use Rattle.std.specs.List.{position_or_len, before_first, after_first}
 use Rattle.std.proofs.lemmas.Bool.Decides.{eqb_tells}
 use Rattle.std.proofs.lemmas.List.{drop_all}
 use Rattle.std.proofs.lemmas.Str.{IsUtf8-append, IsUtf8-nil, IsUtf8-drop, IsUtf8-from_ascii, IsCharBoundary-from_take, IsCharBoundary-after_ascii}
-use Rattle.wenc.specs.Parts.{parted}
-use Rattle.wasm_encoder.specs.Command.{CommandTree}
-use Rattle.wenc.specs.Script.{commands_from}
-use Rattle.wenc.specs.inside.Lines.{IsTextInFront}
+use Rattle.wenc.specs.Prelude.{IsTextInFront, commands_from, parted}
+use Rattle.wasm_encoder.specs.Prelude.{CommandTree}
 use Rattle.wenc.proofs.Parted.{lacks, parts_behind, parted_whole, at_first, line_before, first_part}
 use Rattle.wenc.proofs.Lines.{not_text}
 use Rattle.wenc.proofs.Commands.{put_before}

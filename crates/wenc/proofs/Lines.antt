@@ -2,8 +2,7 @@
 use Rattle.std.proofs.Common.{◌≡◌, ℕ, Bool, true, false, cond, List, None, refl, arith}
 use Rattle.std.specs.Str.{IsUtf8, is_utf8}
 use Rattle.std.proofs.lemmas.Str.{IsUtf8-from_is_utf8, is_utf8-from_IsUtf8}
-use Rattle.wenc.specs.Parts.{parted}
-use Rattle.wenc.specs.Script.{has_empty, command_of, line_command}
+use Rattle.wenc.specs.Prelude.{command_of, has_empty, line_command, parted}
 
 pub false_without : (b : Bool) (P : Type 0) → (b ≡ true → P) → ¬ P → b ≡ false
 false_without b P h n = grind arith

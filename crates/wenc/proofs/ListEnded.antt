@@ -2,15 +2,14 @@
 use Rattle.std.proofs.Common.{◌≡◌, ℕ, ◌⊎◌, List, [], ◌++◌, Option, Some, Result, Ok, Err, refl, sym, ap, ◌∙◌, arith, inl, inr}
 use Rattle.std.specs.Prelude.{Vec}
 use Rattle.std.specs.Io.KnownBytes.{Appends}
-use Rattle.wenc_list.specs.declared.fault.ListFault.{ListFault}
+use Rattle.wenc_list.specs.Prelude.{ListFault}
 use Rattle.wenc_list.specs.declared.fault.ListFault.TheVariants.{Memory}
 use Rattle.wenc.specs.declared.unlisted.Unlisted.{Unlisted}
 use Rattle.wenc.specs.declared.unlisted.Unlisted.TheVariants.{BadText, Fault, Transfer}
-use Rattle.wenc.specs.Listed.{listing_text, fault_line}
-use Rattle.wenc.specs.ListRun.{IsFaultIn, PrintsListing, PrintsListingFront, EndsListing}
-use Rattle.wenc.specs.inside.ListSteps.{ListsText, ReadsListing, NotReadAndListed, ReportsUnlisted}
-use Rattle.wenc.specs.Run.{Says, AppendsFront}
-use Rattle.wenc.specs.inside.Steps.{IsWholeRun}
+use Rattle.wenc.specs.Prelude.{AppendsFront, EndsListing, IsWholeRun, ListsText, ReadsListing}
+use Rattle.wenc.specs.Prelude.{ReportsUnlisted, Says, fault_line, listing_text}
+use Rattle.wenc.specs.ListRun.{IsFaultIn, PrintsListing, PrintsListingFront}
+use Rattle.wenc.specs.inside.ListSteps.{NotReadAndListed}
 use Rattle.wenc.proofs.Ended.{keeps_same, whole_known, appended_known}
 
 -- what is listed of all that was read

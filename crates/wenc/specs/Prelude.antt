@@ -1,10 +1,10 @@
 -- The names that clauses cite, re-exported from the files that define them.
 pub use Rattle.wenc.specs.Parts.{parted}
-pub use Rattle.wenc.specs.Fields.{flag_word, hex, kind, number_word, reference_word}
+pub use Rattle.wenc.specs.Fields.{flag_word, hex, kind, number_word, numbers, reference_word}
 pub use Rattle.wenc.specs.Builtins.{builtin_said, one_of, values_said}
-pub use Rattle.wenc.specs.Script.{alias_command, append_names_command, command_of}
-pub use Rattle.wenc.specs.Script.{core_module_command, export_command, import_command, line_command}
-pub use Rattle.wenc.specs.Script.{script, start_command}
+pub use Rattle.wenc.specs.Script.{alias_command, append_names_command, command_of, commands_from}
+pub use Rattle.wenc.specs.Script.{core_module_command, export_command, has_empty, import_command}
+pub use Rattle.wenc.specs.Script.{line_command, script, start_command}
 pub use Rattle.wenc.specs.Words.{words_left}
 pub use Rattle.wenc.specs.Built.{Builds}
 pub use Rattle.wenc.specs.Printed.{answer_line, answer_lines, line_of}
@@ -17,5 +17,6 @@ pub use Rattle.wenc.specs.inside.Full.{kind_and_index, unless_word_empty}
 pub use Rattle.wenc.specs.inside.Lines.{IsTextInFront, RunsLine}
 pub use Rattle.wenc.specs.inside.ListSteps.{ListsText, NotDecoded, ReadsListing, ReadsText}
 pub use Rattle.wenc.specs.inside.ListSteps.{ReportsUnlisted}
-pub use Rattle.wenc.specs.inside.Steps.{IsStatusOf, Reads, ReadsWhole, Reported, Translates}
-pub use Rattle.wenc.specs.inside.Steps.{text_of}
+pub use Rattle.wenc.specs.inside.Steps.{IsStatusOf, IsWholeRun, Reads, ReadsWhole, Reported}
+pub use Rattle.wenc.specs.inside.Steps.{Translates, text_of}
+pub use Rattle.wenc.specs.declared.failure.Failure.{Failure}

@@ -3,16 +3,13 @@ use Rattle.std.proofs.Common.{◌≡◌, ℕ, ◌+◌, ◌-◌, ◌≤◌, true,
 use Rattle.std.proofs.Common.{IsErrAnd, refl, ap, ◌∙◌, ◌⊎◌, inl, inr, arith, ◌^◌, ◌<◌, min, length-append}
 use Rattle.std.proofs.lemmas.List.{append-nil, take-append-le, drop-append-le, drop-take, length-take, take-take}
 use Rattle.std.specs.Iterator.Runs.{SomeRun, WholeRun}
-use Rattle.wenc_base.specs.Encode.{Appended}
-use Rattle.wenc_base.specs.Fault.{IsWarranted, NoCause, either}
-use Rattle.wenc_base.specs.Piece.{Piece}
-use Rattle.wenc_base.specs.Holder.{HolderState, is_finished, holding, content_size, with_member, OneMoreCause, AddCause, AddsListed}
-use Rattle.wenc_base.specs.Parent.{ExtendsListed}
-use Rattle.wenc_base.specs.Openings.{member_begun, member_appended, member_ended, member_given_up, no_room_in_holder}
-use Rattle.wenc_base.specs.declared.fault.Fault.{Fault}
+use Rattle.wenc_base.specs.Prelude.{AddCause, AddsListed, Appended, ExtendsListed, Fault}
+use Rattle.wenc_base.specs.Prelude.{HolderState, IsWarranted, NoCause, OneMoreCause, Opening, Piece}
+use Rattle.wenc_base.specs.Prelude.{closed_as_it_is, content_size, either, holding, is_finished}
+use Rattle.wenc_base.specs.Prelude.{member_appended, member_begun, member_ended, member_given_up}
+use Rattle.wenc_base.specs.Prelude.{no_room_in_holder, with_member}
 use Rattle.wenc_base.specs.declared.fault.Fault.TheVariants.{Memory, TooMany, TooLarge, Unfinished}
-use Rattle.wenc_base.specs.declared.holder.openings.Opening.{Opening}
-use Rattle.wenc_base.specs.laws.Members.{closed_as_it_is, opened_back}
+use Rattle.wenc_base.specs.laws.Members.{opened_back}
 use Rattle.wenc_base.proofs.Groups.{size_monotone}
 use Rattle.wenc_base.proofs.Members.{still_warranted}
 use Rattle.wenc_base.proofs.Runs.{no_run}

@@ -1,8 +1,7 @@
 -- Bytes that a vector holds.
 use Rattle.std.proofs.Common.{◌≡◌, ℕ, ◌<◌, Result, Ok, Err, OnOk, ◌++◌, List, [], ◌∷◌, length, get_or}
 use Rattle.std.proofs.lemmas.List.Elements.{All-from_get_or, recursion_from_All}
-use Rattle.wenc_base.specs.Forms.{AreBytes}
-use Rattle.wenc_base.specs.declared.fault.Fault.{Fault}
+use Rattle.wenc_base.specs.Prelude.{AreBytes, Fault}
 
 -- each is below 256
 pub bytes_below : (bytes : List ℕ) → ((i : ℕ) → i < length bytes → get_or bytes i 0 < 256) → AreBytes bytes

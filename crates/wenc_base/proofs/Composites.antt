@@ -1,14 +1,9 @@
 -- What the code writes of composite types serves as their forms.
 use Rattle.std.proofs.Common.{List}
-use Rattle.wenc_base.specs.Composites.{Func, Struct, composite_type, sub_type, Rec, rec_type, sub_view}
-use Rattle.wenc_base.specs.Encode.{Serves, in_order, list_in_order}
-use Rattle.wenc_base.specs.Piece.{◌▸◌}
-use Rattle.wenc_base.specs.Types.{val_type}
-use Rattle.wenc_base.specs.Composites.{field_type}
-use Rattle.wenc_base.specs.declared.types.ValType.{ValType}
-use Rattle.wenc_base.specs.declared.types.storage.FieldType.{FieldType}
-use Rattle.wenc_base.specs.declared.types.sub.SubType.{SubType}
-use Rattle.wenc_base.specs.laws.Serves.{tagged_serves, order_serves, list_is_list, list_serves, serves_itself}
+use Rattle.wenc_base.specs.Prelude.{FieldType, Func, Rec, Serves, Struct, SubType, ValType}
+use Rattle.wenc_base.specs.Prelude.{composite_type, field_type, in_order, list_in_order}
+use Rattle.wenc_base.specs.Prelude.{list_is_list, list_serves, order_serves, rec_type}
+use Rattle.wenc_base.specs.Prelude.{serves_itself, sub_type, sub_view, tagged_serves, val_type, ◌▸◌}
 use Rattle.std.proofs.Common.{map}
 
 pub function_serves : (params results : List ValType)

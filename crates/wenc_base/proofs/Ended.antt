@@ -1,13 +1,9 @@
 -- What the encoder of core types writes is a whole member of its parent.
 use Rattle.std.proofs.Common.{◌≡◌, ℕ, Bool, true, false, List, [], ◌∷◌, ◌++◌, map}
-use Rattle.wenc_base.specs.Composites.{Composite, Func, composite_type, final, Sub, sub_type, RecType, Single, Rec, standing}
-use Rattle.wenc_base.specs.Forms.{list}
-use Rattle.wenc_base.specs.Parent.{MakesWhole}
-use Rattle.wenc_base.specs.Piece.{◌▸◌}
-use Rattle.wenc_base.specs.Types.{val_type}
-use Rattle.wenc_base.specs.declared.types.ValType.{ValType}
+use Rattle.wenc_base.specs.Prelude.{Composite, Func, MakesWhole, Rec, RecType, Single, Sub, ValType}
+use Rattle.wenc_base.specs.Prelude.{composite_type, final, list, listed_serves, serves_itself}
+use Rattle.wenc_base.specs.Prelude.{standing, sub_type, val_type, ◌▸◌}
 use Rattle.wenc_base.specs.laws.Parents.{whole_for}
-use Rattle.wenc_base.specs.laws.Serves.{listed_serves, serves_itself}
 
 module _ {T : Type 0} (is_whole : T → Type 0) (written : T → List ℕ → T) where
   -- a final type without supertype, with guards or without

@@ -1,13 +1,9 @@
 -- What is added to a parent: values that an iterator gives, and what comes in several calls.
 use Rattle.std.proofs.Common.{◌≡◌, ℕ, ◌≤◌, ◌<◌, ◌^◌, List, length, Option, Result, Ok, Err, OnOk, OnErr, IfErr, IsErrAnd, refl, ap, ◌∙◌, inl, inr, arith}
 use Rattle.std.specs.Iterator.Runs.{SomeRun, WholeRun}
-use Rattle.wenc_base.specs.Encode.{Appended}
-use Rattle.wenc_base.specs.Fault.{IsWarranted, either}
-use Rattle.wenc_base.specs.Holder.{HolderState, content_size}
-use Rattle.wenc_base.specs.Parent.{ExtendsListed, EndsListed, EndsLists}
-use Rattle.wenc_base.specs.Openings.{member_appended, no_room_in_holder}
-use Rattle.wenc_base.specs.Piece.{Piece}
-use Rattle.wenc_base.specs.declared.fault.Fault.{Fault}
+use Rattle.wenc_base.specs.Prelude.{Appended, EndsListed, EndsLists, ExtendsListed, Fault}
+use Rattle.wenc_base.specs.Prelude.{HolderState, IsWarranted, Piece, content_size, either}
+use Rattle.wenc_base.specs.Prelude.{member_appended, no_room_in_holder}
 use Rattle.wenc_base.specs.declared.fault.Fault.TheVariants.{TooLarge}
 use Rattle.wenc_base.proofs.Members.{still_warranted}
 

@@ -4,8 +4,7 @@ use Rattle.std.proofs.Common.{length-append, length-take-le, take-append-drop, O
 use Rattle.std.proofs.lemmas.Slice.{take-put_mid, drop-put_mid, overwrites}
 use Rattle.std.proofs.lemmas.List.{places, take_at, drop_at, take-append-le, drop-append-le}
 use Rattle.std.proofs.lemmas.List.Edits.{take-paste}
-use Rattle.wenc_base.specs.Holder.{HolderState, content_size, with_kept}
-use Rattle.wenc_base.specs.declared.holder.openings.Opening.{Opening}
+use Rattle.wenc_base.specs.Prelude.{HolderState, Opening, content_size, with_kept}
 use Rattle.wenc_base.proofs.Groups.{size_1}
 use borrow.Rule.Slice.PartMut.{put_mid}
 use lib.Seq.{paste}

@@ -7,13 +7,8 @@ use Rattle.std.proofs.Math.Numerals.{add-one}
 use Rattle.std.proofs.Math.Seq.{take-suc}
 use Rattle.std.specs.List.{flat_map}
 pub use Rattle.wenc_base.specs.laws.Serves.{still_warranted}
-use Rattle.wenc_base.specs.laws.Holders.{all_more}
-use Rattle.wenc_base.specs.Fault.{IsWarranted, NoCause, member_cause}
-use Rattle.wenc_base.specs.Piece.{Form}
-use Rattle.wenc_base.specs.Number.{unsigned_text}
-use Rattle.wenc_base.specs.Forms.{list}
-use Rattle.wenc_base.specs.inside.Written.{Written}
-use Rattle.wenc_base.specs.declared.fault.Fault.{Fault}
+use Rattle.wenc_base.specs.Prelude.{Fault, Form, IsWarranted, NoCause, Written, all_more, list}
+use Rattle.wenc_base.specs.Prelude.{member_cause, unsigned_text}
 
 -- nothing of the rest has a cause, since nothing of the whole has one
 free_rest : {A : Type 0} (cause : A → Fault → Type 0) (v : A) (vs : List A) → NoCause (member_cause cause (v ∷ vs)) → (fault : Fault)

@@ -1,11 +1,8 @@
 -- Value types that take one byte each are encoded as those bytes.
 use Rattle.std.proofs.Common.{◌≡◌, ℕ, ◌≤◌, List, [], ◌∷◌, length, map, inl, inr, refl, arith}
 use Rattle.std.specs.List.{AllByRecursion}
-use Rattle.wenc_base.specs.Encode.{Serves}
-use Rattle.wenc_base.specs.Fault.{NoCause, count_cause, size_cause}
-use Rattle.wenc_base.specs.Forms.{list, byte_list}
-use Rattle.wenc_base.specs.Piece.{each, AnyCause}
-use Rattle.wenc_base.specs.Types.{val_type, of_byte, IsByteType}
+use Rattle.wenc_base.specs.Prelude.{AnyCause, IsByteType, NoCause, Serves, byte_list, count_cause}
+use Rattle.wenc_base.specs.Prelude.{each, list, of_byte, size_cause, val_type}
 use Rattle.wenc_base.specs.declared.fault.Fault.TheVariants.{Memory, TooMany, TooLarge, Unfinished}
 use Rattle.std.proofs.lemmas.List.{length-map}
 

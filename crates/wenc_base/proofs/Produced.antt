@@ -1,17 +1,13 @@
 -- A field that the producers section took.
 use Rattle.std.proofs.Common.{◌≡◌, ℕ, ◌+◌, ◌^◌, ◌<◌, true, List, ◌++◌, length, Result, Ok, refl, sym, ◌∙◌, inl, inr, arith}
 use Rattle.std.proofs.lemmas.List.{length-append}
-use Rattle.wenc_base.specs.Encode.{Serves, in_order}
-use Rattle.wenc_base.specs.Fault.{NoCause}
-use Rattle.wenc_base.specs.Forms.{list, name}
-use Rattle.wenc_base.specs.Holder.{HolderState, is_finished, content_size, held_members, held_text, AddCause, Accepted, AddsMember, Contains}
-use Rattle.wenc_base.specs.Number.{groups, unsigned_text, u32}
-use Rattle.wenc_base.specs.Piece.{refused_for}
-use Rattle.wenc_base.specs.Producers.{Producer, producer, Producers, producers_field, held_field, FieldCause, producers_label}
-use Rattle.wenc_base.specs.Producers.{producers_section, producers_held}
-use Rattle.wenc_base.specs.laws.Holders.{adds_as}
-use Rattle.wenc_base.specs.laws.Numbers.{size_free}
-use Rattle.wenc_base.specs.declared.fault.Fault.{Fault}
+use Rattle.wenc_base.specs.Prelude.{Accepted, AddCause, AddsMember, Contains, Fault, FieldCause}
+use Rattle.wenc_base.specs.Prelude.{HolderState, NoCause, Producer, Producers, Serves, adds_as}
+use Rattle.wenc_base.specs.Prelude.{content_size, held_field, held_members, held_text, in_order}
+use Rattle.wenc_base.specs.Prelude.{is_finished, list, name, producer, producers_field}
+use Rattle.wenc_base.specs.Prelude.{producers_held, producers_label, producers_section, refused_for}
+use Rattle.wenc_base.specs.Prelude.{size_free, u32, unsigned_text}
+use Rattle.wenc_base.specs.Number.{groups}
 use Rattle.wenc_base.specs.declared.fault.Fault.TheVariants.{Unfinished}
 
 pub field_added : (old new : HolderState) (field : List ℕ) (tools : HolderState) → Accepted (in_order (name field) (held_members tools)) old new

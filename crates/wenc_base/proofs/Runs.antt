@@ -3,17 +3,11 @@ use Rattle.std.proofs.Common.{◌≡◌, ℕ, ◌+◌, ◌^◌, ◌<◌, List, [
 use Rattle.std.proofs.Common.{IfErr, IsErrAnd, false, refl, ap, append_assoc, ◌∙◌, inl, inr, arith}
 use Rattle.std.proofs.iter.runs.Made.{run}
 use Rattle.std.specs.Iterator.Runs.{Run, SomeRun, WholeRun}
-use Rattle.wenc_base.specs.Encode.{Appended, drawn_in_order}
-use Rattle.wenc_base.specs.inside.Written.{Written}
-use Rattle.wenc_base.specs.Fault.{IsWarranted, IsMemory, NoCause, member_cause, drawn_cause}
-use Rattle.wenc_base.specs.Forms.{list}
-use Rattle.wenc_base.specs.Holder.{listed}
-use Rattle.wenc_base.specs.Number.{unsigned_text}
-use Rattle.wenc_base.specs.Piece.{Piece, Form}
-use Rattle.wenc_base.specs.declared.fault.Fault.{Fault}
+use Rattle.wenc_base.specs.Prelude.{Appended, Fault, Form, IsMemory, IsWarranted, NoCause, Piece}
+use Rattle.wenc_base.specs.Prelude.{Written, count_free, drawn_cause, drawn_in_order, either_free}
+use Rattle.wenc_base.specs.Prelude.{list, listed, member_cause, unsigned_text}
 use Rattle.wenc_base.specs.declared.fault.Fault.TheVariants.{TooMany}
-use Rattle.wenc_base.specs.laws.Numbers.{count_free}
-use Rattle.wenc_base.specs.laws.Serves.{drawn_is_list, either_free}
+use Rattle.wenc_base.specs.laws.Serves.{drawn_is_list}
 use Rattle.wenc_base.proofs.Members.{cause_of_later, free_next, still_warranted, list_is_written}
 
 -- what `?` hands on

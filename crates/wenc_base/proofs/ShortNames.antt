@@ -1,12 +1,9 @@
 -- A short name that is appended to a map which is far from full.
 use Rattle.std.proofs.Common.{◌≡◌, ◌+◌, ◌<◌, ◌≤◌, ◌^◌, true, ◌++◌, length, length-append, Ok, arith, inl, inr}
 use Rattle.std.specs.Prelude.{IsUtf8}
-use Rattle.wenc_base.specs.Fault.{NoCause}
-use Rattle.wenc_base.specs.Holder.{HolderState, is_finished, with_member, OneMoreCause, AddCause, AddsMember}
-use Rattle.wenc_base.specs.Names.{NameAssociation, name_association}
-use Rattle.wenc_base.specs.Number.{unsigned_text}
-use Rattle.wenc_base.specs.laws.Names.{name_association_lawful}
-use Rattle.wenc_base.specs.declared.fault.Fault.{Fault}
+use Rattle.wenc_base.specs.Prelude.{AddCause, AddsMember, Fault, HolderState, NameAssociation}
+use Rattle.wenc_base.specs.Prelude.{NoCause, OneMoreCause, is_finished, name_association}
+use Rattle.wenc_base.specs.Prelude.{name_association_lawful, unsigned_text, with_member}
 use Rattle.wenc_base.specs.declared.fault.Fault.TheVariants.{Memory, TooMany, TooLarge, Unfinished}
 use Rattle.wenc_base.proofs.Groups.{size_1, size_of_u32}
 

@@ -1,12 +1,8 @@
 //! The trait `Delimited`: values that can be read back from their encoding.
 ghost use Rattle.std.specs.Cmp.{IsEquivalence};
-ghost use Rattle.std.specs.Prelude.{Bool, ℕ, ℤ, List};
-ghost use Rattle.wenc_base.specs.Prelude.{IsReadable, IsWritten, AlikeIsEqual, Form, itself};
-ghost use Rattle.wenc_base.specs.Prelude.{serves_itself, flag, flag_lawful, read_flag};
-ghost use Rattle.wenc_base.specs.Prelude.{u32 as number, u32_lawful, read_u32, u64 as long_number};
-ghost use Rattle.wenc_base.specs.Prelude.{u64_lawful, read_u64, i64 as signed_number, i64_lawful};
-ghost use Rattle.wenc_base.specs.Prelude.{read_signed, name, name_lawful, read_name, byte_list};
-ghost use Rattle.wenc_base.specs.Prelude.{byte_list_lawful, read_byte_list};
+ghost use Rattle.wenc_base.specs.Prelude.{AlikeIsEqual, itself, flag_lawful, u32_lawful};
+ghost use Rattle.wenc_base.specs.Prelude.{u64_lawful, i64_lawful, name_lawful, byte_list_lawful};
+ghost use Rattle.wenc_base.specs.Prelude.{as_itself, as_seen, ReadsBack, IsWritten, serves_itself};
 
 mod made;
 
@@ -18,37 +14,21 @@ use std::alloc::Allocator;
 /// You may implement this trait for types of your own. An implementation supplies a form, a proof
 /// that the form can be read, and a proof that `encode` writes what the form says.
 pub trait Delimited: Encode {
-    /// The value as it is compared, independent of where it is stored: for a reference, the value
-    /// that it refers to.
-    ghost Seen: { Type 0 };
-
-    /// The value itself.
-    ghost seen: { Self → Seen };
-
-    /// How the value is written and read.
-    ghost form: { Form Seen };
-
-    /// What is written can be read back, in one way only.
-    ghost readable: { IsReadable form };
+    /// What is seen of a value, and how that is written and read.
+    ghost reads_back: { ReadsBack Self };
 
     /// `encode` writes what the form says.
-    ghost written: { IsWritten Self.piece seen form };
+    ghost written: { IsWritten Self.piece reads_back.seen reads_back.form };
 }
 
 /// A `Delimited` value that can be compared: values that are seen as equal are equal.
 pub trait DelimitedEq: Delimited + Eq {
     /// Equality is decided by what is seen.
-    ghost alike: { IsEquivalence Self.eq → AlikeIsEqual Self.eq Self.seen };
+    ghost alike: { IsEquivalence Self.eq → AlikeIsEqual Self.eq Self.reads_back.seen };
 }
 
 impl Delimited for bool {
-    ghost Seen = { Bool };
-
-    ghost seen = { λ b. b };
-
-    ghost form = { flag };
-
-    ghost readable = { ((λ fuel. read_flag), flag_lawful) };
+    ghost reads_back = { as_itself flag_lawful };
 
     ghost written = { λ _. serves_itself };
 }
@@ -58,13 +38,7 @@ impl DelimitedEq for bool {
 }
 
 impl Delimited for u32 {
-    ghost Seen = { ℕ };
-
-    ghost seen = { λ n. n };
-
-    ghost form = { number };
-
-    ghost readable = { ((λ fuel. read_u32), u32_lawful) };
+    ghost reads_back = { as_itself u32_lawful };
 
     ghost written = { λ _. serves_itself };
 }
@@ -74,13 +48,7 @@ impl DelimitedEq for u32 {
 }
 
 impl Delimited for u64 {
-    ghost Seen = { ℕ };
-
-    ghost seen = { λ n. n };
-
-    ghost form = { long_number };
-
-    ghost readable = { ((λ fuel. read_u64), u64_lawful) };
+    ghost reads_back = { as_itself u64_lawful };
 
     ghost written = { λ _. serves_itself };
 }
@@ -90,13 +58,7 @@ impl DelimitedEq for u64 {
 }
 
 impl Delimited for i64 {
-    ghost Seen = { ℤ };
-
-    ghost seen = { λ z. z };
-
-    ghost form = { signed_number };
-
-    ghost readable = { ((λ fuel. read_signed), i64_lawful) };
+    ghost reads_back = { as_itself i64_lawful };
 
     ghost written = { λ _. serves_itself };
 }
@@ -106,13 +68,7 @@ impl DelimitedEq for i64 {
 }
 
 impl Delimited for &str {
-    ghost Seen = { List ℕ };
-
-    ghost seen = { λ s. s.now };
-
-    ghost form = { name };
-
-    ghost readable = { ((λ fuel. read_name), name_lawful) };
+    ghost reads_back = { as_seen (λ s. s.now) name_lawful };
 
     ghost written = { λ _. serves_itself };
 }
@@ -126,13 +82,7 @@ impl DelimitedEq for &str {
 impl<A: Allocator> Delimited for String<A> {
     ghost use Rattle.std.specs.String.{string_bytes};
 
-    ghost Seen = { List ℕ };
-
-    ghost seen = { string_bytes };
-
-    ghost form = { name };
-
-    ghost readable = { ((λ fuel. read_name), name_lawful) };
+    ghost reads_back = { as_seen string_bytes name_lawful };
 
     ghost written = { λ _. serves_itself };
 }
@@ -145,13 +95,7 @@ impl<A: Allocator> DelimitedEq for String<A> {
 }
 
 impl Delimited for &[u8] {
-    ghost Seen = { List ℕ };
-
-    ghost seen = { λ bytes. bytes.now };
-
-    ghost form = { byte_list };
-
-    ghost readable = { ((λ fuel. read_byte_list), byte_list_lawful) };
+    ghost reads_back = { as_seen (λ bytes. bytes.now) byte_list_lawful };
 
     ghost written = { λ _. serves_itself };
 }

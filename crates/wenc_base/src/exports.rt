@@ -1,8 +1,7 @@
 //! Kinds of the exports and imports of core modules.
 ghost use Rattle.std.specs.Prelude.{◌≡◌};
-ghost use Rattle.wenc_base.specs.Prelude.{export_kind_byte, itself, serves_itself};
-ghost use Rattle.wenc_base.specs.Prelude.{core_export_kind, core_export_kind_lawful};
-ghost use Rattle.wenc_base.specs.Prelude.{read_core_export_kind, ExportKind as Seen'};
+ghost use Rattle.wenc_base.specs.Prelude.{export_kind_byte, itself, core_export_kind};
+ghost use Rattle.wenc_base.specs.Prelude.{core_export_kind_lawful, as_itself, serves_itself};
 
 use crate::delimited::{Delimited, DelimitedEq};
 use crate::encode::{Encode, encode_byte};
@@ -47,13 +46,7 @@ impl Encode for ExportKind {
 }
 
 impl Delimited for ExportKind {
-    ghost Seen = { Seen' };
-
-    ghost seen = { λ kind. kind };
-
-    ghost form = { core_export_kind };
-
-    ghost readable = { ((λ fuel. read_core_export_kind), core_export_kind_lawful) };
+    ghost reads_back = { as_itself core_export_kind_lawful };
 
     ghost written = { λ _. serves_itself };
 }

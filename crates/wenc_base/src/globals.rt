@@ -1,6 +1,6 @@
 //! Types of global variables.
-ghost use Rattle.wenc_base.specs.Prelude.{itself, serves_itself, global_type, global_type_lawful};
-ghost use Rattle.wenc_base.specs.Prelude.{read_global_type, GlobalType as Seen'};
+ghost use Rattle.wenc_base.specs.Prelude.{itself, global_type, global_type_lawful, as_itself};
+ghost use Rattle.wenc_base.specs.Prelude.{serves_itself};
 
 use crate::delimited::{Delimited, DelimitedEq};
 use crate::encode::Encode;
@@ -26,13 +26,7 @@ impl Encode for GlobalType {
 }
 
 impl Delimited for GlobalType {
-    ghost Seen = { Seen' };
-
-    ghost seen = { λ x. x };
-
-    ghost form = { global_type };
-
-    ghost readable = { ((λ fuel. read_global_type), global_type_lawful) };
+    ghost reads_back = { as_itself global_type_lawful };
 
     ghost written = { λ _. serves_itself };
 }

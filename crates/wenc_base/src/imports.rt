@@ -1,6 +1,6 @@
 //! Types of the imports and exports of core modules.
-ghost use Rattle.wenc_base.specs.Prelude.{itself, serves_itself, entity_type, entity_type_lawful};
-ghost use Rattle.wenc_base.specs.Prelude.{read_entity_type, EntityType as Seen'};
+ghost use Rattle.wenc_base.specs.Prelude.{itself, entity_type, entity_type_lawful, as_itself};
+ghost use Rattle.wenc_base.specs.Prelude.{serves_itself};
 
 use crate::delimited::{Delimited, DelimitedEq};
 use crate::encode::{Encode, Tagged};
@@ -42,13 +42,7 @@ impl Encode for EntityType {
 }
 
 impl Delimited for EntityType {
-    ghost Seen = { Seen' };
-
-    ghost seen = { λ x. x };
-
-    ghost form = { entity_type };
-
-    ghost readable = { ((λ fuel. read_entity_type), entity_type_lawful) };
+    ghost reads_back = { as_itself entity_type_lawful };
 
     ghost written = { λ _. serves_itself };
 }

@@ -1,6 +1,6 @@
 //! Types of memories.
-ghost use Rattle.wenc_base.specs.Prelude.{itself, serves_itself, memory_type, memory_type_lawful};
-ghost use Rattle.wenc_base.specs.Prelude.{read_memory_type, MemoryType as Seen'};
+ghost use Rattle.wenc_base.specs.Prelude.{itself, memory_type, memory_type_lawful, as_itself};
+ghost use Rattle.wenc_base.specs.Prelude.{serves_itself};
 
 use crate::delimited::{Delimited, DelimitedEq};
 use crate::encode::Encode;
@@ -37,13 +37,7 @@ impl Encode for MemoryType {
 }
 
 impl Delimited for MemoryType {
-    ghost Seen = { Seen' };
-
-    ghost seen = { λ x. x };
-
-    ghost form = { memory_type };
-
-    ghost readable = { ((λ fuel. read_memory_type), memory_type_lawful) };
+    ghost reads_back = { as_itself memory_type_lawful };
 
     ghost written = { λ _. serves_itself };
 }

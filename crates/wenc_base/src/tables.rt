@@ -1,6 +1,6 @@
 //! Types of tables.
-ghost use Rattle.wenc_base.specs.Prelude.{itself, serves_itself, table_type, table_type_lawful};
-ghost use Rattle.wenc_base.specs.Prelude.{read_table_type, TableType as Seen'};
+ghost use Rattle.wenc_base.specs.Prelude.{itself, table_type, table_type_lawful, as_itself};
+ghost use Rattle.wenc_base.specs.Prelude.{serves_itself};
 
 use crate::delimited::{Delimited, DelimitedEq};
 use crate::encode::Encode;
@@ -37,13 +37,7 @@ impl Encode for TableType {
 }
 
 impl Delimited for TableType {
-    ghost Seen = { Seen' };
-
-    ghost seen = { λ x. x };
-
-    ghost form = { table_type };
-
-    ghost readable = { ((λ fuel. read_table_type), table_type_lawful) };
+    ghost reads_back = { as_itself table_type_lawful };
 
     ghost written = { λ _. serves_itself };
 }

@@ -1,6 +1,6 @@
 //! Types of exception tags.
-ghost use Rattle.wenc_base.specs.Prelude.{itself, serves_itself, tag_type, tag_type_lawful};
-ghost use Rattle.wenc_base.specs.Prelude.{read_tag_type, TagType as Seen'};
+ghost use Rattle.wenc_base.specs.Prelude.{itself, tag_type, tag_type_lawful, as_itself};
+ghost use Rattle.wenc_base.specs.Prelude.{serves_itself};
 
 use crate::delimited::{Delimited, DelimitedEq};
 use crate::encode::{Encode, Tagged};
@@ -24,13 +24,7 @@ impl Encode for TagType {
 }
 
 impl Delimited for TagType {
-    ghost Seen = { Seen' };
-
-    ghost seen = { λ x. x };
-
-    ghost form = { tag_type };
-
-    ghost readable = { ((λ fuel. read_tag_type), tag_type_lawful) };
+    ghost reads_back = { as_itself tag_type_lawful };
 
     ghost written = { λ _. serves_itself };
 }

@@ -1,11 +1,10 @@
 //! Core types: value types, reference types and heap types. The submodules have the types that core
 //! modules define.
 ghost use Rattle.std.specs.Prelude.{◌≡◌, IfOk, IfErr, is_ok};
-ghost use Rattle.wenc_base.specs.Prelude.{itself, serves_itself, val_type, val_type_lawful};
-ghost use Rattle.wenc_base.specs.Prelude.{read_val_type, reference, reference_lawful};
-ghost use Rattle.wenc_base.specs.Prelude.{read_reference, heap_type_lawful, read_heap_type};
-ghost use Rattle.wenc_base.specs.Prelude.{abstract_byte, abstract_type, abstract_type_lawful};
-ghost use Rattle.wenc_base.specs.Prelude.{read_abstract, is_byte_type, of_byte, IsByteType};
+ghost use Rattle.wenc_base.specs.Prelude.{itself, val_type, val_type_lawful, reference};
+ghost use Rattle.wenc_base.specs.Prelude.{reference_lawful, heap_type_lawful, abstract_byte};
+ghost use Rattle.wenc_base.specs.Prelude.{abstract_type, abstract_type_lawful, is_byte_type};
+ghost use Rattle.wenc_base.specs.Prelude.{of_byte, IsByteType, as_itself, serves_itself};
 ghost use Rattle.wenc_base.specs.declared.types.ValType.TheVariants.{Ref};
 
 pub mod bytes;
@@ -80,15 +79,7 @@ impl Encode for ValType {
 }
 
 impl Delimited for ValType {
-    ghost use Rattle.wenc_base.specs.Prelude.{ValType as Seen'};
-
-    ghost Seen = { Seen' };
-
-    ghost seen = { λ x. x };
-
-    ghost form = { val_type };
-
-    ghost readable = { ((λ fuel. read_val_type), val_type_lawful) };
+    ghost reads_back = { as_itself val_type_lawful };
 
     ghost written = { λ _. serves_itself };
 }
@@ -123,15 +114,7 @@ impl Encode for RefType {
 }
 
 impl Delimited for RefType {
-    ghost use Rattle.wenc_base.specs.Prelude.{RefType as Seen'};
-
-    ghost Seen = { Seen' };
-
-    ghost seen = { λ x. x };
-
-    ghost form = { reference };
-
-    ghost readable = { ((λ fuel. read_reference), reference_lawful) };
+    ghost reads_back = { as_itself reference_lawful };
 
     ghost written = { λ _. serves_itself };
 }
@@ -163,15 +146,7 @@ impl Encode for HeapType {
 }
 
 impl Delimited for HeapType {
-    ghost use Rattle.wenc_base.specs.Prelude.{heap_type, HeapType as Seen'};
-
-    ghost Seen = { Seen' };
-
-    ghost seen = { λ x. x };
-
-    ghost form = { heap_type };
-
-    ghost readable = { ((λ fuel. read_heap_type), heap_type_lawful) };
+    ghost reads_back = { as_itself heap_type_lawful };
 
     ghost written = { λ _. serves_itself };
 }
@@ -239,15 +214,7 @@ impl Encode for AbstractHeapType {
 }
 
 impl Delimited for AbstractHeapType {
-    ghost use Rattle.wenc_base.specs.Prelude.{AbstractHeapType as Seen'};
-
-    ghost Seen = { Seen' };
-
-    ghost seen = { λ x. x };
-
-    ghost form = { abstract_type };
-
-    ghost readable = { ((λ fuel. read_abstract), abstract_type_lawful) };
+    ghost reads_back = { as_itself abstract_type_lawful };
 
     ghost written = { λ _. serves_itself };
 }

@@ -1,26 +1,19 @@
 -- What is taken for a piece that serves as an entry's item enters every list that was held.
 use Rattle.std.proofs.Common.{◌≡◌, ℕ, false, inl, inr, List, [], ◌∷◌, ◌++◌, Option, None, Some, Result, Ok, Err, refl, sym, ◌∙◌, ap, subst}
 use Rattle.std.specs.Result.{IfOk, IfErr, OnOk}
-use Rattle.wenc_base.specs.Encode.{Serves}
-use Rattle.wenc_base.specs.Fault.{IsWarranted, NoCause}
-use Rattle.wenc_base.specs.Piece.{Piece}
-use Rattle.wenc_base.specs.declared.fault.Fault.{Fault}
+use Rattle.wenc_base.specs.Prelude.{Fault, IsWarranted, NoCause, Piece, Serves, still_warranted}
 use Rattle.wenc_base.specs.declared.fault.Fault.TheVariants.{Memory, TooMany, TooLarge, Unfinished}
-use Rattle.wenc_base.specs.laws.Serves.{still_warranted}
-use Rattle.wenc_builder.specs.Item.{collected, item}
-use Rattle.wenc_builder.specs.Space.{IsIndexOf, Indices, defines}
-use Rattle.wenc_sections.specs.declared.space.Space.{Space}
-use Rattle.wenc_builder.specs.Entry.{Entry, items}
-use Rattle.wenc_builder.specs.Builder.{Content, with_entry, State, builder_is_finished, step, settled_in, content_of, namespace_at, NewItem}
-use Rattle.wenc_builder.specs.Builder.{new_item, new_item_indices, item_begun, item_ended}
-use Rattle.wenc_builder.specs.Holds.{Holds}
-use Rattle.wenc_builder.specs.Cause.{CallCause, EnterCause}
-use Rattle.wenc_builder.specs.Enters.{IsCountAt, EntersWith, Enters, EntersWithoutIndex}
-use Rattle.wenc_builder.specs.Adds.{AddsPiece, AddsItem, AddsWholeItem}
-use Rattle.wenc_builder.specs.inside.Adds.{AddsSection, AddsUnindexedSection, content_with_section}
+use Rattle.wenc_builder.specs.Prelude.{AddsItem, AddsSection, AddsUnindexedSection, AddsWholeItem}
+use Rattle.wenc_builder.specs.Prelude.{CallCause, Content, EnterCause, Enters, EntersWith}
+use Rattle.wenc_builder.specs.Prelude.{EntersWithoutIndex, Entry, Holds, Indices, IsCountAt}
+use Rattle.wenc_builder.specs.Prelude.{IsIndexOf, NewItem, State, builder_is_finished, collected}
+use Rattle.wenc_builder.specs.Prelude.{content_of, content_with_section, defines, item, item_begun}
+use Rattle.wenc_builder.specs.Prelude.{item_ended, items, namespace_at, never_unfinished, new_item}
+use Rattle.wenc_builder.specs.Prelude.{new_item_indices, settled_in, step, with_entry}
+use Rattle.wenc_sections.specs.Prelude.{Space}
+use Rattle.wenc_builder.specs.Adds.{AddsPiece}
 use Rattle.wenc_builder.specs.laws.Caused.{adding_never_unfinished}
 use Rattle.wenc_builder.specs.laws.Fits.{HasRoom}
-use Rattle.wenc_builder.specs.laws.Never.{never_unfinished}
 use Rattle.wenc_builder.specs.laws.Step.{holds_step, holds_index}
 use Rattle.wenc_builder.specs.laws.Typed.{new_item_of_list}
 

@@ -2,10 +2,8 @@
 use Rattle.std.proofs.Common.{zero, length-take-le, take-append-drop, ◌≡◌, ℕ, suc, ◌+◌, ◌-◌, ◌≤◌, List, [], ◌∷◌, ◌++◌, length, take, drop}
 use Rattle.std.proofs.Common.{refl, arith, append_assoc, length-append, length-drop, sym, ap, ◌∙◌}
 use Rattle.std.proofs.lemmas.List.{take_at, drop_at}
-use Rattle.wenc_base.specs.Holder.{filled}
-use Rattle.wenc_base.specs.Number.{number_size}
-use Rattle.wenc_builder.specs.Builder.{open_text_of}
-use Rattle.wenc_builder.specs.inside.Layout.{section_head}
+use Rattle.wenc_base.specs.Prelude.{filled, number_size}
+use Rattle.wenc_builder.specs.Prelude.{open_text_of, section_head}
 
 drop_split : (k n : ℕ) (xs : List ℕ) → k ≤ n → drop k xs ≡ drop k (take n xs) ++ drop n xs
 drop_split zero n xs h = sym (take-append-drop n xs)

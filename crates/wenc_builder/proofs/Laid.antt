@@ -5,23 +5,21 @@ use Rattle.std.proofs.Common.{take-append-drop, ap, subst, ◌∙◌}
 use Rattle.std.proofs.lemmas.List.{append-nil, take_at, drop_at, take_all, take-append-le, drop-append-le}
 use Rattle.std.proofs.lemmas.Bool.{ne_eqb, eq-eqb}
 use Rattle.std.specs.Result.{OnOk, IfErr}
-use Rattle.wenc_base.specs.Number.{number_size}
-use Rattle.wenc_base.specs.Holder.{HolderState, is_finished, holding, all_bytes, filled, with_kept, content_size, AddCause}
-use Rattle.wenc_base.specs.Parent.{Extends, ExtendsListed}
-use Rattle.wenc_base.specs.Piece.{Piece}
-use Rattle.wenc_base.specs.Fault.{NoCause, either}
-use Rattle.wenc_base.specs.Openings.{member_begun, member_appended, BeginsMember, no_room_in_holder}
-use Rattle.wenc_base.specs.laws.Serves.{still_warranted}
-use Rattle.wenc_base.specs.declared.holder.openings.Opening.{Opening}
-use Rattle.wenc_base.specs.declared.fault.Fault.{Fault}
+use Rattle.wenc_base.specs.Prelude.{AddCause, BeginsMember, Extends, ExtendsListed, Fault}
+use Rattle.wenc_base.specs.Prelude.{HolderState, NoCause, Opening, Piece, all_bytes, content_size}
+use Rattle.wenc_base.specs.Prelude.{either, filled, holding, is_finished, member_appended}
+use Rattle.wenc_base.specs.Prelude.{member_begun, no_room_in_holder, number_size, still_warranted}
+use Rattle.wenc_base.specs.Prelude.{with_kept}
 use Rattle.wenc_base.specs.declared.fault.Fault.TheVariants.{Memory, TooMany, TooLarge, Unfinished}
 use Rattle.wenc_base.proofs.Groups.{size_1}
-use Rattle.wenc_builder.specs.Builder.{OpenSection, SectionsState, sections_text, open_text_of, entered, entered_at}
-use Rattle.wenc_builder.specs.Cause.{SectionCause, NoRoom}
+use Rattle.wenc_builder.specs.Prelude.{Buffered, IsLaidOut, NoRoom, OpenSection, OpensAnother}
+use Rattle.wenc_builder.specs.Prelude.{SectionCause, SectionFits, SectionIsIn, SectionsState}
+use Rattle.wenc_builder.specs.Prelude.{buffer_appended, buffer_view, buffer_with, buffered_content}
+use Rattle.wenc_builder.specs.Prelude.{entered, entered_at, kept_before, kind_id, open_head}
+use Rattle.wenc_builder.specs.Prelude.{open_text_of, section_appended, sections_text}
 use Rattle.wenc_builder.specs.laws.Caused.{cause_is}
-use Rattle.wenc_builder.specs.inside.Layout.{kind_id, open_head, OpensAnother, Buffered, buffered_content, buffer_appended}
-use Rattle.wenc_builder.specs.inside.Layout.{section_appended, buffer_with, SectionFits, open_view, buffer_view, kept_before, SectionIsIn}
-use Rattle.wenc_builder.specs.inside.Layout.{MembersAreIn, BegunIsIn, EarlierIsIn, IsApart, IsLaidOut}
+use Rattle.wenc_builder.specs.inside.Layout.{open_view}
+use Rattle.wenc_builder.specs.inside.Layout.{MembersAreIn, BegunIsIn, EarlierIsIn, IsApart}
 use Rattle.wenc_builder.specs.declared.builder.earlier.Earlier.{Earlier}
 use Rattle.wenc_builder.specs.declared.builder.kind.Kind.{Kind}
 use Rattle.wenc_builder.proofs.Gap.{headed, gap_filled}

@@ -1,19 +1,11 @@
 -- Items that are made of the values which an iterator gives.
 use Rattle.std.proofs.Common.{◌≡◌, ℕ, List, Option, Result, Ok, Err, refl}
-use Rattle.wenc_base.specs.Encode.{Serves}
-use Rattle.wenc_base.specs.Piece.{Piece}
-use Rattle.wenc_base.specs.declared.fault.Fault.{Fault}
-use Rattle.wenc_canon.specs.Canonicals.{Canonical, canonical}
-use Rattle.wenc_canon.specs.declared.canonicals.CanonicalOption.{CanonicalOption}
-use Rattle.wenc_builder.specs.Item.{item}
-use Rattle.wenc_builder.specs.Space.{canonical_space}
-use Rattle.wenc_builder.specs.Entry.{Entry, canonical_entry}
-use Rattle.wenc_builder.specs.Builder.{State, new_item}
-use Rattle.wenc_builder.specs.Enters.{EntersListed}
-use Rattle.wenc_builder.specs.inside.Adds.{AddsListedItem}
-use Rattle.wenc_builder.specs.inside.Layout.{kind_id, new_item_of}
+use Rattle.wenc_base.specs.Prelude.{Fault, Piece, Serves}
+use Rattle.wenc_canon.specs.Prelude.{Canonical, CanonicalOption, canonical}
+use Rattle.wenc_builder.specs.Prelude.{AddsListedItem, EntersListed, Entry, State, canonical_entry}
+use Rattle.wenc_builder.specs.Prelude.{canonical_space, item, kind_id, new_item, new_item_of}
 use Rattle.wenc_builder.specs.declared.builder.kind.Kind.TheVariants as kinds
-use Rattle.wenc_sections.specs.declared.space.Space.{Space}
+use Rattle.wenc_sections.specs.Prelude.{Space}
 use Rattle.wenc_builder.proofs.Entered.{IsNewItemOf, new_item_enters}
 
 -- what an iterator's values make is entered, where each list of values makes an entry

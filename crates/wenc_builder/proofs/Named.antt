@@ -9,30 +9,20 @@ use Rattle.std.proofs.lemmas.List.Folds.{flat_map-map}
 use Rattle.std.specs.List.{flat_map}
 use Rattle.std.specs.Option.{MatchOption}
 use Rattle.std.specs.Result.{OnOk}
-use Rattle.wenc_base.specs.Encode.{Serves, in_order, sized_in_order}
-use Rattle.wenc_base.specs.Fault.{NoCause, size_cause}
-use Rattle.wenc_base.specs.Forms.{AreBytes, name as name_form}
-use Rattle.wenc_base.specs.Holder.{HolderState, holding, held_text}
-use Rattle.wenc_base.specs.Names.{NameAssociation, names_text}
-use Rattle.wenc_base.specs.Number.{unsigned_text}
-use Rattle.wenc_base.specs.Piece.{Piece, ◌▸◌, each}
-use Rattle.wenc_base.specs.declared.fault.Fault.{Fault}
+use Rattle.wenc_base.specs.Prelude.{AreBytes, Fault, HolderState, NameAssociation, NoCause, Piece}
+use Rattle.wenc_base.specs.Prelude.{Serves, each, held_text, holding, in_order, name as name_form}
+use Rattle.wenc_base.specs.Prelude.{names_text, size_cause, sized_in_order, unsigned_text, ◌▸◌}
 use Rattle.wenc_base.specs.declared.fault.Fault.TheVariants.{Memory, TooMany, TooLarge, Unfinished}
-use Rattle.wenc_sections.specs.Names.{Subsection, subsection, subsections_text, ItemNames, item_names, item_sort, names_label}
+use Rattle.wenc_sections.specs.Prelude.{ItemNames, Space, Subsection, item_sort, names_label}
+use Rattle.wenc_sections.specs.Prelude.{subsection}
+use Rattle.wenc_sections.specs.Names.{subsections_text, item_names}
 use Rattle.wenc_sections.specs.declared.space.Space.TheVariants as spaces
-use Rattle.wenc_builder.specs.Entry.{Entry, custom_entry, names}
-use Rattle.wenc_builder.specs.Builder.{namespace_at, State, builder_is_finished}
-use Rattle.wenc_builder.specs.Enters.{EntersWithoutIndex}
-use Rattle.wenc_builder.specs.inside.SectionBodies.{with_bytes}
-use Rattle.wenc_builder.specs.inside.Adds.{AddsUnindexedSection}
-use Rattle.wenc_builder.specs.Holds.{Holds}
-use Rattle.wenc_builder.specs.Names.{named_spaces, name_subsections, by_space, named_entry, AddsNames, names_held, space_names, none_named, kept_names}
-use Rattle.wenc_sections.specs.declared.space.Space.{Space}
-use Rattle.wenc_builder.specs.Item.{CustomItem, item}
-use Rattle.wenc_builder.specs.inside.Layout.{Buffered, AppendsSection}
-use Rattle.wenc_builder.specs.ParentState.{IsItemText}
-use Rattle.wenc_builder.specs.inside.Spaces.{Spaced}
-use Rattle.wenc_builder.specs.inside.View.{Agree, builder_view}
+use Rattle.wenc_builder.specs.Prelude.{AddsNames, AddsUnindexedSection, Agree, AppendsSection}
+use Rattle.wenc_builder.specs.Prelude.{Buffered, CustomItem, EntersWithoutIndex, Entry, Holds}
+use Rattle.wenc_builder.specs.Prelude.{IsItemText, Spaced, State, builder_is_finished, builder_view}
+use Rattle.wenc_builder.specs.Prelude.{by_space, custom_entry, item, named_entry, names, names_held}
+use Rattle.wenc_builder.specs.Prelude.{namespace_at, none_named, space_names, with_bytes}
+use Rattle.wenc_builder.specs.Names.{named_spaces, name_subsections, kept_names}
 use Rattle.wenc_base.proofs.Bytes.{last_below}
 use Rattle.wenc_builder.proofs.OwnSections.{stands_as, stood_nowhere}
 use Rattle.wenc_builder.proofs.Entered.{without_index_enters}

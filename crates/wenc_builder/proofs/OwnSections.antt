@@ -1,20 +1,13 @@
 -- Something that stands alone, with indices in a space.
 use Rattle.std.proofs.Common.{◌≡◌, ℕ, true, is_none, List, length, Option, Some, None, Result, Ok, Err, refl, sym, inl, inr, arith, subst}
 use Rattle.std.proofs.lemmas.List.{get_or-set_same}
-use Rattle.wenc_base.specs.Encode.{Serves}
-use Rattle.wenc_base.specs.Fault.{IsWarranted}
-use Rattle.wenc_base.specs.Piece.{Piece}
-use Rattle.wenc_base.specs.declared.fault.Fault.{Fault}
-use Rattle.wenc_base.specs.laws.Serves.{still_warranted}
-use Rattle.wenc_builder.specs.Builder.{State, Namespace, no_names, namespace_at, namespace_with}
-use Rattle.wenc_builder.specs.Cause.{SpaceCause, CallCause}
-use Rattle.wenc_builder.specs.inside.Adds.{AddsSection, AddsUnindexedSection, content_with_section}
-use Rattle.wenc_builder.specs.inside.Layout.{Buffered, buffer_with, AppendsSection}
-use Rattle.wenc_sections.specs.Space.{space_number}
-use Rattle.wenc_builder.specs.Space.{Indices}
+use Rattle.wenc_base.specs.Prelude.{Fault, IsWarranted, Piece, Serves, still_warranted}
+use Rattle.wenc_builder.specs.Prelude.{AddsSection, AddsUnindexedSection, Agree, AppendsSection}
+use Rattle.wenc_builder.specs.Prelude.{Buffered, CallCause, Indices, Namespace, SpaceCause, Spaced}
+use Rattle.wenc_builder.specs.Prelude.{State, buffer_with, builder_view, content_with_section}
+use Rattle.wenc_builder.specs.Prelude.{namespace_at, namespace_with, no_names}
+use Rattle.wenc_sections.specs.Prelude.{space_number}
 use Rattle.wenc_sections.specs.laws.Space.{space_within}
-use Rattle.wenc_builder.specs.inside.Spaces.{Spaced}
-use Rattle.wenc_builder.specs.inside.View.{Agree, builder_view}
 use Rattle.wenc_builder.proofs.Taken.{settled_before}
 
 -- its space, as it is with it

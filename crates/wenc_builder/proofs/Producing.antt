@@ -1,24 +1,15 @@
 -- A producers section that is held, as the item that it is.
 use Rattle.std.proofs.Common.{◌≡◌, true, is_none, ℕ, List, ◌++◌, length, Result, Ok, Err, [], refl}
 use Rattle.std.specs.Result.{IfErr, OnOk}
-use Rattle.wenc_base.specs.Fault.{IsWarranted, NoCause}
-use Rattle.wenc_base.specs.Forms.{AreBytes, name as name_form}
-use Rattle.wenc_base.specs.Holder.{HolderState, Contains, held_text, is_finished}
-use Rattle.wenc_base.specs.Number.{unsigned_text}
-use Rattle.wenc_base.specs.Piece.{Piece, ◌▸◌}
-use Rattle.wenc_base.specs.Producers.{Producers, producers_field, producers_label, producers_held}
-use Rattle.wenc_base.specs.declared.fault.Fault.{Fault}
-use Rattle.wenc_base.specs.laws.Sections.{custom_lawful}
-use Rattle.wenc_base.specs.laws.Serves.{serves_itself, still_warranted}
-use Rattle.wenc_builder.specs.Builder.{State}
-use Rattle.wenc_builder.specs.Enters.{EntersWithoutIndex}
-use Rattle.wenc_builder.specs.Entry.{custom_entry}
-use Rattle.wenc_builder.specs.Producers.{producers_entry}
-use Rattle.wenc_builder.specs.Item.{Item, CustomItem, item}
-use Rattle.wenc_builder.specs.inside.SectionBodies.{with_bytes}
-use Rattle.wenc_builder.specs.inside.Layout.{Buffered, AppendsSection}
-use Rattle.wenc_builder.specs.inside.Spaces.{Spaced}
-use Rattle.wenc_builder.specs.inside.View.{Agree, IsBuilder, builder_view}
+use Rattle.wenc_base.specs.Prelude.{AreBytes, Contains, Fault, HolderState, IsWarranted, NoCause}
+use Rattle.wenc_base.specs.Prelude.{Piece, Producers, custom_lawful, held_text, is_finished}
+use Rattle.wenc_base.specs.Prelude.{name as name_form, producers_field, producers_held}
+use Rattle.wenc_base.specs.Prelude.{producers_label, serves_itself, still_warranted, unsigned_text}
+use Rattle.wenc_base.specs.Prelude.{◌▸◌}
+use Rattle.wenc_builder.specs.Prelude.{Agree, AppendsSection, Buffered, CustomItem}
+use Rattle.wenc_builder.specs.Prelude.{EntersWithoutIndex, IsBuilder, Item, Spaced, State}
+use Rattle.wenc_builder.specs.Prelude.{builder_view, custom_entry, item, producers_entry}
+use Rattle.wenc_builder.specs.Prelude.{with_bytes}
 use Rattle.wenc_base.proofs.Bytes.{last_below}
 use Rattle.wenc_builder.proofs.OwnSections.{stands_as, stood_nowhere}
 use Rattle.wenc_builder.proofs.Entered.{without_index_enters}

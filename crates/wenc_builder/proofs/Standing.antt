@@ -1,19 +1,14 @@
 -- A builder stays one: its buffer and its spaces agree, and it holds some entries.
 use Rattle.std.proofs.Common.{◌≡◌, ℕ, List, true, is_none, Option, Some, None, Result, Ok, Err, OnOk, OnErr, [], refl, sym, subst}
-use Rattle.wenc_base.specs.Parent.{Extends, ExtendsListed}
-use Rattle.wenc_base.specs.declared.fault.Fault.{Fault}
-use Rattle.wenc_base.specs.Fault.{NoCause}
-use Rattle.wenc_base.specs.Piece.{Piece}
-use Rattle.wenc_base.specs.laws.Serves.{right_free}
-use Rattle.wenc_builder.specs.Builder.{SectionsState, content_of, item_appended}
-use Rattle.wenc_builder.specs.Cause.{SectionCause, NoRoom}
+use Rattle.wenc_base.specs.Prelude.{Extends, ExtendsListed, Fault, NoCause, Piece, right_free}
+use Rattle.wenc_builder.specs.Prelude.{Buffered, IsBuilder, IsItemText, NoRoom, SectionCause}
+use Rattle.wenc_builder.specs.Prelude.{SectionsState, Spaced, buffer_appended, buffer_begun}
+use Rattle.wenc_builder.specs.Prelude.{buffer_ended, buffer_given_up, buffer_with, builder_view}
+use Rattle.wenc_builder.specs.Prelude.{content_of, is_whole, item_appended, section_appended}
+use Rattle.wenc_builder.specs.Prelude.{section_begun, spaces_begun, spaces_ended}
 use Rattle.wenc_builder.specs.inside.HoldsSome.{HoldsSome}
-use Rattle.wenc_builder.specs.inside.Layout.{Buffered, section_begun, section_appended, buffer_begun, buffer_appended, buffer_ended}
-use Rattle.wenc_builder.specs.inside.Layout.{buffer_given_up, buffer_with}
-use Rattle.wenc_builder.specs.ParentState.{IsItemText, is_whole}
-use Rattle.wenc_sections.specs.declared.space.Space.{Space}
-use Rattle.wenc_builder.specs.inside.Spaces.{Spaced, spaces_begun, spaces_ended, spaces_given_up}
-use Rattle.wenc_builder.specs.inside.View.{builder_view, IsBuilder}
+use Rattle.wenc_sections.specs.Prelude.{Space}
+use Rattle.wenc_builder.specs.inside.Spaces.{spaces_given_up}
 use Rattle.wenc_builder.specs.laws.Held.{some_begun, some_appended, some_ended, some_given_up, some_alone, start_takes_values}
 use Rattle.wenc_sections.specs.declared.space.Space.TheVariants.{Values}
 use Rattle.wenc_builder.proofs.Viewed.{appended_is, appended_section, still_agree, ended_is, not_taking}

@@ -1,16 +1,12 @@
 -- An item that is begun, written and ended, or given up.
 use Rattle.std.proofs.Common.{◌≡◌, ℕ, true, false, is_none, List, [], length, Option, Some, None, Ok, Err, refl, sym, ◌∙◌}
-use Rattle.wenc_base.specs.Fault.{NoCause, either}
-use Rattle.wenc_base.specs.Piece.{Piece, nothing}
+use Rattle.wenc_base.specs.Prelude.{NoCause, Piece, either, nothing}
 use Rattle.wenc_base.specs.declared.fault.Fault.TheVariants.{Unfinished}
-use Rattle.wenc_builder.specs.Builder.{entered, State, namespace_at, NewItem, new_item, space_with, item_begun, item_appended, item_ended}
-use Rattle.wenc_builder.specs.Cause.{SectionCause, SpaceCause}
-use Rattle.wenc_builder.specs.Adds.{AddsItem, AddsWholeItem}
-use Rattle.wenc_builder.specs.inside.Layout.{Buffered}
-use Rattle.wenc_builder.specs.ParentState.{no_room_in_section}
-use Rattle.wenc_sections.specs.declared.space.Space.{Space}
-use Rattle.wenc_builder.specs.inside.Spaces.{Spaced}
-use Rattle.wenc_builder.specs.inside.View.{Agree, builder_view}
+use Rattle.wenc_builder.specs.Prelude.{AddsItem, AddsWholeItem, Agree, Buffered, NewItem}
+use Rattle.wenc_builder.specs.Prelude.{SectionCause, SpaceCause, Spaced, State, builder_view}
+use Rattle.wenc_builder.specs.Prelude.{entered, item_appended, item_begun, item_ended, namespace_at}
+use Rattle.wenc_builder.specs.Prelude.{new_item, no_room_in_section, space_with}
+use Rattle.wenc_sections.specs.Prelude.{Space}
 use Rattle.wenc_builder.specs.laws.Caused.{begun_free, whole_free}
 use Rattle.wenc_builder.proofs.Viewed.{finished_is}
 

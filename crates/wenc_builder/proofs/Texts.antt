@@ -2,21 +2,13 @@
 use Rattle.std.proofs.Common.{◌≡◌, ℕ, ◌+◌, ◌<◌, ◌^◌, List, [], ◌∷◌, ◌++◌, length, Option, Result, Ok, Err, OnOk, refl, ap, inl, inr, arith}
 use Rattle.std.proofs.Common.{append_assoc, length-append}
 use Rattle.std.proofs.lemmas.List.{append-nil}
-use Rattle.wenc_base.specs.Encode.{Serves, in_order}
-use Rattle.wenc_base.specs.Forms.{option, byte_list, name}
-use Rattle.wenc_base.specs.Holder.{content_size}
-use Rattle.wenc_base.specs.Number.{u32, size, unsigned_text}
-use Rattle.wenc_base.specs.Piece.{Piece, nothing, ◌▸◌}
-use Rattle.wenc_base.specs.declared.fault.Fault.{Fault}
-use Rattle.wenc_base.specs.laws.Serves.{serves_itself, order_serves}
-use Rattle.wenc_parts.specs.Exports.{component_export_kind}
-use Rattle.wenc_parts.specs.Imports.{ExternName, extern_name, type_reference}
-use Rattle.wenc_parts.specs.declared.exports.ComponentExportKind.{ComponentExportKind}
-use Rattle.wenc_parts.specs.declared.imports.ComponentTypeRef.{ComponentTypeRef}
-use Rattle.wenc_builder.specs.Item.{Item, CustomItem, ExportItem, RawItem, item, collected}
-use Rattle.wenc_builder.specs.inside.SectionBodies.{with_bytes, custom_lead}
-use Rattle.wenc_builder.specs.inside.Adds.{IsItemPiece}
-use Rattle.wenc_builder.specs.Space.{defines}
+use Rattle.wenc_base.specs.Prelude.{Fault, Piece, Serves, byte_list, content_size, in_order, name}
+use Rattle.wenc_base.specs.Prelude.{nothing, option, order_serves, serves_itself, size, u32}
+use Rattle.wenc_base.specs.Prelude.{unsigned_text, ◌▸◌}
+use Rattle.wenc_parts.specs.Prelude.{ComponentExportKind, ComponentTypeRef, ExternName}
+use Rattle.wenc_parts.specs.Prelude.{component_export_kind, extern_name, type_reference}
+use Rattle.wenc_builder.specs.Prelude.{CustomItem, ExportItem, IsItemPiece, Item, RawItem}
+use Rattle.wenc_builder.specs.Prelude.{collected, custom_lead, defines, item, with_bytes}
 
 -- a piece that serves as an item is one
 pub item_piece : {p : Piece} (x : Item) → Serves p (item x) → IsItemPiece (collected x) (defines x) p

@@ -1,15 +1,13 @@
 -- A space in which an item took an index can return to what it was.
 use Rattle.std.proofs.Common.{◌≡◌, ℕ, ◌≤◌, List, length, length-append, true, is_none, get_or, Option, Some, None, refl, arith, ◌∙◌}
 use Rattle.std.proofs.lemmas.List.{take_at, take_all, get_or-set_same, get_or_default, set-set, set-get_or}
-use Rattle.wenc_base.specs.Names.{name_association}
-use Rattle.wenc_builder.specs.Builder.{Namespace, no_names, namespace_at, namespace_with, spaces_with}
-use Rattle.wenc_builder.specs.Space.{some_in}
-use Rattle.wenc_builder.specs.inside.Layout.{Writing, Buffered}
-use Rattle.wenc_builder.specs.inside.Spaces.{spaces_begun, spaces_ended, taken, undo_at, IsOf, before, undone, spaced}
-use Rattle.wenc_builder.specs.inside.View.{Agree}
-use Rattle.wenc_builder.specs.declared.builder.spaces.Undo.{Undo}
-use Rattle.wenc_sections.specs.Space.{space_number}
-use Rattle.wenc_sections.specs.declared.space.Space.{Space}
+use Rattle.wenc_base.specs.Prelude.{name_association}
+use Rattle.wenc_builder.specs.Prelude.{Agree, Buffered, IsOf, Namespace, Undo, Writing}
+use Rattle.wenc_builder.specs.Prelude.{namespace_at, namespace_with, no_names, some_in, spaced}
+use Rattle.wenc_builder.specs.Prelude.{spaces_begun, spaces_ended, spaces_with, taken, undo_at}
+use Rattle.wenc_builder.specs.Prelude.{undone}
+use Rattle.wenc_builder.specs.inside.Spaces.{before}
+use Rattle.wenc_sections.specs.Prelude.{Space, space_number}
 use Rattle.wenc_sections.specs.laws.Space.{space_within}
 
 before_with : (i : Space) (n : ℕ) (s : Namespace) (name : Option (List ℕ)) → before (undo_at i s) (namespace_with s n name).names ≡ s

@@ -2,24 +2,20 @@
 use Rattle.std.proofs.Common.{◌≡◌, ℕ, true, false, is_none, List, [], length, Option, Some, None, Result, Ok, Err, OnOk, OnErr, inl, inr, refl, ap, sym, subst, ◌∙◌}
 use Rattle.std.specs.Prelude.{IfOk, IfErr}
 use Rattle.std.specs.Iterator.Runs.{WholeRun}
-use Rattle.wenc_base.specs.Fault.{IsWarranted, NoCause, either}
-use Rattle.wenc_base.specs.Parent.{Extends, Extended}
-use Rattle.wenc_base.specs.Piece.{Piece, nothing}
-use Rattle.wenc_base.specs.declared.fault.Fault.{Fault}
+use Rattle.wenc_base.specs.Prelude.{Extended, Extends, Fault, IsWarranted, NoCause, Piece, either}
+use Rattle.wenc_base.specs.Prelude.{nothing, still_warranted}
 use Rattle.wenc_base.specs.declared.fault.Fault.TheVariants.{Unfinished}
-use Rattle.wenc_base.specs.laws.Serves.{still_warranted}
 use Rattle.wenc_base.proofs.Runs.{no_run}
-use Rattle.wenc_builder.specs.Builder.{State, builder_is_finished, entered, Namespace, namespace_at, namespace_with, spaces_with, NewItem, new_item, new_item_indices, content_of, item_begun}
-use Rattle.wenc_builder.specs.Cause.{SectionCause, SpaceCause, CallCause, NoRoom}
-use Rattle.wenc_builder.specs.Adds.{AddsItem, AddsWholeItem}
-use Rattle.wenc_builder.specs.inside.Adds.{AddsListedItem, IsItemPiece}
-use Rattle.wenc_builder.specs.inside.Layout.{Buffered, section_begun, section_appended, buffer_begun, buffer_appended, buffer_ended, buffer_given_up}
-use Rattle.wenc_builder.specs.inside.Spaces.{Spaced, spaced, spaces_begun, spaces_ended, CanUndo, IsOf, undo_at}
-use Rattle.wenc_builder.specs.inside.View.{builder_view, IsBuilder}
-use Rattle.wenc_builder.specs.Space.{some_in}
+use Rattle.wenc_builder.specs.Prelude.{AddsItem, AddsListedItem, AddsWholeItem, Buffered, CallCause}
+use Rattle.wenc_builder.specs.Prelude.{CanUndo, IsBuilder, IsItemPiece, IsOf, Namespace, NewItem}
+use Rattle.wenc_builder.specs.Prelude.{NoRoom, SectionCause, SpaceCause, Spaced, State, Undo}
+use Rattle.wenc_builder.specs.Prelude.{buffer_appended, buffer_begun, buffer_ended, buffer_given_up}
+use Rattle.wenc_builder.specs.Prelude.{builder_is_finished, builder_view, content_of, entered}
+use Rattle.wenc_builder.specs.Prelude.{item_begun, namespace_at, namespace_with, new_item}
+use Rattle.wenc_builder.specs.Prelude.{new_item_indices, section_appended, section_begun, some_in}
+use Rattle.wenc_builder.specs.Prelude.{spaced, spaces_begun, spaces_ended, spaces_with, undo_at}
 use Rattle.wenc_builder.specs.laws.Caused.{space_refuses, beginning_refuses, text_refuses}
-use Rattle.wenc_sections.specs.declared.space.Space.{Space}
-use Rattle.wenc_builder.specs.declared.builder.spaces.Undo.{Undo}
+use Rattle.wenc_sections.specs.Prelude.{Space}
 use Rattle.wenc_builder.proofs.Undone.{no_undo, is_of, taken_with}
 use Rattle.wenc_builder.proofs.Standing.{writing_none, begun_stands, value_stands, ended_stands}
 use Rattle.wenc_builder.proofs.Taken.{settled_before, begins, added}

@@ -3,10 +3,9 @@ ghost use Rattle.std.specs.Prelude.{◌≡◌, ◌==◌, false, OnOk, IfOk, IfEr
 ghost use Rattle.std.specs.Iterator.{IsFinite};
 ghost use Rattle.wenc_base.specs.Prelude.{IsMemory, Appends, no_members, is_finished, held_section};
 ghost use Rattle.wenc_base.specs.Prelude.{ContainsSome, AddsMember, HasMembers, HasForm, itself};
-ghost use Rattle.wenc_base.specs.Prelude.{serves_itself};
+ghost use Rattle.wenc_base.specs.Prelude.{as_itself, serves_itself};
 ghost use Rattle.wenc_canon.specs.Prelude.{AddsWithOptions, Lift, Lower, canonical};
 ghost use Rattle.wenc_canon.specs.Prelude.{canonical_option, canonical_option_lawful};
-ghost use Rattle.wenc_canon.specs.Prelude.{read_canonical_option, CanonicalOption as Seen'};
 ghost use Rattle.wenc_parts.specs.Prelude.{section_number};
 
 use crate::adds_builtin::{AddsBuiltin, AddsRow, AddsSlot, AddsSlotRow};
@@ -63,13 +62,7 @@ impl Encode for CanonicalOption {
 }
 
 impl Delimited for CanonicalOption {
-    ghost Seen = { Seen' };
-
-    ghost seen = { λ o. o };
-
-    ghost form = { canonical_option };
-
-    ghost readable = { ((λ fuel. read_canonical_option), canonical_option_lawful) };
+    ghost reads_back = { as_itself canonical_option_lawful };
 
     ghost written = { λ _. serves_itself };
 }

@@ -17,3 +17,4 @@ pub use Rattle.wenc_parts.specs.declared.imports.ComponentTypeRef.{ComponentType
 pub use Rattle.wenc_parts.specs.declared.imports.TypeBounds.{TypeBounds}
 pub use Rattle.wenc_parts.specs.declared.instances.ModuleArg.{ModuleArg}
 pub use Rattle.wenc_parts.specs.declared.types.ComponentValType.{ComponentValType}
+pub use Rattle.wenc_decode.specs.laws.Copies.{copies_are}

@@ -4,20 +4,19 @@ use Rattle.std.proofs.Common.{None, refl, sym, ap, ◌∙◌, inl, inr, arith, g
 use Rattle.std.proofs.lemmas.List.{take_more, take-append-drop, map-append}
 use Rattle.std.specs.List.{flat_map}
 use Rattle.std.specs.Prelude.{option_map}
-use Rattle.wenc_base.specs.Piece.{Wide, each}
-use Rattle.wenc_builder.specs.Item.{Item, ModuleItem, CoreInstanceItem, CoreTypeItem, ComponentItem, InstanceItem, AliasItem, TypeItem}
-use Rattle.wenc_builder.specs.Item.{CanonItem, StartItem, ImportItem, ExportItem, CustomItem, RawItem, collected}
-use Rattle.wenc_builder.specs.Sections.{Section, members, item_of, section_piece}
-use Rattle.wenc_sections.specs.Space.{space_number, kind_space, alias_space}
-use Rattle.wenc_builder.specs.Space.{Indices, indices_in, canonical_space, some_in, number_in, defined_in, next_index}
-use Rattle.wenc_sections.specs.declared.space.Space.{Space}
+use Rattle.wenc_base.specs.Prelude.{Wide, each}
+use Rattle.wenc_builder.specs.Prelude.{AliasItem, CanonItem, ComponentItem, CoreInstanceItem}
+use Rattle.wenc_builder.specs.Prelude.{CoreTypeItem, CustomItem, ExportItem, ImportItem, Indices}
+use Rattle.wenc_builder.specs.Prelude.{InstanceItem, Item, ModuleItem, RawItem, Section, StartItem}
+use Rattle.wenc_builder.specs.Prelude.{TypeItem, canonical_space, collected, defined_in, indices_in}
+use Rattle.wenc_builder.specs.Prelude.{item_of, members, next_index, number_in, section_piece}
+use Rattle.wenc_builder.specs.Prelude.{some_in}
+use Rattle.wenc_sections.specs.Prelude.{Space, alias_space, kind_space, space_number}
 use Rattle.wenc_sections.specs.declared.space.Space.TheVariants.{CoreModules, CoreTypes, CoreInstances, Instances, Values, Components, Types}
 use Rattle.wenc_sections.specs.laws.Space.{same_number, space_tells}
-use Rattle.wenc_parts.specs.Imports.{kind_of}
-use Rattle.wenc_list.specs.Items.{item_view, section_view}
-use Rattle.wenc_list.specs.Listing.{count_of_sections}
+use Rattle.wenc_parts.specs.Prelude.{kind_of}
+use Rattle.wenc_list.specs.Prelude.{ListedSection, count_of_sections, item_view, section_view}
 use Rattle.wenc_list.specs.declared.item.ItemTree.{ItemTree}
-use Rattle.wenc_list.specs.declared.listing.ListedSection.{ListedSection}
 use Rattle.wenc_list.proofs.SectionLaws.{Fills, AloneIn, section_framed, members_of}
 
 -- the count of one space is raised

@@ -1,20 +1,15 @@
 -- What a section says of the bytes, and what a list of sections says.
 use Rattle.std.proofs.Common.{◌≡◌, ℕ, ◌+◌, ◌<◌, ◌≤◌, List, [], ◌∷◌, ◌++◌, length, map, drop, Err, refl, sym, ap, subst, ◌∙◌, arith, length-append}
 use Rattle.std.specs.List.{AllByRecursion}
-use Rattle.wenc_base.specs.Number.{ReadsGroups, last, more}
-use Rattle.wenc_base.specs.Piece.{Wide, each}
-use Rattle.wenc_base.specs.Readers.{Bad}
-use Rattle.wenc_base.specs.laws.Numbers.{u32_groups}
-use Rattle.wenc_builder.specs.Sections.{Section, members, section_piece, sections, preamble}
-use Rattle.wenc_list.specs.inside.Contents.{read_frame}
-use Rattle.wenc_list.specs.inside.Taken.{TakesAll}
-use Rattle.wenc_list.specs.Cursor.{Opens}
-use Rattle.wenc_list.specs.Items.{item_view, item_section, section_view}
-use Rattle.wenc_list.specs.Listing.{HasDepth, AreWithin, AreFrom, BeginsWith, IsFramed, StopsAt, IsFaultHere, IsFaultBehind}
-use Rattle.wenc_list.specs.declared.cursor.SectionItems.{SectionItems}
-use Rattle.wenc_list.specs.declared.fault.ListFault.{ListFault}
+use Rattle.wenc_base.specs.Prelude.{Bad, ReadsGroups, Wide, each, more, u32_groups}
+use Rattle.wenc_base.specs.Number.{last}
+use Rattle.wenc_builder.specs.Prelude.{Section, members, preamble, section_piece, sections}
+use Rattle.wenc_list.specs.Prelude.{AreFrom, AreWithin, HasDepth, IsFaultBehind, IsFaultHere}
+use Rattle.wenc_list.specs.Prelude.{IsFramed, ListFault, ListedSection, Opens, SectionItems}
+use Rattle.wenc_list.specs.Prelude.{StopsAt, TakesAll, item_section, item_view, read_frame}
+use Rattle.wenc_list.specs.Prelude.{section_view}
+use Rattle.wenc_list.specs.Listing.{BeginsWith}
 use Rattle.wenc_list.specs.declared.fault.ListFault.TheVariants as faults
-use Rattle.wenc_list.specs.declared.listing.ListedSection.{ListedSection}
 use Rattle.wenc_list.proofs.SectionLaws.{frame_finds, section_framed, same_frame, not_both}
 use Rattle.wenc_list.proofs.Taken.{filled_once, taken_read, taken_within}
 

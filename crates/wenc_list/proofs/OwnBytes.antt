@@ -4,13 +4,10 @@ use Rattle.std.proofs.Common.{ap, subst, ◌∙◌, arith, append_assoc, length-
 use Rattle.std.proofs.lemmas.List.{take_at}
 use Rattle.std.proofs.lemmas.Option.{same_Some}
 use Rattle.std.specs.Prelude.{remove, slice_get, slice_range}
-use Rattle.wenc_base.specs.Number.{ReadsGroups, last, more}
-use Rattle.wenc_base.specs.Piece.{Wide, EndsWith}
-use Rattle.wenc_base.specs.laws.Numbers.{u32_groups}
-use Rattle.wenc_builder.specs.Sections.{Section, Reading, members, section_piece, sections, preamble}
-use Rattle.wenc_list.specs.Items.{section_view}
-use Rattle.wenc_list.specs.Listing.{AreFrom, ArePlaced, IsFramed}
-use Rattle.wenc_list.specs.declared.listing.ListedSection.{ListedSection}
+use Rattle.wenc_base.specs.Prelude.{EndsWith, ReadsGroups, Wide, more, u32_groups}
+use Rattle.wenc_base.specs.Number.{last}
+use Rattle.wenc_builder.specs.Prelude.{Reading, Section, members, preamble, section_piece, sections}
+use Rattle.wenc_list.specs.Prelude.{AreFrom, ArePlaced, IsFramed, ListedSection, section_view}
 use Rattle.wenc_list.proofs.Listed.{section_shorter, from_all}
 use Rattle.wenc_list.proofs.SectionLaws.{section_framed, section_reads}
 use Rattle.wenc_list.proofs.Taken.{at_place}

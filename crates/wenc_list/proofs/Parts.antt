@@ -1,20 +1,16 @@
 -- A part of producers, and those after it.
 use Rattle.std.proofs.Common.{◌≡◌, ℕ, zero, suc, ◌-◌, ◌<◌, List, [], ◌∷◌, ◌++◌, Result, Ok, Err, map, refl, sym, ap, ◌∙◌, arith}
 use native.Mathlib.Numerals.{unary_clauses}
-use Rattle.wenc_base.specs.Piece.{Wide, ◌⨾◌}
-use Rattle.wenc_base.specs.Producers.{Producer, producer, Producers}
-use Rattle.wenc_base.specs.Readers.{Flaw, Bad, Reader, go_on, ◌>>=◌, give, times, done, all_read}
-use Rattle.wenc_base.specs.Forms.{name}
-use Rattle.wenc_base.specs.Number.{u32}
-use Rattle.wenc_base.specs.laws.Forms.{name_lawful, name_sound}
-use Rattle.wenc_base.specs.laws.Numbers.{u32_lawful, u32_sound}
-use Rattle.wenc_base.specs.laws.Sections.{read_producer, read_producers_field, producer_lawful}
-use Rattle.wenc_base.specs.reading.Forms.{read_name, read_list}
-use Rattle.wenc_base.specs.reading.Numbers.{read_u32}
-use Rattle.wenc_list.specs.Producers.{Part, Field, Tool, producers_parts, read_parts, with_part}
-use Rattle.wenc_list.specs.Producers.{IsNoNumber, IsNoTool, IsNoField}
+use Rattle.wenc_base.specs.Prelude.{Bad, Flaw, Producer, Producers, Reader, Wide, all_read, done}
+use Rattle.wenc_base.specs.Prelude.{give, go_on, name, name_lawful, name_sound, producer}
+use Rattle.wenc_base.specs.Prelude.{producer_lawful, read_list, read_name, read_producer}
+use Rattle.wenc_base.specs.Prelude.{read_producers_field, read_u32, times, u32, u32_lawful}
+use Rattle.wenc_base.specs.Prelude.{u32_sound, ◌>>=◌, ◌⨾◌}
+use Rattle.wenc_list.specs.Prelude.{IsNoField, IsNoNumber, IsNoTool, Part, producers_parts}
+use Rattle.wenc_list.specs.Prelude.{with_part}
+use Rattle.wenc_list.specs.Producers.{Field, Tool, read_parts}
 use Rattle.wenc_list.specs.laws.Producers.{producer_sound}
-use Rattle.wenc_read.specs.laws.Exact.{exact_by}
+use Rattle.wenc_read.specs.Prelude.{exact_by}
 
 abbrev Found : Type 0 → Type 0
 Found A = Result (A × List ℕ) Flaw

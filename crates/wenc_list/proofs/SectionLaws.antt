@@ -6,29 +6,27 @@ use Rattle.std.proofs.lemmas.Bool.Decides.{eqb_tells}
 use Rattle.std.proofs.lemmas.List.{take_at, drop_at, take-append-drop, length-take-le}
 use Rattle.std.proofs.lemmas.Option.{same_Some}
 use Rattle.std.specs.Prelude.{IsTrue}
-use Rattle.wenc_base.specs.Forms.{list, name, AreBytes}
-use Rattle.wenc_base.specs.Number.{u32}
-use Rattle.wenc_base.specs.Piece.{Form, Wide, only_where, raw, ◌⨾◌}
-use Rattle.wenc_base.specs.Readers.{Flaw, Bad, Reader}
-use Rattle.wenc_base.specs.laws.Lawful.{last, same_Ok_pair}
-use Rattle.wenc_base.specs.laws.Numbers.{u32_lawful, u32_sound}
-use Rattle.wenc_base.specs.reading.Numbers.{read_u32}
-use Rattle.wenc_base.specs.laws.Sound.{Told, Tells, deep_where, sound_tells, told_on, last_tells, nowhere_tells, tested, Finds}
-use Rattle.wenc_base.specs.laws.Sound.{or_deeper, last_finds, lawful_finds}
-use Rattle.wenc_builder.specs.Item.{Item, ModuleItem, CoreInstanceItem, CoreTypeItem, ComponentItem, InstanceItem, AliasItem, TypeItem}
-use Rattle.wenc_builder.specs.Item.{CanonItem, StartItem, ImportItem, ExportItem, CustomItem, RawItem, collected, item}
-use Rattle.wenc_builder.specs.Sections.{Section, Run, Alone, members, collects, item_of, section_piece}
-use Rattle.wenc_canon.specs.laws.Canonicals.{canonical_lawful, canonical_sound}
-use Rattle.wenc_view.specs.Depth.{OpensTypes}
-use Rattle.wenc_view.specs.laws.TypeTrees.{type_tells, type_finds}
-use Rattle.wenc_parts.specs.laws.Aliases.{alias_lawful, alias_sound}
-use Rattle.wenc_sections.specs.Start.{start_content}
-use Rattle.wenc_sections.specs.laws.Items.{import_lawful, import_sound, inline_export_lawful, inline_export_sound, core_instance_lawful}
-use Rattle.wenc_sections.specs.laws.Items.{core_instance_sound, instance_lawful, instance_sound}
-use Rattle.wenc_types.specs.laws.CoreTypes.{core_type_lawful, core_type_sound}
-use Rattle.wenc_list.specs.inside.Contents.{content_rows, content_row_of, read_content_item, read_frame}
-use Rattle.wenc_list.specs.Items.{alone, item_section}
-use Rattle.wenc_list.specs.Listing.{HasDepth, IsFramed}
+use Rattle.wenc_base.specs.Prelude.{AreBytes, Bad, Finds, Flaw, Form, Reader, Tells, Told, Wide}
+use Rattle.wenc_base.specs.Prelude.{deep_where, last, last_finds, last_tells, lawful_finds, list}
+use Rattle.wenc_base.specs.Prelude.{name, nowhere_tells, only_where, or_deeper, raw, read_u32}
+use Rattle.wenc_base.specs.Prelude.{same_Ok_pair, sound_tells, tested, told_on, u32, u32_lawful}
+use Rattle.wenc_base.specs.Prelude.{u32_sound, ◌⨾◌}
+use Rattle.wenc_builder.specs.Prelude.{AliasItem, Alone, CanonItem, ComponentItem, CoreInstanceItem}
+use Rattle.wenc_builder.specs.Prelude.{CoreTypeItem, CustomItem, ExportItem, ImportItem}
+use Rattle.wenc_builder.specs.Prelude.{InstanceItem, Item, ModuleItem, RawItem, Run, Section}
+use Rattle.wenc_builder.specs.Prelude.{StartItem, TypeItem, collected, collects, item, item_of}
+use Rattle.wenc_builder.specs.Prelude.{members, section_piece}
+use Rattle.wenc_canon.specs.Prelude.{canonical_lawful, canonical_sound}
+use Rattle.wenc_view.specs.Prelude.{OpensTypes, type_finds, type_tells}
+use Rattle.wenc_parts.specs.Prelude.{alias_lawful, alias_sound}
+use Rattle.wenc_sections.specs.Prelude.{core_instance_lawful, core_instance_sound, import_lawful}
+use Rattle.wenc_sections.specs.Prelude.{inline_export_lawful, instance_lawful, instance_sound}
+use Rattle.wenc_sections.specs.Prelude.{start_content}
+use Rattle.wenc_sections.specs.laws.Items.{import_sound, inline_export_sound}
+use Rattle.wenc_types.specs.Prelude.{core_type_lawful, core_type_sound}
+use Rattle.wenc_list.specs.Prelude.{HasDepth, IsFramed, alone, item_section, read_content_item}
+use Rattle.wenc_list.specs.Prelude.{read_frame}
+use Rattle.wenc_list.specs.inside.Contents.{content_rows, content_row_of}
 
 -- ---- items
 

@@ -1,15 +1,11 @@
 -- Where a listing stops.
 use Rattle.std.proofs.Common.{◌≡◌, ℕ, List, [], ◌∷◌, ◌++◌, length, refl}
-use Rattle.wenc_base.specs.Piece.{Wide, EndsWith, each}
-use Rattle.wenc_base.specs.laws.Lawful.{ends_on}
-use Rattle.wenc_builder.specs.Item.{Item}
-use Rattle.wenc_builder.specs.Sections.{Section, section_piece}
-use Rattle.wenc_list.specs.Cursor.{Opens, HasTaken, StopsInside}
-use Rattle.wenc_list.specs.declared.cursor.SectionItems.{SectionItems}
-use Rattle.wenc_list.specs.declared.cursor.Sections.{Sections}
+use Rattle.wenc_base.specs.Prelude.{EndsWith, Wide, each, ends_on}
+use Rattle.wenc_builder.specs.Prelude.{Item, Section, section_piece}
+use Rattle.wenc_list.specs.Prelude.{HasTaken, IsNextOf, IsNextSectionOf, Opens, SectionItems}
+use Rattle.wenc_list.specs.Prelude.{Sections, StopsIn, StopsInside}
 use Rattle.wenc_list.specs.declared.refusal.ListRefusal.{ListRefusal}
 use Rattle.wenc_list.specs.declared.refusal.ListRefusal.TheVariants as refusals
-use Rattle.wenc_list.specs.inside.Taken.{IsNextOf, IsNextSectionOf, StopsIn}
 use Rattle.wenc_list.proofs.SectionLaws.{section_framed}
 use Rattle.wenc_list.proofs.Taken.{frame_leaves}
 

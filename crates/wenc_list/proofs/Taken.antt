@@ -7,36 +7,30 @@ use Rattle.std.proofs.lemmas.List.{append-nil, drop_at}
 use Rattle.std.proofs.lemmas.Option.{same_Some}
 use Rattle.std.specs.List.{AllByRecursion}
 use Rattle.std.specs.Prelude.{IsTrue, IsFalse}
-use Rattle.wenc_base.specs.Forms.{name, AreBytes}
-use Rattle.wenc_base.specs.Number.{u32}
-use Rattle.wenc_base.specs.Piece.{Form, Wide, EndsWith, each}
-use Rattle.wenc_base.specs.Readers.{Flaw, Bad, Deep, give, go_on}
-use Rattle.wenc_base.specs.laws.Forms.{raw_sound, bytes_lawful, bytes_pass, name_lawful}
-use Rattle.wenc_base.specs.laws.Lawful.{same_Ok_pair, ends_on}
-use Rattle.wenc_base.specs.laws.Numbers.{u32_lawful, u32_sound}
+use Rattle.wenc_base.specs.Prelude.{Agrees, AreBytes, Bad, Deep, EndsWith, Flaw, Form, Told, Wide}
+use Rattle.wenc_base.specs.Prelude.{bytes_lawful, bytes_pass, each, ends_on, give, go_on}
+use Rattle.wenc_base.specs.Prelude.{labelled_section, name, name_lawful, read_custom_content}
+use Rattle.wenc_base.specs.Prelude.{read_raw, read_u32, same_Ok_pair, tested, told_on, u32}
+use Rattle.wenc_base.specs.Prelude.{u32_lawful, u32_sound, weaken}
+use Rattle.wenc_base.specs.laws.Forms.{raw_sound}
 use Rattle.wenc_base.specs.laws.Sections.{custom_content_lawful, custom_content_sound}
-use Rattle.wenc_base.specs.laws.Sound.{Told, weaken, told_on, tested, Agrees}
-use Rattle.wenc_base.specs.reading.Forms.{read_raw}
-use Rattle.wenc_base.specs.reading.Numbers.{read_u32}
-use Rattle.wenc_base.specs.inside.Sections.{read_custom_content, labelled_section}
-use Rattle.wenc_builder.specs.Item.{Item, ModuleItem, CoreInstanceItem, CoreTypeItem, ComponentItem, InstanceItem, AliasItem, TypeItem}
-use Rattle.wenc_builder.specs.Item.{CanonItem, StartItem, ImportItem, ExportItem, CustomItem, RawItem}
-use Rattle.wenc_builder.specs.Sections.{Section, members, collects, item_of, section_piece}
+use Rattle.wenc_builder.specs.Prelude.{AliasItem, CanonItem, ComponentItem, CoreInstanceItem}
+use Rattle.wenc_builder.specs.Prelude.{CoreTypeItem, CustomItem, ExportItem, ImportItem}
+use Rattle.wenc_builder.specs.Prelude.{InstanceItem, Item, ModuleItem, RawItem, Section, StartItem}
+use Rattle.wenc_builder.specs.Prelude.{TypeItem, collects, item_of, members, section_piece}
 use Rattle.wenc_builder.specs.laws.Reading.{item_of_lawful}
-use Rattle.wenc_read.specs.Gives.{flaw_of}
-use Rattle.wenc_read.specs.declared.refusal.NestedRefusal.{NestedRefusal}
+use Rattle.wenc_read.specs.Prelude.{NestedRefusal, flaw_of}
 use Rattle.wenc_read.specs.declared.refusal.NestedRefusal.TheVariants.{Flat, TooDeep}
-use Rattle.wenc_sections.specs.Start.{start_content}
+use Rattle.wenc_sections.specs.Prelude.{read_start_content, start_content}
 use Rattle.wenc_sections.specs.laws.Items.{start_content_lawful, start_content_sound}
-use Rattle.wenc_sections.specs.reading.Items.{read_start_content}
-use Rattle.wenc_list.specs.Cursor.{item_in, Holds, Opens, HasTaken, IsSpent, IsNeverItem, IsNoItem, IsFaultIn}
-use Rattle.wenc_list.specs.Items.{item_section}
-use Rattle.wenc_list.specs.Listing.{HasDepth, AreWithin, IsFramed, IsLabelled, IsFaultHere}
-use Rattle.wenc_list.specs.declared.cursor.SectionItems.{SectionItems}
-use Rattle.wenc_list.specs.declared.fault.ListFault.{ListFault}
+use Rattle.wenc_list.specs.Prelude.{AreWithin, HasDepth, HasTaken, IsFaultHere, IsFaultIn, IsFramed}
+use Rattle.wenc_list.specs.Prelude.{IsSpent, ListFault, Opens, SectionItems, fault_of_content}
+use Rattle.wenc_list.specs.Prelude.{fault_of_items, item_section, read_content_item, read_count}
+use Rattle.wenc_list.specs.Prelude.{read_item_in}
+use Rattle.wenc_list.specs.Cursor.{item_in, Holds, IsNeverItem, IsNoItem}
+use Rattle.wenc_list.specs.Listing.{IsLabelled}
 use Rattle.wenc_list.specs.declared.fault.ListFault.TheVariants as faults
-use Rattle.wenc_list.specs.inside.Contents.{read_content_item, whole_item, read_item_in, read_count}
-use Rattle.wenc_list.specs.Cursor.{fault_of_content, fault_of_items}
+use Rattle.wenc_list.specs.inside.Contents.{whole_item}
 use Rattle.wenc_list.proofs.SectionLaws.{ItemWithin, GoesIn, item_tells, item_finds, IsPast, AloneIn, Fills, section_reads, section_framed}
 use Rattle.wenc_list.proofs.SectionLaws.{members_of, told_ok, not_both, frame_finds, same_frame}
 

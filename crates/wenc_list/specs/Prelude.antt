@@ -4,19 +4,19 @@ pub use Rattle.wenc_list.specs.Cursor.{IsLeftOf, LacksCount, Opens, StopsInside}
 pub use Rattle.wenc_list.specs.Cursor.{fault_of_content, fault_of_items, fault_of_list}
 pub use Rattle.wenc_list.specs.Cursor.{fault_of_section}
 pub use Rattle.wenc_read.specs.Gives.{left_of}
-pub use Rattle.wenc_list.specs.Items.{item_section, item_view, section_view}
-pub use Rattle.wenc_list.specs.Items.{IsCountedItem, item_seen}
-pub use Rattle.wenc_list.specs.Listing.{AreFrom, ArePlaced, AreWithin, HasNoHeader, IsFaultBehind}
-pub use Rattle.wenc_list.specs.Listing.{IsFaultHere, IsFaultOf, IsMemoryOrTooDeep}
-pub use Rattle.wenc_list.specs.Listing.{count_of_sections}
+pub use Rattle.wenc_list.specs.Items.{IsCountedItem, alone, item_section, item_seen, item_view}
+pub use Rattle.wenc_list.specs.Items.{section_view}
+pub use Rattle.wenc_list.specs.Listing.{AreFrom, ArePlaced, AreWithin, HasDepth, HasNoHeader}
+pub use Rattle.wenc_list.specs.Listing.{IsFaultBehind, IsFaultHere, IsFaultOf, IsFramed}
+pub use Rattle.wenc_list.specs.Listing.{IsMemoryOrTooDeep, StopsAt, count_of_sections}
 pub use Rattle.wenc_list.specs.Names.{item_name_view, names_view, part, read_core_sort}
 pub use Rattle.wenc_list.specs.Names.{read_item_name, read_item_names, read_names, read_names_in}
 pub use Rattle.wenc_list.specs.Names.{IsCountedNames, read_part, read_sort, subsection_by_id}
-pub use Rattle.wenc_list.specs.Producers.{AreSpent, HasTakenPart, IsMalformed, IsNoNumber}
-pub use Rattle.wenc_list.specs.Producers.{IsNoPart, Part, part_seen, parts_in}
+pub use Rattle.wenc_list.specs.Producers.{AreSpent, HasTakenPart, IsMalformed, IsNoField}
+pub use Rattle.wenc_list.specs.Producers.{IsNoNumber, IsNoPart, IsNoTool, Part, part_seen, parts_in}
 pub use Rattle.wenc_list.specs.Producers.{parts_left, producers_parts, tool_seen, with_part}
-pub use Rattle.wenc_list.specs.inside.Contents.{read_alias_item}
-pub use Rattle.wenc_list.specs.inside.Contents.{read_canonical_item, read_core_instance_item}
+pub use Rattle.wenc_list.specs.inside.Contents.{read_alias_item, read_canonical_item}
+pub use Rattle.wenc_list.specs.inside.Contents.{read_content_item, read_core_instance_item}
 pub use Rattle.wenc_list.specs.inside.Contents.{read_core_type_item, read_count, read_export_item}
 pub use Rattle.wenc_list.specs.inside.Contents.{read_frame, read_import_item, read_instance_item}
 pub use Rattle.wenc_list.specs.inside.Contents.{read_item_in, read_type_item}
@@ -26,3 +26,4 @@ pub use Rattle.wenc_list.specs.declared.cursor.SectionItems.{SectionItems}
 pub use Rattle.wenc_list.specs.declared.fault.ListFault.{ListFault}
 pub use Rattle.wenc_list.specs.declared.listing.ListedSection.{ListedSection}
 pub use Rattle.wenc_sections.specs.declared.space.Space.{Space}
+pub use Rattle.wenc_list.specs.declared.cursor.Sections.{Sections}

@@ -1,15 +1,13 @@
 -- What the code writes of a name, for the name's form.
 use Rattle.std.proofs.Common.{◌≡◌, ℕ, ◌≢◌, ◌<◌, ◌≤◌, ◌^◌, List, [], ◌∷◌, ◌++◌, length, length-append, Option, Some, None, refl, sym, inl, inr, lit≤, arith}
 use Rattle.std.proofs.lemmas.List.{append-nil}
-use Rattle.wenc_base.specs.Encode.{Serves, in_order}
-use Rattle.wenc_base.specs.Fault.{NoCause, count_cause}
-use Rattle.wenc_base.specs.Forms.{name, list}
-use Rattle.wenc_base.specs.Number.{u32, count}
-use Rattle.wenc_base.specs.Piece.{Piece, ◌▸◌, ◌⨾◌, each}
+use Rattle.wenc_base.specs.Prelude.{NoCause, Piece, Serves, count, count_cause, each, either_free}
+use Rattle.wenc_base.specs.Prelude.{in_order, list, name, order_serves, serves_itself, serves_then}
+use Rattle.wenc_base.specs.Prelude.{tagged_serves, u32, ◌▸◌, ◌⨾◌}
 use Rattle.wenc_base.specs.declared.fault.Fault.TheVariants.{Memory, TooMany, TooLarge, Unfinished}
-use Rattle.wenc_base.specs.laws.Serves.{serves_itself, serves_then, tagged_serves, order_serves, either_free}
-use Rattle.wenc_parts.specs.Imports.{ExternName, NameOption, Implements, VersionSuffix, ExternalId, name_option, name_options, name_with, present, extern_name}
-use Rattle.wenc_parts.specs.inside.NameOptions.{option_entry}
+use Rattle.wenc_parts.specs.Prelude.{ExternName, ExternalId, Implements, NameOption, VersionSuffix}
+use Rattle.wenc_parts.specs.Prelude.{extern_name, name_option, name_options, name_with}
+use Rattle.wenc_parts.specs.Prelude.{option_entry, present}
 
 -- ---- options
 

@@ -3,9 +3,10 @@ pub use Rattle.wenc_parts.specs.SectionIds.{section_id, section_number}
 pub use Rattle.wenc_parts.specs.Component.{preamble}
 pub use Rattle.wenc_parts.specs.Types.{primitive, primitive_byte, result_list, value_type}
 pub use Rattle.wenc_parts.specs.Exports.{component_export_kind}
-pub use Rattle.wenc_parts.specs.Imports.{ExternName, extern_name, extern_name_view, kind_of}
-pub use Rattle.wenc_parts.specs.Imports.{name_options, name_tree_view, plain_name, type_bounds}
-pub use Rattle.wenc_parts.specs.Imports.{type_reference}
+pub use Rattle.wenc_parts.specs.Imports.{ExternName, ExternalId, Implements, NameOption}
+pub use Rattle.wenc_parts.specs.Imports.{VersionSuffix, extern_name, extern_name_view, kind_of}
+pub use Rattle.wenc_parts.specs.Imports.{name_option, name_options, name_tree_view, name_with}
+pub use Rattle.wenc_parts.specs.Imports.{plain_name, present, type_bounds, type_reference}
 pub use Rattle.wenc_parts.specs.Instances.{module_argument}
 pub use Rattle.wenc_parts.specs.Aliases.{AliasOf, CoreInstanceExport, InstanceExport, Outer, alias}
 pub use Rattle.wenc_parts.specs.Aliases.{alias_tree_view, alias_view, outer_kind}
@@ -18,7 +19,8 @@ pub use Rattle.wenc_parts.specs.reading.Imports.{option_number, read_extern_name
 pub use Rattle.wenc_parts.specs.reading.Imports.{read_type_bounds, read_type_reference, with_option}
 pub use Rattle.wenc_parts.specs.reading.Instances.{read_module_argument}
 pub use Rattle.wenc_parts.specs.reading.SectionIds.{read_section}
-pub use Rattle.wenc_parts.specs.reading.Types.{read_primitive, read_result_list, read_value_type}
+pub use Rattle.wenc_parts.specs.reading.Types.{primitive_rows, read_primitive, read_result_list}
+pub use Rattle.wenc_parts.specs.reading.Types.{read_value_type}
 pub use Rattle.wenc_parts.specs.laws.Aliases.{alias_lawful, alias_sound, outer_kind_lawful}
 pub use Rattle.wenc_parts.specs.laws.Exports.{component_export_kind_lawful}
 pub use Rattle.wenc_parts.specs.laws.Exports.{component_export_kind_sound}

@@ -1,9 +1,8 @@
 //! Aliases of the exports of instances, and of the items of enclosing components.
 ghost use Rattle.std.specs.Prelude.{◌≡◌};
-ghost use Rattle.wenc_base.specs.Prelude.{itself, serves_itself};
-ghost use Rattle.wenc_parts.specs.Prelude.{outer_kind, outer_kind_lawful, read_outer_kind};
-ghost use Rattle.wenc_parts.specs.Prelude.{ComponentOuterAliasKind as Seen', alias, alias_view};
-ghost use Rattle.wenc_parts.specs.Prelude.{AliasOf, alias_lawful, read_alias, alias_tree_view};
+ghost use Rattle.wenc_base.specs.Prelude.{itself, as_itself, as_seen, serves_itself};
+ghost use Rattle.wenc_parts.specs.Prelude.{outer_kind, outer_kind_lawful, alias, alias_view};
+ghost use Rattle.wenc_parts.specs.Prelude.{alias_lawful, alias_tree_view};
 
 use crate::component::{COMPONENT_SORT, CORE_MODULE_SORT, CORE_SORT, CORE_TYPE_SORT, TYPE_SORT};
 use crate::exports::ComponentExportKind;
@@ -40,13 +39,7 @@ impl Encode for ComponentOuterAliasKind {
 }
 
 impl Delimited for ComponentOuterAliasKind {
-    ghost Seen = { Seen' };
-
-    ghost seen = { λ x. x };
-
-    ghost form = { outer_kind };
-
-    ghost readable = { ((λ fuel. read_outer_kind), outer_kind_lawful) };
+    ghost reads_back = { as_itself outer_kind_lawful };
 
     ghost written = { λ _. serves_itself };
 }
@@ -118,13 +111,7 @@ impl<'a> Encode for Alias<'a> {
 }
 
 impl<'a> Delimited for Alias<'a> {
-    ghost Seen = { AliasOf };
-
-    ghost seen = { alias_view };
-
-    ghost form = { alias };
-
-    ghost readable = { ((λ fuel. read_alias), alias_lawful) };
+    ghost reads_back = { as_seen alias_view alias_lawful };
 
     ghost written = { λ _. serves_itself };
 }

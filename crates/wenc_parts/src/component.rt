@@ -1,8 +1,7 @@
 //! `Component`, the trait `ComponentSection` of its sections, section ids, and the bytes of kinds.
 ghost use Rattle.std.specs.Prelude.{◌≡◌, ℕ, IfOk, IfErr, OnOk};
-ghost use Rattle.wenc_base.specs.Prelude.{itself, Appends, IsMemory, ◌▸◌, serves_itself};
-ghost use Rattle.wenc_parts.specs.Prelude.{preamble, section_number, section_lawful, read_section};
-ghost use Rattle.wenc_parts.specs.Prelude.{ComponentSectionId as Seen'};
+ghost use Rattle.wenc_base.specs.Prelude.{itself, Appends, IsMemory, ◌▸◌, as_itself, serves_itself};
+ghost use Rattle.wenc_parts.specs.Prelude.{preamble, section_number, section_lawful};
 ghost use Rattle.wenc_parts.specs.declared.component.ComponentSectionId.TheVariants.{CoreCustom};
 
 use std::alloc::{Allocator, Global};
@@ -149,15 +148,7 @@ impl Encode for ComponentSectionId {
 }
 
 impl Delimited for ComponentSectionId {
-    ghost use Rattle.wenc_parts.specs.Prelude.{section_id};
-
-    ghost Seen = { Seen' };
-
-    ghost seen = { λ x. x };
-
-    ghost form = { section_id };
-
-    ghost readable = { ((λ fuel. read_section), section_lawful) };
+    ghost reads_back = { as_itself section_lawful };
 
     ghost written = { λ _. serves_itself };
 }

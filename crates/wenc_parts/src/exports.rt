@@ -1,8 +1,6 @@
 //! Kinds of the exports of components.
-ghost use Rattle.wenc_base.specs.Prelude.{itself, serves_itself};
+ghost use Rattle.wenc_base.specs.Prelude.{itself, as_itself, serves_itself};
 ghost use Rattle.wenc_parts.specs.Prelude.{component_export_kind, component_export_kind_lawful};
-ghost use Rattle.wenc_parts.specs.Prelude.{read_component_export_kind};
-ghost use Rattle.wenc_parts.specs.Prelude.{ComponentExportKind as Seen'};
 
 use crate::component::{
     COMPONENT_SORT, CORE_MODULE_SORT, CORE_SORT, FUNCTION_SORT, INSTANCE_SORT, TYPE_SORT,
@@ -48,13 +46,7 @@ impl Encode for ComponentExportKind {
 }
 
 impl Delimited for ComponentExportKind {
-    ghost Seen = { Seen' };
-
-    ghost seen = { λ x. x };
-
-    ghost form = { component_export_kind };
-
-    ghost readable = { ((λ fuel. read_component_export_kind), component_export_kind_lawful) };
+    ghost reads_back = { as_itself component_export_kind_lawful };
 
     ghost written = { λ _. serves_itself };
 }

@@ -1,12 +1,12 @@
 //! Names of imports and exports, and type references.
 ghost use Rattle.std.specs.Prelude.{◌≡◌, ◌≢◌, ◌++◌, ℕ, List, length, OnOk, IfOk, IfErr};
-ghost use Rattle.wenc_base.specs.Prelude.{Appends, itself, IsMemory, serves_itself};
-ghost use Rattle.wenc_parts.specs.Prelude.{type_bounds, type_bounds_lawful, read_type_bounds};
-ghost use Rattle.wenc_parts.specs.Prelude.{component_export_kind, kind_of, type_reference};
-ghost use Rattle.wenc_parts.specs.Prelude.{type_reference_lawful, read_type_reference, extern_name};
-ghost use Rattle.wenc_parts.specs.Prelude.{extern_name_view, name_options, ExternName};
-ghost use Rattle.wenc_parts.specs.Prelude.{extern_name_lawful, read_extern_name, option_entry};
-ghost use Rattle.wenc_parts.specs.Prelude.{plain_name, name_tree_view};
+ghost use Rattle.wenc_base.specs.Prelude.{Appends, itself, IsMemory, as_itself, as_seen};
+ghost use Rattle.wenc_base.specs.Prelude.{serves_itself};
+ghost use Rattle.wenc_parts.specs.Prelude.{type_bounds, type_bounds_lawful, component_export_kind};
+ghost use Rattle.wenc_parts.specs.Prelude.{kind_of, type_reference, type_reference_lawful};
+ghost use Rattle.wenc_parts.specs.Prelude.{extern_name, extern_name_view, name_options};
+ghost use Rattle.wenc_parts.specs.Prelude.{extern_name_lawful, option_entry, plain_name};
+ghost use Rattle.wenc_parts.specs.Prelude.{name_tree_view};
 ghost use Rattle.std.specs.Cow.{cow_str_bytes};
 ghost use Rattle.std.specs.Option.{option_map};
 ghost use Rattle.std.specs.String.{string_bytes};
@@ -38,15 +38,7 @@ impl Encode for TypeBounds {
 }
 
 impl Delimited for TypeBounds {
-    ghost use Rattle.wenc_parts.specs.Prelude.{TypeBounds as Seen'};
-
-    ghost Seen = { Seen' };
-
-    ghost seen = { λ x. x };
-
-    ghost form = { type_bounds };
-
-    ghost readable = { ((λ fuel. read_type_bounds), type_bounds_lawful) };
+    ghost reads_back = { as_itself type_bounds_lawful };
 
     ghost written = { λ _. serves_itself };
 }
@@ -111,15 +103,7 @@ impl Encode for ComponentTypeRef {
 }
 
 impl Delimited for ComponentTypeRef {
-    ghost use Rattle.wenc_parts.specs.Prelude.{ComponentTypeRef as Seen'};
-
-    ghost Seen = { Seen' };
-
-    ghost seen = { λ x. x };
-
-    ghost form = { type_reference };
-
-    ghost readable = { ((λ fuel. read_type_reference), type_reference_lawful) };
+    ghost reads_back = { as_itself type_reference_lawful };
 
     ghost written = { λ _. serves_itself };
 }
@@ -209,13 +193,7 @@ impl<'a, A: Allocator> Encode for ComponentExternName<'a, A> {
 }
 
 impl<'a, A: Allocator> Delimited for ComponentExternName<'a, A> {
-    ghost Seen = { ExternName };
-
-    ghost seen = { extern_name_view };
-
-    ghost form = { extern_name };
-
-    ghost readable = { ((λ fuel. read_extern_name), extern_name_lawful) };
+    ghost reads_back = { as_seen extern_name_view extern_name_lawful };
 
     ghost written = { λ _. serves_itself };
 }

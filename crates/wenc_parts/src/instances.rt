@@ -1,7 +1,6 @@
 //! Arguments for the imports of core modules.
-ghost use Rattle.wenc_base.specs.Prelude.{itself, serves_itself};
+ghost use Rattle.wenc_base.specs.Prelude.{itself, as_itself, serves_itself};
 ghost use Rattle.wenc_parts.specs.Prelude.{module_argument, module_argument_lawful};
-ghost use Rattle.wenc_parts.specs.Prelude.{read_module_argument, ModuleArg as Seen'};
 
 use crate::component::CORE_INSTANCE_SORT;
 use std::alloc::Allocator;
@@ -27,13 +26,7 @@ impl Encode for ModuleArg {
 }
 
 impl Delimited for ModuleArg {
-    ghost Seen = { Seen' };
-
-    ghost seen = { λ x. x };
-
-    ghost form = { module_argument };
-
-    ghost readable = { ((λ fuel. read_module_argument), module_argument_lawful) };
+    ghost reads_back = { as_itself module_argument_lawful };
 
     ghost written = { λ _. serves_itself };
 }

@@ -1,10 +1,8 @@
 //! Value types of components, and the results of functions.
 ghost use Rattle.std.specs.Prelude.{◌≡◌};
-ghost use Rattle.wenc_base.specs.Prelude.{itself, serves_itself};
-ghost use Rattle.wenc_parts.specs.Prelude.{primitive_byte, primitive, primitive_lawful};
-ghost use Rattle.wenc_parts.specs.Prelude.{read_primitive, value_type, value_type_lawful};
-ghost use Rattle.wenc_parts.specs.Prelude.{read_value_type, result_list, result_list_lawful};
-ghost use Rattle.wenc_parts.specs.Prelude.{read_result_list, ComponentValType as ValueType};
+ghost use Rattle.wenc_base.specs.Prelude.{itself, as_itself, as_seen, serves_itself};
+ghost use Rattle.wenc_parts.specs.Prelude.{primitive_byte, primitive, primitive_lawful, value_type};
+ghost use Rattle.wenc_parts.specs.Prelude.{value_type_lawful, result_list, result_list_lawful};
 ghost use Rattle.wenc_parts.specs.Prelude.{same_result_list};
 
 use std::alloc::Allocator;
@@ -75,15 +73,7 @@ impl Encode for PrimitiveValType {
 }
 
 impl Delimited for PrimitiveValType {
-    ghost use Rattle.wenc_parts.specs.Prelude.{PrimitiveValType as Seen'};
-
-    ghost Seen = { Seen' };
-
-    ghost seen = { λ x. x };
-
-    ghost form = { primitive };
-
-    ghost readable = { ((λ fuel. read_primitive), primitive_lawful) };
+    ghost reads_back = { as_itself primitive_lawful };
 
     ghost written = { λ _. serves_itself };
 }
@@ -114,15 +104,7 @@ impl Encode for ComponentValType {
 }
 
 impl Delimited for ComponentValType {
-    ghost use Rattle.wenc_parts.specs.Prelude.{ComponentValType as Seen'};
-
-    ghost Seen = { Seen' };
-
-    ghost seen = { λ x. x };
-
-    ghost form = { value_type };
-
-    ghost readable = { ((λ fuel. read_value_type), value_type_lawful) };
+    ghost reads_back = { as_itself value_type_lawful };
 
     ghost written = { λ _. serves_itself };
 }
@@ -148,15 +130,7 @@ impl Encode for ResultList {
 }
 
 impl Delimited for ResultList {
-    ghost use Rattle.std.specs.Prelude.{Option as Optional};
-
-    ghost Seen = { Optional ValueType };
-
-    ghost seen = { λ r. r.0 };
-
-    ghost form = { result_list };
-
-    ghost readable = { ((λ fuel. read_result_list), result_list_lawful) };
+    ghost reads_back = { as_seen (λ r. r.0) result_list_lawful };
 
     ghost written = { λ _. serves_itself };
 }

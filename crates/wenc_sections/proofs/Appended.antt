@@ -1,21 +1,16 @@
 -- What the section of names takes.
 use Rattle.std.proofs.Common.{ℕ, ◌+◌, ◌≤◌, ◌<◌, ◌^◌, List, [], ◌∷◌, ◌++◌, length, Result, Ok, Err, OnOk, refl, inl, inr, arith, length-append}
 use Rattle.wenc_base.proofs.Groups.{groups_some}
-use Rattle.wenc_base.specs.Custom.{custom}
-use Rattle.wenc_base.specs.Encode.{Serves, sized_in_order}
-use Rattle.wenc_base.specs.Fault.{size_cause}
-use Rattle.wenc_base.specs.Forms.{name, byte_list}
-use Rattle.wenc_base.specs.Holder.{HolderState, Contains}
-use Rattle.wenc_base.specs.Names.{NameAssociation, name_association, names_text, name_map}
-use Rattle.wenc_base.specs.Number.{groups, unsigned_text}
-use Rattle.wenc_base.specs.Piece.{◌▸◌}
-use Rattle.wenc_base.specs.laws.Names.{held_names}
-use Rattle.wenc_base.specs.laws.Numbers.{size_free}
-use Rattle.wenc_base.specs.declared.fault.Fault.{Fault}
+use Rattle.wenc_base.specs.Prelude.{Contains, Fault, HolderState, NameAssociation, Serves}
+use Rattle.wenc_base.specs.Prelude.{byte_list, custom, held_names, name, name_association, name_map}
+use Rattle.wenc_base.specs.Prelude.{names_text, size_cause, size_free, sized_in_order}
+use Rattle.wenc_base.specs.Prelude.{unsigned_text, ◌▸◌}
+use Rattle.wenc_base.specs.Number.{groups}
 use Rattle.wenc_base.specs.declared.fault.Fault.TheVariants.{Memory, TooMany, TooLarge, Unfinished}
-use Rattle.wenc_sections.specs.declared.space.Space.{Space}
-use Rattle.wenc_sections.specs.Names.{item_sort, ItemNames, subsection, held_subsection, names_label, names_custom, names_section}
-use Rattle.wenc_sections.specs.Names.{RoomCause, AppendsSubsection, AppendsNames}
+use Rattle.wenc_sections.specs.Prelude.{AppendsNames, AppendsSubsection, ItemNames, RoomCause}
+use Rattle.wenc_sections.specs.Prelude.{Space, held_subsection, item_sort, names_label}
+use Rattle.wenc_sections.specs.Prelude.{names_section, subsection}
+use Rattle.wenc_sections.specs.Names.{names_custom}
 use Rattle.wenc_sections.specs.laws.Names.{held_subsection_is}
 
 -- ---- no room

@@ -1,9 +1,8 @@
 //! Canonical functions, as trees.
 ghost use Rattle.std.specs.Prelude.{OnOk};
-ghost use Rattle.wenc_base.specs.Prelude.{Appends, Serves, serves_itself};
+ghost use Rattle.wenc_base.specs.Prelude.{Appends, Serves, serves_itself, as_seen};
 ghost use Rattle.wenc_canon.specs.Prelude.{Lift, Lower, canonical, row_first_byte, row_then};
-ghost use Rattle.wenc_canon.specs.Prelude.{builtin_name, Canonical, canonical_lawful};
-ghost use Rattle.wenc_canon.specs.Prelude.{read_canonical};
+ghost use Rattle.wenc_canon.specs.Prelude.{builtin_name, canonical_lawful};
 ghost use Rattle.wenc_sections.specs.Prelude.{canon_view, operand_behind};
 
 use std::alloc::{Allocator, Global};
@@ -405,13 +404,7 @@ impl<A: Allocator> Encode for CanonTree<A> {
 }
 
 impl<A: Allocator> Delimited for CanonTree<A> {
-    ghost Seen = { Canonical };
-
-    ghost seen = { canon_view };
-
-    ghost form = { canonical };
-
-    ghost readable = { ((λ fuel. read_canonical), canonical_lawful) };
+    ghost reads_back = { as_seen canon_view canonical_lawful };
 
     ghost written = { λ _. serves_itself };
 }

@@ -1,6 +1,5 @@
 //! The section of a nested component.
-ghost use Rattle.wenc_base.specs.Prelude.{serves_itself, byte_list, byte_list_lawful};
-ghost use Rattle.wenc_base.specs.Prelude.{read_byte_list};
+ghost use Rattle.wenc_base.specs.Prelude.{byte_list, byte_list_lawful, as_seen, serves_itself};
 ghost use Rattle.wenc_parts.specs.Prelude.{section_number};
 
 use std::alloc::{Allocator, Global};
@@ -34,15 +33,7 @@ impl<'a, A: Allocator> Encode for NestedComponentSection<'a, A> {
 }
 
 impl<'a, A: Allocator> Delimited for NestedComponentSection<'a, A> {
-    ghost use Rattle.std.specs.Prelude.{List, ℕ};
-
-    ghost Seen = { List ℕ };
-
-    ghost seen = { λ s. s.0.now };
-
-    ghost form = { byte_list };
-
-    ghost readable = { ((λ fuel. read_byte_list), byte_list_lawful) };
+    ghost reads_back = { as_seen (λ s. s.0.now) byte_list_lawful };
 
     ghost written = { λ _. serves_itself };
 }

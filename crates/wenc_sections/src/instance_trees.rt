@@ -1,11 +1,10 @@
 //! Instances with owned names, for commands.
 ghost use Rattle.std.specs.Prelude.{◌≡◌, ◌++◌, ℕ, List, OnOk, OnErr, IfErr};
 ghost use Rattle.wenc_base.specs.Prelude.{Appends, list_in_order, Written, IsWarranted};
-ghost use Rattle.wenc_base.specs.Prelude.{member_cause, serves_itself};
+ghost use Rattle.wenc_base.specs.Prelude.{member_cause, as_seen, serves_itself};
 ghost use Rattle.wenc_sections.specs.Prelude.{inline_export_tree, core_instance_tree_view};
-ghost use Rattle.wenc_sections.specs.Prelude.{core_instance, CoreInstance, core_instance_lawful};
-ghost use Rattle.wenc_sections.specs.Prelude.{read_core_instance, instance_tree_view, instance};
-ghost use Rattle.wenc_sections.specs.Prelude.{Instance, instance_lawful, read_instance};
+ghost use Rattle.wenc_sections.specs.Prelude.{core_instance, core_instance_lawful};
+ghost use Rattle.wenc_sections.specs.Prelude.{instance_tree_view, instance, instance_lawful};
 
 use crate::instances::{CORE_EXPORTS, CORE_INSTANTIATE, EXPORTS, INSTANTIATE};
 use std::alloc::{Allocator, Global};
@@ -53,13 +52,7 @@ impl<A: Allocator> Encode for CoreInstanceTree<A> {
 }
 
 impl<A: Allocator> Delimited for CoreInstanceTree<A> {
-    ghost Seen = { CoreInstance };
-
-    ghost seen = { core_instance_tree_view };
-
-    ghost form = { core_instance };
-
-    ghost readable = { ((λ fuel. read_core_instance), core_instance_lawful) };
+    ghost reads_back = { as_seen core_instance_tree_view core_instance_lawful };
 
     ghost written = { λ _. serves_itself };
 }
@@ -106,13 +99,7 @@ impl<A: Allocator> Encode for InstanceTree<A> {
 }
 
 impl<A: Allocator> Delimited for InstanceTree<A> {
-    ghost Seen = { Instance };
-
-    ghost seen = { instance_tree_view };
-
-    ghost form = { instance };
-
-    ghost readable = { ((λ fuel. read_instance), instance_lawful) };
+    ghost reads_back = { as_seen instance_tree_view instance_lawful };
 
     ghost written = { λ _. serves_itself };
 }

@@ -1,12 +1,11 @@
 //! The name section and its subsections.
 ghost use Rattle.std.specs.Prelude.{◌≡◌, ◌==◌, ◌+◌, ◌<◌, ◌^◌, [], length, IfOk, IfErr};
-ghost use Rattle.wenc_base.specs.Prelude.{IsMemory, serves_itself};
+ghost use Rattle.wenc_base.specs.Prelude.{IsMemory, as_itself, serves_itself};
 ghost use Rattle.wenc_parts.specs.Prelude.{section_number};
 ghost use Rattle.wenc_sections.specs.Prelude.{Fault as FaultSpec, item_sort, ComponentName};
 ghost use Rattle.wenc_sections.specs.Prelude.{RawNames, subsection, names_label, RoomCause};
 ghost use Rattle.wenc_sections.specs.Prelude.{AppendsSubsection, AppendsNames, held_subsection};
 ghost use Rattle.wenc_sections.specs.Prelude.{names_section, names_section_lawful};
-ghost use Rattle.wenc_sections.specs.Prelude.{read_names_section};
 
 use crate::space::Space;
 use std::alloc::{Allocator, Global};
@@ -296,15 +295,7 @@ impl<A: Allocator> Encode for ComponentNameSection<A> {
 }
 
 impl<A: Allocator> Delimited for ComponentNameSection<A> {
-    ghost use Rattle.std.specs.Prelude.{List, ℕ};
-
-    ghost Seen = { List ℕ };
-
-    ghost seen = { λ s. s };
-
-    ghost form = { names_section };
-
-    ghost readable = { ((λ fuel. read_names_section), names_section_lawful) };
+    ghost reads_back = { as_itself names_section_lawful };
 
     ghost written = { λ _. serves_itself };
 }

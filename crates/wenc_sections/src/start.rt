@@ -1,7 +1,7 @@
 //! The start section: the function that is called when the component is instantiated.
-ghost use Rattle.wenc_base.specs.Prelude.{serves_itself};
+ghost use Rattle.wenc_base.specs.Prelude.{as_seen, serves_itself};
 ghost use Rattle.wenc_parts.specs.Prelude.{section_number};
-ghost use Rattle.wenc_sections.specs.Prelude.{started, start, start_lawful, read_start};
+ghost use Rattle.wenc_sections.specs.Prelude.{started, start, start_lawful};
 
 use std::alloc::Allocator;
 use std::convert::AsSlice;
@@ -43,15 +43,7 @@ impl<A: AsSlice<u32>> Encode for ComponentStartSection<A> {
 }
 
 impl<A: AsSlice<u32>> Delimited for ComponentStartSection<A> {
-    ghost use Rattle.wenc_sections.specs.Prelude.{Start};
-
-    ghost Seen = { Start };
-
-    ghost seen = { λ s. started s.function_index (A.items s.args) s.results };
-
-    ghost form = { start };
-
-    ghost readable = { ((λ fuel. read_start), start_lawful) };
+    ghost reads_back = { as_seen (λ s. started s.function_index (A.items s.args) s.results) start_lawful };
 
     ghost written = { λ _. serves_itself };
 }

@@ -2,35 +2,27 @@
 use Rattle.std.proofs.Common.{String, Result, ◌≡◌, ℕ, Bool, List, [], ◌∷◌, Option, Vec, map, refl, ap, sym, subst}
 use Rattle.std.specs.Borrow.{Bor}
 use Rattle.std.specs.String.{string_bytes}
-use Rattle.wenc_base.specs.Encode.{Serves, in_order, list_in_order}
-use Rattle.wenc_base.specs.Entities.{entity_type}
-use Rattle.wenc_base.specs.declared.fault.Fault.{Fault}
-use Rattle.wenc_base.specs.Parent.{Ends, EndsListed}
+use Rattle.wenc_base.specs.Prelude.{Ends, EndsListed, EntityType, Fault, Form, Piece, Serves}
+use Rattle.wenc_base.specs.Prelude.{behind_bytes, behind_is, byte, entity_type, in_order, list}
+use Rattle.wenc_base.specs.Prelude.{list_in_order, list_is_list, list_serves, listed_serves}
+use Rattle.wenc_base.specs.Prelude.{lists_serve, name as name_form, nothing, option, order_serves}
+use Rattle.wenc_base.specs.Prelude.{serves_itself, serves_then, tagged_serves, two_serve, u32}
+use Rattle.wenc_base.specs.Prelude.{verbatim, ◌▸◌, ◌⨾◌}
 use Rattle.wenc_base.specs.laws.Parents.{extends_for, extends_as}
-use Rattle.wenc_base.specs.Forms.{list, option, name as name_form}
-use Rattle.wenc_base.specs.Number.{u32}
-use Rattle.wenc_base.specs.Piece.{Piece, Form, nothing, byte, verbatim, ◌▸◌, ◌⨾◌, behind_bytes}
-use Rattle.wenc_base.specs.declared.imports.EntityType.{EntityType}
-use Rattle.wenc_base.specs.laws.Serves.{serves_itself, serves_then, tagged_serves, behind_is, order_serves, two_serve, list_is_list}
-use Rattle.wenc_base.specs.laws.Serves.{list_serves, lists_serve, listed_serves}
-use Rattle.wenc_parts.specs.Imports.{ExternName, extern_name, type_reference}
-use Rattle.wenc_parts.specs.Types.{value_type, result_list}
-use Rattle.wenc_parts.specs.declared.imports.ComponentTypeRef.{ComponentTypeRef}
-use Rattle.wenc_parts.specs.declared.types.ComponentValType.{ComponentValType}
-use Rattle.wenc_types.specs.ComponentTypes.{DefType, def_type, instance_declaration, component_declaration}
-use Rattle.wenc_types.specs.CoreTypes.{ModuleImport, ModuleOuter, module_declaration, module_type}
-use Rattle.wenc_types.specs.CoreTypeTrees.{module_declaration_view}
-use Rattle.wenc_types.specs.DefinedTypes.{labelled_type, Case as PureCase, case, Record, Variant, Tuple, def_val_type, async_byte}
-use Rattle.wenc_types.specs.DefinedTypes.{function_type, borrowed_labelled_type, borrowed_case}
-use Rattle.wenc_types.specs.TypeTrees.{labelled_type_view, case_view, function_view, type_view, instance_declaration_view, component_declaration_view}
-use Rattle.wenc_types.specs.declared.core_type_tree.ModuleDecl.{ModuleDecl}
-use Rattle.wenc_types.specs.declared.defined_tree.CaseTree.{CaseTree}
+use Rattle.wenc_parts.specs.Prelude.{ComponentTypeRef, ComponentValType, ExternName, extern_name}
+use Rattle.wenc_parts.specs.Prelude.{result_list, type_reference, value_type}
+use Rattle.wenc_types.specs.Prelude.{Case as PureCase, CaseTree, ComponentDecl, DefType}
+use Rattle.wenc_types.specs.Prelude.{InstanceDecl, ModuleDecl, ModuleImport, ModuleOuter, Record}
+use Rattle.wenc_types.specs.Prelude.{Tuple, Variant, async_byte, borrowed_case}
+use Rattle.wenc_types.specs.Prelude.{borrowed_labelled_type, case, case_view, component_declaration}
+use Rattle.wenc_types.specs.Prelude.{component_declaration_view, components_serve, def_type}
+use Rattle.wenc_types.specs.Prelude.{def_val_type, function_type, function_view}
+use Rattle.wenc_types.specs.Prelude.{instance_declaration, instance_declaration_view}
+use Rattle.wenc_types.specs.Prelude.{instances_serve, labelled_type, labelled_type_view}
+use Rattle.wenc_types.specs.Prelude.{module_declaration, module_declaration_view, module_type}
+use Rattle.wenc_types.specs.Prelude.{type_view, view_component, view_instance}
 use Rattle.wenc_types.specs.declared.encoders.defined_type.Case.{Case}
-use Rattle.wenc_types.specs.declared.type_tree.ComponentDecl.{ComponentDecl}
-use Rattle.wenc_types.specs.declared.type_tree.InstanceDecl.{InstanceDecl}
 use Rattle.wenc_types.specs.declared.type_tree.TypeTree.TheVariants as types
-use Rattle.wenc_types.specs.laws.ComponentTypes.{instances_serve, components_serve}
-use Rattle.wenc_types.specs.laws.TypeTrees.{view_instance, view_component}
 
 -- two pieces after a byte
 pub pair_serves : (b : ℕ) (p q : Piece) → Serves (b ▸ in_order p q) (b ▸ (p ⨾ q))

@@ -1,11 +1,10 @@
 //! Core types of components, as trees.
 ghost use Rattle.std.specs.Prelude.{refl};
-ghost use Rattle.wenc_base.specs.Prelude.{serves_itself};
-ghost use Rattle.wenc_types.specs.Prelude.{core_type, core_type_view, CoreType, core_type_lawful};
-ghost use Rattle.wenc_types.specs.Prelude.{read_core_type, alike_by, composite_sees, group_sees};
-ghost use Rattle.wenc_types.specs.Prelude.{declaration_sees, core_type_sees, module_declaration};
-ghost use Rattle.wenc_types.specs.Prelude.{module_declaration_view, ModuleDeclaration};
-ghost use Rattle.wenc_types.specs.Prelude.{module_declaration_lawful, read_module_declaration};
+ghost use Rattle.wenc_base.specs.Prelude.{as_seen, serves_itself};
+ghost use Rattle.wenc_types.specs.Prelude.{core_type, core_type_view, core_type_lawful, alike_by};
+ghost use Rattle.wenc_types.specs.Prelude.{composite_sees, group_sees, declaration_sees};
+ghost use Rattle.wenc_types.specs.Prelude.{core_type_sees, module_declaration};
+ghost use Rattle.wenc_types.specs.Prelude.{module_declaration_view, module_declaration_lawful};
 
 use std::alloc::{Allocator, Global};
 use wenc_base::{
@@ -50,13 +49,7 @@ impl<A: Allocator> Encode for CoreTypeTree<A> {
 }
 
 impl<A: Allocator> Delimited for CoreTypeTree<A> {
-    ghost Seen = { CoreType };
-
-    ghost seen = { core_type_view };
-
-    ghost form = { core_type };
-
-    ghost readable = { ((λ fuel. read_core_type), core_type_lawful) };
+    ghost reads_back = { as_seen core_type_view core_type_lawful };
 
     ghost written = { λ _. serves_itself };
 }
@@ -125,13 +118,7 @@ impl<A: Allocator> Encode for ModuleDecl<A> {
 }
 
 impl<A: Allocator> Delimited for ModuleDecl<A> {
-    ghost Seen = { ModuleDeclaration };
-
-    ghost seen = { module_declaration_view };
-
-    ghost form = { module_declaration };
-
-    ghost readable = { ((λ fuel. read_module_declaration), module_declaration_lawful) };
+    ghost reads_back = { as_seen module_declaration_view module_declaration_lawful };
 
     ghost written = { λ _. serves_itself };
 }

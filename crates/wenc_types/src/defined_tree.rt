@@ -1,10 +1,9 @@
 //! Defined types, as trees.
 ghost use Rattle.std.specs.Prelude.{refl};
-ghost use Rattle.wenc_base.specs.Prelude.{serves_itself};
-ghost use Rattle.wenc_types.specs.Prelude.{def_val_type, defined_view, DefValType};
-ghost use Rattle.wenc_types.specs.Prelude.{defined_type_lawful, read_defined, labelled_type_view};
-ghost use Rattle.wenc_types.specs.Prelude.{case_view, alike_by, each_sees, named_sees, case_sees};
-ghost use Rattle.wenc_types.specs.Prelude.{defined_sees, case, Case, case_lawful, read_case};
+ghost use Rattle.wenc_base.specs.Prelude.{as_seen, serves_itself};
+ghost use Rattle.wenc_types.specs.Prelude.{def_val_type, defined_view, defined_type_lawful};
+ghost use Rattle.wenc_types.specs.Prelude.{labelled_type_view, case_view, alike_by, each_sees};
+ghost use Rattle.wenc_types.specs.Prelude.{named_sees, case_sees, defined_sees, case, case_lawful};
 
 use std::alloc::{Allocator, Global};
 use wenc_base::{Delimited, DelimitedEq, Encode, Fault, Tagged};
@@ -98,13 +97,7 @@ impl<A: Allocator> Encode for DefinedTree<A> {
 }
 
 impl<A: Allocator> Delimited for DefinedTree<A> {
-    ghost Seen = { DefValType };
-
-    ghost seen = { defined_view };
-
-    ghost form = { def_val_type };
-
-    ghost readable = { ((λ fuel. read_defined), defined_type_lawful) };
+    ghost reads_back = { as_seen defined_view defined_type_lawful };
 
     ghost written = { λ _. serves_itself };
 }
@@ -142,13 +135,7 @@ impl<A: Allocator> Encode for CaseTree<A> {
 }
 
 impl<A: Allocator> Delimited for CaseTree<A> {
-    ghost Seen = { Case };
-
-    ghost seen = { case_view };
-
-    ghost form = { case };
-
-    ghost readable = { ((λ fuel. read_case), case_lawful) };
+    ghost reads_back = { as_seen case_view case_lawful };
 
     ghost written = { λ _. serves_itself };
 }

@@ -1,14 +1,12 @@
 //! Types of components, as trees.
 ghost use Rattle.std.specs.Prelude.{OnOk};
-ghost use Rattle.wenc_base.specs.Prelude.{Appends, list_in_order, ◌▸◌, ◌⨾◌, serves_itself};
+ghost use Rattle.wenc_base.specs.Prelude.{Appends, list_in_order, ◌▸◌, ◌⨾◌, as_seen, serves_itself};
 ghost use Rattle.wenc_parts.specs.Prelude.{extern_name, name_tree_view, type_reference};
 ghost use Rattle.wenc_types.specs.Prelude.{function_type, function_view, def_type, type_view};
 ghost use Rattle.wenc_types.specs.Prelude.{instance_declaration, instance_declaration_view};
 ghost use Rattle.wenc_types.specs.Prelude.{component_declaration, component_declaration_view};
-ghost use Rattle.wenc_types.specs.Prelude.{DefType, type_lawful, read_type, InstanceDeclaration};
-ghost use Rattle.wenc_types.specs.Prelude.{instance_declaration_lawful, read_instance_declaration};
-ghost use Rattle.wenc_types.specs.Prelude.{ComponentDeclaration, component_declaration_lawful};
-ghost use Rattle.wenc_types.specs.Prelude.{read_component_declaration};
+ghost use Rattle.wenc_types.specs.Prelude.{type_lawful, instance_declaration_lawful};
+ghost use Rattle.wenc_types.specs.Prelude.{component_declaration_lawful};
 
 use crate::core_type_tree::CoreTypeTree;
 use crate::defined_tree::DefinedTree;
@@ -146,43 +144,19 @@ impl<A: Allocator> Encode for ComponentDecl<A> {
 }
 
 impl<A: Allocator> Delimited for TypeTree<A> {
-    ghost Seen = { DefType };
-
-    ghost seen = { type_view };
-
-    ghost form = { def_type };
-
-    ghost readable = { (read_type, type_lawful) };
+    ghost reads_back = { as_seen type_view type_lawful };
 
     ghost written = { λ _. serves_itself };
 }
 
 impl<A: Allocator> Delimited for InstanceDecl<A> {
-    ghost Seen = { InstanceDeclaration };
-
-    ghost seen = { instance_declaration_view };
-
-    ghost form = { instance_declaration };
-
-    ghost readable = { (
-      (λ fuel. read_instance_declaration (read_type fuel)),
-      instance_declaration_lawful,
-    ) };
+    ghost reads_back = { as_seen instance_declaration_view instance_declaration_lawful };
 
     ghost written = { λ _. serves_itself };
 }
 
 impl<A: Allocator> Delimited for ComponentDecl<A> {
-    ghost Seen = { ComponentDeclaration };
-
-    ghost seen = { component_declaration_view };
-
-    ghost form = { component_declaration };
-
-    ghost readable = { (
-      (λ fuel. read_component_declaration (read_type fuel)),
-      component_declaration_lawful,
-    ) };
+    ghost reads_back = { as_seen component_declaration_view component_declaration_lawful };
 
     ghost written = { λ _. serves_itself };
 }

@@ -1,18 +1,13 @@
 -- Declarations after a count, one level deeper.
 use Rattle.std.proofs.Common.{◌≡◌, ℕ, zero, suc, ◌-◌, ◌<◌, List, Ok, Err, refl}
 use Rattle.std.proofs.Common.{arith}
-use Rattle.wenc_base.specs.Readers.{Flaw, times}
-use Rattle.wenc_base.specs.reading.Numbers.{read_u32}
-use Rattle.wenc_read.specs.laws.Tables.{fails_on}
-use Rattle.wenc_types.specs.ComponentTypes.{DefinedType, ComponentType, InstanceType}
-use Rattle.wenc_types.specs.ComponentTypes.{ComponentDeclaration, InstanceDeclaration}
-use Rattle.wenc_types.specs.ComponentTypes.{components_of, instances_of}
-use Rattle.wenc_types.specs.DefinedTypes.{DefValType}
-use Rattle.wenc_types.specs.reading.DefinedTypes.{read_defined}
-use Rattle.wenc_types.specs.reading.ComponentTypes.{read_shallow, read_type}
-use Rattle.wenc_types.specs.reading.ComponentTypes.{read_component_declaration}
-use Rattle.wenc_types.specs.reading.ComponentTypes.{read_instance_declaration, read_component_type}
-use Rattle.wenc_types.specs.reading.ComponentTypes.{read_instance_type}
+use Rattle.wenc_base.specs.Prelude.{Flaw, read_u32, times}
+use Rattle.wenc_read.specs.Prelude.{fails_on}
+use Rattle.wenc_types.specs.Prelude.{ComponentDeclaration, ComponentType, DefValType, DefinedType}
+use Rattle.wenc_types.specs.Prelude.{InstanceDeclaration, InstanceType, components_of, instances_of}
+use Rattle.wenc_types.specs.Prelude.{read_component_declaration, read_component_type, read_defined}
+use Rattle.wenc_types.specs.Prelude.{read_instance_declaration, read_instance_type, read_shallow}
+use Rattle.wenc_types.specs.Prelude.{read_type}
 
 pub shallow_ok : (ty : DefValType) (bytes rest : List ℕ) → read_defined bytes ≡ Ok (ty, rest) → read_shallow bytes ≡ Ok (DefinedType ty, rest)
 shallow_ok ty bytes rest e = rw e refl

@@ -1,12 +1,9 @@
 -- The tables of composite types and of sub types, and what is made of what they find.
 use Rattle.std.proofs.Common.{ℕ, false, true, [], ◌∷◌, Option, Some, refl}
-use Rattle.wenc_base.specs.Composites.{Composite, Func, Array, Struct, Sub, final}
-use Rattle.wenc_base.specs.reading.Forms.{read_list, read_option}
-use Rattle.wenc_base.specs.reading.Numbers.{read_u32}
-use Rattle.wenc_base.specs.reading.Types.{read_val_type}
-use Rattle.wenc_base.specs.reading.Composites.{read_field_type, composite_rows, read_composite}
-use Rattle.wenc_base.specs.reading.Composites.{read_closed, read_extension, sub_of, final_rows}
-use Rattle.wenc_base.specs.reading.Composites.{sub_rows}
+use Rattle.wenc_base.specs.Prelude.{Array, Composite, Func, Struct, Sub, composite_rows, final}
+use Rattle.wenc_base.specs.Prelude.{final_rows, read_closed, read_composite, read_extension}
+use Rattle.wenc_base.specs.Prelude.{read_field_type, read_list, read_option, read_u32}
+use Rattle.wenc_base.specs.Prelude.{read_val_type, sub_of, sub_rows}
 use Rattle.wenc_view.proofs.Rows.{Follows, RowsFollow, then_follows, last_follows, both_follow}
 use Rattle.wenc_view.proofs.Rows.{choices_follow}
 

@@ -12,7 +12,7 @@ pub use Rattle.wenc_parts.specs.declared.types.ComponentValType.{ComponentValTyp
 pub use Rattle.wenc_view.specs.DefinedTypes.{labelled_seen, case_seen, defined_seen}
 pub use Rattle.wenc_view.specs.DefinedTypes.{IsCountedDefined}
 pub use Rattle.wenc_view.specs.inside.Types.{read_defined_row, handle_rows}
-pub use Rattle.wenc_view.specs.laws.TypeTrees.{defined_sound}
+pub use Rattle.wenc_view.specs.laws.TypeTrees.{defined_sound, type_finds, type_tells}
 pub use Rattle.wenc_view.specs.CoreTypes.{composite_seen, sub_seen, rec_type_seen}
 pub use Rattle.wenc_view.specs.CoreTypes.{module_declaration_seen, core_type_seen}
 pub use Rattle.wenc_view.specs.CoreTypes.{IsCountedComposite, IsCountedGroup}
@@ -45,3 +45,5 @@ pub use Rattle.wenc_view.specs.inside.Canonicals.{error_context_rows, forward_ro
 pub use Rattle.wenc_view.specs.inside.Canonicals.{read_ty_and_options, read_waited_memory}
 pub use Rattle.wenc_view.specs.inside.Canonicals.{read_zero, stream_rows, thread_rows}
 pub use Rattle.wenc_canon.specs.declared.canonicals.CanonicalOption.{CanonicalOption}
+pub use Rattle.wenc_view.specs.laws.Members.{are_counted, members_are}
+pub use Rattle.wenc_view.specs.laws.Repeats.{at_start, is_done, stops, times_go_on}

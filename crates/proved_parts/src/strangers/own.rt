@@ -1,7 +1,7 @@
 //! Types and sections of another crate, unknown to the crates below.
 ghost use Rattle.std.specs.Prelude.{◌≡◌, ◌++◌, OnOk, true};
 ghost use Rattle.proved_parts.specs.Prelude.{light, read_light, light_lawful, light_written};
-ghost use Rattle.proved_parts.specs.Prelude.{Light as Seen', light_alike};
+ghost use Rattle.proved_parts.specs.Prelude.{Light as Light', light_alike};
 ghost use Rattle.wenc_base.specs.Prelude.{list, option, ◌⨾◌, nothing, refused_for, verbatim};
 ghost use Rattle.wenc_base.specs.declared.fault.Fault.TheVariants.{TooLarge, Unfinished};
 
@@ -30,13 +30,12 @@ impl Encode for Light {
 }
 
 impl Delimited for Light {
-    ghost Seen = { Seen' };
-
-    ghost seen = { λ l. l };
-
-    ghost form = { light };
-
-    ghost readable = { ((λ fuel. read_light), light_lawful) };
+    ghost reads_back = { record {
+      Seen = Light';
+      seen = λ l. l;
+      form = light;
+      readable = ((λ fuel. read_light), light_lawful);
+    } };
 
     ghost written = { light_written };
 }

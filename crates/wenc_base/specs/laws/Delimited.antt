@@ -1,20 +1,52 @@
 -- Options, lists and pairs have their laws from their members.
-use Rattle.std.proofs.Common.{◌≡◌, Bool, true, ◌&&◌, ℕ, ◌++◌, [], ◌∷◌, List, map, Some, None, option_map, refl, ap}
+use Rattle.std.proofs.Common.{◌≡◌, Bool, true, ◌&&◌, ℕ, ◌++◌, [], ◌∷◌, List, map, Option, Some, None, option_map, refl, ap}
 use Rattle.std.specs.Option.{option_eq}
 use Rattle.std.specs.Cmp.{IsEquivalence}
 use Rattle.std.specs.Cmp.Lexicographic.{pointwise}
-use Rattle.wenc_base.specs.Delimited.{IsReadable, IsWritten, AlikeIsEqual, pair}
+use Rattle.wenc_base.specs.Delimited.{IsReadable, IsWritten, ReadsBack, AlikeIsEqual, pair}
 use Rattle.wenc_base.specs.Forms.{option, list}
 use Rattle.wenc_base.specs.laws.Forms.{option_lawful, list_lawful}
 use Rattle.wenc_base.specs.reading.Forms.{read_option, read_list}
-use Rattle.wenc_base.specs.Readers.{◌>>=◌, give}
+use Rattle.wenc_base.specs.Readers.{Reader, LawfulForm, ◌>>=◌, give}
 use Rattle.wenc_base.specs.laws.Lawful.{delimited, then, last}
 use Rattle.wenc_base.specs.Piece.{Form}
+
+-- ---- a value that is seen so, or as it is
+
+abbrev pub as_seen : {A S : Type 0} {form : Form S} {read : ℕ → Reader S} (seen : A → S)
+    → LawfulForm form read → ReadsBack A
+as_seen {S = S} {form = form} {read = read} seen lawful = record {
+  Seen = S;
+  seen = seen;
+  form = form;
+  readable = (read, lawful);
+}
+
+abbrev pub as_itself : {A : Type 0} {form : Form A} {read : ℕ → Reader A} → LawfulForm form read
+    → ReadsBack A
+as_itself lawful = as_seen (λ v. v) lawful
+
+-- what is seen of a part, or of another view
+abbrev pub back_through : {A B : Type 0} (f : A → B) → ReadsBack B → ReadsBack A
+back_through f r = record {
+  Seen = r.Seen;
+  seen = λ v. r.seen (f v);
+  form = r.form;
+  readable = r.readable;
+}
 
 -- ---- a value, or none
 
 pub option_readable : {A : Type 0} (form : Form A) → IsReadable form → IsReadable (option form)
 option_readable form laws = ((λ fuel. read_option (laws.0 fuel)), option_lawful laws.1)
+
+abbrev pub option_back : {A : Type 0} → ReadsBack A → ReadsBack (Option A)
+option_back r = record {
+  Seen = Option r.Seen;
+  seen = option_map r.seen;
+  form = option r.form;
+  readable = option_readable r.form r.readable;
+}
 
 -- ---- one value, then another
 
@@ -25,10 +57,26 @@ pair_readable one two first second = (
   λ p. then _ (first.1 p.0) (last _ (second.1 p.1)),
 )
 
+abbrev pub pair_back : {A B : Type 0} → ReadsBack A → ReadsBack B → ReadsBack (A × B)
+pair_back r t = record {
+  Seen = r.Seen × t.Seen;
+  seen = λ p. (r.seen p.0, t.seen p.1);
+  form = pair r.form t.form;
+  readable = pair_readable r.form t.form r.readable t.readable;
+}
+
 -- ---- as many values as there are
 
 pub list_readable : {A : Type 0} (form : Form A) → IsReadable form → IsReadable (list form)
 list_readable form laws = ((λ fuel. read_list (laws.0 fuel)), list_lawful laws.1)
+
+abbrev pub list_back : {A : Type 0} → ReadsBack A → ReadsBack (List A)
+list_back r = record {
+  Seen = List r.Seen;
+  seen = map r.seen;
+  form = list r.form;
+  readable = list_readable r.form r.readable;
+}
 
 -- ---- what follows
 

@@ -2,12 +2,9 @@
 use Rattle.std.proofs.Common.{◌≡◌, ℕ, List, map, Option, Result, Ok, Err, inl, inr, ap, sym, subst, ◌∙◌}
 use Rattle.std.proofs.iter.runs.Made.{seen}
 use Rattle.std.specs.Iterator.Runs.{SomeRun, EachRunFrom}
-use Rattle.wenc_base.specs.Encode.{Serves}
-use Rattle.wenc_base.specs.Fault.{NoCause, either}
-use Rattle.wenc_base.specs.Parent.{Extends, ExtendsListed, MakesWhole}
-use Rattle.wenc_base.specs.Piece.{Piece}
-use Rattle.wenc_base.specs.laws.Serves.{still_warranted, either_free, left_free, right_free}
-use Rattle.wenc_base.specs.declared.fault.Fault.{Fault}
+use Rattle.wenc_base.specs.Prelude.{Extends, ExtendsListed, Fault, MakesWhole, NoCause, Piece}
+use Rattle.wenc_base.specs.Prelude.{Serves, either, either_free, left_free, right_free}
+use Rattle.wenc_base.specs.Prelude.{still_warranted}
 
 module _ {T U : Type 0} (around : T → U) where
   pub carried : {p : Piece} (old new next : T) (outcome : Result (Unit {0}) Fault)

@@ -2,11 +2,11 @@
 ghost use Rattle.std.specs.Prelude.{◌≡◌, IfOk, IfErr, refl};
 ghost use Rattle.std.specs.Iterator.{IsFinite};
 ghost use Rattle.std.specs.Iterator.Runs.{WholeRun};
-ghost use Rattle.wenc_base.specs.Prelude.{params_of, results_of, IsMemory, serves_itself};
-ghost use Rattle.wenc_base.specs.Prelude.{composite_type, func_type_view, Composite};
-ghost use Rattle.wenc_base.specs.Prelude.{composite_type_lawful, read_composite, same_params};
+ghost use Rattle.wenc_base.specs.Prelude.{params_of, results_of, IsMemory, composite_type};
+ghost use Rattle.wenc_base.specs.Prelude.{func_type_view, composite_type_lawful, same_params};
 ghost use Rattle.wenc_base.specs.Prelude.{same_results, array_view, same_element, structure_view};
-ghost use Rattle.wenc_base.specs.Prelude.{same_fields, composite_view, by_kind};
+ghost use Rattle.wenc_base.specs.Prelude.{same_fields, composite_view, by_kind, as_seen};
+ghost use Rattle.wenc_base.specs.Prelude.{serves_itself};
 
 use super::ValType;
 use super::storage::FieldType;
@@ -87,13 +87,7 @@ impl<A: Allocator> Encode for FuncType<A> {
 }
 
 impl<A: Allocator> Delimited for FuncType<A> {
-    ghost Seen = { Composite };
-
-    ghost seen = { func_type_view };
-
-    ghost form = { composite_type };
-
-    ghost readable = { ((λ fuel. read_composite), composite_type_lawful) };
+    ghost reads_back = { as_seen func_type_view composite_type_lawful };
 
     ghost written = { λ _. serves_itself };
 }
@@ -117,13 +111,7 @@ impl Encode for ArrayType {
 }
 
 impl Delimited for ArrayType {
-    ghost Seen = { Composite };
-
-    ghost seen = { array_view };
-
-    ghost form = { composite_type };
-
-    ghost readable = { ((λ fuel. read_composite), composite_type_lawful) };
+    ghost reads_back = { as_seen array_view composite_type_lawful };
 
     ghost written = { λ _. serves_itself };
 }
@@ -150,13 +138,7 @@ impl<A: Allocator> Encode for StructType<A> {
 }
 
 impl<A: Allocator> Delimited for StructType<A> {
-    ghost Seen = { Composite };
-
-    ghost seen = { structure_view };
-
-    ghost form = { composite_type };
-
-    ghost readable = { ((λ fuel. read_composite), composite_type_lawful) };
+    ghost reads_back = { as_seen structure_view composite_type_lawful };
 
     ghost written = { λ _. serves_itself };
 }
@@ -191,13 +173,7 @@ impl<A: Allocator> Encode for CompositeType<A> {
 }
 
 impl<A: Allocator> Delimited for CompositeType<A> {
-    ghost Seen = { Composite };
-
-    ghost seen = { composite_view };
-
-    ghost form = { composite_type };
-
-    ghost readable = { ((λ fuel. read_composite), composite_type_lawful) };
+    ghost reads_back = { as_seen composite_view composite_type_lawful };
 
     ghost written = { λ _. serves_itself };
 }

@@ -1,9 +1,9 @@
 //! Groups of types that a module defines together.
 ghost use Rattle.std.specs.Prelude.{refl};
-ghost use Rattle.wenc_base.specs.Prelude.{serves_itself, rec_type, rec_type_view, RecType};
-ghost use Rattle.wenc_base.specs.Prelude.{group_lawful, read_group, by_group, by_parts, by_kind};
-ghost use Rattle.wenc_base.specs.Prelude.{plain, same_params, same_results, same_element};
-ghost use Rattle.wenc_base.specs.Prelude.{same_fields, last_of_three};
+ghost use Rattle.wenc_base.specs.Prelude.{rec_type, rec_type_view, group_lawful, by_group};
+ghost use Rattle.wenc_base.specs.Prelude.{by_parts, by_kind, plain, same_params, same_results};
+ghost use Rattle.wenc_base.specs.Prelude.{same_element, same_fields, last_of_three, as_seen};
+ghost use Rattle.wenc_base.specs.Prelude.{serves_itself};
 
 use super::sub::SubType;
 use crate::delimited::{Delimited, DelimitedEq};
@@ -34,13 +34,7 @@ impl<A: Allocator> Encode for GroupTree<A> {
 }
 
 impl<A: Allocator> Delimited for GroupTree<A> {
-    ghost Seen = { RecType };
-
-    ghost seen = { rec_type_view };
-
-    ghost form = { rec_type };
-
-    ghost readable = { ((λ fuel. read_group), group_lawful) };
+    ghost reads_back = { as_seen rec_type_view group_lawful };
 
     ghost written = { λ _. serves_itself };
 }

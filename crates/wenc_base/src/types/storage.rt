@@ -1,7 +1,6 @@
 //! Storage types of structure fields and array elements.
-ghost use Rattle.wenc_base.specs.Prelude.{itself, serves_itself, storage_type, storage_type_lawful};
-ghost use Rattle.wenc_base.specs.Prelude.{read_storage_type, field_type, field_type_lawful};
-ghost use Rattle.wenc_base.specs.Prelude.{read_field_type};
+ghost use Rattle.wenc_base.specs.Prelude.{itself, storage_type, storage_type_lawful, field_type};
+ghost use Rattle.wenc_base.specs.Prelude.{field_type_lawful, as_itself, serves_itself};
 
 use super::ValType;
 use crate::delimited::{Delimited, DelimitedEq};
@@ -35,15 +34,7 @@ impl Encode for StorageType {
 }
 
 impl Delimited for StorageType {
-    ghost use Rattle.wenc_base.specs.Prelude.{StorageType as Seen'};
-
-    ghost Seen = { Seen' };
-
-    ghost seen = { λ x. x };
-
-    ghost form = { storage_type };
-
-    ghost readable = { ((λ fuel. read_storage_type), storage_type_lawful) };
+    ghost reads_back = { as_itself storage_type_lawful };
 
     ghost written = { λ _. serves_itself };
 }
@@ -71,15 +62,7 @@ impl Encode for FieldType {
 }
 
 impl Delimited for FieldType {
-    ghost use Rattle.wenc_base.specs.Prelude.{FieldType as Seen'};
-
-    ghost Seen = { Seen' };
-
-    ghost seen = { λ x. x };
-
-    ghost form = { field_type };
-
-    ghost readable = { ((λ fuel. read_field_type), field_type_lawful) };
+    ghost reads_back = { as_itself field_type_lawful };
 
     ghost written = { λ _. serves_itself };
 }

@@ -1,9 +1,9 @@
 //! Subtypes: composite types with the type that they extend.
 ghost use Rattle.std.specs.Prelude.{OnOk, Some};
-ghost use Rattle.wenc_base.specs.Prelude.{Appends, option, u32 as number, ◌▸◌, ◌⨾◌, serves_itself};
-ghost use Rattle.wenc_base.specs.Prelude.{sub_type, sub_view, Sub, sub_type_lawful, read_sub_type};
-ghost use Rattle.wenc_base.specs.Prelude.{by_parts, by_kind, plain, same_params, same_results};
-ghost use Rattle.wenc_base.specs.Prelude.{same_element, same_fields, last_of_three};
+ghost use Rattle.wenc_base.specs.Prelude.{Appends, option, u32 as number, ◌▸◌, ◌⨾◌, sub_type};
+ghost use Rattle.wenc_base.specs.Prelude.{sub_view, sub_type_lawful, by_parts, by_kind, plain};
+ghost use Rattle.wenc_base.specs.Prelude.{same_params, same_results, same_element, same_fields};
+ghost use Rattle.wenc_base.specs.Prelude.{last_of_three, as_seen, serves_itself};
 
 use super::composite::CompositeType;
 use crate::delimited::{Delimited, DelimitedEq};
@@ -39,13 +39,7 @@ impl<A: Allocator> Encode for SubType<A> {
 }
 
 impl<A: Allocator> Delimited for SubType<A> {
-    ghost Seen = { Sub };
-
-    ghost seen = { sub_view };
-
-    ghost form = { sub_type };
-
-    ghost readable = { ((λ fuel. read_sub_type), sub_type_lawful) };
+    ghost reads_back = { as_seen sub_view sub_type_lawful };
 
     ghost written = { λ _. serves_itself };
 }

@@ -3,18 +3,14 @@ use Rattle.std.specs.Option.{option_map}
 use Rattle.std.proofs.Common.{◌≡◌, ℕ, inl, inr, List, [], ◌∷◌, ◌++◌, Option, Some, None, refl}
 use Rattle.std.proofs.Common.{Result, Ok, Err, sym, ap, subst}
 use Rattle.std.specs.Result.{MatchResult}
-use Rattle.wenc_base.specs.Fault.{IsWarranted}
-use Rattle.wenc_base.specs.declared.fault.Fault.{Fault}
-use Rattle.wenc_base.specs.laws.Serves.{still_warranted}
-use Rattle.wenc_builder.specs.Item.{Item, item}
-use Rattle.wenc_builder.specs.Sections.{runs}
-use Rattle.wenc_builder.specs.Space.{Indices, defines, IsIndexAt, IsIndexOf, next_index, index_of}
-use Rattle.wenc_builder.specs.Entry.{Entry, items, EntryCause}
-use Rattle.wenc_builder.specs.Builder.{OpenSection, Namespace, namespace_at, with_entry, State}
-use Rattle.wenc_builder.specs.Holds.{Holds, open_of, namespace_of}
-use Rattle.wenc_sections.specs.declared.space.Space.{Space}
-use Rattle.wenc_builder.specs.Cause.{SectionCause, SpaceCause, IndexCause, AddingCause, EnterCause}
-use Rattle.wenc_builder.specs.Enters.{IsCountAt, EntersWith, Enters}
+use Rattle.wenc_base.specs.Prelude.{Fault, IsWarranted, still_warranted}
+use Rattle.wenc_builder.specs.Prelude.{AddingCause, EnterCause, Enters, EntersWith, Entry}
+use Rattle.wenc_builder.specs.Prelude.{EntryCause, Holds, IndexCause, Indices, IsCountAt, IsIndexAt}
+use Rattle.wenc_builder.specs.Prelude.{IsIndexOf, Item, Namespace, OpenSection, SectionCause}
+use Rattle.wenc_builder.specs.Prelude.{SpaceCause, State, defines, index_of, item, items}
+use Rattle.wenc_builder.specs.Prelude.{namespace_at, namespace_of, next_index, open_of, runs}
+use Rattle.wenc_builder.specs.Prelude.{with_entry}
+use Rattle.wenc_sections.specs.Prelude.{Space}
 use Rattle.wenc_builder.specs.laws.EntryCause.{from_counts, to_counts, encodable_free}
 use Rattle.wenc_builder.specs.laws.Step.{sections_step, spaces_hold_more}
 

@@ -3,23 +3,17 @@ use Rattle.std.proofs.Common.{◌≡◌, ℕ, ◌≤◌, ◌^◌, ◌⊎◌, inl
 use Rattle.std.proofs.Common.{Some, None, refl, sym, ap, subst, ◌∙◌, arith, length-append}
 use Rattle.std.proofs.lemmas.Bool.Decides.{eqb_tells}
 use Rattle.std.specs.List.{flat_map, AllByRecursion}
-use Rattle.wenc_base.specs.Fault.{NoCause, size_cause}
-use Rattle.wenc_base.specs.Forms.{sized}
-use Rattle.wenc_base.specs.Names.{NameAssociation, name_association, name_map, names_text}
-use Rattle.wenc_base.specs.Number.{unsigned_text}
-use Rattle.wenc_base.specs.Piece.{AnyCause}
-use Rattle.wenc_base.specs.declared.fault.Fault.{Fault}
+use Rattle.wenc_base.specs.Prelude.{AnyCause, Fault, NameAssociation, NoCause, count_free}
+use Rattle.wenc_base.specs.Prelude.{name_association, name_map, names_text, size_cause, size_free}
+use Rattle.wenc_base.specs.Prelude.{sized, unsigned_text}
 use Rattle.wenc_base.specs.declared.fault.Fault.TheVariants.{TooMany, TooLarge, Unfinished}
-use Rattle.wenc_base.specs.laws.Numbers.{count_free, size_free}
-use Rattle.wenc_builder.specs.Builder.{OpenSection}
-use Rattle.wenc_builder.specs.Cause.{SectionCause, SpaceCause, IndexCause, AddingCause}
-use Rattle.wenc_builder.specs.Entry.{Entry, items, names, IndicesCause, EntryCause}
-use Rattle.wenc_builder.specs.Holds.{open_of, namespace_of}
-use Rattle.wenc_builder.specs.Item.{Item, collected, item}
-use Rattle.wenc_builder.specs.Sections.{Section, Run, Alone, runs, item_of, section_piece, sections}
-use Rattle.wenc_builder.specs.Sections.{component, IsEncodable}
-use Rattle.wenc_builder.specs.Space.{Indices, defines, next_index}
-use Rattle.wenc_builder.specs.laws.Never.{fits_is_free, never_unfinished}
+use Rattle.wenc_builder.specs.Prelude.{AddingCause, Alone, Entry, EntryCause, IndexCause, Indices}
+use Rattle.wenc_builder.specs.Prelude.{IsEncodable, Item, OpenSection, Run, Section, SectionCause}
+use Rattle.wenc_builder.specs.Prelude.{SpaceCause, collected, component, defines, item, item_of}
+use Rattle.wenc_builder.specs.Prelude.{items, names, namespace_of, never_unfinished, next_index}
+use Rattle.wenc_builder.specs.Prelude.{open_of, runs, section_piece, sections}
+use Rattle.wenc_builder.specs.Entry.{IndicesCause}
+use Rattle.wenc_builder.specs.laws.Never.{fits_is_free}
 use Rattle.wenc_builder.specs.laws.Runs.{runs_extended, pushed, pushed_some, open_skip, runs_push}
 use Rattle.wenc_builder.specs.laws.Step.{items_push}
 

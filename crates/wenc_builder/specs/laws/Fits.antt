@@ -6,17 +6,14 @@ use Rattle.std.proofs.lemmas.Bool.Decides.{eqb_tells}
 use Rattle.std.proofs.lemmas.Option.{same_Some}
 use Rattle.std.specs.List.{flat_map, AllByRecursion}
 use Rattle.std.specs.Prelude.{IsTrue}
-use Rattle.wenc_base.specs.Number.{unsigned_text}
+use Rattle.wenc_base.specs.Prelude.{NoCause, unsigned_text}
 use Rattle.wenc_base.specs.declared.fault.Fault.TheVariants.{TooMany, TooLarge}
-use Rattle.wenc_base.specs.Fault.{NoCause}
-use Rattle.wenc_builder.specs.Cause.{SectionCause}
-use Rattle.wenc_builder.specs.Item.{Item, ModuleItem, CoreInstanceItem, CoreTypeItem, ComponentItem}
-use Rattle.wenc_builder.specs.Item.{InstanceItem, AliasItem, TypeItem, CanonItem, StartItem}
-use Rattle.wenc_builder.specs.Item.{ImportItem, ExportItem, CustomItem, RawItem, collected, item}
-use Rattle.wenc_builder.specs.Sections.{Section, Run, Alone, runs, collects, item_of, section_piece}
-use Rattle.wenc_builder.specs.Sections.{sections}
-use Rattle.wenc_builder.specs.Builder.{OpenSection}
-use Rattle.wenc_builder.specs.Holds.{open_of}
+use Rattle.wenc_builder.specs.Prelude.{AliasItem, Alone, CanonItem, ComponentItem, CoreInstanceItem}
+use Rattle.wenc_builder.specs.Prelude.{CoreTypeItem, CustomItem, ExportItem, ImportItem}
+use Rattle.wenc_builder.specs.Prelude.{InstanceItem, Item, ModuleItem, OpenSection, RawItem, Run}
+use Rattle.wenc_builder.specs.Prelude.{Section, SectionCause, StartItem, TypeItem, collected}
+use Rattle.wenc_builder.specs.Prelude.{collects, item, item_of, open_of, runs, section_piece}
+use Rattle.wenc_builder.specs.Prelude.{sections}
 use Rattle.wenc_builder.specs.laws.Runs.{runs_extended, pushed, pushed_some, open_skip, runs_push}
 
 -- these sections can be encoded

@@ -5,21 +5,18 @@ use Rattle.std.specs.List.{AllByRecursion}
 use Rattle.std.proofs.Math.Logic.{∥∥₁_map, ∥∥₁_elim, ∥∥₁_prop}
 use Rattle.std.proofs.lemmas.Bool.Decides.{eqb_tells}
 use Rattle.std.proofs.lemmas.Option.{same_Some}
-use Rattle.wenc_base.specs.Fault.{NoCause}
+use Rattle.wenc_base.specs.Prelude.{NoCause}
 use Rattle.wenc_base.specs.declared.fault.Fault.TheVariants.{Memory, TooMany, TooLarge, Unfinished}
-use Rattle.wenc_builder.specs.Builder.{entered, entered_at, BegunItem, Content, State, settled_in}
-use Rattle.wenc_builder.specs.Builder.{builder_is_finished, with_entry, content_with, content_of}
-use Rattle.wenc_builder.specs.Builder.{NewItem, item_begun, begun_appended, item_appended, item_ended}
-use Rattle.wenc_builder.specs.Builder.{item_given_up, OpenSection}
-use Rattle.wenc_builder.specs.inside.Adds.{content_with_section}
-use Rattle.wenc_builder.specs.Entry.{Entry, entry, StartIsNameless}
-use Rattle.wenc_builder.specs.Holds.{Holds}
-use Rattle.wenc_builder.specs.Item.{Item, StartItem, collected, item}
-use Rattle.wenc_builder.specs.Cause.{NoRoom}
-use Rattle.wenc_builder.specs.ParentState.{IsItemText, IsWhole, is_whole}
-use Rattle.wenc_builder.specs.Space.{Indices, defines, some_in}
+use Rattle.wenc_builder.specs.Prelude.{BegunItem, Content, Entry, Holds, Indices, IsItemText, Item}
+use Rattle.wenc_builder.specs.Prelude.{NewItem, NoRoom, OpenSection, StartIsNameless, StartItem}
+use Rattle.wenc_builder.specs.Prelude.{State, begun_appended, builder_is_finished, collected}
+use Rattle.wenc_builder.specs.Prelude.{content_of, content_with, content_with_section, defines}
+use Rattle.wenc_builder.specs.Prelude.{entered, entered_at, entry, is_whole, item, item_appended}
+use Rattle.wenc_builder.specs.Prelude.{item_begun, item_ended, item_given_up, settled_in, some_in}
+use Rattle.wenc_builder.specs.Prelude.{with_entry}
+use Rattle.wenc_builder.specs.ParentState.{IsWhole}
 use Rattle.wenc_sections.specs.declared.space.Space.TheVariants.{Values}
-use Rattle.wenc_sections.specs.Start.{Start}
+use Rattle.wenc_sections.specs.Prelude.{Start}
 use Rattle.wenc_builder.specs.inside.HoldsSome.{IsIndexed, HasRoomFor, HoldsSome}
 use Rattle.wenc_builder.specs.laws.Fits.{HasRoom}
 use Rattle.wenc_builder.specs.laws.Step.{holds_step}

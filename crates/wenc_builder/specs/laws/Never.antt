@@ -1,20 +1,15 @@
 -- What can be encoded has no cause, and no item is unfinished.
 use Rattle.std.specs.Prelude.{ℕ}
-use Rattle.wenc_base.specs.Fault.{NoCause}
-use Rattle.wenc_base.specs.Piece.{Piece}
-use Rattle.wenc_base.specs.Readers.{Reader, Lawful}
+use Rattle.wenc_base.specs.Prelude.{Lawful, NoCause, Piece, Reader, byte_list_lawful, custom_lawful}
 use Rattle.wenc_base.specs.declared.fault.Fault.TheVariants.{Unfinished}
-use Rattle.wenc_base.specs.laws.Forms.{byte_list_lawful}
-use Rattle.wenc_base.specs.laws.Sections.{custom_lawful}
 use Rattle.wenc_builder.specs.Item.{Item, ModuleItem, CoreInstanceItem, CoreTypeItem, ComponentItem}
 use Rattle.wenc_builder.specs.Item.{InstanceItem, AliasItem, TypeItem, CanonItem, StartItem}
 use Rattle.wenc_builder.specs.Item.{ImportItem, ExportItem, CustomItem, RawItem, item}
-use Rattle.wenc_canon.specs.laws.Canonicals.{canonical_lawful}
-use Rattle.wenc_parts.specs.laws.Aliases.{alias_lawful}
-use Rattle.wenc_sections.specs.laws.Items.{import_lawful, inline_export_lawful}
-use Rattle.wenc_sections.specs.laws.Items.{core_instance_lawful, instance_lawful, start_lawful}
-use Rattle.wenc_types.specs.laws.ComponentTypes.{type_lawful}
-use Rattle.wenc_types.specs.laws.CoreTypes.{core_type_lawful}
+use Rattle.wenc_canon.specs.Prelude.{canonical_lawful}
+use Rattle.wenc_parts.specs.Prelude.{alias_lawful}
+use Rattle.wenc_sections.specs.Prelude.{core_instance_lawful, import_lawful, inline_export_lawful}
+use Rattle.wenc_sections.specs.Prelude.{instance_lawful, start_lawful}
+use Rattle.wenc_types.specs.Prelude.{core_type_lawful, type_lawful}
 
 -- what the laws of a piece say of its cause
 abbrev OfCause : Piece → Type 0

@@ -5,14 +5,16 @@ use Rattle.std.proofs.lemmas.Bool.Decides.{eqb_tells}
 use Rattle.std.proofs.lemmas.Option.{same_Some}
 use Rattle.std.specs.List.{flat_map}
 use Rattle.std.specs.Prelude.{IsTrue}
-use Rattle.wenc_base.specs.Piece.{Piece, Spelling, Strict, only_where, ReadsEach}
-use Rattle.wenc_base.specs.laws.Forms.{byte_list_lawful, read_counted, counted_lawful}
-use Rattle.wenc_base.specs.reading.Forms.{read_byte_list}
-use Rattle.wenc_base.specs.Readers.{Flaw, Bad, Lawful, Reader, go_on, ◌>>=◌, give, nowhere, pick, choose, made}
-use Rattle.wenc_base.specs.laws.Lawful.{LawfulWhole, row_lawful, row_byte, IsPast, Starts, past}
-use Rattle.wenc_base.specs.laws.Lawful.{last, only_where_lawful, then_whole, last_whole, to_end}
+use Rattle.wenc_base.specs.Prelude.{Bad, Flaw, IsPast, Lawful, LawfulWhole, Piece, Reader, Spelling}
+use Rattle.wenc_base.specs.Prelude.{Starts, Strict, byte_list_lawful, counted_lawful, custom_lawful}
+use Rattle.wenc_base.specs.Prelude.{give, go_on, last, made, nowhere, only_where, past, pick}
+use Rattle.wenc_base.specs.Prelude.{read_byte_list, row_byte, row_lawful, then_whole, ◌>>=◌}
+use Rattle.wenc_base.specs.Piece.{ReadsEach}
+use Rattle.wenc_base.specs.laws.Forms.{read_counted}
+use Rattle.wenc_base.specs.Readers.{choose}
+use Rattle.wenc_base.specs.laws.Lawful.{only_where_lawful, last_whole, to_end}
 use Rattle.wenc_base.specs.laws.Lawful.{at_end, before_end, deeper_whole, whole_once}
-use Rattle.wenc_base.specs.laws.Sections.{read_custom, custom_lawful}
+use Rattle.wenc_base.specs.laws.Sections.{read_custom}
 use Rattle.wenc_builder.specs.Item.{Item, ModuleItem, CoreInstanceItem, CoreTypeItem, ComponentItem}
 use Rattle.wenc_builder.specs.Item.{InstanceItem, AliasItem, TypeItem, CanonItem, StartItem}
 use Rattle.wenc_builder.specs.Item.{ImportItem, ExportItem, CustomItem, RawItem, collected, item}
@@ -23,18 +25,12 @@ use Rattle.wenc_builder.specs.Sections.{Section, Run, Alone, members, joined, ru
 use Rattle.wenc_builder.specs.Sections.{item_of, section_piece, sections, component, preamble}
 use Rattle.wenc_builder.specs.Sections.{Reading, whole, SectionsHaveNoRaw, AreEncodable}
 use Rattle.wenc_builder.specs.Sections.{IsEncodable}
-use Rattle.wenc_canon.specs.laws.Canonicals.{canonical_lawful}
-use Rattle.wenc_canon.specs.reading.Canonicals.{read_canonical}
-use Rattle.wenc_parts.specs.laws.Aliases.{alias_lawful}
-use Rattle.wenc_parts.specs.reading.Aliases.{read_alias}
-use Rattle.wenc_sections.specs.laws.Items.{import_lawful, inline_export_lawful}
-use Rattle.wenc_sections.specs.laws.Items.{core_instance_lawful, instance_lawful, start_lawful}
-use Rattle.wenc_sections.specs.inside.Items.{read_import, read_inline_export}
-use Rattle.wenc_sections.specs.reading.Items.{read_core_instance, read_instance, read_start}
-use Rattle.wenc_types.specs.laws.ComponentTypes.{type_lawful}
-use Rattle.wenc_types.specs.reading.ComponentTypes.{read_type}
-use Rattle.wenc_types.specs.laws.CoreTypes.{core_type_lawful}
-use Rattle.wenc_types.specs.reading.CoreTypes.{read_core_type}
+use Rattle.wenc_canon.specs.Prelude.{canonical_lawful, read_canonical}
+use Rattle.wenc_parts.specs.Prelude.{alias_lawful, read_alias}
+use Rattle.wenc_sections.specs.Prelude.{core_instance_lawful, import_lawful, inline_export_lawful}
+use Rattle.wenc_sections.specs.Prelude.{instance_lawful, read_core_instance, read_import}
+use Rattle.wenc_sections.specs.Prelude.{read_inline_export, read_instance, read_start, start_lawful}
+use Rattle.wenc_types.specs.Prelude.{core_type_lawful, read_core_type, read_type, type_lawful}
 
 -- what is never allowed is lawful
 vacuous : {A : Type 0} {P : Type 0} {p : Piece} {read : ℕ → Reader A} {v : A}

@@ -5,12 +5,11 @@ use Rattle.std.proofs.Common.{length-append}
 use Rattle.std.proofs.lemmas.Bool.Decides.{eqb_tells}
 use Rattle.std.proofs.lemmas.List.{append_cancel_right}
 use Rattle.std.specs.List.{flat_map}
-use Rattle.wenc_base.specs.Number.{unsigned_text}
-use Rattle.wenc_builder.specs.Item.{Item, collected, item}
-use Rattle.wenc_builder.specs.Sections.{Section, Run, Alone, joined, runs, section_piece, sections}
-use Rattle.wenc_builder.specs.Sections.{preamble}
-use Rattle.wenc_builder.specs.Builder.{SectionsState, sections_text, open_text, open_text_of, with_item, with_item_at}
-use Rattle.wenc_builder.specs.Holds.{open_of, SectionsHold}
+use Rattle.wenc_base.specs.Prelude.{unsigned_text}
+use Rattle.wenc_builder.specs.Prelude.{Alone, Item, Run, Section, SectionsHold, SectionsState}
+use Rattle.wenc_builder.specs.Prelude.{collected, item, joined, open_of, open_text_of, preamble}
+use Rattle.wenc_builder.specs.Prelude.{runs, section_piece, sections, sections_text}
+use Rattle.wenc_builder.specs.Builder.{open_text, with_item, with_item_at}
 
 abbrev item_text : Item → List ℕ
 item_text x = (item x).text

@@ -4,18 +4,17 @@ use Rattle.std.proofs.Common.{Some, None, refl, ap, sym, ◌∙◌, inl, inr, su
 use Rattle.std.proofs.Common.{append-nil, arith, length-append, add_assoc, zero-add, add-zero}
 use Rattle.std.proofs.Common.{replicate, get_or}
 use Rattle.std.proofs.lemmas.List.{get_or-set_same, get_or-set_other, length-set}
-use Rattle.wenc_builder.specs.Item.{Item, item}
-use Rattle.wenc_builder.specs.Sections.{preamble, runs}
+use Rattle.wenc_builder.specs.Prelude.{Entry, Holds, Indices, Item, Namespace, SectionsHold, State}
+use Rattle.wenc_builder.specs.Prelude.{defined_in, defines, item, items, named_in, names}
+use Rattle.wenc_builder.specs.Prelude.{names_from, namespace_at, namespace_of, namespace_with}
+use Rattle.wenc_builder.specs.Prelude.{next_index, no_names, open_of, preamble, runs, settled_in}
+use Rattle.wenc_builder.specs.Prelude.{spaces_with, step, with_entry}
 use Rattle.wenc_sections.specs.laws.Space.{space_within, same_number, space_decides, space_tells, space_ne}
 use Rattle.wenc_builder.specs.laws.Fits.{SectionsFit, HasRoom, sections_fit_more}
-use Rattle.wenc_sections.specs.Space.{space_number}
-use Rattle.wenc_builder.specs.Space.{Indices, defines, defined_in, next_index}
-use Rattle.wenc_sections.specs.declared.space.Space.{Space}
-use Rattle.wenc_base.specs.Names.{NameAssociation, name_association, names_text}
-use Rattle.wenc_builder.specs.Entry.{Entry, items, named_as, named_in, names_from, names}
-use Rattle.wenc_builder.specs.Builder.{Namespace, no_names, namespace_at, namespace_with, spaces_with}
-use Rattle.wenc_builder.specs.Builder.{with_entry, State, step, settled_in}
-use Rattle.wenc_builder.specs.Holds.{open_of, namespace_of, SectionsHold, SpacesHold, Holds}
+use Rattle.wenc_sections.specs.Prelude.{Space, space_number}
+use Rattle.wenc_base.specs.Prelude.{NameAssociation, name_association, names_text}
+use Rattle.wenc_builder.specs.Entry.{named_as}
+use Rattle.wenc_builder.specs.Holds.{SpacesHold}
 use Rattle.wenc_builder.specs.laws.Runs.{sections_hold_more}
 
 pub items_push : (es : List Entry) (x : Entry) → items (es ++ x ∷ []) ≡ items es ++ x.item ∷ []

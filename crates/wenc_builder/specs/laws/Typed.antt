@@ -1,18 +1,12 @@
 -- What an item that is begun and then written owes to its entry's cause.
 use Rattle.std.proofs.Common.{◌≡◌, ℕ, List, [], ◌∷◌, ◌++◌, Option, Some, refl, sym, ap, subst, ◌∙◌, inl, inr}
-use Rattle.wenc_base.specs.Fault.{NoCause, either}
-use Rattle.wenc_base.specs.declared.fault.Fault.{Fault}
-use Rattle.wenc_types.specs.ComponentTypes.{DefType}
-use Rattle.wenc_types.specs.CoreTypes.{CoreType}
-use Rattle.wenc_builder.specs.Item.{collected, item}
-use Rattle.wenc_builder.specs.Space.{Indices, defines}
-use Rattle.wenc_builder.specs.Entry.{Entry, EntryCause, type_entry, core_type_entry}
-use Rattle.wenc_builder.specs.Builder.{Content, with_entry, State, step, content_of, NewItem}
-use Rattle.wenc_builder.specs.Builder.{new_item, new_item_in, new_item_indices, item_begun}
-use Rattle.wenc_builder.specs.Builder.{item_appended, item_ended}
-use Rattle.wenc_builder.specs.Cause.{CallCause, BeginCause}
-use Rattle.wenc_builder.specs.Holds.{Holds}
-use Rattle.wenc_builder.specs.ParentState.{no_room_in_section}
+use Rattle.wenc_base.specs.Prelude.{Fault, NoCause, either}
+use Rattle.wenc_types.specs.Prelude.{CoreType, DefType}
+use Rattle.wenc_builder.specs.Prelude.{BeginCause, CallCause, Content, Entry, EntryCause, Holds}
+use Rattle.wenc_builder.specs.Prelude.{Indices, NewItem, State, collected, content_of}
+use Rattle.wenc_builder.specs.Prelude.{core_type_entry, defines, item, item_appended, item_begun}
+use Rattle.wenc_builder.specs.Prelude.{item_ended, new_item, new_item_in, new_item_indices}
+use Rattle.wenc_builder.specs.Prelude.{no_room_in_section, step, type_entry, with_entry}
 use Rattle.wenc_parts.specs.declared.component.ComponentSectionId.TheVariants as ids
 use Rattle.wenc_sections.specs.declared.space.Space.TheVariants as spaces
 use Rattle.wenc_builder.specs.laws.Answered.{to_entry, from_entry}

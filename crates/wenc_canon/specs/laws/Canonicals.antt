@@ -1,14 +1,11 @@
 -- The laws of canonical functions.
 use Rattle.std.proofs.Common.{◌≡◌, ◌+◌, List, [], ◌∷◌, map, Ok, refl, ap, arith}
-use Rattle.wenc_base.specs.Holder.{HolderState}
-use Rattle.wenc_base.specs.Readers.{Lawful, nowhere, pick}
-use Rattle.wenc_base.specs.laws.Lawful.{row_lawful as in_row, row_byte, nothing_lawful, then, last}
-use Rattle.wenc_base.specs.laws.Sound.{Sound, RowsAreSound, give_tells, last_tells, then_tells}
-use Rattle.wenc_base.specs.laws.Sound.{nowhere_tells, choose_tells}
-use Rattle.wenc_base.specs.laws.Numbers.{u32_lawful, u32_sound}
-use Rattle.wenc_base.specs.laws.Forms.{flag_lawful, flag_sound, list_lawful, list_sound}
-use Rattle.wenc_base.specs.laws.Types.{val_type_lawful, val_type_sound}
-use Rattle.wenc_parts.specs.laws.Types.{result_list_lawful, result_list_sound}
+use Rattle.wenc_base.specs.Prelude.{HolderState, Lawful, RowsAreSound, Sound, choose_tells}
+use Rattle.wenc_base.specs.Prelude.{flag_lawful, flag_sound, give_tells, last, last_tells}
+use Rattle.wenc_base.specs.Prelude.{list_lawful, list_sound, nothing_lawful, nowhere, nowhere_tells}
+use Rattle.wenc_base.specs.Prelude.{pick, row_byte, row_lawful as in_row, then, then_tells}
+use Rattle.wenc_base.specs.Prelude.{u32_lawful, u32_sound, val_type_lawful, val_type_sound}
+use Rattle.wenc_parts.specs.Prelude.{result_list_lawful, result_list_sound}
 use Rattle.wenc_canon.specs.declared.canonicals.CanonicalOption.{CanonicalOption}
 use Rattle.wenc_canon.specs.declared.canonicals.CanonicalOption.TheVariants.{UTF8, UTF16}
 use Rattle.wenc_canon.specs.declared.canonicals.CanonicalOption.TheVariants.{CompactUTF16, Memory}

@@ -1,15 +1,10 @@
 -- What is written of a row is the builtin that its opcode and values say.
 use Rattle.std.proofs.Common.{◌≡◌, ℕ, List, [], ◌∷◌, refl, ap, subst, sym, append_assoc, ◌++◌, inl, inr}
 use Rattle.std.specs.Prelude.{codes, decimal}
-use Rattle.wenc_base.specs.Encode.{Serves, in_order}
-use Rattle.wenc_base.specs.Forms.{list}
-use Rattle.wenc_base.specs.Holder.{listed}
-use Rattle.wenc_base.specs.Number.{u32}
-use Rattle.wenc_base.specs.Piece.{Piece, nothing, ◌▸◌, ◌⨾◌, behind_bytes}
-use Rattle.wenc_base.specs.laws.Serves.{serves_itself, serves_then, order_serves, tagged_serves}
-use Rattle.wenc_base.specs.laws.Serves.{both_serve, behind_is, with_nothing, either_free, left_free}
-use Rattle.wenc_base.specs.laws.Serves.{right_free}
-use Rattle.wenc_base.specs.declared.types.ValType.{ValType}
+use Rattle.wenc_base.specs.Prelude.{Piece, Serves, ValType, behind_bytes, behind_is, both_serve}
+use Rattle.wenc_base.specs.Prelude.{either_free, in_order, left_free, list, listed, nothing}
+use Rattle.wenc_base.specs.Prelude.{order_serves, right_free, serves_itself, serves_then}
+use Rattle.wenc_base.specs.Prelude.{tagged_serves, u32, with_nothing, ◌▸◌, ◌⨾◌}
 use Rattle.wenc_canon.specs.declared.canonicals.CanonicalOption.{CanonicalOption}
 use Rattle.wenc_canon.specs.Canonicals.{canonical_option, Field, Index, Options, Flag, Zero}
 use Rattle.wenc_canon.specs.Canonicals.{CoreType, Results, Value, field, Values, fields, Builtin}

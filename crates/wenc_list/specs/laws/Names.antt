@@ -4,31 +4,23 @@ use Rattle.std.proofs.Common.{length, take, drop, Result, Ok, Err, refl, sym, ap
 use Rattle.std.proofs.Common.{inr, length-append}
 use Rattle.std.proofs.lemmas.Bool.{cases_lt, lt-ltb, le-ltb}
 use Rattle.std.proofs.lemmas.List.{take_at, drop_at, take-append-drop, length-take-le, append-nil}
-use Rattle.wenc_base.specs.Forms.{name, AreBytes}
-use Rattle.wenc_base.specs.Names.{NameAssociation, name_association, name_map}
-use Rattle.wenc_base.specs.Number.{u32}
-use Rattle.wenc_base.specs.Piece.{Form, Wide, ◌⨾◌, raw}
-use Rattle.wenc_base.specs.Readers.{Lawful, Flaw, Bad, Deep, go_on, made, done}
-use Rattle.wenc_base.specs.laws.Forms.{name_lawful, name_sound, list_lawful, list_sound}
-use Rattle.wenc_base.specs.laws.Lawful.{then, last, whole_lawful}
-use Rattle.wenc_base.specs.laws.Names.{name_association_lawful}
-use Rattle.wenc_base.specs.laws.Numbers.{u32_lawful, u32_sound}
-use Rattle.wenc_base.specs.laws.Sound.{Told, Sound, SoundWhole, weaken, told_on, then_tells}
-use Rattle.wenc_base.specs.laws.Sound.{last_tells, give_tells, nowhere_tells, sound_behind, tested}
-use Rattle.wenc_base.specs.laws.Sound.{choose_tells, whole_sound}
-use Rattle.wenc_base.specs.reading.Forms.{read_name}
-use Rattle.wenc_base.specs.reading.Numbers.{read_u32}
-use Rattle.wenc_read.specs.Exact.{IsExactAt}
+use Rattle.wenc_base.specs.Prelude.{AreBytes, Bad, Deep, Flaw, Form, Lawful, NameAssociation, Sound}
+use Rattle.wenc_base.specs.Prelude.{SoundWhole, Told, Wide, choose_tells, done, give_tells, go_on}
+use Rattle.wenc_base.specs.Prelude.{last, last_tells, list_lawful, list_sound, made, name}
+use Rattle.wenc_base.specs.Prelude.{name_association, name_association_lawful, name_lawful}
+use Rattle.wenc_base.specs.Prelude.{name_map, name_sound, nowhere_tells, raw, read_name, read_u32}
+use Rattle.wenc_base.specs.Prelude.{sound_behind, tested, then, then_tells, told_on, u32}
+use Rattle.wenc_base.specs.Prelude.{u32_lawful, u32_sound, weaken, whole_lawful, ◌⨾◌}
+use Rattle.wenc_base.specs.laws.Sound.{whole_sound}
+use Rattle.wenc_read.specs.Prelude.{IsExactAt}
 use Rattle.wenc_read.specs.laws.Exact.{found_and_read}
-use Rattle.wenc_sections.specs.Names.{Subsection, ComponentName, ItemNames, RawNames, item_sort}
-use Rattle.wenc_sections.specs.Names.{subsection}
-use Rattle.wenc_sections.specs.declared.space.Space.{Space}
+use Rattle.wenc_sections.specs.Prelude.{ComponentName, ItemNames, RawNames, Space, Subsection}
+use Rattle.wenc_sections.specs.Prelude.{item_sort, sort_lawful, subsection}
 use Rattle.wenc_sections.specs.declared.space.Space.TheVariants.{CoreModules, CoreFuncs, CoreTypes}
 use Rattle.wenc_sections.specs.declared.space.Space.TheVariants.{CoreMemories, CoreTables}
 use Rattle.wenc_sections.specs.declared.space.Space.TheVariants.{CoreInstances, CoreTags}
 use Rattle.wenc_sections.specs.declared.space.Space.TheVariants.{CoreGlobals, Funcs, Instances}
 use Rattle.wenc_sections.specs.declared.space.Space.TheVariants.{Values, Components, Types}
-use Rattle.wenc_sections.specs.laws.Names.{sort_lawful}
 use Rattle.wenc_list.specs.Names.{part, subsection_by_id, read_part, read_item_name, read_core_sort}
 use Rattle.wenc_list.specs.Names.{read_sort, read_item_names, read_names_in, read_names}
 

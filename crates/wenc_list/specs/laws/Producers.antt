@@ -1,17 +1,11 @@
 -- Why the readers of producers find what is read and nothing else.
 use Rattle.std.proofs.Common.{◌≡◌, ℕ, List, [], ◌∷◌, Result, Ok, Err, refl}
-use Rattle.wenc_base.specs.Forms.{list}
-use Rattle.wenc_base.specs.Piece.{Wide}
-use Rattle.wenc_base.specs.Producers.{producer, Producers, producers_field}
-use Rattle.wenc_base.specs.Readers.{Flaw, made, all_read}
-use Rattle.wenc_base.specs.laws.Forms.{name_sound, list_lawful, list_sound}
-use Rattle.wenc_base.specs.laws.Sections.{read_producer, read_producers_field}
-use Rattle.wenc_base.specs.laws.Sections.{producers_field_lawful}
-use Rattle.wenc_base.specs.laws.Sound.{Sound, then_tells, last_tells}
-use Rattle.wenc_base.specs.reading.Forms.{read_list}
-use Rattle.wenc_read.specs.Exact.{IsExact}
-use Rattle.wenc_read.specs.laws.Exact.{exact_by}
-use Rattle.wenc_list.specs.Producers.{Part, producers_parts, parts_in}
+use Rattle.wenc_base.specs.Prelude.{Flaw, Producers, Sound, Wide, all_read, last_tells, list}
+use Rattle.wenc_base.specs.Prelude.{list_lawful, list_sound, made, name_sound, producer}
+use Rattle.wenc_base.specs.Prelude.{producers_field, producers_field_lawful, read_list}
+use Rattle.wenc_base.specs.Prelude.{read_producer, read_producers_field, then_tells}
+use Rattle.wenc_read.specs.Prelude.{IsExact, exact_by}
+use Rattle.wenc_list.specs.Prelude.{Part, parts_in, producers_parts}
 
 pub producer_sound : Sound producer read_producer
 producer_sound = then_tells _ name_sound (λ tool. last_tells

@@ -1,20 +1,16 @@
 -- The laws of aliases.
 use Rattle.std.proofs.Common.{ℕ, List, [], ◌∷◌, refl}
-use Rattle.wenc_base.specs.Piece.{Piece, Form, Wide, byte, ◌▸◌, ◌⨾◌}
-use Rattle.wenc_base.specs.laws.Sound.{Sound, sound_behind, last_tells, then_tells, nowhere_tells, choose_tells}
-use Rattle.wenc_base.specs.Number.{u32}
-use Rattle.wenc_base.specs.Forms.{name as name_form}
-use Rattle.wenc_base.specs.Readers.{Lawful, nowhere, choose}
-use Rattle.wenc_base.specs.laws.Lawful.{row_lawful, row_byte, first_byte, first_of_two, then, last}
-use Rattle.wenc_base.specs.laws.Numbers.{u32_lawful, u32_sound}
-use Rattle.wenc_base.specs.laws.Forms.{name_lawful, name_sound}
-use Rattle.wenc_base.specs.declared.exports.ExportKind.{ExportKind}
+use Rattle.wenc_base.specs.Prelude.{ExportKind, Form, Lawful, Piece, Sound, Wide, byte, choose}
+use Rattle.wenc_base.specs.Prelude.{choose_tells, export_kind_byte, first_of_two, last, last_tells}
+use Rattle.wenc_base.specs.Prelude.{name as name_form, name_lawful, name_sound, nowhere}
+use Rattle.wenc_base.specs.Prelude.{nowhere_tells, row_byte, row_lawful, sound_behind, then}
+use Rattle.wenc_base.specs.Prelude.{then_tells, u32, u32_lawful, u32_sound, ◌▸◌, ◌⨾◌}
+use Rattle.wenc_base.specs.laws.Lawful.{first_byte}
 use Rattle.wenc_base.specs.declared.exports.ExportKind.TheVariants as cores
 use Rattle.wenc_parts.specs.declared.exports.ComponentExportKind.{ComponentExportKind}
 use Rattle.wenc_parts.specs.declared.exports.ComponentExportKind.TheVariants as kinds
 use Rattle.wenc_parts.specs.declared.aliases.ComponentOuterAliasKind.{ComponentOuterAliasKind}
 use Rattle.wenc_parts.specs.declared.aliases.ComponentOuterAliasKind.TheVariants as outers
-use Rattle.wenc_base.specs.Exports.{export_kind_byte}
 use Rattle.wenc_parts.specs.Exports.{component_export_kind}
 use Rattle.wenc_parts.specs.Aliases.{AliasOf, InstanceExport, CoreInstanceExport, Outer, outer_kind, alias}
 use Rattle.wenc_parts.specs.reading.Aliases.{read_alias, read_core_export, read_export_or_outer}

@@ -1,8 +1,7 @@
 -- The laws of the kinds of exports.
 use Rattle.std.proofs.Common.{refl}
-use Rattle.wenc_base.specs.Readers.{Lawful}
-use Rattle.wenc_base.specs.laws.Lawful.{row_lawful, row_byte}
-use Rattle.wenc_base.specs.laws.Sound.{Sound, give_tells, nowhere_tells, choose_tells}
+use Rattle.wenc_base.specs.Prelude.{Lawful, Sound, choose_tells, give_tells, nowhere_tells}
+use Rattle.wenc_base.specs.Prelude.{row_byte, row_lawful}
 use Rattle.wenc_parts.specs.declared.exports.ComponentExportKind.{ComponentExportKind}
 use Rattle.wenc_parts.specs.declared.exports.ComponentExportKind.TheVariants.{Module, Func, Value}
 use Rattle.wenc_parts.specs.declared.exports.ComponentExportKind.TheVariants.{«Type» as TypeKind}

@@ -1,15 +1,12 @@
 -- The laws of type references and of names.
 use Rattle.std.proofs.Common.{◌≡◌, ℕ, true, false, true≢false, cond, ◌++◌, List, [], ◌∷◌, Option}
 use Rattle.std.proofs.Common.{Some, None, Ok, Err, refl, sym, ap, subst, inl, inr}
-use Rattle.wenc_base.specs.Forms.{name, list}
+use Rattle.wenc_base.specs.Prelude.{Bad, Lawful, Sound, Told, Wide, choose_tells, give_tells, last}
+use Rattle.wenc_base.specs.Prelude.{last_tells, list, list_lawful, list_sound, name, name_lawful}
+use Rattle.wenc_base.specs.Prelude.{name_sound, nowhere_tells, or_widely_lawful, read_list}
+use Rattle.wenc_base.specs.Prelude.{row_byte, row_lawful, then, then_tells, u32_lawful, u32_sound}
+use Rattle.wenc_base.specs.Prelude.{◌>>=◌}
 use Rattle.wenc_parts.specs.Exports.{component_export_kind}
-use Rattle.wenc_base.specs.Readers.{Bad, Lawful, ◌>>=◌}
-use Rattle.wenc_base.specs.laws.Lawful.{row_lawful, row_byte, or_widely_lawful, then, last}
-use Rattle.wenc_base.specs.laws.Sound.{Told, Sound, give_tells, last_tells, then_tells, nowhere_tells, choose_tells}
-use Rattle.wenc_base.specs.Piece.{Wide}
-use Rattle.wenc_base.specs.laws.Numbers.{u32_lawful, u32_sound}
-use Rattle.wenc_base.specs.laws.Forms.{name_lawful, name_sound, list_lawful, list_sound}
-use Rattle.wenc_base.specs.reading.Forms.{read_list}
 use Rattle.wenc_parts.specs.declared.imports.TypeBounds.{TypeBounds}
 use Rattle.wenc_parts.specs.declared.imports.TypeBounds.TheVariants.{Eq, SubResource}
 use Rattle.wenc_parts.specs.declared.imports.ComponentTypeRef.{ComponentTypeRef}

@@ -1,9 +1,7 @@
 -- The law of what a core module is given.
 use Rattle.std.proofs.Common.{refl}
-use Rattle.wenc_base.specs.laws.Sound.{Sound, last_tells, nowhere_tells, choose_tells}
-use Rattle.wenc_base.specs.Readers.{Lawful}
-use Rattle.wenc_base.specs.laws.Lawful.{row_lawful, last}
-use Rattle.wenc_base.specs.laws.Numbers.{u32_lawful, u32_sound}
+use Rattle.wenc_base.specs.Prelude.{Lawful, Sound, choose_tells, last, last_tells, nowhere_tells}
+use Rattle.wenc_base.specs.Prelude.{row_lawful, u32_lawful, u32_sound}
 use Rattle.wenc_parts.specs.declared.instances.ModuleArg.{ModuleArg}
 use Rattle.wenc_parts.specs.declared.instances.ModuleArg.TheVariants.{Instance}
 use Rattle.wenc_parts.specs.Instances.{module_argument}

@@ -1,7 +1,6 @@
 -- The law of the ids of sections.
 use Rattle.std.proofs.Common.{refl}
-use Rattle.wenc_base.specs.Readers.{Lawful}
-use Rattle.wenc_base.specs.laws.Lawful.{row_byte}
+use Rattle.wenc_base.specs.Prelude.{Lawful, row_byte}
 use Rattle.wenc_parts.specs.declared.component.ComponentSectionId.{ComponentSectionId}
 use Rattle.wenc_parts.specs.declared.component.ComponentSectionId.TheVariants.{CoreCustom}
 use Rattle.wenc_parts.specs.declared.component.ComponentSectionId.TheVariants.{CoreModule}

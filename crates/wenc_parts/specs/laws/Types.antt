@@ -1,8 +1,9 @@
 -- The laws of value types.
 use Rattle.std.proofs.Common.{◌≡◌, ap, ℕ, List, [], ◌∷◌, ◌++◌, Option, Some, None, refl, arith}
-use Rattle.wenc_base.specs.Readers.{Lawful, Reader, choose}
-use Rattle.wenc_base.specs.laws.Lawful.{row_lawful, row_byte, past, last}
-use Rattle.wenc_base.specs.laws.Numbers.{index_lawful, index_sound, index_starts}
+use Rattle.wenc_base.specs.Prelude.{Form, Lawful, Reader, RowsAreSound, Sound, Wide, choose}
+use Rattle.wenc_base.specs.Prelude.{choose_tells, give_tells, given_rows, index_lawful, index_sound}
+use Rattle.wenc_base.specs.Prelude.{index_starts, last, last_tells, nowhere_tells, past, row_byte}
+use Rattle.wenc_base.specs.Prelude.{row_lawful}
 use Rattle.wenc_parts.specs.declared.types.PrimitiveValType.{PrimitiveValType}
 use Rattle.wenc_parts.specs.declared.types.PrimitiveValType.TheVariants.{Bool, S8, U8, S16, U16}
 use Rattle.wenc_parts.specs.declared.types.PrimitiveValType.TheVariants.{S32, U32, S64, U64, F32}
@@ -11,9 +12,6 @@ use Rattle.wenc_parts.specs.declared.types.PrimitiveValType.TheVariants.{ErrorCo
 use Rattle.wenc_parts.specs.declared.types.ComponentValType.{ComponentValType}
 use Rattle.wenc_parts.specs.declared.types.ComponentValType.TheVariants.{Primitive, «Type» as TypeIndex}
 use Rattle.wenc_parts.specs.declared.types.ResultList.{ResultList}
-use Rattle.wenc_base.specs.Piece.{Form, Wide}
-use Rattle.wenc_base.specs.laws.Sound.{Sound, RowsAreSound, given_rows, give_tells, last_tells}
-use Rattle.wenc_base.specs.laws.Sound.{nowhere_tells, choose_tells}
 use Rattle.wenc_parts.specs.Types.{primitive_byte, primitive, value_type, result_list}
 use Rattle.wenc_parts.specs.reading.Types.{primitive_rows, read_primitive, read_result_list, read_value_type}
 

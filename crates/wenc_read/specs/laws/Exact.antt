@@ -1,12 +1,9 @@
 -- Why readers are exact.
 use Rattle.std.proofs.Common.{◌≡◌, ℕ, List, [], ◌∷◌, length, Option, Some, None, Result, Ok, Err, refl, arith}
-use Rattle.wenc_base.specs.Forms.{list, option}
-use Rattle.wenc_base.specs.Piece.{Form, Wide, byte, each}
-use Rattle.wenc_base.specs.Readers.{Flaw, Bad, Deep, Reader, read_byte, choose, times, LawfulForm}
-use Rattle.wenc_base.specs.laws.Forms.{list_sound, option_sound}
-use Rattle.wenc_base.specs.laws.Numbers.{count_lawful}
-use Rattle.wenc_base.specs.laws.Sound.{Told, Sound}
-use Rattle.wenc_base.specs.reading.Forms.{read_list, read_option}
+use Rattle.wenc_base.specs.Prelude.{Bad, Deep, Flaw, Form, LawfulForm, Reader, Sound, Told, Wide}
+use Rattle.wenc_base.specs.Prelude.{byte, count_lawful, each, list, list_sound, option}
+use Rattle.wenc_base.specs.Prelude.{option_sound, read_byte, read_list, read_option, times}
+use Rattle.wenc_base.specs.Readers.{choose}
 use Rattle.wenc_read.specs.Exact.{IsExactAt, IsExact}
 use Rattle.wenc_read.specs.laws.Tables.{first_there}
 

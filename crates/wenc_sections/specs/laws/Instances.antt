@@ -1,22 +1,13 @@
 -- What the code writes of instances serves as their forms.
 use Rattle.std.proofs.Common.{ℕ, List, refl, map, inl, inr}
-use Rattle.wenc_base.specs.Encode.{Serves, in_order, list_in_order}
-use Rattle.wenc_base.specs.Exports.{core_export_kind as core_kind}
-use Rattle.wenc_base.specs.Delimited.{pair}
-use Rattle.wenc_base.specs.Forms.{name, list}
+use Rattle.wenc_base.specs.Prelude.{ExportKind, Form, Piece, Serves, both_serve}
+use Rattle.wenc_base.specs.Prelude.{core_export_kind as core_kind, in_order, list, list_in_order}
+use Rattle.wenc_base.specs.Prelude.{list_serves, listed, lists_serve, name, nothing, order_serves}
+use Rattle.wenc_base.specs.Prelude.{pair, right_free, serves_itself, serves_then, tagged_serves}
+use Rattle.wenc_base.specs.Prelude.{three_serve, two_serve, u32, with_nothing, ◌▸◌, ◌⨾◌}
 use Rattle.wenc_sections.specs.Pairs.{triple}
-use Rattle.wenc_base.specs.Holder.{listed}
-use Rattle.wenc_base.specs.Number.{u32}
-use Rattle.wenc_base.specs.Piece.{Piece, Form, nothing, ◌▸◌, ◌⨾◌}
-use Rattle.wenc_base.specs.laws.Serves.{serves_itself, serves_then, tagged_serves, both_serve}
-use Rattle.wenc_base.specs.laws.Serves.{order_serves, two_serve, three_serve, with_nothing}
-use Rattle.wenc_base.specs.laws.Serves.{right_free, list_serves, lists_serve}
-use Rattle.wenc_base.specs.declared.exports.ExportKind.{ExportKind}
-use Rattle.wenc_parts.specs.Exports.{component_export_kind}
-use Rattle.wenc_parts.specs.Imports.{ExternName, extern_name}
-use Rattle.wenc_parts.specs.Instances.{module_argument}
-use Rattle.wenc_parts.specs.declared.exports.ComponentExportKind.{ComponentExportKind}
-use Rattle.wenc_parts.specs.declared.instances.ModuleArg.{ModuleArg}
+use Rattle.wenc_parts.specs.Prelude.{ComponentExportKind, ExternName, ModuleArg}
+use Rattle.wenc_parts.specs.Prelude.{component_export_kind, extern_name, module_argument}
 use Rattle.wenc_sections.specs.Instances.{CoreInstantiate, CoreExports, core_instance, Instantiate}
 use Rattle.wenc_sections.specs.Instances.{Exports, instance, named_pair, named_triple}
 

@@ -1,18 +1,16 @@
 -- The laws of the items of flat sections.
 use Rattle.std.proofs.Common.{refl}
-use Rattle.wenc_base.specs.Readers.{Lawful}
-use Rattle.wenc_base.specs.laws.Lawful.{row_lawful, then, last, whole_lawful}
-use Rattle.wenc_base.specs.laws.Sound.{Sound, last_tells, then_tells, nowhere_tells, choose_tells}
-use Rattle.wenc_base.specs.laws.Numbers.{u32_lawful, u32_sound}
-use Rattle.wenc_base.specs.laws.Forms.{name_lawful, name_sound, list_lawful, list_sound}
-use Rattle.wenc_base.specs.laws.Forms.{option_lawful, option_sound, sized_lawful}
+use Rattle.wenc_base.specs.Prelude.{Lawful, Sound, choose_tells}
+use Rattle.wenc_base.specs.Prelude.{core_export_kind_lawful as core_kind_lawful}
+use Rattle.wenc_base.specs.Prelude.{core_export_kind_sound as core_kind_sound, last, last_tells}
+use Rattle.wenc_base.specs.Prelude.{list_lawful, list_sound, name_lawful, name_sound, nowhere_tells}
+use Rattle.wenc_base.specs.Prelude.{option_lawful, option_sound, row_lawful, sized_lawful, then}
+use Rattle.wenc_base.specs.Prelude.{then_tells, u32_lawful, u32_sound, whole_lawful}
 use Rattle.wenc_sections.specs.laws.Pairs.{pair_lawful, pair_sound, triple_lawful, triple_sound}
-use Rattle.wenc_base.specs.laws.Exports.{core_export_kind_lawful as core_kind_lawful}
-use Rattle.wenc_base.specs.laws.Exports.{core_export_kind_sound as core_kind_sound}
-use Rattle.wenc_parts.specs.laws.Exports.{component_export_kind_lawful, component_export_kind_sound}
-use Rattle.wenc_parts.specs.laws.Imports.{type_reference_lawful, type_reference_sound}
-use Rattle.wenc_parts.specs.laws.Imports.{extern_name_lawful, extern_name_sound}
-use Rattle.wenc_parts.specs.laws.Instances.{module_argument_lawful, module_argument_sound}
+use Rattle.wenc_parts.specs.Prelude.{component_export_kind_lawful, component_export_kind_sound}
+use Rattle.wenc_parts.specs.Prelude.{extern_name_lawful, extern_name_sound, module_argument_lawful}
+use Rattle.wenc_parts.specs.Prelude.{module_argument_sound, type_reference_lawful}
+use Rattle.wenc_parts.specs.Prelude.{type_reference_sound}
 use Rattle.wenc_sections.specs.Imports.{Import, import_item}
 use Rattle.wenc_sections.specs.Exports.{Export, export_item}
 use Rattle.wenc_sections.specs.Instances.{CoreInstance, CoreInstantiate, CoreExports, core_instance}

@@ -1,11 +1,9 @@
 -- The laws of the section of names.
 use Rattle.std.proofs.Common.{◌≡◌, ℕ, List, [], ◌∷◌, refl}
-use Rattle.wenc_base.specs.Holder.{HolderState, Contains}
-use Rattle.wenc_base.specs.Names.{NameAssociation, name_association}
-use Rattle.wenc_base.specs.laws.Forms.{name_lawful, sized_lawful, bytes_lawful}
-use Rattle.wenc_base.specs.Readers.{Lawful, Reader, give, nowhere, choose}
-use Rattle.wenc_base.specs.laws.Lawful.{row_lawful, row_byte, then_whole, refused_lawful}
-use Rattle.wenc_base.specs.laws.Names.{held_names}
+use Rattle.wenc_base.specs.Prelude.{Contains, HolderState, Lawful, NameAssociation, Reader}
+use Rattle.wenc_base.specs.Prelude.{bytes_lawful, choose, give, held_names, name_association}
+use Rattle.wenc_base.specs.Prelude.{name_lawful, nowhere, refused_lawful, row_byte, row_lawful}
+use Rattle.wenc_base.specs.Prelude.{sized_lawful, then_whole}
 use Rattle.wenc_sections.specs.declared.space.Space.{Space}
 use Rattle.wenc_sections.specs.declared.space.Space.TheVariants.{CoreModules, CoreFuncs, CoreTypes}
 use Rattle.wenc_sections.specs.declared.space.Space.TheVariants.{CoreMemories, CoreTables}

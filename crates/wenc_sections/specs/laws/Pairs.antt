@@ -1,10 +1,7 @@
 -- The laws of pairs and triples.
 use Rattle.std.proofs.Common.{ℕ}
-use Rattle.wenc_base.specs.Delimited.{pair}
-use Rattle.wenc_base.specs.Piece.{Form}
-use Rattle.wenc_base.specs.Readers.{Lawful, Reader}
-use Rattle.wenc_base.specs.laws.Lawful.{then, last}
-use Rattle.wenc_base.specs.laws.Sound.{Sound, last_tells, then_tells}
+use Rattle.wenc_base.specs.Prelude.{Form, Lawful, Reader, Sound, last, last_tells, pair, then}
+use Rattle.wenc_base.specs.Prelude.{then_tells}
 use Rattle.wenc_sections.specs.Pairs.{triple}
 use Rattle.wenc_sections.specs.reading.Pairs.{read_pair, read_triple}
 

@@ -1,17 +1,13 @@
 -- The laws of types that components define.
 use Rattle.std.proofs.Common.{ℕ, zero, suc, List, [], ◌∷◌, Err, ◌≡◌, length, refl, ap}
-use Rattle.wenc_base.specs.Encode.{Serves}
-use Rattle.wenc_base.specs.Forms.{list}
-use Rattle.wenc_base.specs.Piece.{Piece, each, ◌▸◌}
-use Rattle.wenc_base.specs.laws.Forms.{option_lawful}
-use Rattle.wenc_base.specs.Readers.{Bad, Reader, times, choose, Lawful}
-use Rattle.wenc_base.specs.laws.Lawful.{row_lawful, then, last, deeper, nothing_lawful}
-use Rattle.wenc_base.specs.laws.Numbers.{u32_lawful, count_lawful}
+use Rattle.wenc_base.specs.Prelude.{Bad, Lawful, Piece, Reader, Serves, both_serve, count_lawful}
+use Rattle.wenc_base.specs.Prelude.{each, last, list, nothing_lawful, option_lawful, row_lawful}
+use Rattle.wenc_base.specs.Prelude.{serves_itself, tagged_serves, then, times, u32_lawful}
+use Rattle.wenc_base.specs.Prelude.{val_type_lawful, ◌▸◌}
+use Rattle.wenc_base.specs.Readers.{choose}
+use Rattle.wenc_base.specs.laws.Lawful.{deeper}
 use Rattle.wenc_base.specs.laws.Sound.{ReadsApart, other_lawful}
-use Rattle.wenc_base.specs.laws.Serves.{serves_itself, tagged_serves, both_serve}
-use Rattle.wenc_base.specs.laws.Types.{val_type_lawful}
-use Rattle.wenc_parts.specs.laws.Aliases.{alias_lawful}
-use Rattle.wenc_parts.specs.laws.Imports.{extern_name_lawful, type_reference_lawful}
+use Rattle.wenc_parts.specs.Prelude.{alias_lawful, extern_name_lawful, type_reference_lawful}
 use Rattle.wenc_types.specs.laws.CoreTypes.{core_type_lawful}
 use Rattle.wenc_types.specs.laws.DefinedTypes.{defined_type_lawful, function_row}
 use Rattle.wenc_types.specs.ComponentTypes.{DefType, DefinedType, FunctionType, ComponentType}

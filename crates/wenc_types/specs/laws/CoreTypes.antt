@@ -4,33 +4,22 @@ use Rattle.std.proofs.Common.{map, refl, sym, ap, subst, ◌∙◌}
 use Rattle.std.specs.Cmp.{IsEquivalence}
 use Rattle.std.specs.Cmp.Lexicographic.{pointwise}
 use Rattle.std.specs.String.{string_bytes}
-use Rattle.wenc_base.specs.declared.types.composite.CompositeType.{CompositeType}
+use Rattle.wenc_base.specs.Prelude.{AlikeIsEqual, Composite, CompositeType, EntityType, FieldType}
+use Rattle.wenc_base.specs.Prelude.{Form, FuncType, GroupTree, Lawful, Reader, Rec, RecType}
+use Rattle.wenc_base.specs.Prelude.{RowsAreSound, Single, Sound, StructType, Sub, SubType, Wide}
+use Rattle.wenc_base.specs.Prelude.{both_tables, choose, choose_tells, composite_view}
+use Rattle.wenc_base.specs.Prelude.{entity_type_lawful, entity_type_sound, final_rows, group_lawful}
+use Rattle.wenc_base.specs.Prelude.{group_sound, last, last_tells, list, list_lawful, list_sound}
+use Rattle.wenc_base.specs.Prelude.{name_lawful, name_sound, nowhere, nowhere_tells, params_of}
+use Rattle.wenc_base.specs.Prelude.{read_types, rec_type_view, results_of, row_lawful, same_element}
+use Rattle.wenc_base.specs.Prelude.{same_fields, same_params, same_results, sound_behind, standing}
+use Rattle.wenc_base.specs.Prelude.{sub_of, sub_type_of, sub_view, then, then_tells, u32_lawful}
+use Rattle.wenc_base.specs.Prelude.{u32_sound}
 use Rattle.wenc_base.specs.declared.types.composite.CompositeType.TheVariants as composites
-use Rattle.wenc_base.specs.declared.types.composite.FuncType.{FuncType}
-use Rattle.wenc_base.specs.declared.types.composite.StructType.{StructType}
-use Rattle.wenc_base.specs.declared.types.groups.GroupTree.{GroupTree}
 use Rattle.wenc_base.specs.declared.types.groups.GroupTree.TheVariants as groups
-use Rattle.wenc_base.specs.declared.types.storage.FieldType.{FieldType}
-use Rattle.wenc_base.specs.declared.types.sub.SubType.{SubType}
-use Rattle.wenc_base.specs.Composites.{params_of, results_of, composite_view, sub_view}
-use Rattle.wenc_base.specs.Composites.{rec_type_view, Sub, sub_type_of, RecType, Single, Rec}
-use Rattle.wenc_base.specs.Composites.{guard_before, standing, Composite}
-use Rattle.wenc_base.specs.Delimited.{AlikeIsEqual}
-use Rattle.wenc_base.specs.Forms.{list}
-use Rattle.wenc_base.specs.declared.imports.EntityType.{EntityType}
+use Rattle.wenc_base.specs.Composites.{guard_before}
 use Rattle.wenc_base.specs.laws.Composites.{extension_lawful, extension_sound, final_row}
 use Rattle.wenc_base.specs.laws.Composites.{final_rows_sound, types_lawful, types_sound}
-use Rattle.wenc_base.specs.laws.Composites.{group_lawful, group_sound, same_params, same_results}
-use Rattle.wenc_base.specs.laws.Composites.{same_element, same_fields}
-use Rattle.wenc_base.specs.reading.Composites.{sub_of, final_rows, read_types}
-use Rattle.wenc_base.specs.laws.Entities.{entity_type_lawful, entity_type_sound}
-use Rattle.wenc_base.specs.laws.Forms.{list_lawful, list_sound, name_lawful, name_sound}
-use Rattle.wenc_base.specs.Readers.{Lawful, Reader, nowhere, choose}
-use Rattle.wenc_base.specs.laws.Lawful.{row_lawful, then, last}
-use Rattle.wenc_base.specs.laws.Sound.{Sound, sound_behind, RowsAreSound, both_tables, last_tells}
-use Rattle.wenc_base.specs.laws.Sound.{then_tells, nowhere_tells, choose_tells}
-use Rattle.wenc_base.specs.Piece.{Form, Wide}
-use Rattle.wenc_base.specs.laws.Numbers.{u32_lawful, u32_sound}
 use Rattle.wenc_types.specs.CoreTypes.{ModuleDeclaration, ModuleImport, ModuleRecType, ModuleOuter}
 use Rattle.wenc_types.specs.CoreTypes.{ModuleExport, module_declaration, module_type, CoreType}
 use Rattle.wenc_types.specs.CoreTypes.{Grouped, Module, core_type}

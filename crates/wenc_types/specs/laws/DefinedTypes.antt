@@ -1,15 +1,13 @@
 -- The laws of types of values that components define, and of types of functions.
 use Rattle.std.proofs.Common.{ℕ, Bool, true, false, List, [], ◌++◌, Option, refl}
-use Rattle.wenc_base.specs.laws.Forms.{list_lawful, list_sound, name_lawful, name_sound, option_lawful, option_sound}
-use Rattle.wenc_base.specs.Readers.{Lawful, Reader, nowhere, choose}
-use Rattle.wenc_base.specs.laws.Lawful.{row_lawful, row_byte, then, last}
-use Rattle.wenc_base.specs.laws.Sound.{Sound, RowsAreSound, give_tells, last_tells, then_tells}
-use Rattle.wenc_base.specs.laws.Sound.{nowhere_tells, choose_tells}
-use Rattle.wenc_base.specs.Piece.{Form, Wide}
-use Rattle.wenc_base.specs.laws.Numbers.{u32_lawful, u32_sound}
-use Rattle.wenc_parts.specs.declared.types.ComponentValType.{ComponentValType}
-use Rattle.wenc_parts.specs.laws.Types.{primitive_row, value_type_lawful, value_type_sound, result_list_lawful}
-use Rattle.wenc_parts.specs.reading.Types.{primitive_rows}
+use Rattle.wenc_base.specs.Prelude.{Form, Lawful, Reader, RowsAreSound, Sound, Wide, choose}
+use Rattle.wenc_base.specs.Prelude.{choose_tells, give_tells, last, last_tells, list_lawful}
+use Rattle.wenc_base.specs.Prelude.{list_sound, name_lawful, name_sound, nowhere, nowhere_tells}
+use Rattle.wenc_base.specs.Prelude.{option_lawful, option_sound, row_byte, row_lawful, then}
+use Rattle.wenc_base.specs.Prelude.{then_tells, u32_lawful, u32_sound}
+use Rattle.wenc_parts.specs.Prelude.{ComponentValType, primitive_rows, result_list_lawful}
+use Rattle.wenc_parts.specs.Prelude.{value_type_lawful, value_type_sound}
+use Rattle.wenc_parts.specs.laws.Types.{primitive_row}
 use Rattle.wenc_types.specs.DefinedTypes.{LabelledType, labelled_type, Case, case, DefValType}
 use Rattle.wenc_types.specs.DefinedTypes.{Primitive, Record, Variant, ListOf, MapOf}
 use Rattle.wenc_types.specs.DefinedTypes.{FixedLengthList, Tuple, Flags, Enumeration, OptionOf}

@@ -1,8 +1,7 @@
 -- What the members of a list are.
 use Rattle.std.proofs.Common.{◌≡◌, ◌≢◌, ℕ, zero, suc, ◌-◌, List, [], ◌∷◌, Result, Ok, Err, refl}
 use Rattle.std.proofs.Common.{length, ap, arith}
-use Rattle.wenc_base.specs.Readers.{Flaw, Bad, Reader, ◌>>=◌, go_on, give, times}
-use Rattle.wenc_base.specs.laws.Lawful.{same_Ok_pair}
+use Rattle.wenc_base.specs.Prelude.{Bad, Flaw, Reader, give, go_on, same_Ok_pair, times, ◌>>=◌}
 use Rattle.wenc_view.specs.Members.{members_of, and_more}
 
 -- where all of them are read, these are the members

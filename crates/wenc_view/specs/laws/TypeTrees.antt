@@ -3,57 +3,51 @@
 use Rattle.std.proofs.Common.{ℕ, zero, suc, ◌<◌, ◌≤◌, Bool, true, false, List, [], ◌∷◌, Option}
 use Rattle.std.proofs.Common.{refl, ◌∙◌, inl, inr, arith}
 use Rattle.std.specs.List.{AllByRecursion}
-use Rattle.wenc_base.specs.Number.{u32}
-use Rattle.wenc_base.specs.Piece.{Form, Wide, only_where, each}
-use Rattle.wenc_base.specs.laws.Forms.{list_lawful, list_sound, option_lawful, option_sound}
-use Rattle.wenc_base.specs.declared.types.ValType.{ValType}
-use Rattle.wenc_base.specs.Readers.{Reader, ◌>>=◌, give, too_deep, times, choose}
-use Rattle.wenc_base.specs.laws.Lawful.{then, last}
-use Rattle.wenc_base.specs.laws.Numbers.{u32_lawful, count_lawful, u32_sound}
-use Rattle.wenc_base.specs.reading.Numbers.{read_u32}
-use Rattle.wenc_base.specs.laws.Sound.{Told, Tells, Sound, deep_where, sound_tells, told_on}
-use Rattle.wenc_base.specs.laws.Sound.{then_tells, last_tells, nowhere_tells, too_deep_tells}
-use Rattle.wenc_base.specs.laws.Sound.{sound_behind, RowsTell, both_tables, choose_tells, Fewer}
-use Rattle.wenc_base.specs.laws.Sound.{Several, times_told, each_plain, Finds, or_deeper}
-use Rattle.wenc_base.specs.laws.Sound.{nothing_finds, then_finds, last_finds, lawful_finds}
+use Rattle.wenc_base.specs.Prelude.{Fewer, Finds, Form, Reader, Several, Sound, Tells, Told}
+use Rattle.wenc_base.specs.Prelude.{ValType, Wide, both_tables, choose, choose_tells, count_lawful}
+use Rattle.wenc_base.specs.Prelude.{deep_where, each, give, last, last_finds, last_tells}
+use Rattle.wenc_base.specs.Prelude.{lawful_finds, list_lawful, list_sound, nowhere_tells}
+use Rattle.wenc_base.specs.Prelude.{only_where, option_lawful, option_sound, or_deeper, read_u32}
+use Rattle.wenc_base.specs.Prelude.{sound_behind, sound_tells, then, then_tells, times, times_told}
+use Rattle.wenc_base.specs.Prelude.{told_on, too_deep, u32, u32_lawful, u32_sound, val_type_lawful}
+use Rattle.wenc_base.specs.Prelude.{val_type_sound, ◌>>=◌}
+use Rattle.wenc_base.specs.laws.Sound.{too_deep_tells}
+use Rattle.wenc_base.specs.laws.Sound.{RowsTell}
+use Rattle.wenc_base.specs.laws.Sound.{each_plain}
+use Rattle.wenc_base.specs.laws.Sound.{nothing_finds, then_finds}
 use Rattle.wenc_base.specs.laws.Sound.{too_deep_finds, row_finds, other_finds}
-use Rattle.wenc_base.specs.laws.Types.{val_type_lawful, val_type_sound}
-use Rattle.wenc_parts.specs.declared.types.ComponentValType.{ComponentValType}
-use Rattle.wenc_parts.specs.laws.Aliases.{alias_lawful, alias_sound}
-use Rattle.wenc_parts.specs.reading.Aliases.{read_alias}
-use Rattle.wenc_parts.specs.laws.Imports.{extern_name_lawful, extern_name_sound}
-use Rattle.wenc_parts.specs.laws.Imports.{type_reference_lawful, type_reference_sound}
-use Rattle.wenc_parts.specs.laws.Types.{result_list_lawful, result_list_sound, primitive_rows_sound}
-use Rattle.wenc_parts.specs.reading.Types.{primitive_rows}
-use Rattle.wenc_types.specs.ComponentTypes.{DefType, DefinedType, FunctionType, ComponentType}
-use Rattle.wenc_types.specs.ComponentTypes.{InstanceType, ResourceType, InstanceDeclaration}
-use Rattle.wenc_types.specs.ComponentTypes.{CoreTyped, Typed, Aliased, Exported}
-use Rattle.wenc_types.specs.ComponentTypes.{ComponentDeclaration, Imported, Declared}
-use Rattle.wenc_types.specs.ComponentTypes.{InstanceDeclarations, no_instance, and_instance}
-use Rattle.wenc_types.specs.ComponentTypes.{ComponentDeclarations, no_component, and_component}
-use Rattle.wenc_types.specs.ComponentTypes.{instances_of, components_of, instance_count}
-use Rattle.wenc_types.specs.ComponentTypes.{component_count, def_type, instance_declaration}
-use Rattle.wenc_types.specs.ComponentTypes.{component_declaration, each_instance, each_component}
-use Rattle.wenc_types.specs.ComponentTypes.{depth, instance_depth, component_depth, declared_depth}
-use Rattle.wenc_types.specs.DefinedTypes.{LabelledType, DefValType, Primitive, def_val_type, function_type}
-use Rattle.wenc_types.specs.laws.ComponentTypes.{instances_counted, components_counted, one_level}
+use Rattle.wenc_parts.specs.Prelude.{ComponentValType, alias_lawful, alias_sound}
+use Rattle.wenc_parts.specs.Prelude.{extern_name_lawful, extern_name_sound, primitive_rows}
+use Rattle.wenc_parts.specs.Prelude.{read_alias, result_list_lawful, result_list_sound}
+use Rattle.wenc_parts.specs.Prelude.{type_reference_lawful, type_reference_sound}
+use Rattle.wenc_parts.specs.laws.Types.{primitive_rows_sound}
+use Rattle.wenc_types.specs.Prelude.{Aliased, ComponentDeclaration, ComponentDeclarations}
+use Rattle.wenc_types.specs.Prelude.{ComponentType, CoreTyped, Declared, DefType, DefValType}
+use Rattle.wenc_types.specs.Prelude.{DefinedType, Exported, FunctionType, Imported}
+use Rattle.wenc_types.specs.Prelude.{InstanceDeclaration, InstanceDeclarations, InstanceType}
+use Rattle.wenc_types.specs.Prelude.{LabelledType, Primitive, ResourceType, Typed, and_component}
+use Rattle.wenc_types.specs.Prelude.{and_instance, component_count, component_declaration}
+use Rattle.wenc_types.specs.Prelude.{components_of, core_type_lawful, core_type_sound, def_type}
+use Rattle.wenc_types.specs.Prelude.{def_val_type, defined_rows, defined_type_lawful, depth}
+use Rattle.wenc_types.specs.Prelude.{each_component, each_instance, function_type, instance_count}
+use Rattle.wenc_types.specs.Prelude.{instance_declaration, instances_of, labelled_type_lawful}
+use Rattle.wenc_types.specs.Prelude.{named_sound, no_component, no_instance, one_level}
+use Rattle.wenc_types.specs.Prelude.{read_component_declaration, read_component_type}
+use Rattle.wenc_types.specs.Prelude.{read_core_type, read_defined, read_exported, read_imported}
+use Rattle.wenc_types.specs.Prelude.{read_instance_declaration, read_instance_type}
+use Rattle.wenc_types.specs.Prelude.{read_resource_type, read_shallow, read_signature, to_function}
+use Rattle.wenc_types.specs.Prelude.{type_rows}
+use Rattle.wenc_types.specs.ComponentTypes.{instance_depth, component_depth, declared_depth}
+use Rattle.wenc_types.specs.laws.ComponentTypes.{instances_counted, components_counted}
 use Rattle.wenc_types.specs.laws.ComponentTypes.{instance_list, component_list, instances_relisted}
 use Rattle.wenc_types.specs.laws.ComponentTypes.{components_relisted, no_row_is_shallow}
 use Rattle.wenc_types.specs.laws.ComponentTypes.{nothing_is_shallow, no_import_is_declared}
 use Rattle.wenc_types.specs.laws.ComponentTypes.{nothing_is_declared}
-use Rattle.wenc_types.specs.laws.CoreTypes.{core_type_lawful, core_type_sound}
-use Rattle.wenc_types.specs.reading.CoreTypes.{read_core_type}
-use Rattle.wenc_types.specs.laws.DefinedTypes.{labelled_type_lawful, named_sound}
-use Rattle.wenc_types.specs.laws.DefinedTypes.{defined_type_lawful, defined_rows_sound}
-use Rattle.wenc_types.specs.reading.DefinedTypes.{defined_rows, read_defined, read_signature, to_function}
+use Rattle.wenc_types.specs.laws.DefinedTypes.{defined_rows_sound}
 use Rattle.wenc_view.specs.Depth.{Front, ByteThen, OpensTypes}
-use Rattle.wenc_types.specs.reading.ComponentTypes.{read_exported, read_imported}
-use Rattle.wenc_types.specs.reading.ComponentTypes.{read_instance_declaration}
-use Rattle.wenc_types.specs.reading.ComponentTypes.{read_component_declaration, read_components}
-use Rattle.wenc_types.specs.reading.ComponentTypes.{read_instances, read_shallow, type_rows}
-use Rattle.wenc_types.specs.reading.ComponentTypes.{read_type, read_component_type}
-use Rattle.wenc_types.specs.reading.ComponentTypes.{read_instance_type}
-use Rattle.wenc_types.specs.reading.ComponentTypes.{read_resource_type}
+use Rattle.wenc_types.specs.reading.ComponentTypes.{read_components}
+use Rattle.wenc_types.specs.reading.ComponentTypes.{read_instances}
+use Rattle.wenc_types.specs.reading.ComponentTypes.{read_type}
 
 -- ---- what doesn't nest
 

@@ -2,10 +2,9 @@ use Rattle.std.proofs.Common.{◌∙◌, ℕ, zero, suc, List, [], ◌∷◌, le
 use Rattle.std.proofs.lemmas.List.{length-map}
 use Rattle.std.proofs.lemmas.Result.{err_from_is_err_and}
 use Rattle.std.specs.Prelude.{remove}
-use Rattle.wenc_base.specs.Piece.{Wide}
-use Rattle.wenc_builder.specs.Sections.{Section, Reading}
-use Rattle.wenc_list.specs.Items.{section_view}
-use Rattle.wenc_list.specs.Listing.{AreWithin}
+use Rattle.wenc_base.specs.Prelude.{Wide}
+use Rattle.wenc_builder.specs.Prelude.{Reading, Section}
+use Rattle.wenc_list.specs.Prelude.{AreWithin, section_view}
 use Rattle.proved_lists.proofs.cut.listed_without.Goals as goal
 
 others_within : (ss : List Section) (i : ℕ) → AreWithin 100 ss → AreWithin 100 (remove ss i)

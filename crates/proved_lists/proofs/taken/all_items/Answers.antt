@@ -1,7 +1,6 @@
 use Rattle.std.proofs.Common.{◌++◌, ◌∷◌, [], rules}
 use Rattle.std.proofs.lemmas.Result.{err_from_is_err_and}
-use Rattle.wenc_list.specs.Cursor.{IsSpent}
-use Rattle.wenc_list.specs.Items.{item_seen, item_section}
+use Rattle.wenc_list.specs.Prelude.{IsSpent, item_section, item_seen}
 use Rattle.proved_lists.proofs.taken.all_items.Goals as goal
 
 pub returns-in_err-_item-clause-fault : goal.returns-in_err-_item-clause-fault

@@ -1,8 +1,6 @@
 use Rattle.std.proofs.Common.{◌∙◌, ap, map, subst, sym, List, ◌++◌, ◌∷◌}
-use Rattle.wasm_encoder.specs.Command.{CommandTree, command_view}
-use Rattle.wasm_encoder.specs.Ran.{Ran}
-use Rattle.wenc_builder.specs.Entry.{Entry, items as items_of}
-use Rattle.wenc_builder.specs.Sections.{Run, whole}
+use Rattle.wasm_encoder.specs.Prelude.{CommandTree, Ran, command_view}
+use Rattle.wenc_builder.specs.Prelude.{Entry, Run, items as items_of, whole}
 use Rattle.proved_tests.proofs.applied.told_of_a_run.Goals as goal
 
 pub returns-in-Ok-clause-apart : goal.returns-in-Ok-clause-apart

@@ -1,10 +1,9 @@
 use Rattle.std.proofs.Common.{rules, map, None, subst, ◌∙◌}
 use Rattle.std.specs.Iterator.Runs.{WholeRun}
 use Rattle.wasm_encoder.specs.Prelude.{IsEntered}
-use Rattle.wenc_base.specs.Composites.{Rec, sub_view}
-use Rattle.wenc_builder.specs.Builder.{State}
-use Rattle.wenc_builder.specs.Entry.{core_type_entry}
-use Rattle.wenc_types.specs.CoreTypes.{Grouped}
+use Rattle.wenc_base.specs.Prelude.{Rec, sub_view}
+use Rattle.wenc_builder.specs.Prelude.{State, core_type_entry}
+use Rattle.wenc_types.specs.Prelude.{Grouped}
 use Rattle.proved_tests.proofs.built.group_built.Goals as goal
 
 pub returns-in-Ok-rec : goal.returns-in-Ok-rec

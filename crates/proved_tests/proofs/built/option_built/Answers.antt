@@ -1,9 +1,6 @@
 use Rattle.std.proofs.Common.{rules, ◌++◌, ◌∷◌, [], None, subst}
-use Rattle.wenc_builder.specs.Builder.{State}
-use Rattle.wenc_builder.specs.Entry.{type_entry}
-use Rattle.wenc_builder.specs.Holds.{Holds}
-use Rattle.wenc_types.specs.ComponentTypes.{DefinedType}
-use Rattle.wenc_types.specs.DefinedTypes.{OptionOf}
+use Rattle.wenc_builder.specs.Prelude.{Holds, State, type_entry}
+use Rattle.wenc_types.specs.Prelude.{DefinedType, OptionOf}
 use Rattle.proved_tests.proofs.built.option_built.Goals as goal
 
 pub returns-in-Ok-option-clause-held : goal.returns-in-Ok-option-clause-held

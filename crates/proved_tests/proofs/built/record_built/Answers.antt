@@ -1,10 +1,8 @@
 use Rattle.std.proofs.Common.{rules, map, None, subst}
 use Rattle.std.specs.Iterator.Runs.{WholeRun}
 use Rattle.wasm_encoder.specs.Prelude.{IsEntered}
-use Rattle.wenc_builder.specs.Builder.{State}
-use Rattle.wenc_builder.specs.Entry.{type_entry}
-use Rattle.wenc_types.specs.ComponentTypes.{DefinedType}
-use Rattle.wenc_types.specs.DefinedTypes.{Record, borrowed_labelled_type}
+use Rattle.wenc_builder.specs.Prelude.{State, type_entry}
+use Rattle.wenc_types.specs.Prelude.{DefinedType, Record, borrowed_labelled_type}
 use Rattle.proved_tests.proofs.built.record_built.Goals as goal
 
 pub returns-in-Ok-record-clause-held : goal.returns-in-Ok-record-clause-held

@@ -1,7 +1,6 @@
 use Rattle.std.proofs.Common.{◌≡◌, ◌↔◌, List, ◌∷◌, Option, subst, ap, ◌∙◌}
-use Rattle.wenc_builder.specs.Builder.{BegunItem, Content, Namespace, namespace_at, content_of, content_with}
-use Rattle.wenc_builder.specs.Entry.{items}
-use Rattle.wenc_builder.specs.Sections.{Reading, Section}
+use Rattle.wenc_builder.specs.Prelude.{BegunItem, Content, Namespace, Reading, Section, content_of}
+use Rattle.wenc_builder.specs.Prelude.{content_with, items, namespace_at}
 use Rattle.wenc_sections.specs.declared.space.Space.TheVariants as spaces
 use Rattle.proved_tests.proofs.finished.imports_alone.Goals as goal
 

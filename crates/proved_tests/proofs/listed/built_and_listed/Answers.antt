@@ -1,7 +1,6 @@
 use Rattle.std.proofs.Common.{refl}
-use Rattle.wenc_base.specs.Piece.{Wide}
-use Rattle.wenc_builder.specs.Entry.{items as items_of}
-use Rattle.wenc_builder.specs.Sections.{runs}
+use Rattle.wenc_base.specs.Prelude.{Wide}
+use Rattle.wenc_builder.specs.Prelude.{items as items_of, runs}
 use Rattle.proved_tests.proofs.listed.built_and_listed.Goals as goal
 
 pub returns-in-Ok-clause-read : goal.returns-in-Ok-clause-read

@@ -1,8 +1,7 @@
 use Rattle.std.proofs.Common.{◌≡◌, ◌∷◌, map, length, ap, arith}
 use Rattle.std.specs.Vec.Iter.{into_iter_items}
-use Rattle.wasm_encoder.specs.Command.{command_view}
-use Rattle.wasm_encoder.specs.ItemCommands.{command_of}
-use Rattle.wenc_list.specs.Items.{item_view}
+use Rattle.wasm_encoder.specs.Prelude.{command_of, command_view}
+use Rattle.wenc_list.specs.Prelude.{item_view}
 use Rattle.proved_tests.proofs.Anew.{pushed, all_given, next_given}
 use Rattle.proved_tests.proofs.rebuilt.add_commands.Goals as goal
 

@@ -1,8 +1,7 @@
 use Rattle.std.proofs.Common.{◌≡◌, ◌++◌, length, map}
 use Rattle.std.specs.Vec.Iter.{into_iter_items, into_iter_len}
-use Rattle.wasm_encoder.specs.Command.{command_view}
-use Rattle.wasm_encoder.specs.ItemCommands.{command_of}
-use Rattle.wenc_list.specs.Items.{item_view}
+use Rattle.wasm_encoder.specs.Prelude.{command_of, command_view}
+use Rattle.wenc_list.specs.Prelude.{item_view}
 use Rattle.proved_tests.proofs.rebuilt.add_commands.Given as goal
 
 abbrev pub invariant-loop-item : goal.invariant-loop-item

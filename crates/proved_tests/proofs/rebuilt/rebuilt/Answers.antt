@@ -1,10 +1,9 @@
 use Rattle.std.proofs.Common.{rules, ◌≡◌, List, [], ◌∷◌, ◌++◌, map, length, ap, arith, ◌∙◌}
 use Rattle.std.specs.List.{flat_map}
 use Rattle.std.specs.Vec.Iter.{into_iter_items}
-use Rattle.wasm_encoder.specs.Command.{CommandTree, command_view}
-use Rattle.wasm_encoder.specs.ItemCommands.{command_of}
-use Rattle.wenc_builder.specs.Sections.{members}
-use Rattle.wenc_list.specs.Items.{item_view, section_view}
+use Rattle.wasm_encoder.specs.Prelude.{CommandTree, command_of, command_view}
+use Rattle.wenc_builder.specs.Prelude.{members}
+use Rattle.wenc_list.specs.Prelude.{item_view, section_view}
 use Rattle.proved_tests.proofs.Anew.{one_more, accepted, all_given, next_given}
 use Rattle.proved_tests.proofs.rebuilt.rebuilt.Goals as goal
 

@@ -1,10 +1,9 @@
 use Rattle.std.proofs.Common.{◌≡◌, ◌++◌, length, map}
 use Rattle.std.specs.List.{flat_map}
 use Rattle.std.specs.Vec.Iter.{into_iter_items, into_iter_len}
-use Rattle.wasm_encoder.specs.Command.{command_view}
-use Rattle.wasm_encoder.specs.ItemCommands.{command_of}
-use Rattle.wenc_builder.specs.Sections.{members}
-use Rattle.wenc_list.specs.Items.{section_view}
+use Rattle.wasm_encoder.specs.Prelude.{command_of, command_view}
+use Rattle.wenc_builder.specs.Prelude.{members}
+use Rattle.wenc_list.specs.Prelude.{section_view}
 use Rattle.proved_tests.proofs.rebuilt.rebuilt.Given as goal
 
 abbrev pub invariant-loop-section : goal.invariant-loop-section

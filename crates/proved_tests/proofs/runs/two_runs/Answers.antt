@@ -1,7 +1,5 @@
 use Rattle.std.proofs.Common.{◌≡◌, List, refl, sym, ◌∙◌, ap}
-use Rattle.wenc_builder.specs.Entry.{items as items_of}
-use Rattle.wenc_builder.specs.Item.{Item}
-use Rattle.wenc_builder.specs.Sections.{whole}
+use Rattle.wenc_builder.specs.Prelude.{Item, items as items_of, whole}
 use Rattle.proved_tests.proofs.runs.two_runs.Goals as goal
 
 pub returns-in-Ok-build : goal.returns-in-Ok-build

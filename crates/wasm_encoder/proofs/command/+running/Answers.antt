@@ -1,23 +1,17 @@
 use denote.Param.Weighed.{at_most}
 use Rattle.std.proofs.Common.{◌≡◌, ◌+◌, ◌<◌, length, get_or, [], ◌∷◌, Err, drop, arith, rules, refl, sym, subst}
 use Rattle.std.proofs.lemmas.List.{drop_all}
-use Rattle.wenc_base.specs.Fault.{NoCause}
-use Rattle.wenc_builder.specs.Entry.{items, module_entry, core_instance_entry, component_entry, instance_entry, alias_entry}
-use Rattle.wenc_builder.specs.Entry.{canonical_tree_entry, start_entry, import_entry, export_entry, custom_entry, raw_entry}
-use Rattle.wenc_builder.specs.Enters.{Enters, EntersWithoutIndex}
-use Rattle.wenc_builder.specs.Holds.{Holds}
-use Rattle.wenc_builder.specs.Sections.{whole}
-use Rattle.wenc_sections.specs.CanonTrees.{canon_view}
-use Rattle.wenc_parts.specs.Aliases.{alias_tree_view}
-use Rattle.wenc_parts.specs.Imports.{name_tree_view}
+use Rattle.wenc_base.specs.Prelude.{NoCause}
+use Rattle.wenc_builder.specs.Prelude.{Enters, EntersWithoutIndex, Holds, alias_entry}
+use Rattle.wenc_builder.specs.Prelude.{canonical_tree_entry, component_entry, core_instance_entry}
+use Rattle.wenc_builder.specs.Prelude.{custom_entry, export_entry, import_entry, instance_entry}
+use Rattle.wenc_builder.specs.Prelude.{items, module_entry, raw_entry, start_entry, whole}
+use Rattle.wenc_sections.specs.Prelude.{canon_view, core_instance_tree_view, instance_tree_view}
+use Rattle.wenc_parts.specs.Prelude.{alias_tree_view, name_tree_view}
 use Rattle.std.specs.Option.{option_map}
 use Rattle.std.specs.String.{string_bytes}
-use Rattle.wenc_sections.specs.InstanceTrees.{core_instance_tree_view, instance_tree_view}
-use Rattle.wasm_encoder.specs.Command.{CommandTree, command_view}
-use Rattle.wasm_encoder.specs.inside.Steps.{commands_view}
-use Rattle.wasm_encoder.specs.Cause.{led, first_cause}
-use Rattle.wasm_encoder.specs.Ran.{IsRefusal}
-use Rattle.wasm_encoder.specs.inside.Steps.{Answers, indexed}
+use Rattle.wasm_encoder.specs.Prelude.{Answers, CommandTree, IsRefusal, command_view, commands_view}
+use Rattle.wasm_encoder.specs.Prelude.{first_cause, indexed, led}
 use Rattle.wasm_encoder.proofs.Called.{memory_alone, entered_alone, entered_nowhere, names_entered}
 use Rattle.wasm_encoder.proofs.command.Command.TheLaws.{the_size}
 use Rattle.wasm_encoder.proofs.Nested.{component_view, inner_more, inner_refused, inner_stopped, inner_all, refused_inside, entered_inside}

@@ -1,8 +1,6 @@
 use Rattle.std.proofs.Common.{ℕ, List, false, true, ◌≡◌, ◌↔◌, ◌+◌, ◌∷◌, drop, map, arith, sym, subst, inr}
-use Rattle.wenc_builder.specs.Entry.{items}
-use Rattle.wenc_builder.specs.Sections.{whole}
-use Rattle.wenc_builder.specs.laws.Reading.{of_bytes}
-use Rattle.wasm_encoder.specs.Command.{command_view}
+use Rattle.wenc_builder.specs.Prelude.{items, of_bytes, whole}
+use Rattle.wasm_encoder.specs.Prelude.{command_view}
 use Rattle.wasm_encoder.proofs.Run.{ran_none, ran_more, ran_all, ran_held, ran_stopped, next_is}
 use Rattle.wasm_encoder.proofs.command.build.Goals as goal
 

@@ -1,10 +1,9 @@
 use Rattle.std.proofs.Common.{rules, []}
 use Rattle.std.specs.Option.{option_copied}
-use Rattle.wenc_builder.specs.Entry.{core_type_entry}
-use Rattle.wenc_builder.specs.Builder.{new_item_in}
+use Rattle.wenc_builder.specs.Prelude.{core_type_entry, new_item_in}
 use Rattle.wenc_parts.specs.declared.component.ComponentSectionId.TheVariants as ids
 use Rattle.wenc_sections.specs.declared.space.Space.TheVariants as spaces
-use Rattle.wenc_types.specs.CoreTypeTrees.{core_type_view}
+use Rattle.wenc_types.specs.Prelude.{core_type_view}
 use Rattle.wenc_builder.specs.laws.Typed.{core_type_is_written}
 use Rattle.wasm_encoder.proofs.Typed.{type_accepted, opening_refused, type_refused}
 use Rattle.wasm_encoder.proofs.command.core_type_of.Goals as goal

@@ -1,10 +1,9 @@
 use Rattle.std.proofs.Common.{[], refl, ◌++◌}
-use Rattle.wenc_base.specs.Piece.{verbatim}
-use Rattle.wenc_base.specs.laws.Holders.{given_up_is_before, contains_opened}
-use Rattle.wenc_base.specs.Composites.{rec_type}
-use Rattle.wenc_types.specs.ComponentTypes.{CoreTyped, Typed, Declared, def_type, instance_declaration, component_declaration}
-use Rattle.wenc_types.specs.CoreTypes.{ModuleRecType, core_type, module_declaration}
-use Rattle.wenc_types.specs.Declarations.{module_space, component_space, instance_space}
+use Rattle.wenc_base.specs.Prelude.{contains_opened, given_up_is_before, rec_type, verbatim}
+use Rattle.wenc_types.specs.Prelude.{CoreTyped, Declared, ModuleRecType, Typed}
+use Rattle.wenc_types.specs.Prelude.{component_declaration, component_space, core_type, def_type}
+use Rattle.wenc_types.specs.Prelude.{instance_declaration, instance_space, module_declaration}
+use Rattle.wenc_types.specs.Prelude.{module_space}
 use Rattle.wenc_types.specs.declared.counts.IndexSpace.TheVariants as spaces
 use Rattle.wenc_types.specs.laws.Declarations.{type_given_up_is_before, declares_ended}
 use Rattle.wasm_encoder.proofs.laws.openings_are_members.Goals as goal

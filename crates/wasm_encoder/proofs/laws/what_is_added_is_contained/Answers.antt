@@ -1,8 +1,6 @@
-use Rattle.wenc_base.specs.Piece.{verbatim}
-use Rattle.wenc_base.specs.Producers.{producers_field}
-use Rattle.wenc_base.specs.laws.Holders.{contains_next}
-use Rattle.wenc_types.specs.ComponentTypes.{def_type}
-use Rattle.wasm_encoder.specs.AllForms.{form_of}
+use Rattle.wenc_base.specs.Prelude.{contains_next, producers_field, verbatim}
+use Rattle.wenc_types.specs.Prelude.{def_type}
+use Rattle.wasm_encoder.specs.Prelude.{form_of}
 use Rattle.wasm_encoder.proofs.laws.what_is_added_is_contained.Goals as goal
 
 pub returns-clause-value : goal.returns-clause-value

@@ -1,6 +1,5 @@
 use Rattle.std.proofs.Common.{◌≡◌, length}
-use Rattle.wenc.specs.Fields.{numbers}
-use Rattle.wenc.specs.Words.{words_left}
+use Rattle.wenc.specs.Prelude.{numbers, words_left}
 use Rattle.wenc.proofs.Numbers.{put_front}
 use Rattle.wenc.proofs.line.start.Given as goal
 

@@ -1,10 +1,8 @@
 use Rattle.std.proofs.Common.{◌≡◌, ◌+◌, ◌≤◌, ◌++◌, List, length, drop}
 use denote.Text.{Utf8}
 use denote.Shadow.{shadow}
-use Rattle.wenc.specs.Parts.{parted}
-use Rattle.wasm_encoder.specs.Command.{CommandTree}
-use Rattle.wasm_encoder.specs.Ran.{HasRun}
-use Rattle.wenc.specs.Script.{script, commands_from}
+use Rattle.wenc.specs.Prelude.{commands_from, parted, script}
+use Rattle.wasm_encoder.specs.Prelude.{CommandTree, HasRun}
 use Rattle.wenc.proofs.Commands.{put_before}
 use Rattle.wenc.proofs.script.build.Given as goal
 

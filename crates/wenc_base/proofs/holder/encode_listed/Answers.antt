@@ -1,6 +1,5 @@
 use Rattle.std.specs.Iterator.Runs.{SomeRun}
-use Rattle.wenc_base.specs.Fault.{IsWarranted}
-use Rattle.wenc_base.specs.Holder.{listed}
+use Rattle.wenc_base.specs.Prelude.{IsWarranted, listed}
 use Rattle.wenc_base.proofs.Runs.{handed_on, lead_refused, values_refused, tail_refused, all_listed}
 use Rattle.wenc_base.proofs.holder.encode_listed.Goals as goal
 

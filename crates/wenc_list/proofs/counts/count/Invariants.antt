@@ -1,8 +1,7 @@
 use Rattle.std.proofs.Common.{◌≡◌, ◌+◌, map, take, get_or}
-use Rattle.wenc_sections.specs.Space.{space_number}
-use Rattle.wenc_builder.specs.Space.{next_index}
-use Rattle.wenc_sections.specs.declared.space.Space.{Space}
-use Rattle.wenc_list.specs.Items.{item_view}
+use Rattle.wenc_sections.specs.Prelude.{Space, space_number}
+use Rattle.wenc_builder.specs.Prelude.{next_index}
+use Rattle.wenc_list.specs.Prelude.{item_view}
 use Rattle.wenc_list.proofs.counts.count.Given as goal
 
 abbrev pub invariant-loop-item : goal.invariant-loop-item

@@ -1,9 +1,8 @@
 use Rattle.std.proofs.Common.{map}
 use Rattle.std.proofs.lemmas.Result.{err_from_is_err_and}
-use Rattle.wenc_base.specs.Piece.{Wide}
-use Rattle.wenc_builder.specs.laws.Reading.{once}
-use Rattle.wenc_list.specs.Cursor.{fault_of_list}
-use Rattle.wenc_list.specs.Items.{section_view}
+use Rattle.wenc_base.specs.Prelude.{Wide}
+use Rattle.wenc_builder.specs.Prelude.{once}
+use Rattle.wenc_list.specs.Prelude.{fault_of_list, section_view}
 use Rattle.wenc_list.proofs.Faults.{only_deep, fault_behind}
 use Rattle.wenc_list.proofs.Listed.{from_all, only_memory, same_sections, same_behind}
 use Rattle.wenc_list.proofs.OwnBytes.{header_leaves}

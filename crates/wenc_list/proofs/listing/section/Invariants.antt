@@ -1,6 +1,5 @@
 use Rattle.std.proofs.Common.{map}
-use Rattle.wenc_list.specs.Cursor.{HasTaken}
-use Rattle.wenc_list.specs.Items.{item_view}
+use Rattle.wenc_list.specs.Prelude.{HasTaken, item_view}
 use Rattle.wenc_list.proofs.listing.section.Given as goal
 
 abbrev pub decreases-loop-items : goal.decreases-loop-items

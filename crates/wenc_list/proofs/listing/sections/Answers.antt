@@ -1,9 +1,8 @@
 use Rattle.std.proofs.Common.{◌≡◌, ◌-◌, ◌+◌, ◌++◌, ◌∷◌, [], length, map, arith, length-append, ◌∙◌}
 use Rattle.std.proofs.lemmas.List.{map_push}
 use Rattle.std.proofs.lemmas.Result.{err_from_is_err_and}
-use Rattle.wenc_base.specs.laws.Lawful.{ends_on}
-use Rattle.wenc_list.specs.Cursor.{fault_of_list}
-use Rattle.wenc_list.specs.Items.{section_view}
+use Rattle.wenc_base.specs.Prelude.{ends_on}
+use Rattle.wenc_list.specs.Prelude.{fault_of_list, section_view}
 use Rattle.wenc_list.proofs.Listed.{section_shorter, from_few, from_more, from_each, within_more, stops_here, listed_read, listed_within}
 use Rattle.wenc_list.proofs.Listed.{listed_begins, some_opens}
 use Rattle.wenc_list.proofs.Indices.{count_more, are_few}

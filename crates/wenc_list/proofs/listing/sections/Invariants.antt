@@ -1,8 +1,6 @@
 use Rattle.std.proofs.Common.{◌≡◌, ◌≤◌, ◌*◌, ◌^◌, length, map, get_or}
-use Rattle.wenc_sections.specs.Space.{space_number}
-use Rattle.wenc_sections.specs.declared.space.Space.{Space}
-use Rattle.wenc_list.specs.Items.{section_view}
-use Rattle.wenc_list.specs.Listing.{AreWithin, AreFrom, count_of_sections}
+use Rattle.wenc_sections.specs.Prelude.{Space, space_number}
+use Rattle.wenc_list.specs.Prelude.{AreFrom, AreWithin, count_of_sections, section_view}
 use Rattle.wenc_list.proofs.listing.sections.Given as goal
 
 abbrev pub decreases-loop-sections : goal.decreases-loop-sections

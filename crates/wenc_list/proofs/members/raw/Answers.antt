@@ -1,6 +1,5 @@
 use Rattle.std.proofs.Common.{◌≡◌, true, rules}
-use Rattle.wenc_base.specs.laws.Forms.{bytes_pass}
-use Rattle.wenc_base.specs.reading.Forms.{are_bytes}
+use Rattle.wenc_base.specs.Prelude.{are_bytes, bytes_pass}
 use Rattle.wenc_list.proofs.members.raw.Goals as goal
 
 pub returns : goal.returns

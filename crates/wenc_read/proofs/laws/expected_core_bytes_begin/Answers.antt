@@ -3,9 +3,8 @@ use Rattle.wenc_base.specs.Readers.{choose}
 use Rattle.wenc_base.specs.Prelude.{read_heap_type, read_reference, read_val_type}
 use Rattle.wenc_base.specs.Prelude.{read_storage_type, read_sub_type, read_group, read_index}
 use Rattle.wenc_base.specs.reading.Numbers.{read_groups}
-use Rattle.wenc_read.specs.Expected.{ranges_of}
-use Rattle.wenc_read.specs.laws.Begins.{OthersFail, begins, choose_fails, nowhere_fails}
-use Rattle.wenc_read.specs.laws.Begins.{then_fails, index_fails}
+use Rattle.wenc_read.specs.Prelude.{OthersFail, begins, choose_fails, index_fails, nowhere_fails}
+use Rattle.wenc_read.specs.Prelude.{ranges_of, then_fails}
 use Rattle.wenc_read.specs.declared.expected.Expected.TheVariants.{Index, HeapType, RefType}
 use Rattle.wenc_read.specs.declared.expected.Expected.TheVariants.{ValType, StorageType}
 use Rattle.wenc_read.specs.declared.expected.Expected.TheVariants.{SubType, Group}

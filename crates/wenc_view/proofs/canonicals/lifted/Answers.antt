@@ -1,9 +1,7 @@
 use Rattle.std.proofs.Common.{rules, ◌∙◌}
-use Rattle.wenc_base.specs.reading.Forms.{read_list}
-use Rattle.wenc_base.specs.reading.Numbers.{read_u32}
-use Rattle.wenc_canon.specs.Canonicals.{Lift}
-use Rattle.wenc_canon.specs.reading.Canonicals.{read_canonical_option}
-use Rattle.wenc_read.specs.laws.Tables.{at_first}
+use Rattle.wenc_base.specs.Prelude.{read_list, read_u32}
+use Rattle.wenc_canon.specs.Prelude.{Lift, read_canonical_option}
+use Rattle.wenc_read.specs.Prelude.{at_first}
 use Rattle.wenc_view.proofs.Tables.{made_of_three}
 use Rattle.wenc_view.proofs.canonicals.lifted.Goals as goal
 

@@ -1,7 +1,6 @@
 use Rattle.std.proofs.Common.{rules, ◌∙◌, true, Some}
-use Rattle.wenc_base.specs.reading.Composites.{read_composite, sub_of}
-use Rattle.wenc_base.specs.reading.Numbers.{read_u32}
-use Rattle.wenc_read.specs.laws.Tables.{at_first}
+use Rattle.wenc_base.specs.Prelude.{read_composite, read_u32, sub_of}
+use Rattle.wenc_read.specs.Prelude.{at_first}
 use Rattle.wenc_view.proofs.Tables.{made_of_both}
 use Rattle.wenc_view.proofs.composites.closed.Goals as goal
 

@@ -1,8 +1,6 @@
 use Rattle.std.proofs.lemmas.Iterator.Adapters.{option_map_id}
 use Rattle.std.proofs.Common.{false}
-use Rattle.wenc_base.specs.reading.Composites.{read_composite, sub_of}
-use Rattle.wenc_base.specs.reading.Forms.{read_option}
-use Rattle.wenc_base.specs.reading.Numbers.{read_u32}
+use Rattle.wenc_base.specs.Prelude.{read_composite, read_option, read_u32, sub_of}
 use Rattle.wenc_view.proofs.Tables.{made_of_both}
 use Rattle.wenc_view.proofs.composites.open.Goals as goal
 

@@ -1,12 +1,9 @@
 use Rattle.std.proofs.Common.{rules, ◌∙◌, [], ◌∷◌, false, refl}
 use Rattle.std.proofs.lemmas.Result.{err_from_is_err_and}
-use Rattle.wenc_base.specs.Composites.{Single}
-use Rattle.wenc_base.specs.reading.Composites.{read_extension, sub_of}
-use Rattle.wenc_base.specs.Readers.{Bad, give, nowhere}
-use Rattle.wenc_read.specs.laws.Tables.{at_first}
-use Rattle.wenc_types.specs.CoreTypes.{Grouped}
+use Rattle.wenc_base.specs.Prelude.{Bad, Single, give, nowhere, read_extension, sub_of}
+use Rattle.wenc_read.specs.Prelude.{at_first, fails_on}
+use Rattle.wenc_types.specs.Prelude.{Grouped}
 use Rattle.wenc_view.proofs.SubTypes.{extension_follows}
-use Rattle.wenc_read.specs.laws.Tables.{fails_on}
 use Rattle.wenc_view.proofs.core_type_views.guarded.Goals as goal
 
 pub returns-in_err-ty-in-80-default-clause-found : goal.returns-in_err-ty-in-80-default-clause-found

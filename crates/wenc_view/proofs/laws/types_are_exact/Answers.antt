@@ -1,9 +1,8 @@
 use Rattle.std.proofs.Common.{◌≡◌, ◌≤◌, ◌<◌, ℕ, List, Result, Ok, Err, refl, arith}
-use Rattle.wenc_base.specs.Readers.{Flaw, Bad, Deep}
-use Rattle.wenc_base.specs.laws.Sound.{Agrees, agreed}
-use Rattle.wenc_view.specs.laws.TypeTrees.{type_tells, type_finds}
-use Rattle.wenc_types.specs.ComponentTypes.{DefType, depth}
-use Rattle.wenc_types.specs.reading.ComponentTypes.{read_type}
+use Rattle.wenc_base.specs.Prelude.{Agrees, Bad, Deep, Flaw}
+use Rattle.wenc_base.specs.laws.Sound.{agreed}
+use Rattle.wenc_view.specs.Prelude.{type_finds, type_tells}
+use Rattle.wenc_types.specs.Prelude.{DefType, depth, read_type}
 use Rattle.wenc_view.proofs.laws.types_are_exact.Goals as goal
 
 pub returns-clause-given_is_read : goal.returns-clause-given_is_read

@@ -1,7 +1,6 @@
 use Rattle.std.proofs.Common.{◌≡◌, ◌++◌, ◌∷◌, [], Ok, arith, rules}
-use Rattle.wenc_base.specs.Readers.{Bad, times}
-use Rattle.wenc_view.specs.laws.Members.{members_are}
-use Rattle.wenc_view.specs.laws.Repeats.{at_start, times_go_on, stops, is_done}
+use Rattle.wenc_base.specs.Prelude.{Bad, times}
+use Rattle.wenc_view.specs.Prelude.{at_start, is_done, members_are, stops, times_go_on}
 use Rattle.wenc_view.proofs.lists.passed.Goals as goal
 
 pub loop-init : goal.loop-init

@@ -1,19 +1,14 @@
 use Rattle.std.proofs.Common.{◌≡◌, ◌-◌, ◌++◌, ◌∷◌, [], Ok, arith, rules}
 use Rattle.std.proofs.lemmas.Result.{err_from_is_err_and}
-use Rattle.wenc_base.specs.Readers.{Bad, give, times}
+use Rattle.wenc_base.specs.Prelude.{Bad, give, times}
 use Rattle.wenc_read.specs.laws.Tables.{past_rows}
-use Rattle.wenc_types.specs.ComponentTypes.{DefinedType}
-use Rattle.wenc_types.specs.reading.DefinedTypes.{read_defined}
-use Rattle.wenc_types.specs.reading.ComponentTypes.{read_type, read_instance_declaration}
-use Rattle.wenc_types.specs.reading.ComponentTypes.{read_component_declaration, type_rows}
-use Rattle.wenc_types.specs.reading.ComponentTypes.{read_component_type, read_instance_type}
-use Rattle.wenc_types.specs.reading.ComponentTypes.{read_shallow}
-use Rattle.wenc_types.specs.laws.ComponentTypes.{one_level}
-use Rattle.wenc_view.specs.Types.{component_declaration_seen, instance_declaration_seen}
-use Rattle.wenc_view.specs.laws.Members.{members_are, are_counted}
-use Rattle.wenc_view.specs.laws.Repeats.{at_start, times_go_on, stops, is_done}
-use Rattle.wenc_read.specs.Gives.{flaw_of}
-use Rattle.wenc_read.specs.laws.Tables.{fails_on}
+use Rattle.wenc_types.specs.Prelude.{DefinedType, one_level, read_component_declaration}
+use Rattle.wenc_types.specs.Prelude.{read_component_type, read_defined, read_instance_declaration}
+use Rattle.wenc_types.specs.Prelude.{read_instance_type, read_shallow, read_type, type_rows}
+use Rattle.wenc_view.specs.Prelude.{are_counted, at_start, component_declaration_seen}
+use Rattle.wenc_view.specs.Prelude.{instance_declaration_seen, is_done, members_are, stops}
+use Rattle.wenc_view.specs.Prelude.{times_go_on}
+use Rattle.wenc_read.specs.Prelude.{fails_on, flaw_of}
 use Rattle.wenc_view.proofs.Nested.{component_found, component_fails, instance_found}
 use Rattle.wenc_view.proofs.Nested.{instance_fails, shallow_ok}
 use Rattle.wenc_view.proofs.type_views.+types.Goals as goal

@@ -1,7 +1,6 @@
 use Rattle.std.proofs.Common.{◌≡◌, List, [], subst, codes}
-use Rattle.wenc_parts.specs.Imports.{plain_name}
-use Rattle.wenc_builder.specs.Item.{Item}
-use Rattle.wenc_builder.specs.Sections.{whole}
+use Rattle.wenc_parts.specs.Prelude.{plain_name}
+use Rattle.wenc_builder.specs.Prelude.{Item, whole}
 use Rattle.proved_parts.proofs.PassedOn.{same}
 use Rattle.proved_parts.proofs.examples.builder.builder.Goals as goal
 

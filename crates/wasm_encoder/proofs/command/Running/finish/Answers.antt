@@ -1,10 +1,7 @@
 use Rattle.std.proofs.Common.{◌≡◌, List, subst}
 use Rattle.std.specs.List.{AllByRecursion}
 use Rattle.std.specs.Prelude.{IfOk}
-use Rattle.wenc_builder.specs.Builder.{State}
-use Rattle.wenc_builder.specs.Entry.{Entry, StartIsNameless, items}
-use Rattle.wenc_builder.specs.Holds.{Holds}
-use Rattle.wenc_builder.specs.Sections.{whole}
+use Rattle.wenc_builder.specs.Prelude.{Entry, Holds, StartIsNameless, State, items, whole}
 use Rattle.wasm_encoder.proofs.command.Running.finish.Goals as goal
 
 pub returns-clause-some : goal.returns-clause-some

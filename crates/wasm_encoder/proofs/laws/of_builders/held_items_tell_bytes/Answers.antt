@@ -1,5 +1,4 @@
-use Rattle.wenc_builder.specs.Entry.{items}
-use Rattle.wenc_builder.specs.laws.Reading.{of_bytes}
+use Rattle.wenc_builder.specs.Prelude.{items, of_bytes}
 use Rattle.wasm_encoder.proofs.laws.of_builders.held_items_tell_bytes.Goals as goal
 
 pub returns : goal.returns

@@ -1,8 +1,6 @@
 use Rattle.std.proofs.Common.{rules, alloc_error}
 use Rattle.std.specs.Iterator.Runs.{SomeRun}
-use Rattle.wenc_base.specs.Encode.{drawn_in_order}
-use Rattle.wenc_base.specs.Fault.{IsWarranted}
-use Rattle.wenc_base.specs.declared.fault.Fault.{Fault}
+use Rattle.wenc_base.specs.Prelude.{Fault, IsWarranted, drawn_in_order}
 use Rattle.wenc_base.specs.declared.fault.Fault.TheVariants.{Memory}
 use Rattle.wenc_base.proofs.Runs.{ok_run, memory_run, no_run, handed_on}
 use Rattle.wenc_base.proofs.encode.lists.encode_list.Goals as goal

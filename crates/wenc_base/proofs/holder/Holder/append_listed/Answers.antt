@@ -1,7 +1,5 @@
-use Rattle.wenc_base.specs.Forms.{list}
-use Rattle.wenc_base.specs.Holder.{listed}
-use Rattle.wenc_base.specs.Openings.{member_appended, no_room_in_holder}
-use Rattle.wenc_base.specs.Piece.{nothing, verbatim, behind_bytes}
+use Rattle.wenc_base.specs.Prelude.{behind_bytes, list, listed, member_appended, no_room_in_holder}
+use Rattle.wenc_base.specs.Prelude.{nothing, verbatim}
 use Rattle.wenc_base.specs.laws.Parents.{extends_as}
 use Rattle.wenc_base.specs.laws.Serves.{listed_behind}
 use Rattle.wenc_base.proofs.holder.Holder.append_listed.Goals as goal

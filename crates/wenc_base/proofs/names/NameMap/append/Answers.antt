@@ -1,6 +1,5 @@
 use Rattle.std.proofs.Common.{rules, ◌≡◌, ◌++◌, ◌∙◌, refl, length, arith, append_assoc, ap, List, ℕ}
-use Rattle.wenc_base.specs.Names.{NameAssociation}
-use Rattle.wenc_base.specs.Number.{unsigned_text}
+use Rattle.wenc_base.specs.Prelude.{NameAssociation, unsigned_text}
 use Rattle.wenc_base.proofs.ShortNames.{short_name_added}
 use Rattle.wenc_base.proofs.names.NameMap.append.Goals as goal
 

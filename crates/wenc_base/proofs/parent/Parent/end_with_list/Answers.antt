@@ -1,5 +1,4 @@
-use Rattle.wenc_base.specs.Forms.{list}
-use Rattle.wenc_base.specs.Piece.{behind_bytes}
+use Rattle.wenc_base.specs.Prelude.{behind_bytes, list}
 use Rattle.wenc_base.proofs.Grown.{ended_listed}
 use Rattle.wenc_base.proofs.parent.Parent.end_with_list.Goals as goal
 

@@ -1,6 +1,5 @@
 use Rattle.std.proofs.Common.{rules, ◌≡◌, ◌+◌, length}
-use Rattle.wenc_base.specs.Holder.{content_size}
-use Rattle.wenc_base.specs.laws.Serves.{appends_as, appends_finished, fits_as}
+use Rattle.wenc_base.specs.Prelude.{appends_as, appends_finished, content_size, fits_as}
 use Rattle.wenc_base.proofs.Produced.{section_serves}
 use Rattle.wenc_base.proofs.producers.ProducersSectionEncode.encode.Goals as goal
 

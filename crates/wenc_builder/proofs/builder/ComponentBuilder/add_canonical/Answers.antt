@@ -1,10 +1,8 @@
 use Rattle.std.proofs.Common.{refl}
-use Rattle.wenc_base.specs.laws.Serves.{serves_itself}
-use Rattle.wenc_builder.specs.inside.Layout.{kind_id}
+use Rattle.wenc_base.specs.Prelude.{serves_itself}
+use Rattle.wenc_builder.specs.Prelude.{CanonItem, canonical_entry, kind_id}
 use Rattle.std.specs.Option.{option_copied}
-use Rattle.wenc_builder.specs.Entry.{canonical_entry}
-use Rattle.wenc_builder.specs.Item.{CanonItem}
-use Rattle.wenc_sections.specs.CanonTrees.{canon_view}
+use Rattle.wenc_sections.specs.Prelude.{canon_view}
 use Rattle.wenc_builder.specs.declared.builder.kind.Kind.TheVariants as kinds
 use Rattle.wenc_builder.proofs.Entered.{new_item_enters}
 use Rattle.wenc_builder.proofs.Texts.{item_piece}

@@ -1,10 +1,9 @@
 use Rattle.std.proofs.Common.{[], refl, sym, ◌∙◌}
 use Rattle.std.specs.Option.{option_copied}
-use Rattle.wenc_base.specs.Holder.{listed}
-use Rattle.wenc_builder.specs.inside.Layout.{kind_id}
+use Rattle.wenc_base.specs.Prelude.{listed}
+use Rattle.wenc_builder.specs.Prelude.{kind_id, spaced}
 use Rattle.wenc_builder.proofs.Whole.{back, text_refused, whole_added, whole_stands, as_value, listed_added, listed_refused, section_refused, unfinished_refused}
 use Rattle.wenc_builder.proofs.Viewed.{finished_is}
-use Rattle.wenc_builder.specs.inside.Spaces.{spaced}
 use Rattle.wenc_builder.proofs.builder.ComponentBuilder.add_listed.Goals as goal
 
 pub returns-then-not-is_finished : goal.returns-then-not-is_finished

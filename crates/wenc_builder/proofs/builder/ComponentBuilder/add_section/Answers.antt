@@ -1,8 +1,6 @@
 use Rattle.std.proofs.Common.{◌≡◌, sym, ◌∙◌}
 use Rattle.std.specs.Option.{option_copied}
-use Rattle.wenc_builder.specs.Space.{indices_in}
-use Rattle.wenc_builder.specs.inside.SectionBodies.{with_bytes}
-use Rattle.wenc_builder.specs.inside.Spaces.{spaced}
+use Rattle.wenc_builder.specs.Prelude.{indices_in, spaced, with_bytes}
 use Rattle.wenc_builder.proofs.OwnSections.{alone_without_indices, alone_unwritten}
 use Rattle.wenc_builder.proofs.Standing.{alone_stands}
 use Rattle.wenc_builder.proofs.Undone.{no_undo, is_of, undone_is}

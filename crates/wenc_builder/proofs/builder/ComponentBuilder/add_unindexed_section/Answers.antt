@@ -1,7 +1,6 @@
 use Rattle.std.proofs.Common.{sym}
-use Rattle.wenc_builder.specs.inside.SectionBodies.{with_bytes}
+use Rattle.wenc_builder.specs.Prelude.{spaced, with_bytes}
 use Rattle.wenc_builder.proofs.Standing.{without_index_outcome}
-use Rattle.wenc_builder.specs.inside.Spaces.{spaced}
 use Rattle.wenc_builder.proofs.builder.ComponentBuilder.add_unindexed_section.Goals as goal
 
 pub invariant_of-self : goal.invariant_of-self

@@ -1,10 +1,8 @@
 use Rattle.std.proofs.Common.{refl}
-use Rattle.wenc_base.specs.laws.Serves.{serves_itself}
-use Rattle.wenc_builder.specs.inside.Layout.{kind_id}
+use Rattle.wenc_base.specs.Prelude.{serves_itself}
+use Rattle.wenc_builder.specs.Prelude.{AliasItem, alias_entry, kind_id}
 use Rattle.std.specs.Option.{option_copied}
-use Rattle.wenc_builder.specs.Entry.{alias_entry}
-use Rattle.wenc_builder.specs.Item.{AliasItem}
-use Rattle.wenc_parts.specs.Aliases.{alias_view}
+use Rattle.wenc_parts.specs.Prelude.{alias_view}
 use Rattle.wenc_builder.specs.declared.builder.kind.Kind.TheVariants as kinds
 use Rattle.wenc_builder.proofs.Entered.{new_item_enters}
 use Rattle.wenc_builder.proofs.Texts.{item_piece}

@@ -1,7 +1,6 @@
 use Rattle.std.proofs.Common.{ℕ, List, ◌∙◌, subst}
 use Rattle.std.specs.Option.{option_copied}
-use Rattle.wenc_builder.specs.Enters.{Enters}
-use Rattle.wenc_builder.specs.Entry.{component_entry}
+use Rattle.wenc_builder.specs.Prelude.{Enters, component_entry}
 use Rattle.wenc_builder.proofs.builder.ComponentBuilder.component.Goals as goal
 
 pub returns-clause-entered : goal.returns-clause-entered

@@ -1,13 +1,9 @@
 use Rattle.std.proofs.Common.{◌≡◌, ◌∙◌, refl, sym}
 use Rattle.std.specs.Option.{option_copied}
-use Rattle.wenc_parts.specs.SectionIds.{section_number}
+use Rattle.wenc_parts.specs.Prelude.{section_number}
 use Rattle.wenc_parts.specs.declared.component.ComponentSectionId.TheVariants as ids
-use Rattle.wenc_builder.specs.Builder.{sections_text}
-use Rattle.wenc_builder.specs.Entry.{items, component_entry}
-use Rattle.wenc_builder.specs.Item.{ComponentItem}
-use Rattle.wenc_builder.specs.Sections.{whole}
-use Rattle.wenc_builder.specs.Space.{indices_in}
-use Rattle.wenc_builder.specs.inside.Spaces.{spaced}
+use Rattle.wenc_builder.specs.Prelude.{ComponentItem, component_entry, indices_in, items}
+use Rattle.wenc_builder.specs.Prelude.{sections_text, spaced, whole}
 use Rattle.wenc_sections.specs.declared.space.Space.TheVariants as spaces
 use Rattle.wenc_builder.proofs.Entered.{alone_enters}
 use Rattle.wenc_builder.proofs.Standing.{writing_none}

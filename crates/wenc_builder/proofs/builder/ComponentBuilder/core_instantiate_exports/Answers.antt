@@ -1,14 +1,9 @@
 use Rattle.std.proofs.Common.{ℕ, List, refl, map}
 use Rattle.std.specs.Borrow.{Bor}
 use Rattle.std.specs.Option.{option_copied}
-use Rattle.wenc_base.specs.Forms.{name}
-use Rattle.wenc_base.specs.Piece.{Form}
-use Rattle.wenc_base.specs.laws.Serves.{serves_itself}
-use Rattle.wenc_sections.specs.Instances.{CoreExports, named_triple}
-use Rattle.wenc_sections.specs.laws.Instances.{core_exports_listed}
-use Rattle.wenc_builder.specs.Entry.{core_instance_entry}
-use Rattle.wenc_builder.specs.Item.{CoreInstanceItem}
-use Rattle.wenc_builder.specs.inside.Layout.{kind_id}
+use Rattle.wenc_base.specs.Prelude.{Form, name, serves_itself}
+use Rattle.wenc_sections.specs.Prelude.{CoreExports, core_exports_listed, named_triple}
+use Rattle.wenc_builder.specs.Prelude.{CoreInstanceItem, core_instance_entry, kind_id}
 use Rattle.wenc_builder.specs.declared.builder.kind.Kind.TheVariants as kinds
 use Rattle.wenc_sections.specs.declared.space.Space.TheVariants as spaces
 use Rattle.wenc_builder.proofs.Listed.{listed_enters}

@@ -1,10 +1,8 @@
 use Rattle.std.proofs.Common.{refl}
-use Rattle.wenc_parts.specs.SectionIds.{section_number}
+use Rattle.wenc_parts.specs.Prelude.{section_number}
 use Rattle.wenc_parts.specs.declared.component.ComponentSectionId.TheVariants as ids
-use Rattle.wenc_builder.specs.Space.{indices_in}
+use Rattle.wenc_builder.specs.Prelude.{ModuleItem, indices_in, module_entry}
 use Rattle.std.specs.Option.{option_copied}
-use Rattle.wenc_builder.specs.Entry.{module_entry}
-use Rattle.wenc_builder.specs.Item.{ModuleItem}
 use Rattle.wenc_sections.specs.declared.space.Space.TheVariants as spaces
 use Rattle.wenc_builder.proofs.Entered.{alone_enters}
 use Rattle.wenc_builder.proofs.Texts.{item_piece, bytes_serve}

@@ -1,6 +1,5 @@
 use Rattle.std.proofs.Common.{refl}
-use Rattle.wenc_builder.specs.Entry.{custom_entry}
-use Rattle.wenc_builder.specs.Item.{CustomItem}
+use Rattle.wenc_builder.specs.Prelude.{CustomItem, custom_entry}
 use Rattle.wenc_builder.proofs.Entered.{without_index_enters}
 use Rattle.wenc_builder.proofs.Texts.{item_piece, custom_serves}
 use Rattle.wenc_builder.proofs.builder.ComponentBuilder.custom_section.Goals as goal

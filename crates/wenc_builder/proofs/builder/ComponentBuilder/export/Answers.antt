@@ -1,9 +1,7 @@
 use Rattle.std.proofs.Common.{refl}
-use Rattle.wenc_builder.specs.inside.Layout.{kind_id}
+use Rattle.wenc_builder.specs.Prelude.{ExportItem, export_entry, kind_id}
 use Rattle.std.proofs.Common.{Some}
-use Rattle.wenc_parts.specs.Imports.{extern_name_view}
-use Rattle.wenc_builder.specs.Entry.{export_entry}
-use Rattle.wenc_builder.specs.Item.{ExportItem}
+use Rattle.wenc_parts.specs.Prelude.{extern_name_view}
 use Rattle.wenc_builder.proofs.Texts.{export_serves}
 use Rattle.wenc_builder.specs.declared.builder.kind.Kind.TheVariants as kinds
 use Rattle.wenc_builder.proofs.Entered.{new_item_enters}

@@ -1,13 +1,9 @@
 use Rattle.std.proofs.Common.{◌≡◌, ◌↔◌, List, ℕ, refl, sym, ◌∙◌, subst}
-use Rattle.wenc_builder.specs.Builder.{sections_text}
-use Rattle.wenc_builder.specs.Entry.{items}
-use Rattle.wenc_builder.specs.Sections.{runs, Reading, whole}
-use Rattle.wenc_builder.specs.laws.Reading.{of_items}
+use Rattle.wenc_builder.specs.Prelude.{Reading, builder_view, items, of_items, runs, sections_text}
+use Rattle.wenc_builder.specs.Prelude.{spaced, whole}
 use Rattle.std.proofs.Math.Logic.{∥∥₁_map}
-use Rattle.wenc_builder.specs.inside.View.{builder_view}
 use Rattle.wenc_builder.specs.laws.Held.{holds_some}
 use Rattle.wenc_builder.proofs.Viewed.{finished_is}
-use Rattle.wenc_builder.specs.inside.Spaces.{spaced}
 use Rattle.wenc_builder.proofs.builder.ComponentBuilder.finish.Goals as goal
 
 pub returns-clause-some : goal.returns-clause-some

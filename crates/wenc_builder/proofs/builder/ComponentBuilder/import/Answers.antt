@@ -1,10 +1,8 @@
 use Rattle.std.proofs.Common.{refl}
-use Rattle.wenc_builder.specs.inside.Layout.{kind_id}
+use Rattle.wenc_builder.specs.Prelude.{ImportItem, import_entry, kind_id}
 use Rattle.std.proofs.Common.{Some}
-use Rattle.wenc_parts.specs.Imports.{extern_name, extern_name_view, type_reference}
-use Rattle.wenc_base.specs.laws.Serves.{two_serve}
-use Rattle.wenc_builder.specs.Entry.{import_entry}
-use Rattle.wenc_builder.specs.Item.{ImportItem}
+use Rattle.wenc_parts.specs.Prelude.{extern_name, extern_name_view, type_reference}
+use Rattle.wenc_base.specs.Prelude.{two_serve}
 use Rattle.wenc_builder.specs.declared.builder.kind.Kind.TheVariants as kinds
 use Rattle.wenc_builder.proofs.Entered.{new_item_enters}
 use Rattle.wenc_builder.proofs.Texts.{item_piece}

@@ -1,10 +1,8 @@
 use Rattle.std.proofs.Common.{refl}
-use Rattle.wenc_base.specs.laws.Serves.{serves_itself}
-use Rattle.wenc_builder.specs.inside.Layout.{kind_id}
+use Rattle.wenc_base.specs.Prelude.{serves_itself}
+use Rattle.wenc_builder.specs.Prelude.{InstanceItem, instance_entry, kind_id}
 use Rattle.std.specs.Option.{option_copied}
-use Rattle.wenc_builder.specs.Entry.{instance_entry}
-use Rattle.wenc_builder.specs.Item.{InstanceItem}
-use Rattle.wenc_sections.specs.InstanceTrees.{instance_tree_view}
+use Rattle.wenc_sections.specs.Prelude.{instance_tree_view}
 use Rattle.wenc_builder.specs.declared.builder.kind.Kind.TheVariants as kinds
 use Rattle.wenc_sections.specs.declared.space.Space.TheVariants as spaces
 use Rattle.wenc_builder.proofs.Entered.{new_item_enters}

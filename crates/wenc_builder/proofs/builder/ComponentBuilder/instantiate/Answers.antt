@@ -1,10 +1,7 @@
 use Rattle.std.proofs.Common.{refl, map}
 use Rattle.std.specs.Option.{option_copied}
-use Rattle.wenc_sections.specs.Instances.{Instantiate, named_triple}
-use Rattle.wenc_sections.specs.laws.Instances.{instantiate_listed}
-use Rattle.wenc_builder.specs.Entry.{instance_entry}
-use Rattle.wenc_builder.specs.Item.{InstanceItem}
-use Rattle.wenc_builder.specs.inside.Layout.{kind_id}
+use Rattle.wenc_sections.specs.Prelude.{Instantiate, instantiate_listed, named_triple}
+use Rattle.wenc_builder.specs.Prelude.{InstanceItem, instance_entry, kind_id}
 use Rattle.wenc_builder.specs.declared.builder.kind.Kind.TheVariants as kinds
 use Rattle.wenc_sections.specs.declared.space.Space.TheVariants as spaces
 use Rattle.wenc_builder.proofs.Listed.{listed_enters}

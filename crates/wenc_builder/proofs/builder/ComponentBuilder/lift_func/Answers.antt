@@ -1,8 +1,7 @@
 use Rattle.std.proofs.Common.{refl}
 use Rattle.std.specs.Option.{option_copied}
-use Rattle.wenc_canon.specs.Canonicals.{Lift}
-use Rattle.wenc_canon.specs.laws.Rows.{lift_serves}
-use Rattle.wenc_builder.specs.Item.{CanonItem}
+use Rattle.wenc_canon.specs.Prelude.{Lift, lift_serves}
+use Rattle.wenc_builder.specs.Prelude.{CanonItem}
 use Rattle.wenc_sections.specs.declared.space.Space.TheVariants as spaces
 use Rattle.wenc_builder.proofs.Listed.{options_enter}
 use Rattle.wenc_builder.proofs.Texts.{item_piece}

@@ -1,6 +1,5 @@
 use Rattle.std.proofs.Common.{refl}
-use Rattle.wenc_builder.specs.Entry.{raw_entry}
-use Rattle.wenc_builder.specs.Item.{RawItem}
+use Rattle.wenc_builder.specs.Prelude.{RawItem, raw_entry}
 use Rattle.wenc_builder.proofs.Texts.{raw_serves}
 use Rattle.wenc_builder.proofs.Entered.{without_index_enters}
 use Rattle.wenc_builder.proofs.Texts.{item_piece}

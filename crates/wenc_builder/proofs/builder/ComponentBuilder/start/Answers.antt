@@ -1,9 +1,7 @@
 use Rattle.std.proofs.Common.{refl}
-use Rattle.wenc_builder.specs.Space.{indices_in}
+use Rattle.wenc_builder.specs.Prelude.{StartItem, entry, indices_in}
 use Rattle.std.proofs.Common.{None}
-use Rattle.wenc_sections.specs.Start.{started}
-use Rattle.wenc_builder.specs.Entry.{entry}
-use Rattle.wenc_builder.specs.Item.{StartItem}
+use Rattle.wenc_sections.specs.Prelude.{started}
 use Rattle.wenc_sections.specs.declared.space.Space.TheVariants as spaces
 use Rattle.wenc_builder.proofs.Entered.{alone_enters}
 use Rattle.wenc_builder.proofs.Texts.{item_piece, plain_serves}

@@ -1,14 +1,10 @@
 use Rattle.std.proofs.Common.{refl, sym, ◌∙◌}
 use Rattle.std.proofs.Math.Logic.{∥∥₁_map}
 use Rattle.std.specs.Option.{option_copied}
-use Rattle.wenc_base.specs.laws.Serves.{serves_itself}
-use Rattle.wenc_types.specs.ComponentTypes.{ComponentType, components_of}
-use Rattle.wenc_types.specs.laws.ComponentTypes.{type_lawful}
-use Rattle.wenc_types.specs.laws.Declarations.{component_serves}
-use Rattle.wenc_types.specs.laws.TypeState.{component_has_form}
-use Rattle.wenc_builder.specs.Entry.{type_entry}
-use Rattle.wenc_builder.specs.Item.{TypeItem}
-use Rattle.wenc_builder.specs.inside.Layout.{kind_id}
+use Rattle.wenc_base.specs.Prelude.{serves_itself}
+use Rattle.wenc_types.specs.Prelude.{ComponentType, component_has_form, component_serves}
+use Rattle.wenc_types.specs.Prelude.{components_of, type_lawful}
+use Rattle.wenc_builder.specs.Prelude.{TypeItem, kind_id, type_entry}
 use Rattle.wenc_builder.specs.declared.builder.kind.Kind.TheVariants as kinds
 use Rattle.wenc_sections.specs.declared.space.Space.TheVariants as spaces
 use Rattle.wenc_builder.proofs.Entered.{new_item_as, new_item_enters}

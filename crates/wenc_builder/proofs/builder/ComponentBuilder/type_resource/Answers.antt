@@ -1,13 +1,9 @@
 use Rattle.std.proofs.Common.{refl}
 use Rattle.std.specs.Option.{option_copied}
-use Rattle.wenc_base.specs.Forms.{option}
-use Rattle.wenc_base.specs.Number.{u32}
-use Rattle.wenc_base.specs.Types.{val_type}
-use Rattle.wenc_types.specs.ComponentTypes.{ResourceType}
+use Rattle.wenc_base.specs.Prelude.{option, u32, val_type}
+use Rattle.wenc_types.specs.Prelude.{ResourceType}
 use Rattle.wenc_types.proofs.Serving.{pair_serves}
-use Rattle.wenc_builder.specs.Entry.{type_entry}
-use Rattle.wenc_builder.specs.Item.{TypeItem}
-use Rattle.wenc_builder.specs.inside.Layout.{kind_id}
+use Rattle.wenc_builder.specs.Prelude.{TypeItem, kind_id, type_entry}
 use Rattle.wenc_builder.specs.declared.builder.kind.Kind.TheVariants as kinds
 use Rattle.wenc_sections.specs.declared.space.Space.TheVariants as spaces
 use Rattle.wenc_builder.proofs.Entered.{new_item_enters}

@@ -1,8 +1,7 @@
 use Rattle.wenc_builder.proofs.Standing.{list_stands}
-use Rattle.wenc_base.specs.Piece.{behind_bytes}
-use Rattle.wenc_base.specs.Forms.{list}
+use Rattle.wenc_base.specs.Prelude.{behind_bytes, list}
 use Rattle.wenc_builder.proofs.Viewed.{appended_list}
-use Rattle.wenc_builder.specs.inside.Spaces.{spaced}
+use Rattle.wenc_builder.specs.Prelude.{spaced}
 use Rattle.wenc_builder.proofs.builder.ComponentBuilderParent.append_list.Goals as goal
 
 pub invariant_of-self : goal.invariant_of-self

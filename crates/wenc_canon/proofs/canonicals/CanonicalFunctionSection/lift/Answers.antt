@@ -1,7 +1,5 @@
-use Rattle.wenc_base.specs.laws.Holders.{adds_listed_as}
-use Rattle.wenc_base.specs.laws.Members.{keeps_listed}
-use Rattle.wenc_canon.specs.Canonicals.{Lift, canonical}
-use Rattle.wenc_canon.specs.laws.Rows.{lift_serves}
+use Rattle.wenc_base.specs.Prelude.{adds_listed_as, keeps_listed}
+use Rattle.wenc_canon.specs.Prelude.{Lift, canonical, lift_serves}
 use Rattle.wenc_canon.proofs.canonicals.CanonicalFunctionSection.lift.Goals as goal
 
 pub returns : goal.returns

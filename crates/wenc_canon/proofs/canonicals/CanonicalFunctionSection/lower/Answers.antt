@@ -1,7 +1,5 @@
-use Rattle.wenc_base.specs.laws.Holders.{adds_listed_as}
-use Rattle.wenc_base.specs.laws.Members.{keeps_listed}
-use Rattle.wenc_canon.specs.Canonicals.{Lower, canonical}
-use Rattle.wenc_canon.specs.laws.Rows.{lower_serves}
+use Rattle.wenc_base.specs.Prelude.{adds_listed_as, keeps_listed}
+use Rattle.wenc_canon.specs.Prelude.{Lower, canonical, lower_serves}
 use Rattle.wenc_canon.proofs.canonicals.CanonicalFunctionSection.lower.Goals as goal
 
 pub returns : goal.returns

@@ -1,8 +1,5 @@
-use Rattle.wenc_base.specs.laws.Holders.{adds_as}
-use Rattle.wenc_base.specs.laws.Members.{keeps_added}
-use Rattle.wenc_canon.specs.Canonicals.{canonical}
-use Rattle.wenc_canon.specs.inside.Rows.{builtin_by}
-use Rattle.wenc_canon.specs.laws.Rows.{builtin_serves}
+use Rattle.wenc_base.specs.Prelude.{adds_as, keeps_added}
+use Rattle.wenc_canon.specs.Prelude.{builtin_by, builtin_serves, canonical}
 use Rattle.wenc_canon.proofs.canonicals.CanonicalFunctionSectionAddsRow.add_row.Goals as goal
 
 pub returns : goal.returns

@@ -1,8 +1,5 @@
-use Rattle.wenc_base.specs.laws.Holders.{adds_listed_as}
-use Rattle.wenc_base.specs.laws.Members.{keeps_listed}
-use Rattle.wenc_canon.specs.Canonicals.{canonical}
-use Rattle.wenc_canon.specs.inside.Rows.{builtin_with}
-use Rattle.wenc_canon.specs.laws.Rows.{builtin_with_serves}
+use Rattle.wenc_base.specs.Prelude.{adds_listed_as, keeps_listed}
+use Rattle.wenc_canon.specs.Prelude.{builtin_with, builtin_with_serves, canonical}
 use Rattle.wenc_canon.proofs.canonicals.CanonicalFunctionSectionAddsRow.add_row_with.Goals as goal
 
 pub returns : goal.returns

@@ -1,9 +1,7 @@
 use Rattle.std.proofs.Common.{◌∷◌, []}
-use Rattle.wenc_base.specs.laws.Holders.{adds_as}
-use Rattle.wenc_base.specs.laws.Members.{keeps_added}
-use Rattle.wenc_canon.specs.Canonicals.{canonical, CoreType, Index}
-use Rattle.wenc_canon.specs.inside.Rows.{builtin_by}
-use Rattle.wenc_canon.specs.laws.Rows.{builtin_serves, two_fields}
+use Rattle.wenc_base.specs.Prelude.{adds_as, keeps_added}
+use Rattle.wenc_canon.specs.Prelude.{CoreType, Index, builtin_by, builtin_serves, canonical}
+use Rattle.wenc_canon.specs.Prelude.{two_fields}
 use Rattle.wenc_canon.proofs.canonicals.CanonicalFunctionSectionAddsSlotRow.add_slot_row.Goals as goal
 
 pub returns : goal.returns

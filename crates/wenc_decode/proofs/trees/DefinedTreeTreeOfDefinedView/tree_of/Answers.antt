@@ -1,14 +1,12 @@
 use Rattle.std.proofs.Common.{◌≡◌, ap, sym, ◌∙◌}
 use Rattle.std.proofs.lemmas.List.{map-id}
 use Rattle.std.specs.String.{string_bytes}
-use Rattle.wenc_base.specs.reading.Forms.{read_name}
-use Rattle.wenc_parts.specs.reading.Types.{read_value_type}
+use Rattle.wenc_base.specs.Prelude.{read_name}
+use Rattle.wenc_parts.specs.Prelude.{read_value_type}
 use Rattle.wenc_types.specs.DefinedTypes as pure
-use Rattle.wenc_types.specs.TypeTrees.{labelled_type_view, case_view}
-use Rattle.wenc_types.specs.reading.DefinedTypes.{read_labelled_type, read_case}
-use Rattle.wenc_view.specs.DefinedTypes.{labelled_seen, case_seen}
-use Rattle.wenc_view.specs.Members.{list_view}
-use Rattle.wenc_decode.specs.laws.Copies.{copies_are}
+use Rattle.wenc_types.specs.Prelude.{case_view, labelled_type_view, read_case, read_labelled_type}
+use Rattle.wenc_view.specs.Prelude.{case_seen, labelled_seen, list_view}
+use Rattle.wenc_decode.specs.Prelude.{copies_are}
 use Rattle.wenc_decode.proofs.trees.DefinedTreeTreeOfDefinedView.tree_of.Goals as goal
 
 pub returns-in_ok-fields-in-Record : goal.returns-in_ok-fields-in-Record

@@ -1,10 +1,9 @@
 use Rattle.std.proofs.Common.{sym, ◌≡◌, ◌∙◌}
 use Rattle.std.proofs.lemmas.List.{map-id}
 use Rattle.std.proofs.lemmas.Result.{IfOk-weaker}
-use Rattle.wenc_canon.specs.reading.Canonicals.{read_canonical_option}
-use Rattle.wenc_view.specs.Members.{list_view}
-use Rattle.wenc_decode.specs.Copies.{AreCopies}
-use Rattle.wenc_decode.specs.laws.Copies.{copies_are}
+use Rattle.wenc_canon.specs.Prelude.{read_canonical_option}
+use Rattle.wenc_view.specs.Prelude.{list_view}
+use Rattle.wenc_decode.specs.Prelude.{AreCopies, copies_are}
 use Rattle.wenc_decode.proofs.trees.canonicals.options_of.Goals as goal
 
 pub returns : goal.returns

@@ -1,17 +1,14 @@
 use Rattle.std.proofs.Common.{◌≡◌, ◌∙◌, List, refl, ap}
-use Rattle.wenc_types.specs.ComponentTypes.{ComponentType, InstanceType, FunctionType}
-use Rattle.wenc_types.specs.ComponentTypes.{components_of, instances_of, ComponentDeclaration}
-use Rattle.wenc_types.specs.ComponentTypes.{InstanceDeclaration}
-use Rattle.wenc_types.specs.DefinedTypes.{LabelledType}
-use Rattle.wenc_types.specs.TypeTrees.{labelled_type_view, instance_declaration_view}
-use Rattle.wenc_types.specs.TypeTrees.{component_declaration_view}
-use Rattle.wenc_types.specs.reading.DefinedTypes.{read_labelled_type, to_function}
-use Rattle.wenc_types.specs.laws.TypeTrees.{view_component, view_instance}
-use Rattle.wenc_view.specs.DefinedTypes.{labelled_seen}
-use Rattle.wenc_view.specs.Members.{list_view}
-use Rattle.wenc_view.specs.Types.{component_members, instance_members}
-use Rattle.wenc_view.specs.Types.{instance_declaration_seen, component_declaration_seen}
-use Rattle.wenc_decode.specs.laws.Copies.{copies_are, one_seen, all_seen}
+use Rattle.wenc_types.specs.Prelude.{ComponentDeclaration, ComponentType, FunctionType}
+use Rattle.wenc_types.specs.Prelude.{InstanceDeclaration, InstanceType, LabelledType}
+use Rattle.wenc_types.specs.Prelude.{component_declaration_view, components_of}
+use Rattle.wenc_types.specs.Prelude.{instance_declaration_view, instances_of, labelled_type_view}
+use Rattle.wenc_types.specs.Prelude.{read_labelled_type, to_function, view_component, view_instance}
+use Rattle.wenc_view.specs.Prelude.{component_declaration_seen, component_members}
+use Rattle.wenc_view.specs.Prelude.{instance_declaration_seen, instance_members, labelled_seen}
+use Rattle.wenc_view.specs.Prelude.{list_view}
+use Rattle.wenc_decode.specs.Prelude.{copies_are}
+use Rattle.wenc_decode.specs.laws.Copies.{one_seen, all_seen}
 use Rattle.wenc_decode.proofs.trees.types.+type_trees.Goals as goal
 
 pub instance_decls-loop-decl-init : goal.instance_decls-loop-decl-init

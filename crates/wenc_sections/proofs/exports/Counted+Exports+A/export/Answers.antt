@@ -1,9 +1,6 @@
-use Rattle.wenc_base.specs.Piece.{HasForm}
-use Rattle.wenc_base.specs.laws.Holders.{adds_as}
-use Rattle.wenc_base.specs.laws.Members.{keeps_took, serves_form}
-use Rattle.wenc_parts.specs.Imports.{extern_name_view}
-use Rattle.wenc_sections.specs.Exports.{export_item}
-use Rattle.wenc_sections.specs.inside.Items.{ascribed}
+use Rattle.wenc_base.specs.Prelude.{HasForm, adds_as, keeps_took, serves_form}
+use Rattle.wenc_parts.specs.Prelude.{extern_name_view}
+use Rattle.wenc_sections.specs.Prelude.{ascribed, export_item}
 use Rattle.wenc_sections.proofs.Served.{export_serves}
 use Rattle.wenc_sections.proofs.exports.Counted+Exports+A.export.Goals as goal
 

@@ -1,9 +1,6 @@
-use Rattle.wenc_base.specs.Piece.{HasForm}
-use Rattle.wenc_base.specs.laws.Holders.{adds_as}
-use Rattle.wenc_base.specs.laws.Members.{keeps_took, serves_form}
-use Rattle.wenc_parts.specs.Imports.{extern_name_view}
-use Rattle.wenc_sections.specs.Imports.{import_item}
-use Rattle.wenc_sections.specs.inside.Items.{imported}
+use Rattle.wenc_base.specs.Prelude.{HasForm, adds_as, keeps_took, serves_form}
+use Rattle.wenc_parts.specs.Prelude.{extern_name_view}
+use Rattle.wenc_sections.specs.Prelude.{import_item, imported}
 use Rattle.wenc_sections.proofs.Served.{import_serves}
 use Rattle.wenc_sections.proofs.imports.Counted+Imports+A.import.Goals as goal
 

@@ -1,9 +1,7 @@
 use Rattle.std.specs.Prelude.{String}
 use Rattle.std.specs.String.{string_bytes}
-use Rattle.wenc_base.specs.Forms.{name}
-use Rattle.wenc_base.specs.Piece.{Form}
-use Rattle.wenc_base.specs.laws.Serves.{appends_as, fits_as, serves_itself}
-use Rattle.wenc_parts.specs.Imports.{name_tree_view}
+use Rattle.wenc_base.specs.Prelude.{Form, appends_as, fits_as, name, serves_itself}
+use Rattle.wenc_parts.specs.Prelude.{name_tree_view}
 use Rattle.wenc_sections.specs.laws.Instances.{instantiate_serves, exports_serve}
 use Rattle.wenc_sections.proofs.instance_trees.InstanceTreeEncode.encode.Goals as goal
 

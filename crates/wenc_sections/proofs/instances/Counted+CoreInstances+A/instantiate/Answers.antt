@@ -1,9 +1,7 @@
 use Rattle.std.proofs.Common.{map}
-use Rattle.wenc_base.specs.Piece.{HasForm}
-use Rattle.wenc_base.specs.laws.Holders.{adds_listed_as}
-use Rattle.wenc_base.specs.laws.Members.{keeps_list, serves_form}
-use Rattle.wenc_sections.specs.Instances.{CoreInstantiate, core_instance, named_pair}
-use Rattle.wenc_sections.specs.laws.Instances.{core_instantiate_listed}
+use Rattle.wenc_base.specs.Prelude.{HasForm, adds_listed_as, keeps_list, serves_form}
+use Rattle.wenc_sections.specs.Prelude.{CoreInstantiate, core_instance, core_instantiate_listed}
+use Rattle.wenc_sections.specs.Prelude.{named_pair}
 use Rattle.wenc_sections.proofs.instances.Counted+CoreInstances+A.instantiate.Goals as goal
 
 pub returns : goal.returns

@@ -1,10 +1,7 @@
 use Rattle.std.proofs.Common.{map}
-use Rattle.wenc_base.specs.Piece.{HasForm}
-use Rattle.wenc_base.specs.laws.Holders.{adds_listed_as}
-use Rattle.wenc_base.specs.laws.Members.{keeps_list, serves_form}
-use Rattle.wenc_parts.specs.Imports.{extern_name_view}
-use Rattle.wenc_sections.specs.Instances.{Exports, instance, named_triple}
-use Rattle.wenc_sections.specs.laws.Instances.{exports_listed}
+use Rattle.wenc_base.specs.Prelude.{HasForm, adds_listed_as, keeps_list, serves_form}
+use Rattle.wenc_parts.specs.Prelude.{extern_name_view}
+use Rattle.wenc_sections.specs.Prelude.{Exports, exports_listed, instance, named_triple}
 use Rattle.wenc_sections.proofs.instances.Counted+Instances+A.export_items.Goals as goal
 
 pub returns : goal.returns

@@ -1,9 +1,6 @@
 use Rattle.std.proofs.Common.{map}
-use Rattle.wenc_base.specs.Piece.{HasForm}
-use Rattle.wenc_base.specs.laws.Holders.{adds_listed_as}
-use Rattle.wenc_base.specs.laws.Members.{keeps_list, serves_form}
-use Rattle.wenc_sections.specs.Instances.{Instantiate, instance, named_triple}
-use Rattle.wenc_sections.specs.laws.Instances.{instantiate_listed}
+use Rattle.wenc_base.specs.Prelude.{HasForm, adds_listed_as, keeps_list, serves_form}
+use Rattle.wenc_sections.specs.Prelude.{Instantiate, instance, instantiate_listed, named_triple}
 use Rattle.wenc_sections.proofs.instances.Counted+Instances+A.instantiate.Goals as goal
 
 pub returns : goal.returns

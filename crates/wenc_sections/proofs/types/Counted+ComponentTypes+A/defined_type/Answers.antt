@@ -1,6 +1,5 @@
-use Rattle.wenc_types.specs.ComponentTypes.{def_type, DefinedType}
-use Rattle.wenc_base.specs.laws.Members.{opened_whole}
-use Rattle.wenc_base.specs.laws.Serves.{serves_itself}
+use Rattle.wenc_types.specs.Prelude.{DefinedType, def_type}
+use Rattle.wenc_base.specs.Prelude.{opened_whole, serves_itself}
 use Rattle.wenc_sections.proofs.types.Counted+ComponentTypes+A.defined_type.Goals as goal
 
 pub new-requires-clause-whole : goal.new-requires-clause-whole

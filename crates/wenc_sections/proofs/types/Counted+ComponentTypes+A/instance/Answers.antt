@@ -1,11 +1,6 @@
 use Rattle.std.proofs.Common.{sym, ◌∙◌}
-use Rattle.wenc_base.specs.Holder.{held_members}
-use Rattle.wenc_base.specs.Piece.{HasForm, ◌▸◌}
-use Rattle.wenc_base.specs.laws.Holders.{adds_as}
-use Rattle.wenc_base.specs.laws.Members.{keeps_took}
-use Rattle.wenc_types.specs.ComponentTypes.{def_type}
-use Rattle.wenc_types.specs.laws.Declarations.{instance_serves}
-use Rattle.wenc_types.specs.laws.TypeState.{instance_has_form}
+use Rattle.wenc_base.specs.Prelude.{HasForm, adds_as, held_members, keeps_took, ◌▸◌}
+use Rattle.wenc_types.specs.Prelude.{def_type, instance_has_form, instance_serves}
 use Rattle.wenc_sections.proofs.types.Counted+ComponentTypes+A.instance.Goals as goal
 
 pub invariant_of-self : goal.invariant_of-self

@@ -1,7 +1,5 @@
-use Rattle.wenc_base.specs.Piece.{HasForm}
-use Rattle.wenc_base.specs.laws.Holders.{adds_as}
-use Rattle.wenc_base.specs.laws.Members.{keeps_took, serves_form}
-use Rattle.wenc_types.specs.ComponentTypes.{def_type, ResourceType}
+use Rattle.wenc_base.specs.Prelude.{HasForm, adds_as, keeps_took, serves_form}
+use Rattle.wenc_types.specs.Prelude.{ResourceType, def_type}
 use Rattle.wenc_sections.proofs.Served.{resource_serves}
 use Rattle.wenc_sections.proofs.types.Counted+ComponentTypes+A.resource.Goals as goal
 

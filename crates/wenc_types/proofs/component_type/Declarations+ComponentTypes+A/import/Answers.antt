@@ -1,8 +1,7 @@
 use Rattle.std.proofs.Common.{refl}
-use Rattle.wenc_parts.specs.Imports.{extern_name_view, extern_name, type_reference}
-use Rattle.wenc_types.specs.ComponentTypes.{Imported, component_declaration}
-use Rattle.wenc_types.specs.Declarations.{component_space}
-use Rattle.wenc_types.specs.laws.Declarations.{is_declaration}
+use Rattle.wenc_parts.specs.Prelude.{extern_name, extern_name_view, type_reference}
+use Rattle.wenc_types.specs.Prelude.{Imported, component_declaration, component_space}
+use Rattle.wenc_types.specs.Prelude.{is_declaration}
 use Rattle.wenc_types.proofs.Serving.{pair_serves}
 use Rattle.wenc_types.proofs.component_type.Declarations+ComponentTypes+A.import.Goals as goal
 

@@ -1,7 +1,5 @@
 use Rattle.std.specs.String.{string_bytes}
-use Rattle.wenc_base.specs.Entities.{entity_type}
-use Rattle.wenc_base.specs.Forms.{name}
-use Rattle.wenc_base.specs.laws.Serves.{appends_as}
+use Rattle.wenc_base.specs.Prelude.{appends_as, entity_type, name}
 use Rattle.wenc_types.proofs.Serving.{pair_serves, import_serves, outer_serves}
 use Rattle.wenc_types.proofs.core_type_tree.ModuleDeclEncode.encode.Goals as goal
 

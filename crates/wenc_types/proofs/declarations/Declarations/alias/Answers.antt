@@ -1,7 +1,6 @@
-use Rattle.wenc_base.specs.laws.Serves.{serves_itself}
-use Rattle.wenc_parts.specs.Aliases.{alias_view}
-use Rattle.wenc_types.specs.ComponentTypes.{Aliased}
-use Rattle.wenc_types.specs.laws.Declarations.{adds_declared, is_declared}
+use Rattle.wenc_base.specs.Prelude.{serves_itself}
+use Rattle.wenc_parts.specs.Prelude.{alias_view}
+use Rattle.wenc_types.specs.Prelude.{Aliased, adds_declared, is_declared}
 use Rattle.wenc_types.proofs.declarations.Declarations.alias.Goals as goal
 
 pub returns : goal.returns

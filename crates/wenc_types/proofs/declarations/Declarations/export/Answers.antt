@@ -1,7 +1,6 @@
 use Rattle.std.proofs.Common.{refl}
-use Rattle.wenc_parts.specs.Imports.{extern_name_view, extern_name, type_reference}
-use Rattle.wenc_types.specs.ComponentTypes.{Exported}
-use Rattle.wenc_types.specs.laws.Declarations.{adds_declared, is_declared}
+use Rattle.wenc_parts.specs.Prelude.{extern_name, extern_name_view, type_reference}
+use Rattle.wenc_types.specs.Prelude.{Exported, adds_declared, is_declared}
 use Rattle.wenc_types.proofs.Serving.{pair_serves}
 use Rattle.wenc_types.proofs.declarations.Declarations.export.Goals as goal
 

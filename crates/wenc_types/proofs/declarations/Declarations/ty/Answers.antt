@@ -1,8 +1,6 @@
 use Rattle.std.proofs.Common.{◌∷◌, [], refl}
-use Rattle.wenc_base.specs.laws.Serves.{serves_itself}
-use Rattle.wenc_base.specs.laws.Members.{written_text}
-use Rattle.wenc_types.specs.ComponentTypes.{Typed, def_type}
-use Rattle.wenc_types.specs.laws.Declarations.{is_declared}
+use Rattle.wenc_base.specs.Prelude.{serves_itself, written_text}
+use Rattle.wenc_types.specs.Prelude.{Typed, def_type, is_declared}
 use Rattle.wenc_types.proofs.declarations.Declarations.ty.Goals as goal
 
 pub new-requires-clause-whole : goal.new-requires-clause-whole

@@ -1,9 +1,6 @@
 use Rattle.std.proofs.Common.{◌∷◌, [], refl}
-use Rattle.wenc_base.specs.laws.Serves.{serves_itself}
-use Rattle.wenc_base.specs.laws.Members.{written_text}
-use Rattle.wenc_types.specs.ComponentTypes.{Typed, DefinedType}
-use Rattle.wenc_types.specs.DefinedTypes.{def_val_type}
-use Rattle.wenc_types.specs.laws.Declarations.{is_declared}
+use Rattle.wenc_base.specs.Prelude.{serves_itself, written_text}
+use Rattle.wenc_types.specs.Prelude.{DefinedType, Typed, def_val_type, is_declared}
 use Rattle.wenc_types.proofs.declarations.Declarations.type_defined.Goals as goal
 
 pub new-requires-clause-whole : goal.new-requires-clause-whole

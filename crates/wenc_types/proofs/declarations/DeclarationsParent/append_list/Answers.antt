@@ -1,9 +1,7 @@
-use Rattle.wenc_base.specs.Forms.{list}
-use Rattle.wenc_base.specs.Holder.{HolderState}
-use Rattle.wenc_base.specs.Openings.{member_appended, no_room_in_holder}
-use Rattle.wenc_base.specs.Piece.{behind_bytes}
+use Rattle.wenc_base.specs.Prelude.{HolderState, behind_bytes, list, member_appended}
+use Rattle.wenc_base.specs.Prelude.{no_room_in_holder}
 use Rattle.wenc_base.specs.laws.Parents.{carried_list}
-use Rattle.wenc_types.specs.Declarations.{TypeState}
+use Rattle.wenc_types.specs.Prelude.{TypeState}
 use Rattle.wenc_types.proofs.declarations.DeclarationsParent.append_list.Goals as goal
 
 pub returns : goal.returns

@@ -1,7 +1,6 @@
-use Rattle.wenc_base.specs.Holder.{HolderState}
-use Rattle.wenc_base.specs.Openings.{member_appended, no_room_in_holder}
+use Rattle.wenc_base.specs.Prelude.{HolderState, member_appended, no_room_in_holder}
 use Rattle.wenc_base.specs.laws.Parents.{carried}
-use Rattle.wenc_types.specs.Declarations.{TypeState}
+use Rattle.wenc_types.specs.Prelude.{TypeState}
 use Rattle.wenc_types.proofs.declarations.DeclarationsParent.append_value.Goals as goal
 
 pub returns-clause-appended : goal.returns-clause-appended

@@ -1,7 +1,5 @@
-use Rattle.wenc_base.specs.Forms.{option}
-use Rattle.wenc_base.specs.Number.{u32}
-use Rattle.wenc_base.specs.laws.Serves.{appends_as, appends_finished, fits_as}
-use Rattle.wenc_parts.specs.Types.{value_type}
+use Rattle.wenc_base.specs.Prelude.{appends_as, appends_finished, fits_as, option, u32}
+use Rattle.wenc_parts.specs.Prelude.{value_type}
 use Rattle.wenc_types.proofs.Serving.{pair_serves, record_tree_serves, variant_tree_serves, names_tree_serves, tuple_tree_serves}
 use Rattle.wenc_types.proofs.defined_tree.DefinedTreeEncode.encode.Goals as goal
 

@@ -1,8 +1,7 @@
 use Rattle.std.proofs.Common.{map}
-use Rattle.wenc_base.specs.Forms.{list}
-use Rattle.wenc_base.specs.Piece.{behind_bytes}
+use Rattle.wenc_base.specs.Prelude.{behind_bytes, list}
 use Rattle.wenc_base.specs.laws.Parents.{extends_as}
-use Rattle.wenc_types.specs.DefinedTypes.{labelled_type, borrowed_labelled_type}
+use Rattle.wenc_types.specs.Prelude.{borrowed_labelled_type, labelled_type}
 use Rattle.wenc_types.proofs.Serving.{borrowed_field, fields_serve}
 use Rattle.wenc_types.proofs.encoders.func_type.append_named.Goals as goal
 

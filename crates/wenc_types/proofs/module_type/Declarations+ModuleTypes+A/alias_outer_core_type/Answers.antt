@@ -1,7 +1,5 @@
 use Rattle.std.proofs.Common.{refl}
-use Rattle.wenc_types.specs.CoreTypes.{ModuleOuter, module_declaration}
-use Rattle.wenc_types.specs.Declarations.{module_space}
-use Rattle.wenc_types.specs.laws.Declarations.{is_declaration}
+use Rattle.wenc_types.specs.Prelude.{ModuleOuter, is_declaration, module_declaration, module_space}
 use Rattle.wenc_types.proofs.Serving.{outer_serves}
 use Rattle.wenc_types.proofs.module_type.Declarations+ModuleTypes+A.alias_outer_core_type.Goals as goal
 

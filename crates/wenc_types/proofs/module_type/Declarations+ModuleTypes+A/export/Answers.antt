@@ -1,9 +1,6 @@
 use Rattle.std.proofs.Common.{refl}
-use Rattle.wenc_base.specs.Entities.{entity_type}
-use Rattle.wenc_base.specs.Forms.{name}
-use Rattle.wenc_types.specs.CoreTypes.{ModuleExport, module_declaration}
-use Rattle.wenc_types.specs.Declarations.{module_space}
-use Rattle.wenc_types.specs.laws.Declarations.{is_declaration}
+use Rattle.wenc_base.specs.Prelude.{entity_type, name}
+use Rattle.wenc_types.specs.Prelude.{ModuleExport, is_declaration, module_declaration, module_space}
 use Rattle.wenc_types.proofs.Serving.{pair_serves}
 use Rattle.wenc_types.proofs.module_type.Declarations+ModuleTypes+A.export.Goals as goal
 

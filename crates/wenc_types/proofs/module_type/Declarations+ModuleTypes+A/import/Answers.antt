@@ -1,7 +1,5 @@
 use Rattle.std.proofs.Common.{refl}
-use Rattle.wenc_types.specs.CoreTypes.{ModuleImport, module_declaration}
-use Rattle.wenc_types.specs.Declarations.{module_space}
-use Rattle.wenc_types.specs.laws.Declarations.{is_declaration}
+use Rattle.wenc_types.specs.Prelude.{ModuleImport, is_declaration, module_declaration, module_space}
 use Rattle.wenc_types.proofs.Serving.{import_serves}
 use Rattle.wenc_types.proofs.module_type.Declarations+ModuleTypes+A.import.Goals as goal
 

@@ -1,10 +1,7 @@
 use Rattle.std.proofs.Common.{◌∷◌, [], refl}
-use Rattle.wenc_base.specs.Composites.{rec_type}
-use Rattle.wenc_base.specs.laws.Members.{written_text}
-use Rattle.wenc_base.specs.laws.Serves.{serves_itself}
-use Rattle.wenc_types.specs.CoreTypes.{ModuleRecType, module_declaration}
-use Rattle.wenc_types.specs.Declarations.{module_space}
-use Rattle.wenc_types.specs.laws.Declarations.{is_declaration}
+use Rattle.wenc_base.specs.Prelude.{rec_type, serves_itself, written_text}
+use Rattle.wenc_types.specs.Prelude.{ModuleRecType, is_declaration, module_declaration}
+use Rattle.wenc_types.specs.Prelude.{module_space}
 use Rattle.wenc_types.proofs.module_type.Declarations+ModuleTypes+A.ty.Goals as goal
 
 pub new-requires-clause-whole : goal.new-requires-clause-whole

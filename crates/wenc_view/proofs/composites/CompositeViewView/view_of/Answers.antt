@@ -1,9 +1,6 @@
 use Rattle.std.proofs.Common.{rules, ◌∙◌}
-use Rattle.wenc_base.specs.Composites.{Array, Func, Struct}
-use Rattle.wenc_base.specs.reading.Composites.{read_field_type}
-use Rattle.wenc_base.specs.reading.Forms.{read_list}
-use Rattle.wenc_base.specs.reading.Types.{read_val_type}
-use Rattle.wenc_read.specs.laws.Tables.{at_first}
+use Rattle.wenc_base.specs.Prelude.{Array, Func, Struct, read_field_type, read_list, read_val_type}
+use Rattle.wenc_read.specs.Prelude.{at_first}
 use Rattle.wenc_view.proofs.Tables.{made_of, made_of_both}
 use Rattle.wenc_view.proofs.composites.CompositeViewView.view_of.Goals as goal
 

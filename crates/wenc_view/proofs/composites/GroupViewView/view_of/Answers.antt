@@ -1,11 +1,8 @@
 use Rattle.std.proofs.Common.{◌∙◌, [], ◌∷◌, refl, rules}
-use Rattle.wenc_base.specs.Composites.{RecType, Single}
-use Rattle.wenc_base.specs.reading.Composites.{sub_rows, read_types}
+use Rattle.wenc_base.specs.Prelude.{Bad, RecType, Single, give, read_sub_type, read_types, sub_rows}
 use Rattle.wenc_view.proofs.Rows.{wraps}
 use Rattle.wenc_view.proofs.SubTypes.{subs_follow}
-use Rattle.wenc_base.specs.Readers.{Bad, give}
-use Rattle.wenc_base.specs.reading.Composites.{read_sub_type}
-use Rattle.wenc_read.specs.laws.Tables.{fails_on}
+use Rattle.wenc_read.specs.Prelude.{fails_on}
 use Rattle.wenc_view.proofs.composites.GroupViewView.view_of.Goals as goal
 
 pub returns-in-Ok-clause-found : goal.returns-in-Ok-clause-found

@@ -1,12 +1,9 @@
 use Rattle.std.proofs.Common.{rules, ◌∙◌, refl}
 use Rattle.wenc_base.specs.declared.types.storage.StorageType.TheVariants.{Val}
-use Rattle.wenc_base.specs.reading.Composites.{small_rows}
-use Rattle.wenc_base.specs.reading.Types.{val_type_rows}
+use Rattle.wenc_base.specs.Prelude.{Bad, give, read_val_type, small_rows, val_type_rows}
 use Rattle.wenc_view.proofs.Rows.{wraps}
 use Rattle.wenc_view.proofs.ValTypes.{val_types_follow}
-use Rattle.wenc_base.specs.Readers.{Bad, give}
-use Rattle.wenc_base.specs.reading.Types.{read_val_type}
-use Rattle.wenc_read.specs.laws.Tables.{fails_on}
+use Rattle.wenc_read.specs.Prelude.{fails_on}
 use Rattle.wenc_view.proofs.composites.StorageTypeView.view_of.Goals as goal
 
 pub returns-in-Ok-clause-found : goal.returns-in-Ok-clause-found

@@ -1,14 +1,9 @@
 use Rattle.std.proofs.Common.{rules, ◌∙◌, false, true, Some, [], ◌∷◌, refl}
-use Rattle.wenc_base.specs.Composites.{final}
-use Rattle.wenc_base.specs.reading.Composites.{composite_rows, read_closed, read_extension, sub_of}
-use Rattle.wenc_base.specs.reading.Composites.{sub_rows}
-use Rattle.wenc_base.specs.Readers.{Bad, nowhere}
-use Rattle.wenc_read.specs.laws.Tables.{at_first}
+use Rattle.wenc_base.specs.Prelude.{Bad, composite_rows, final, give, nowhere, read_closed}
+use Rattle.wenc_base.specs.Prelude.{read_composite, read_extension, sub_of, sub_rows}
+use Rattle.wenc_read.specs.Prelude.{at_first, fails_on}
 use Rattle.wenc_view.proofs.Rows.{wraps}
 use Rattle.wenc_view.proofs.SubTypes.{composites_follow}
-use Rattle.wenc_base.specs.Readers.{give}
-use Rattle.wenc_base.specs.reading.Composites.{read_composite}
-use Rattle.wenc_read.specs.laws.Tables.{fails_on}
 use Rattle.wenc_view.proofs.composites.SubViewView.view_of.Goals as goal
 
 pub returns-in-Ok-clause-found : goal.returns-in-Ok-clause-found

@@ -1,17 +1,13 @@
 use Rattle.std.proofs.Common.{◌≡◌, Err, rules, ◌∙◌, sym, subst, [], ◌∷◌, false, refl, Result, List}
 use Rattle.std.proofs.Common.{ℕ}
-use Rattle.wenc_base.specs.Composites.{Sub, Single}
-use Rattle.wenc_base.specs.reading.Composites.{final_rows, read_extension, read_types, sub_of}
-use Rattle.wenc_base.specs.reading.Forms.{read_list}
-use Rattle.wenc_base.specs.Readers.{Flaw, Bad, give, choose, nowhere}
-use Rattle.wenc_read.specs.laws.Tables.{at_first}
-use Rattle.wenc_types.specs.CoreTypes.{Grouped, Module}
-use Rattle.wenc_types.specs.reading.CoreTypes.{read_declarations, read_module_declaration}
-use Rattle.wenc_types.specs.reading.CoreTypes.{read_open}
+use Rattle.wenc_base.specs.Prelude.{Bad, Flaw, Single, Sub, choose, final_rows, give, nowhere}
+use Rattle.wenc_base.specs.Prelude.{read_extension, read_list, read_types, sub_of}
+use Rattle.wenc_read.specs.Prelude.{at_first, fails_on}
+use Rattle.wenc_types.specs.Prelude.{Grouped, Module, read_declarations, read_module_declaration}
+use Rattle.wenc_types.specs.Prelude.{read_open}
 use Rattle.wenc_view.proofs.Rows.{found_alone, wraps}
 use Rattle.wenc_view.proofs.SubTypes.{finals_follow}
 use Rattle.wenc_view.proofs.Tables.{made_of}
-use Rattle.wenc_read.specs.laws.Tables.{fails_on}
 use Rattle.wenc_view.proofs.core_type_views.CoreTypeViewView.view_of.Goals as goal
 
 pub returns-in_ok-decls-in-80-default-clause-found : goal.returns-in_ok-decls-in-80-default-clause-found

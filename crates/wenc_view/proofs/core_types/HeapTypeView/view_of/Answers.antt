@@ -1,13 +1,11 @@
 use Rattle.std.proofs.Common.{[], sym, refl, ◌∙◌}
 use Rattle.std.proofs.lemmas.Result.{err_from_is_err_and}
-use Rattle.wenc_base.specs.Types.{abstract_byte}
+use Rattle.wenc_base.specs.Prelude.{Bad, abstract_byte, abstract_rows, abstract_types, give}
+use Rattle.wenc_base.specs.Prelude.{read_index, ◌>>=◌}
 use Rattle.wenc_base.specs.declared.types.HeapType.TheVariants.{Abstract, Concrete}
-use Rattle.wenc_base.specs.Readers.{Bad, ◌>>=◌, give}
-use Rattle.wenc_base.specs.reading.Numbers.{read_index}
-use Rattle.wenc_base.specs.laws.Types.{abstract_types}
-use Rattle.wenc_base.specs.reading.Types.{abstract_rows}
 use Rattle.wenc_view.proofs.Tables.{begins, falls_through}
-use Rattle.wenc_read.specs.laws.Tables.{fails_on, fails_first}
+use Rattle.wenc_read.specs.Prelude.{fails_on}
+use Rattle.wenc_read.specs.laws.Tables.{fails_first}
 use Rattle.wenc_view.proofs.core_types.HeapTypeView.view_of.Goals as goal
 
 pub returns-in_err-first-clause-found : goal.returns-in_err-first-clause-found

@@ -1,11 +1,9 @@
 use Rattle.std.proofs.Common.{rules, ◌∙◌, refl}
 use Rattle.wenc_base.specs.declared.types.ValType.TheVariants.{Ref}
-use Rattle.wenc_base.specs.reading.Types.{reference_rows, number_rows}
+use Rattle.wenc_base.specs.Prelude.{Bad, give, number_rows, read_reference, reference_rows}
 use Rattle.wenc_view.proofs.Rows.{wraps}
 use Rattle.wenc_view.proofs.ValTypes.{references_follow}
-use Rattle.wenc_base.specs.Readers.{Bad, give}
-use Rattle.wenc_base.specs.reading.Types.{read_reference}
-use Rattle.wenc_read.specs.laws.Tables.{fails_on}
+use Rattle.wenc_read.specs.Prelude.{fails_on}
 use Rattle.wenc_view.proofs.core_types.ValTypeView.view_of.Goals as goal
 
 pub returns-in-Ok-clause-found : goal.returns-in-Ok-clause-found

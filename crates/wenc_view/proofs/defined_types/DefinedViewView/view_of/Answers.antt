@@ -1,11 +1,9 @@
 use Rattle.std.proofs.Common.{sym, ◌∙◌, ◌++◌}
 use Rattle.std.proofs.lemmas.Result.{err_from_is_err_and}
-use Rattle.wenc_base.specs.Readers.{nowhere}
-use Rattle.wenc_parts.specs.Types.{primitive_byte}
-use Rattle.wenc_parts.specs.reading.Types.{primitive_rows}
-use Rattle.wenc_types.specs.DefinedTypes.{Primitive}
-use Rattle.wenc_types.specs.reading.DefinedTypes.{defined_rows}
-use Rattle.wenc_view.specs.inside.Types.{primitive_types}
+use Rattle.wenc_base.specs.Prelude.{nowhere}
+use Rattle.wenc_parts.specs.Prelude.{primitive_byte, primitive_rows}
+use Rattle.wenc_types.specs.Prelude.{Primitive, defined_rows}
+use Rattle.wenc_view.specs.Prelude.{primitive_types}
 use Rattle.wenc_view.proofs.Tables.{begins, goes_past, bad_first}
 use Rattle.wenc_view.proofs.defined_types.DefinedViewView.view_of.Goals as goal
 

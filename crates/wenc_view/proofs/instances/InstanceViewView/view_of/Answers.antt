@@ -1,11 +1,8 @@
 use Rattle.std.proofs.Common.{rules, ◌∙◌}
-use Rattle.wenc_base.specs.reading.Forms.{read_list}
-use Rattle.wenc_sections.specs.reading.Pairs.{read_triple}
-use Rattle.wenc_base.specs.reading.Numbers.{read_u32}
-use Rattle.wenc_parts.specs.reading.Exports.{read_component_export_kind}
-use Rattle.wenc_parts.specs.reading.Imports.{read_extern_name}
-use Rattle.wenc_read.specs.laws.Tables.{at_first}
-use Rattle.wenc_sections.specs.Instances.{Exports}
+use Rattle.wenc_base.specs.Prelude.{read_list, read_u32}
+use Rattle.wenc_sections.specs.Prelude.{Exports, read_triple}
+use Rattle.wenc_parts.specs.Prelude.{read_component_export_kind, read_extern_name}
+use Rattle.wenc_read.specs.Prelude.{at_first}
 use Rattle.wenc_view.proofs.Tables.{made_of}
 use Rattle.wenc_view.proofs.instances.InstanceViewView.view_of.Goals as goal
 

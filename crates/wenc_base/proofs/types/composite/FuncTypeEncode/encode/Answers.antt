@@ -1,5 +1,4 @@
-use Rattle.wenc_base.specs.Composites.{params_of, results_of}
-use Rattle.wenc_base.specs.laws.Serves.{appends_as}
+use Rattle.wenc_base.specs.Prelude.{appends_as, params_of, results_of}
 use Rattle.wenc_base.proofs.Composites.{function_serves}
 use Rattle.wenc_base.proofs.types.composite.FuncTypeEncode.encode.Goals as goal
 

@@ -1,8 +1,5 @@
-use Rattle.wenc_base.specs.Composites.{Func}
-use Rattle.wenc_base.specs.Forms.{list}
-use Rattle.wenc_base.specs.Types.{val_type}
+use Rattle.wenc_base.specs.Prelude.{Func, list, tagged_serves, two_serve, val_type}
 use Rattle.wenc_base.specs.laws.Parents.{extends_for, whole_for}
-use Rattle.wenc_base.specs.laws.Serves.{tagged_serves, two_serve}
 use Rattle.wenc_base.proofs.Ended.{final_ends}
 use Rattle.wenc_base.proofs.types.encoder.CoreTypeEncoder.byte_function.Goals as goal
 

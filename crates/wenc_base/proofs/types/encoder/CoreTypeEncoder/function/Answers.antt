@@ -1,6 +1,4 @@
-use Rattle.wenc_base.specs.Forms.{list}
-use Rattle.wenc_base.specs.Piece.{◌▸◌}
-use Rattle.wenc_base.specs.Types.{val_type}
+use Rattle.wenc_base.specs.Prelude.{list, val_type, ◌▸◌}
 use Rattle.wenc_base.proofs.Ended.{function_ends}
 use Rattle.wenc_base.proofs.Grown.{ended_lists}
 use Rattle.wenc_base.proofs.types.encoder.CoreTypeEncoder.function.Goals as goal

@@ -1,9 +1,7 @@
 use Rattle.std.proofs.Common.{◌∷◌, [], map}
-use Rattle.wenc_base.specs.Composites.{Rec, rec_type, sub_type, sub_view}
-use Rattle.wenc_base.specs.Forms.{list}
-use Rattle.wenc_base.specs.Piece.{◌▸◌}
+use Rattle.wenc_base.specs.Prelude.{Rec, list, listed_serves, rec_type, serves_itself, sub_type}
+use Rattle.wenc_base.specs.Prelude.{sub_view, ◌▸◌}
 use Rattle.wenc_base.specs.laws.Parents.{extends_as}
-use Rattle.wenc_base.specs.laws.Serves.{listed_serves, serves_itself}
 use Rattle.wenc_base.proofs.Ended.{group_ends}
 use Rattle.wenc_base.proofs.types.encoder.CoreTypeEncoder.rec.Goals as goal
 

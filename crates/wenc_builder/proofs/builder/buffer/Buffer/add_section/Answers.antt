@@ -1,8 +1,7 @@
 use Rattle.std.proofs.Common.{◌≡◌, ◌++◌, length, List, ℕ, None, refl, sym, subst, ◌∙◌, inl}
 use Rattle.std.proofs.lemmas.Bool.{eqb-true}
 use Rattle.std.proofs.lemmas.List.{take_at}
-use Rattle.wenc_base.specs.Forms.{AreBytes}
-use Rattle.wenc_base.specs.laws.Serves.{either_free}
+use Rattle.wenc_base.specs.Prelude.{AreBytes, either_free}
 use Rattle.wenc_base.proofs.Bytes.{last_below}
 use Rattle.wenc_builder.proofs.Bytes.{first_below}
 use Rattle.wenc_builder.proofs.Laid.{stood_alone, no_kind, without_gap}

@@ -1,5 +1,4 @@
-use Rattle.wenc_base.specs.Piece.{behind_bytes}
-use Rattle.wenc_base.specs.Forms.{list}
+use Rattle.wenc_base.specs.Prelude.{behind_bytes, list}
 use Rattle.wenc_builder.proofs.Laid.{appended_list, list_laid}
 use Rattle.wenc_builder.proofs.builder.buffer.Buffer.append_listed.Goals as goal
 

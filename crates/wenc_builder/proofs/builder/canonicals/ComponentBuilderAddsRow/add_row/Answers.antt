@@ -1,10 +1,6 @@
 use Rattle.std.proofs.Common.{Some, None, refl, ap}
-use Rattle.wenc_canon.specs.Canonicals.{Values}
-use Rattle.wenc_canon.specs.inside.Rows.{row_with, as_values, builtin_by}
-use Rattle.wenc_canon.specs.laws.Rows.{builtin_serves}
-use Rattle.wenc_builder.specs.Entry.{canonical_tree_entry}
-use Rattle.wenc_builder.specs.Item.{CanonItem}
-use Rattle.wenc_builder.specs.inside.Layout.{kind_id}
+use Rattle.wenc_canon.specs.Prelude.{Values, as_values, builtin_by, builtin_serves, row_with}
+use Rattle.wenc_builder.specs.Prelude.{CanonItem, canonical_tree_entry, kind_id}
 use Rattle.wenc_builder.specs.declared.builder.kind.Kind.TheVariants as kinds
 use Rattle.wenc_sections.specs.declared.space.Space.TheVariants as spaces
 use Rattle.wenc_builder.proofs.Entered.{new_item_enters}

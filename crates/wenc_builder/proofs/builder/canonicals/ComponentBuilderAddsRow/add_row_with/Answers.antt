@@ -1,12 +1,8 @@
 use Rattle.std.proofs.Common.{Some, None, refl, ap}
-use Rattle.wenc_base.specs.Holder.{listed}
-use Rattle.wenc_base.specs.Piece.{nothing, ◌▸◌}
-use Rattle.wenc_canon.specs.Canonicals.{Values, canonical_option}
-use Rattle.wenc_canon.specs.inside.Rows.{row_with, as_values, and_options, values_then, builtin_with}
-use Rattle.wenc_canon.specs.laws.Rows.{builtin_with_serves}
-use Rattle.wenc_builder.specs.Entry.{canonical_tree_entry}
-use Rattle.wenc_builder.specs.Item.{CanonItem}
-use Rattle.wenc_builder.specs.inside.Layout.{kind_id}
+use Rattle.wenc_base.specs.Prelude.{listed, nothing, ◌▸◌}
+use Rattle.wenc_canon.specs.Prelude.{Values, and_options, as_values, builtin_with}
+use Rattle.wenc_canon.specs.Prelude.{builtin_with_serves, canonical_option, row_with, values_then}
+use Rattle.wenc_builder.specs.Prelude.{CanonItem, canonical_tree_entry, kind_id}
 use Rattle.wenc_builder.specs.declared.builder.kind.Kind.TheVariants as kinds
 use Rattle.wenc_sections.specs.declared.space.Space.TheVariants as spaces
 use Rattle.wenc_builder.proofs.Listed.{listed_enters}

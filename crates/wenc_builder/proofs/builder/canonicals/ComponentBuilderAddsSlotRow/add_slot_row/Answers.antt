@@ -1,10 +1,9 @@
 use Rattle.std.proofs.Common.{[], ◌∷◌, Some, None, refl, ap, sym, ◌∙◌}
-use Rattle.wenc_canon.specs.Canonicals.{CoreType, Index, builtins}
-use Rattle.wenc_canon.specs.inside.Rows.{builtin_by, first_with}
-use Rattle.wenc_canon.specs.laws.Rows.{builtin_serves, slot_named, two_fields}
-use Rattle.wenc_builder.specs.Entry.{canonical_tree_entry}
-use Rattle.wenc_builder.specs.Item.{CanonItem}
-use Rattle.wenc_builder.specs.inside.Layout.{kind_id}
+use Rattle.wenc_canon.specs.Prelude.{CoreType, Index, builtin_by, builtin_serves, builtins}
+use Rattle.wenc_canon.specs.Prelude.{two_fields}
+use Rattle.wenc_canon.specs.inside.Rows.{first_with}
+use Rattle.wenc_canon.specs.laws.Rows.{slot_named}
+use Rattle.wenc_builder.specs.Prelude.{CanonItem, canonical_tree_entry, kind_id}
 use Rattle.wenc_builder.specs.declared.builder.kind.Kind.TheVariants as kinds
 use Rattle.wenc_sections.specs.declared.space.Space.TheVariants as spaces
 use Rattle.wenc_builder.proofs.Entered.{new_item_enters}

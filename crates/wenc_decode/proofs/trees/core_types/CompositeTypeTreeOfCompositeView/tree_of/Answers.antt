@@ -1,8 +1,6 @@
 use Rattle.std.proofs.Common.{ap, refl}
-use Rattle.wenc_base.specs.Composites.{Struct}
-use Rattle.wenc_base.specs.reading.Composites.{read_field_type}
-use Rattle.wenc_base.specs.reading.Types.{read_val_type}
-use Rattle.wenc_view.specs.Members.{list_view}
+use Rattle.wenc_base.specs.Prelude.{Struct, read_field_type, read_val_type}
+use Rattle.wenc_view.specs.Prelude.{list_view}
 use Rattle.wenc_decode.specs.laws.Copies.{same_are}
 use Rattle.wenc_decode.proofs.trees.core_types.CompositeTypeTreeOfCompositeView.tree_of.Goals as goal
 

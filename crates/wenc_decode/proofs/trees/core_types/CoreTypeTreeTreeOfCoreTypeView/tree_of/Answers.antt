@@ -1,10 +1,7 @@
 use Rattle.std.proofs.Common.{◌≡◌, ap}
-use Rattle.wenc_types.specs.CoreTypeTrees.{module_declaration_view}
-use Rattle.wenc_types.specs.CoreTypes.{Module}
-use Rattle.wenc_types.specs.reading.CoreTypes.{read_module_declaration}
-use Rattle.wenc_view.specs.CoreTypes.{module_declaration_seen}
-use Rattle.wenc_view.specs.Members.{list_view}
-use Rattle.wenc_decode.specs.laws.Copies.{copies_are}
+use Rattle.wenc_types.specs.Prelude.{Module, module_declaration_view, read_module_declaration}
+use Rattle.wenc_view.specs.Prelude.{list_view, module_declaration_seen}
+use Rattle.wenc_decode.specs.Prelude.{copies_are}
 use Rattle.wenc_decode.proofs.trees.core_types.CoreTypeTreeTreeOfCoreTypeView.tree_of.Goals as goal
 
 pub returns-in_ok-decls-in-Module : goal.returns-in_ok-decls-in-Module

@@ -1,9 +1,7 @@
 use Rattle.std.proofs.Common.{◌≡◌, ap}
-use Rattle.wenc_base.specs.Composites.{Rec, sub_view}
-use Rattle.wenc_base.specs.reading.Composites.{read_sub_type}
-use Rattle.wenc_view.specs.CoreTypes.{sub_seen}
-use Rattle.wenc_view.specs.Members.{list_view}
-use Rattle.wenc_decode.specs.laws.Copies.{copies_are}
+use Rattle.wenc_base.specs.Prelude.{Rec, read_sub_type, sub_view}
+use Rattle.wenc_view.specs.Prelude.{list_view, sub_seen}
+use Rattle.wenc_decode.specs.Prelude.{copies_are}
 use Rattle.wenc_decode.proofs.trees.core_types.GroupTreeTreeOfGroupView.tree_of.Goals as goal
 
 pub returns-in_ok-types-in-Rec : goal.returns-in_ok-types-in-Rec

@@ -1,13 +1,11 @@
 use Rattle.std.proofs.Common.{◌≡◌, ap}
 use Rattle.std.specs.String.{string_bytes}
-use Rattle.wenc_base.specs.reading.Exports.{read_core_export_kind}
-use Rattle.wenc_base.specs.reading.Forms.{read_name}
-use Rattle.wenc_base.specs.reading.Numbers.{read_u32}
-use Rattle.wenc_parts.specs.reading.Instances.{read_module_argument}
-use Rattle.wenc_sections.specs.Instances.{CoreInstantiate, CoreExports, named_pair, named_triple}
-use Rattle.wenc_sections.specs.reading.Pairs.{read_pair, read_triple}
-use Rattle.wenc_view.specs.Members.{list_view}
-use Rattle.wenc_decode.specs.laws.Copies.{copies_are}
+use Rattle.wenc_base.specs.Prelude.{read_core_export_kind, read_name, read_u32}
+use Rattle.wenc_parts.specs.Prelude.{read_module_argument}
+use Rattle.wenc_sections.specs.Prelude.{CoreExports, CoreInstantiate, named_pair, named_triple}
+use Rattle.wenc_sections.specs.Prelude.{read_pair, read_triple}
+use Rattle.wenc_view.specs.Prelude.{list_view}
+use Rattle.wenc_decode.specs.Prelude.{copies_are}
 use Rattle.wenc_decode.proofs.trees.instances.CoreInstanceTreeTreeOfCoreInstanceView.tree_of.Goals as goal
 
 pub returns-in_ok-args-in-Instantiate : goal.returns-in_ok-args-in-Instantiate

@@ -1,15 +1,10 @@
 use Rattle.std.proofs.Common.{◌≡◌, ap}
 use Rattle.std.specs.String.{string_bytes}
-use Rattle.wenc_base.specs.reading.Forms.{read_name}
-use Rattle.wenc_base.specs.reading.Numbers.{read_u32}
-use Rattle.wenc_parts.specs.Imports.{name_tree_view}
-use Rattle.wenc_parts.specs.reading.Exports.{read_component_export_kind}
-use Rattle.wenc_parts.specs.reading.Imports.{read_extern_name}
-use Rattle.wenc_sections.specs.Instances.{Instantiate, Exports, named_triple}
-use Rattle.wenc_sections.specs.reading.Pairs.{read_triple}
-use Rattle.wenc_view.specs.Members.{list_view}
-use Rattle.wenc_view.specs.Names.{name_seen}
-use Rattle.wenc_decode.specs.laws.Copies.{copies_are}
+use Rattle.wenc_base.specs.Prelude.{read_name, read_u32}
+use Rattle.wenc_parts.specs.Prelude.{name_tree_view, read_component_export_kind, read_extern_name}
+use Rattle.wenc_sections.specs.Prelude.{Exports, Instantiate, named_triple, read_triple}
+use Rattle.wenc_view.specs.Prelude.{list_view, name_seen}
+use Rattle.wenc_decode.specs.Prelude.{copies_are}
 use Rattle.wenc_decode.proofs.trees.instances.InstanceTreeTreeOfInstanceView.tree_of.Goals as goal
 
 pub returns-in_ok-args-in-Instantiate : goal.returns-in_ok-args-in-Instantiate

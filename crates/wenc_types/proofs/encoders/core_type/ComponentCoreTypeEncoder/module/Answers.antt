@@ -1,7 +1,6 @@
 use Rattle.std.proofs.Common.{◌∷◌, sym, ◌∙◌}
-use Rattle.wenc_base.specs.Holder.{held_text}
-use Rattle.wenc_base.specs.laws.Members.{form_ends}
-use Rattle.wenc_types.specs.CoreTypes.{core_type}
+use Rattle.wenc_base.specs.Prelude.{form_ends, held_text}
+use Rattle.wenc_types.specs.Prelude.{core_type}
 use Rattle.wenc_types.specs.laws.Declarations.{module_serves}
 use Rattle.wenc_types.specs.laws.TypeState.{module_has_form}
 use Rattle.wenc_types.proofs.Serving.{ends_for}

@@ -1,8 +1,7 @@
 use Rattle.std.proofs.Common.{map, rules}
-use Rattle.wenc_base.specs.Forms.{list}
-use Rattle.wenc_base.specs.Piece.{◌▸◌}
+use Rattle.wenc_base.specs.Prelude.{list, ◌▸◌}
 use Rattle.wenc_base.specs.laws.Parents.{made_of, whole_for}
-use Rattle.wenc_types.specs.DefinedTypes.{Variant}
+use Rattle.wenc_types.specs.Prelude.{Variant}
 use Rattle.wenc_types.proofs.Serving.{made_case, case_of, seen_case, made_cases_serve, cases_serve, ends_listed_for}
 use Rattle.wenc_types.proofs.encoders.defined_type.ComponentDefinedTypeEncoder.variant.Goals as goal
 

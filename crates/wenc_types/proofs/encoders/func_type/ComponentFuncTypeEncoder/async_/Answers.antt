@@ -1,6 +1,5 @@
 use Rattle.std.proofs.Common.{subst, rules}
-use Rattle.wenc_types.specs.FuncStages.{RestMakesWhole}
-use Rattle.wenc_types.specs.declared.encoders.func_type.FuncStage.{FuncStage}
+use Rattle.wenc_types.specs.Prelude.{FuncStage, RestMakesWhole}
 use Rattle.wenc_types.specs.laws.FuncStages.{tag_goes_on}
 use Rattle.wenc_types.proofs.encoders.func_type.ComponentFuncTypeEncoder.async_.Goals as goal
 use Rattle.wenc_types.proofs.encoders.func_type.ComponentFuncTypeEncoder.async_.Goals.{then-is_async, else-is_async}

@@ -1,9 +1,6 @@
 use Rattle.std.proofs.Common.{◌∷◌, sym, ◌∙◌}
-use Rattle.wenc_base.specs.Holder.{held_text}
-use Rattle.wenc_base.specs.laws.Members.{form_ends}
-use Rattle.wenc_types.specs.ComponentTypes.{def_type}
-use Rattle.wenc_types.specs.laws.Declarations.{component_serves}
-use Rattle.wenc_types.specs.laws.TypeState.{component_has_form}
+use Rattle.wenc_base.specs.Prelude.{form_ends, held_text}
+use Rattle.wenc_types.specs.Prelude.{component_has_form, component_serves, def_type}
 use Rattle.wenc_types.proofs.Serving.{ends_for}
 use Rattle.wenc_types.proofs.encoders.ty.ComponentTypeEncoder.component.Goals as goal
 

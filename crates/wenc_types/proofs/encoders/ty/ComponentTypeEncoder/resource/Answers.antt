@@ -1,8 +1,6 @@
-use Rattle.wenc_base.specs.Forms.{option}
-use Rattle.wenc_base.specs.Number.{u32}
-use Rattle.wenc_base.specs.Types.{val_type}
+use Rattle.wenc_base.specs.Prelude.{option, u32, val_type}
 use Rattle.wenc_base.specs.laws.Parents.{whole_for}
-use Rattle.wenc_types.specs.ComponentTypes.{ResourceType}
+use Rattle.wenc_types.specs.Prelude.{ResourceType}
 use Rattle.wenc_types.proofs.Serving.{pair_serves, ends_for}
 use Rattle.wenc_types.proofs.encoders.ty.ComponentTypeEncoder.resource.Goals as goal
 
