@@ -2,7 +2,9 @@
 use Rattle.std.proofs.Common.{◌≡◌, ℕ, List, [], Option, Some, None}
 use Rattle.std.specs.Prelude.{MatchOption}
 use Rattle.wenc_base.specs.Prelude.{EndsWith}
-use Rattle.wenc_list.specs.Prelude.{Opens, SectionItems, Sections}
+use Rattle.wenc_list.specs.Prelude.{Opens}
+use Rattle.wenc_list.specs.declared.cursor.SectionItems.{SectionItems}
+use Rattle.wenc_list.specs.declared.cursor.Sections.{Sections}
 
 pub one_more : ((ends : ℕ) (bytes before rest : List ℕ) (s : SectionItems) → EndsWith bytes before → Opens ends before s rest → EndsWith bytes rest)
     → (bytes : List ℕ) (old new : Sections) (next : Option SectionItems) → EndsWith bytes old.rest.now

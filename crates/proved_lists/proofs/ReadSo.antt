@@ -2,10 +2,12 @@
 use Rattle.std.proofs.Common.{◌≡◌, ℕ, ◌<◌, ◌≤◌, List, Result, Ok, Err, IfOk, IfErr, inl, inr}
 use Rattle.std.proofs.lemmas.Bool.{cases_lt}
 use Rattle.wenc_base.specs.Prelude.{Bad, Deep, Form, Reader, Wide}
-use Rattle.wenc_read.specs.Prelude.{Gives, IsExactAt, NestedRefusal, Refusal, flaw_of}
+use Rattle.wenc_read.specs.Prelude.{Gives, IsExactAt, flaw_of}
 use Rattle.wenc_read.specs.declared.refusal.NestedRefusal.TheVariants.{Flat, TooDeep}
 use Rattle.wenc_types.specs.Prelude.{DefType, def_type, depth, read_type}
 use Rattle.wenc_view.specs.Prelude.{GivesNested}
+use Rattle.wenc_read.specs.declared.refusal.NestedRefusal.{NestedRefusal}
+use Rattle.wenc_read.specs.declared.refusal.Refusal.{Refusal}
 
 -- ---- what doesn't nest
 

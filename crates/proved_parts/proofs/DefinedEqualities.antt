@@ -11,13 +11,16 @@ use Rattle.std.specs.Str.{bytes_eq}
 use Rattle.std.specs.String.{string_bytes}
 use denote.RattleType.{RattleType}
 use mir.Syntax.{Dict}
-use Rattle.wenc_parts.specs.Prelude.{ComponentValType, PrimitiveValType}
 use Rattle.wenc_parts.specs.contracts.types.ComponentValTypePartialEq.TheImpl.{eq-value as value_eq'}
 use Rattle.wenc_parts.specs.contracts.types.PrimitiveValTypePartialEq.TheImpl.{eq-value as primitive_eq'}
-use Rattle.wenc_types.specs.Prelude.{Borrow, Case, CaseTree, DefValType, DefinedTree, Enumeration}
-use Rattle.wenc_types.specs.Prelude.{FixedLengthList, Flags, Future, LabelledType, ListOf, MapOf}
-use Rattle.wenc_types.specs.Prelude.{OptionOf, Own, Primitive, Record, ResultOf, Stream, Tuple}
-use Rattle.wenc_types.specs.Prelude.{Variant, case_view, defined_view, labelled_type_view}
+use Rattle.wenc_types.specs.Prelude.{Borrow, Case, DefValType, Enumeration, FixedLengthList, Flags}
+use Rattle.wenc_types.specs.Prelude.{Future, LabelledType, ListOf, MapOf, OptionOf, Own, Primitive}
+use Rattle.wenc_types.specs.Prelude.{Record, ResultOf, Stream, Tuple, Variant, case_view}
+use Rattle.wenc_types.specs.Prelude.{defined_view, labelled_type_view}
+use Rattle.wenc_parts.specs.declared.types.ComponentValType.{ComponentValType}
+use Rattle.wenc_parts.specs.declared.types.PrimitiveValType.{PrimitiveValType}
+use Rattle.wenc_types.specs.declared.defined_tree.CaseTree.{CaseTree}
+use Rattle.wenc_types.specs.declared.defined_tree.DefinedTree.{DefinedTree}
 use Rattle.wenc_types.specs.declared.defined_tree.DefinedTree.TheVariants as trees
 use Rattle.wenc_types.specs.contracts.defined_tree.CaseTreePartialEq.TheImpl.{eq-value as case_eq'}
 use Rattle.wenc_types.specs.contracts.defined_tree.DefinedTreePartialEq.TheImpl.{eq-value as defined_eq'}

@@ -12,16 +12,29 @@ use Rattle.std.proofs.lemmas.Slice.Eq.{bytes_eq-Decides}
 use Rattle.std.specs.String.{string_bytes}
 use denote.RattleType.{RattleType}
 use mir.Syntax.{Dict}
-use Rattle.wenc_base.specs.Prelude.{ArrayType, Composite, CompositeType, EntityType, FieldType}
-use Rattle.wenc_base.specs.Prelude.{FuncType, GlobalType, GroupTree, MemoryType, RefType}
-use Rattle.wenc_base.specs.Prelude.{StorageType, StructType, Sub, SubType, TableType, TagType}
-use Rattle.wenc_base.specs.Prelude.{ValType, composite_view, func_type_view, params_of}
+use Rattle.wenc_base.specs.Prelude.{Composite, Sub, composite_view, func_type_view, params_of}
 use Rattle.wenc_base.specs.Prelude.{rec_type_view, results_of, structure_view, sub_view}
 use Rattle.wenc_base.specs.declared.types.composite.CompositeType.TheVariants as kinds
 use Rattle.wenc_base.specs.declared.types.groups.GroupTree.TheVariants as trees
 use Rattle.wenc_base.specs.declared.imports.EntityType.TheVariants as externals
-use Rattle.wenc_types.specs.Prelude.{CoreTypeTree, ModuleDecl, core_type_view}
-use Rattle.wenc_types.specs.Prelude.{module_declaration_view}
+use Rattle.wenc_types.specs.Prelude.{core_type_view, module_declaration_view}
+use Rattle.wenc_base.specs.declared.types.composite.ArrayType.{ArrayType}
+use Rattle.wenc_base.specs.declared.types.composite.CompositeType.{CompositeType}
+use Rattle.wenc_base.specs.declared.imports.EntityType.{EntityType}
+use Rattle.wenc_base.specs.declared.types.storage.FieldType.{FieldType}
+use Rattle.wenc_base.specs.declared.types.composite.FuncType.{FuncType}
+use Rattle.wenc_base.specs.declared.globals.GlobalType.{GlobalType}
+use Rattle.wenc_base.specs.declared.types.groups.GroupTree.{GroupTree}
+use Rattle.wenc_base.specs.declared.memories.MemoryType.{MemoryType}
+use Rattle.wenc_base.specs.declared.types.RefType.{RefType}
+use Rattle.wenc_base.specs.declared.types.storage.StorageType.{StorageType}
+use Rattle.wenc_base.specs.declared.types.composite.StructType.{StructType}
+use Rattle.wenc_base.specs.declared.types.sub.SubType.{SubType}
+use Rattle.wenc_base.specs.declared.tables.TableType.{TableType}
+use Rattle.wenc_base.specs.declared.tags.TagType.{TagType}
+use Rattle.wenc_base.specs.declared.types.ValType.{ValType}
+use Rattle.wenc_types.specs.declared.core_type_tree.CoreTypeTree.{CoreTypeTree}
+use Rattle.wenc_types.specs.declared.core_type_tree.ModuleDecl.{ModuleDecl}
 use Rattle.wenc_types.specs.declared.core_type_tree.ModuleDecl.TheVariants as decls
 use Rattle.wenc_types.specs.declared.core_type_tree.CoreTypeTree.TheVariants as cores
 use Rattle.wenc_base.specs.contracts.types.RefTypePartialEq.TheImpl.{eq-value as ref_eq'}

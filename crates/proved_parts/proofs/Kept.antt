@@ -4,8 +4,9 @@ use Rattle.std.proofs.Common.{◌≡◌, ℕ, ◌+◌, ◌-◌, ◌<◌, false, 
 use Rattle.std.proofs.Math.Seq.{drop-length}
 use Rattle.std.proofs.lemmas.Bool.{lt-ltb}
 use Rattle.std.proofs.lemmas.List.{take_at}
-use Rattle.wenc_base.specs.Prelude.{ContainsSome, HasMembers, HolderState, Opening, content_size}
+use Rattle.wenc_base.specs.Prelude.{ContainsSome, HasMembers, HolderState, content_size}
 use Rattle.wenc_base.specs.Prelude.{is_finished, member_begun, member_given_up, number_size}
+use Rattle.wenc_base.specs.declared.holder.openings.Opening.{Opening}
 use Rattle.wenc_base.specs.declared.fault.Fault.TheVariants.{Unfinished}
 
 -- nothing is behind bytes that are kept whole

@@ -6,9 +6,10 @@ use Rattle.std.proofs.lemmas.Grind.{flat_map-append}
 use Rattle.std.specs.List.{AllByRecursion, flat_map}
 use Rattle.std.specs.Prelude.{IsOk}
 use Rattle.wasm_encoder.specs.Prelude.{RanFrom, added, command_of}
-use Rattle.wenc_base.specs.Prelude.{Fault}
 use Rattle.wenc_builder.specs.Prelude.{Entry, Item, Run, collects, items, members}
-use Rattle.wenc_list.specs.Prelude.{ListedSection, alone, item_view, section_view}
+use Rattle.wenc_list.specs.Prelude.{alone, item_view, section_view}
+use Rattle.wenc_base.specs.declared.fault.Fault.{Fault}
+use Rattle.wenc_list.specs.declared.listing.ListedSection.{ListedSection}
 
 members_either : (b : Bool) (id : ℕ) (xs : List Item) → members (if b then Run id xs else alone id xs) ≡ xs
 members_either true id xs = refl

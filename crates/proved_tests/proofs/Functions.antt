@@ -2,11 +2,14 @@
 use Rattle.std.proofs.Common.{◌≡◌, ℕ, List, [], ◌∷◌, ◌++◌, map, append_assoc, refl, false, Option, Result, Ok, Err, OnOk, sym, subst}
 use Rattle.std.specs.Borrow.{Bor}
 use Rattle.std.specs.Iterator.Runs.{WholeRun}
-use Rattle.wenc_base.specs.Prelude.{Contains, Extended, Fault, HolderState, list, member_appended}
+use Rattle.wenc_base.specs.Prelude.{Contains, Extended, HolderState, list, member_appended}
 use Rattle.wenc_base.specs.Prelude.{member_begun, member_ended}
-use Rattle.wenc_parts.specs.Prelude.{ComponentValType, result_list}
-use Rattle.wenc_types.specs.Prelude.{DefType, FuncStage, FunctionType, LabelledType}
-use Rattle.wenc_types.specs.Prelude.{borrowed_labelled_type, def_type, labelled_type, params_from}
+use Rattle.wenc_parts.specs.Prelude.{result_list}
+use Rattle.wenc_types.specs.Prelude.{DefType, FunctionType, LabelledType, borrowed_labelled_type}
+use Rattle.wenc_types.specs.Prelude.{def_type, labelled_type, params_from}
+use Rattle.wenc_base.specs.declared.fault.Fault.{Fault}
+use Rattle.wenc_parts.specs.declared.types.ComponentValType.{ComponentValType}
+use Rattle.wenc_types.specs.declared.encoders.func_type.FuncStage.{FuncStage}
 use Rattle.wenc_types.specs.declared.encoders.func_type.FuncStage.TheVariants.{Start}
 
 abbrev function : List LabelledType → Option ComponentValType → DefType

@@ -3,11 +3,11 @@ use Rattle.std.specs.Option.{option_map}
 use Rattle.std.proofs.Common.{◌≡◌, ℕ, List, [], ◌∷◌, ◌++◌, length, Option, Some, None, option_to_list, Result, Ok, Err, refl, sym, subst}
 use Rattle.std.proofs.Common.{◌∙◌, append_assoc, append-nil, arith}
 use Rattle.std.proofs.lemmas.Option.{same_Some}
-use Rattle.wenc_base.specs.Prelude.{Fault}
 use Rattle.wenc_builder.specs.Prelude.{Entry, Indices, defines, index_of, items, names_entry}
 use Rattle.wenc_builder.specs.Prelude.{next_index}
 use Rattle.wasm_encoder.specs.Prelude.{AppendNames, CommandTree, RanFrom, added, entries_after}
 use Rattle.wasm_encoder.specs.Prelude.{index_added}
+use Rattle.wenc_base.specs.declared.fault.Fault.{Fault}
 use Rattle.proved_tests.specs.Prelude.{IsIndexedAt}
 
 -- what is led to begins with what was there

@@ -1,9 +1,10 @@
 -- A run that is refused isn't refused as unfinished.
 use Rattle.std.proofs.Common.{◌≡◌, ℕ, List, [], ◌∷◌, ◌++◌, ◌⊎◌, inl, inr, Result, Ok, Err, Option, Some, subst, length}
 use Rattle.std.specs.Result.{IfOk, IfErr}
-use Rattle.wenc_base.specs.Prelude.{Fault, IsMemory}
+use Rattle.wenc_base.specs.Prelude.{IsMemory}
 use Rattle.wenc_base.specs.declared.fault.Fault.TheVariants.{Memory, TooMany, TooLarge, Unfinished}
 use Rattle.wasm_encoder.specs.Prelude.{CommandTree, IsStopped}
+use Rattle.wenc_base.specs.declared.fault.Fault.{Fault}
 
 pub stopped : (cs : List CommandTree) (fault : Fault) → IsMemory fault ⊎ IsStopped cs fault → fault ≡ Unfinished → ⊥
 stopped cs (Memory e) r same = cc

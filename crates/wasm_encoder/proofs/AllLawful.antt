@@ -1,8 +1,8 @@
 -- Why every form is lawful: its values have a reader in common.
 use Rattle.std.proofs.Common.{[], true}
 use Rattle.wenc_base.specs.Prelude.{FormLaws, Func, IsReadable, Lawful, Reader, Rec, RecType}
-use Rattle.wenc_base.specs.Prelude.{RefType, Single, Sub, abstract_type_lawful, byte_list_lawful}
-use Rattle.wenc_base.specs.Prelude.{choose, composite_type_lawful}
+use Rattle.wenc_base.specs.Prelude.{Single, Sub, abstract_type_lawful, byte_list_lawful, choose}
+use Rattle.wenc_base.specs.Prelude.{composite_type_lawful}
 use Rattle.wenc_base.specs.Prelude.{core_export_kind_lawful as core_kind_lawful, counted_lawful}
 use Rattle.wenc_base.specs.Prelude.{custom_lawful, entity_type_lawful, field_type_lawful, final}
 use Rattle.wenc_base.specs.Prelude.{flag_lawful, form_laws, give, global_type_lawful, group_lawful}
@@ -30,6 +30,7 @@ use Rattle.wenc_types.specs.Prelude.{case_lawful, component_declaration_lawful, 
 use Rattle.wenc_types.specs.Prelude.{defined_type_lawful, instance_declaration_lawful}
 use Rattle.wenc_types.specs.Prelude.{labelled_type_lawful, module_declaration_lawful, standing_rows}
 use Rattle.wenc_types.specs.Prelude.{type_lawful}
+use Rattle.wenc_base.specs.declared.types.RefType.{RefType}
 use Rattle.wenc_types.specs.laws.CoreTypes.{module_type_lawful, standing_row}
 use Rattle.wenc_types.specs.laws.DefinedTypes.{function_type_lawful}
 use Rattle.wasm_encoder.specs.AllForms as forms

@@ -3,13 +3,14 @@ use Rattle.std.proofs.Common.{◌≡◌, ℕ, List, [], ◌∷◌, ◌++◌, Res
 use Rattle.std.proofs.lemmas.Option.{same_Some}
 use Rattle.std.specs.Option.{MatchOption}
 use Rattle.std.specs.Result.{MatchResult}
-use Rattle.wenc_base.specs.Prelude.{Fault, IsAmong, IsMemory, IsWarranted, NoCause, itself_among}
+use Rattle.wenc_base.specs.Prelude.{IsAmong, IsMemory, IsWarranted, NoCause, itself_among}
 use Rattle.wenc_base.specs.Prelude.{still_warranted}
 use Rattle.wenc_base.specs.declared.fault.Fault.TheVariants.{Memory, TooMany, TooLarge, Unfinished}
 use Rattle.wenc_builder.specs.Prelude.{AddsNames, Enters, EntersWithoutIndex, Entry, EntryCause}
 use Rattle.wenc_builder.specs.Prelude.{Holds, Item, State, index_of, items, named_entry}
 use Rattle.wenc_builder.specs.Prelude.{names_entry}
 use Rattle.wenc_sections.specs.Prelude.{Subsection}
+use Rattle.wenc_base.specs.declared.fault.Fault.{Fault}
 use Rattle.wenc_builder.specs.laws.Answered.{answered, answered_with}
 use Rattle.wenc_builder.specs.laws.EntryCause.{entry_never_unfinished}
 use Rattle.wasm_encoder.specs.Prelude.{Add, Answers, AppendNames, CommandTree, IsRefusal, added}

@@ -3,16 +3,19 @@ use Rattle.std.proofs.Common.{◌≡◌, ℕ, List, [], ◌∷◌, ◌++◌, map
 use Rattle.std.specs.Borrow.{Bor}
 use Rattle.std.specs.Iterator.Runs.{WholeRun}
 use Rattle.wenc_base.specs.Prelude.{Ends, EndsListed, EndsLists, Extended, Extends, ExtendsListed}
-use Rattle.wenc_base.specs.Prelude.{NoCause, ValType, byte, either_free, left_free, list}
-use Rattle.wenc_base.specs.Prelude.{right_free, val_type, ◌▸◌}
+use Rattle.wenc_base.specs.Prelude.{NoCause, byte, either_free, left_free, list, right_free}
+use Rattle.wenc_base.specs.Prelude.{val_type, ◌▸◌}
 use Rattle.wenc_builder.specs.Prelude.{BeginCause, NoRoom, State, content_of, core_type_entry}
 use Rattle.wenc_builder.specs.Prelude.{item_appended, item_appended_twice, item_begun, item_ended}
 use Rattle.wenc_builder.specs.Prelude.{no_room_in_section, type_entry}
 use Rattle.wenc_builder.specs.laws.Typed.{core_type_is_written, type_is_written}
-use Rattle.wenc_parts.specs.Prelude.{ComponentValType, result_list}
-use Rattle.wenc_types.specs.Prelude.{CoreType, DefType, FuncStage, FunctionType, LabelledType}
-use Rattle.wenc_types.specs.Prelude.{async_byte, borrowed_labelled_type, core_type, def_type}
-use Rattle.wenc_types.specs.Prelude.{labelled_type, params_from}
+use Rattle.wenc_parts.specs.Prelude.{result_list}
+use Rattle.wenc_types.specs.Prelude.{CoreType, DefType, FunctionType, LabelledType, async_byte}
+use Rattle.wenc_types.specs.Prelude.{borrowed_labelled_type, core_type, def_type, labelled_type}
+use Rattle.wenc_types.specs.Prelude.{params_from}
+use Rattle.wenc_base.specs.declared.types.ValType.{ValType}
+use Rattle.wenc_parts.specs.declared.types.ComponentValType.{ComponentValType}
+use Rattle.wenc_types.specs.declared.encoders.func_type.FuncStage.{FuncStage}
 use Rattle.wenc_types.specs.declared.encoders.func_type.FuncStage.TheVariants.{Start, Tagged}
 use Rattle.wasm_encoder.specs.Prelude.{AreEntered, CoreFunctionsAreEntered, FunctionsAreEntered}
 use Rattle.wasm_encoder.specs.Prelude.{IsEntered, ListedAreEntered, core_function_entry}

@@ -4,11 +4,13 @@ use Rattle.std.proofs.Common.{Err, refl, subst, ◌⊎◌, inl, inr, arith}
 use Rattle.std.proofs.lemmas.Option.{same_Some}
 use Rattle.std.specs.List.{AllByRecursion}
 use Rattle.std.specs.List.Sorted.{IsStrictlyIncreasing}
-use Rattle.wenc_base.specs.Prelude.{Fault, NameAssociation}
+use Rattle.wenc_base.specs.Prelude.{NameAssociation}
 use Rattle.wenc_builder.specs.Prelude.{CustomItem, Entry, Indices, Item, RawItem, StartIsNameless}
 use Rattle.wenc_builder.specs.Prelude.{StartItem, defined_in, defines, items, named_entry, named_in}
 use Rattle.wenc_builder.specs.Prelude.{names, names_from, next_index, number_in}
-use Rattle.wenc_sections.specs.Prelude.{Space, Start, Subsection}
+use Rattle.wenc_sections.specs.Prelude.{Start, Subsection}
+use Rattle.wenc_base.specs.declared.fault.Fault.{Fault}
+use Rattle.wenc_sections.specs.declared.space.Space.{Space}
 use Rattle.wenc_sections.specs.laws.Space.{space_tells}
 use Rattle.wasm_encoder.specs.Prelude.{Add, AddsNameless, AppendNames, Command, CommandTree, Nest}
 use Rattle.wasm_encoder.specs.Prelude.{Ran, RanFrom, added, command_view}

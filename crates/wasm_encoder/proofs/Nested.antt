@@ -1,9 +1,10 @@
 -- A nested component: its commands on a builder of their own, step by step.
 use Rattle.std.proofs.Common.{◌≡◌, ℕ, List, [], ◌++◌, Ok, Err, Result, Option, inl, inr, refl, ap, ◌∙◌, Vec, String}
 use mathlib.Core.Former.{Count}
-use Rattle.wenc_base.specs.Prelude.{Fault, IsAmong, NoCause}
+use Rattle.wenc_base.specs.Prelude.{IsAmong, NoCause}
 use Rattle.wenc_builder.specs.Prelude.{Enters, Entry, EntryCause, Holds, State, component_entry}
 use Rattle.wenc_builder.specs.Prelude.{items, whole}
+use Rattle.wenc_base.specs.declared.fault.Fault.{Fault}
 use Rattle.std.specs.Option.{option_map}
 use Rattle.std.specs.String.{string_bytes}
 use Rattle.wasm_encoder.specs.Prelude.{Answers, Command, CommandTree, Commands, IsRefusal, Nest}

@@ -2,8 +2,9 @@
 use Rattle.std.proofs.Common.{◌≡◌, ℕ, List, [], ◌∷◌, ◌++◌, Option, Result, Ok, Err, refl, sym, inl, inr}
 use Rattle.std.specs.List.{AllByRecursion}
 use Rattle.std.specs.Prelude.{IsOk}
-use Rattle.wenc_base.specs.Prelude.{Fault, NoCause}
+use Rattle.wenc_base.specs.Prelude.{NoCause}
 use Rattle.wenc_builder.specs.Prelude.{Entry}
+use Rattle.wenc_base.specs.declared.fault.Fault.{Fault}
 use Rattle.wasm_encoder.specs.Prelude.{CommandTree, Commands, RanFrom, added, cause}
 use Rattle.wasm_encoder.specs.Prelude.{commands_listed, first_cause, led, no_more, then}
 use Rattle.wasm_encoder.specs.Cause.{answer_of}

@@ -4,7 +4,7 @@ use Rattle.std.specs.List.{AllByRecursion}
 use Rattle.std.proofs.lemmas.Bool.Decides.{eqb_tells}
 use Rattle.wenc_builder.specs.Prelude.{HasNoRaw, IsNoRaw, Item, RawItem, Run, collected, defined_in}
 use Rattle.wenc_builder.specs.Prelude.{defines, joined, next_index, number_in, runs, some_in}
-use Rattle.wenc_sections.specs.Prelude.{Space}
+use Rattle.wenc_sections.specs.declared.space.Space.{Space}
 use Rattle.wenc_sections.specs.laws.Space.{space_decides}
 
 joined_to_run : (id : ℕ) (x : Item) (xs : List Item) → joined (Some id) x (Run id xs ∷ []) ≡ Run id (x ∷ xs) ∷ []

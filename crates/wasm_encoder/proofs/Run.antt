@@ -5,8 +5,8 @@ use Rattle.std.proofs.Math.Bool.{Bool-set}
 use Rattle.std.proofs.Math.Logic.{∥∥₁_map, ∥∥₁_elim}
 use Rattle.std.proofs.lemmas.List.{drop_all}
 use Rattle.std.specs.Prelude.{IsTrue, OnErr}
-use Rattle.wenc_base.specs.Prelude.{Fault}
 use Rattle.wenc_builder.specs.Prelude.{Entry, Holds, State, builder_is_finished}
+use Rattle.wenc_base.specs.declared.fault.Fault.{Fault}
 use Rattle.wasm_encoder.specs.Prelude.{Answers, Command, CommandTree, HasRun, HasRunSome, IsRefusal}
 use Rattle.wasm_encoder.specs.Prelude.{IsStopped, Ran, RanFrom, RunsNext, cause, command_view}
 use Rattle.wasm_encoder.specs.Prelude.{entries_after}

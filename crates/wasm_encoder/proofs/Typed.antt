@@ -1,12 +1,12 @@
 -- A type that is begun on a builder and written by an encoder.
 use Rattle.std.specs.Option.{option_map}
 use Rattle.std.proofs.Common.{◌≡◌, ℕ, List, [], ◌∷◌, ◌++◌, Ok, Err, Option, Some, refl, sym, ap, subst, ◌∙◌}
-use Rattle.wenc_base.specs.Prelude.{Fault, IsWarranted, NoCause, either, itself_among}
-use Rattle.wenc_base.specs.Prelude.{still_warranted}
+use Rattle.wenc_base.specs.Prelude.{IsWarranted, NoCause, either, itself_among, still_warranted}
 use Rattle.wenc_builder.specs.Prelude.{BeginCause, Entry, EntryCause, Holds, Indices, NewItem}
 use Rattle.wenc_builder.specs.Prelude.{State, begun_given_up, item, item_appended, item_begun}
 use Rattle.wenc_builder.specs.Prelude.{item_ended, item_given_up, items, next_index}
 use Rattle.wenc_builder.specs.Prelude.{no_room_in_section}
+use Rattle.wenc_base.specs.declared.fault.Fault.{Fault}
 use Rattle.wenc_builder.specs.laws.Typed.{IsWrittenType, WritingCause, opening_due, writing_due, written_free, written_holds}
 use Rattle.wasm_encoder.specs.Prelude.{Add, Answers, StepsLeft}
 use Rattle.wasm_encoder.specs.Ran.{IsTyped}

@@ -7,8 +7,8 @@ use Rattle.wenc.specs.Prelude.{Builds, Failure, RunsLine, commands_from, line_co
 use Rattle.wenc.specs.Script.{with_line}
 use Rattle.std.specs.Prelude.{◌==◌}
 use Rattle.std.specs.Result.{IsErrAnd}
-use Rattle.wenc_base.specs.Prelude.{Fault as FaultSpec}
 use Rattle.wenc_builder.specs.Prelude.{State}
+use Rattle.wenc_base.specs.declared.fault.Fault.{Fault as FaultSpec}
 use Rattle.wenc.specs.declared.failure.Failure.TheVariants.{BadLine, Fault}
 use Rattle.wenc.specs.inside.Lines.{commands_of_line, RanLine}
 

@@ -4,7 +4,8 @@ use Rattle.std.proofs.Common.{inl, append-nil, append_assoc, lit<}
 use Rattle.std.proofs.lemmas.Fmt.{decimal_digit}
 use Rattle.std.specs.Io.KnownBytes.{Appends, Keeps}
 use Rattle.hex.specs.Hex.{encode_lower}
-use Rattle.wenc_base.specs.Prelude.{Fault as FaultSpec, IsMemory, fault_number}
+use Rattle.wenc_base.specs.Prelude.{IsMemory, fault_number}
+use Rattle.wenc_base.specs.declared.fault.Fault.{Fault as FaultSpec}
 use Rattle.wenc_base.specs.declared.fault.Fault.TheVariants.{Memory, TooMany, TooLarge, Unfinished}
 use Rattle.wenc.specs.Prelude.{AppendsFront, EndsRun, Failure, IsWholeRun, Reads, Reported, Says}
 use Rattle.wenc.specs.Prelude.{answer_line, answer_lines, fault_report, line_of, script, text_of}

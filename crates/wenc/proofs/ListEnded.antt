@@ -2,7 +2,7 @@
 use Rattle.std.proofs.Common.{◌≡◌, ℕ, ◌⊎◌, List, [], ◌++◌, Option, Some, Result, Ok, Err, refl, sym, ap, ◌∙◌, arith, inl, inr}
 use Rattle.std.specs.Prelude.{Vec}
 use Rattle.std.specs.Io.KnownBytes.{Appends}
-use Rattle.wenc_list.specs.Prelude.{ListFault}
+use Rattle.wenc_list.specs.declared.fault.ListFault.{ListFault}
 use Rattle.wenc_list.specs.declared.fault.ListFault.TheVariants.{Memory}
 use Rattle.wenc.specs.declared.unlisted.Unlisted.{Unlisted}
 use Rattle.wenc.specs.declared.unlisted.Unlisted.TheVariants.{BadText, Fault, Transfer}

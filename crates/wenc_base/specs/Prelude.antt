@@ -47,17 +47,14 @@ pub use Rattle.wenc_base.specs.reading.Composites.{composite_rows, final_rows, r
 pub use Rattle.wenc_base.specs.reading.Composites.{read_composite, read_extension, read_field_type}
 pub use Rattle.wenc_base.specs.reading.Composites.{read_group, read_storage_type, read_sub_type}
 pub use Rattle.wenc_base.specs.reading.Composites.{read_types, small_rows, sub_of, sub_rows}
-pub use Rattle.wenc_base.specs.reading.Entities.{read_entity_type, read_global_type}
-pub use Rattle.wenc_base.specs.reading.Entities.{read_memory_type, read_table_type, read_tag_type}
 pub use Rattle.wenc_base.specs.reading.Entities.{table_of}
 pub use Rattle.wenc_base.specs.reading.Exports.{read_core_export_kind}
 pub use Rattle.wenc_base.specs.reading.Forms.{are_bytes, read_byte_list, read_flag, read_list}
 pub use Rattle.wenc_base.specs.reading.Forms.{read_name, read_option, read_raw}
-pub use Rattle.wenc_base.specs.reading.Numbers.{read_groups, read_index, read_signed, read_u32}
-pub use Rattle.wenc_base.specs.reading.Numbers.{read_u64}
-pub use Rattle.wenc_base.specs.reading.Types.{abstract_rows, long_rows, number_rows, read_abstract}
-pub use Rattle.wenc_base.specs.reading.Types.{read_heap_type, read_reference, read_val_type}
-pub use Rattle.wenc_base.specs.reading.Types.{reference_rows, to, val_type_rows}
+pub use Rattle.wenc_base.specs.reading.Numbers.{read_groups, read_index, read_u32, read_u64}
+pub use Rattle.wenc_base.specs.reading.Types.{abstract_rows, long_rows, number_rows, read_heap_type}
+pub use Rattle.wenc_base.specs.reading.Types.{read_reference, read_val_type, reference_rows, to}
+pub use Rattle.wenc_base.specs.reading.Types.{val_type_rows}
 pub use Rattle.wenc_base.specs.laws.Composites.{by_group, by_kind, by_parts, composite_type_lawful}
 pub use Rattle.wenc_base.specs.laws.Composites.{composite_type_sound, field_type_lawful}
 pub use Rattle.wenc_base.specs.laws.Composites.{field_type_sound, group_lawful, group_sound}
@@ -94,25 +91,10 @@ pub use Rattle.wenc_base.specs.laws.Serves.{tagged_serves, three_serve, two_serv
 pub use Rattle.wenc_base.specs.laws.Types.{abstract_type_lawful, abstract_types, heap_type_lawful}
 pub use Rattle.wenc_base.specs.laws.Types.{heap_type_sound, reference_lawful, reference_sound}
 pub use Rattle.wenc_base.specs.laws.Types.{val_type_lawful, val_type_sound}
-pub use Rattle.wenc_base.specs.declared.exports.ExportKind.{ExportKind}
 pub use Rattle.wenc_base.specs.declared.fault.Fault.{Fault}
-pub use Rattle.wenc_base.specs.declared.globals.GlobalType.{GlobalType}
-pub use Rattle.wenc_base.specs.declared.imports.EntityType.{EntityType}
-pub use Rattle.wenc_base.specs.declared.memories.MemoryType.{MemoryType}
-pub use Rattle.wenc_base.specs.declared.tables.TableType.{TableType}
-pub use Rattle.wenc_base.specs.declared.tags.TagType.{TagType}
-pub use Rattle.wenc_base.specs.declared.types.AbstractHeapType.{AbstractHeapType}
-pub use Rattle.wenc_base.specs.declared.types.HeapType.{HeapType}
-pub use Rattle.wenc_base.specs.declared.types.RefType.{RefType}
 pub use Rattle.wenc_base.specs.declared.types.ValType.{ValType}
 pub use Rattle.wenc_base.specs.declared.types.storage.FieldType.{FieldType}
-pub use Rattle.wenc_base.specs.declared.types.storage.StorageType.{StorageType}
 pub use Rattle.wenc_base.specs.declared.holder.openings.Opening.{Opening}
-pub use Rattle.wenc_base.specs.declared.types.composite.ArrayType.{ArrayType}
-pub use Rattle.wenc_base.specs.declared.types.composite.CompositeType.{CompositeType}
-pub use Rattle.wenc_base.specs.declared.types.composite.FuncType.{FuncType}
-pub use Rattle.wenc_base.specs.declared.types.composite.StructType.{StructType}
-pub use Rattle.wenc_base.specs.declared.types.groups.GroupTree.{GroupTree}
 pub use Rattle.wenc_base.specs.declared.types.sub.SubType.{SubType}
 pub use Rattle.wenc_base.specs.inside.Sections.{labelled_section, read_custom_content}
 pub use Rattle.wenc_base.specs.laws.Lawful.{IsPast, LawfulWhole, Starts, ends_on, first_of_two}

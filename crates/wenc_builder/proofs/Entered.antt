@@ -1,7 +1,7 @@
 -- What is taken for a piece that serves as an entry's item enters every list that was held.
 use Rattle.std.proofs.Common.{◌≡◌, ℕ, false, inl, inr, List, [], ◌∷◌, ◌++◌, Option, None, Some, Result, Ok, Err, refl, sym, ◌∙◌, ap, subst}
 use Rattle.std.specs.Result.{IfOk, IfErr, OnOk}
-use Rattle.wenc_base.specs.Prelude.{Fault, IsWarranted, NoCause, Piece, Serves, still_warranted}
+use Rattle.wenc_base.specs.Prelude.{IsWarranted, NoCause, Piece, Serves, still_warranted}
 use Rattle.wenc_base.specs.declared.fault.Fault.TheVariants.{Memory, TooMany, TooLarge, Unfinished}
 use Rattle.wenc_builder.specs.Prelude.{AddsItem, AddsSection, AddsUnindexedSection, AddsWholeItem}
 use Rattle.wenc_builder.specs.Prelude.{CallCause, Content, EnterCause, Enters, EntersWith}
@@ -10,7 +10,8 @@ use Rattle.wenc_builder.specs.Prelude.{IsIndexOf, NewItem, State, builder_is_fin
 use Rattle.wenc_builder.specs.Prelude.{content_of, content_with_section, defines, item, item_begun}
 use Rattle.wenc_builder.specs.Prelude.{item_ended, items, namespace_at, never_unfinished, new_item}
 use Rattle.wenc_builder.specs.Prelude.{new_item_indices, settled_in, step, with_entry}
-use Rattle.wenc_sections.specs.Prelude.{Space}
+use Rattle.wenc_base.specs.declared.fault.Fault.{Fault}
+use Rattle.wenc_sections.specs.declared.space.Space.{Space}
 use Rattle.wenc_builder.specs.Adds.{AddsPiece}
 use Rattle.wenc_builder.specs.laws.Caused.{adding_never_unfinished}
 use Rattle.wenc_builder.specs.laws.Fits.{HasRoom}

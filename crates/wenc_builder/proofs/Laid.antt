@@ -5,11 +5,12 @@ use Rattle.std.proofs.Common.{take-append-drop, ap, subst, ◌∙◌}
 use Rattle.std.proofs.lemmas.List.{append-nil, take_at, drop_at, take_all, take-append-le, drop-append-le}
 use Rattle.std.proofs.lemmas.Bool.{ne_eqb, eq-eqb}
 use Rattle.std.specs.Result.{OnOk, IfErr}
-use Rattle.wenc_base.specs.Prelude.{AddCause, BeginsMember, Extends, ExtendsListed, Fault}
-use Rattle.wenc_base.specs.Prelude.{HolderState, NoCause, Opening, Piece, all_bytes, content_size}
-use Rattle.wenc_base.specs.Prelude.{either, filled, holding, is_finished, member_appended}
-use Rattle.wenc_base.specs.Prelude.{member_begun, no_room_in_holder, number_size, still_warranted}
-use Rattle.wenc_base.specs.Prelude.{with_kept}
+use Rattle.wenc_base.specs.Prelude.{AddCause, BeginsMember, Extends, ExtendsListed, HolderState}
+use Rattle.wenc_base.specs.Prelude.{NoCause, Piece, all_bytes, content_size, either, filled}
+use Rattle.wenc_base.specs.Prelude.{holding, is_finished, member_appended, member_begun}
+use Rattle.wenc_base.specs.Prelude.{no_room_in_holder, number_size, still_warranted, with_kept}
+use Rattle.wenc_base.specs.declared.fault.Fault.{Fault}
+use Rattle.wenc_base.specs.declared.holder.openings.Opening.{Opening}
 use Rattle.wenc_base.specs.declared.fault.Fault.TheVariants.{Memory, TooMany, TooLarge, Unfinished}
 use Rattle.wenc_base.proofs.Groups.{size_1}
 use Rattle.wenc_builder.specs.Prelude.{Buffered, IsLaidOut, NoRoom, OpenSection, OpensAnother}

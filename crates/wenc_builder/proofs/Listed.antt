@@ -1,11 +1,13 @@
 -- Items that are made of the values which an iterator gives.
 use Rattle.std.proofs.Common.{◌≡◌, ℕ, List, Option, Result, Ok, Err, refl}
-use Rattle.wenc_base.specs.Prelude.{Fault, Piece, Serves}
-use Rattle.wenc_canon.specs.Prelude.{Canonical, CanonicalOption, canonical}
+use Rattle.wenc_base.specs.Prelude.{Piece, Serves}
+use Rattle.wenc_canon.specs.Prelude.{Canonical, canonical}
 use Rattle.wenc_builder.specs.Prelude.{AddsListedItem, EntersListed, Entry, State, canonical_entry}
 use Rattle.wenc_builder.specs.Prelude.{canonical_space, item, kind_id, new_item, new_item_of}
 use Rattle.wenc_builder.specs.declared.builder.kind.Kind.TheVariants as kinds
-use Rattle.wenc_sections.specs.Prelude.{Space}
+use Rattle.wenc_base.specs.declared.fault.Fault.{Fault}
+use Rattle.wenc_canon.specs.declared.canonicals.CanonicalOption.{CanonicalOption}
+use Rattle.wenc_sections.specs.declared.space.Space.{Space}
 use Rattle.wenc_builder.proofs.Entered.{IsNewItemOf, new_item_enters}
 
 -- what an iterator's values make is entered, where each list of values makes an entry

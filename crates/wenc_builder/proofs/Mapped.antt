@@ -1,8 +1,9 @@
 -- The names of a space.
 use Rattle.std.proofs.Common.{◌≡◌, ℕ, ◌+◌, ◌<◌, ◌≤◌, ◌^◌, inl, inr, List, ◌++◌, length, length-take-le, Option, Some, None, refl, arith}
 use Rattle.std.proofs.lemmas.Bool.{cases_lt}
-use Rattle.wenc_base.specs.Prelude.{Accepted, Fault, HolderState, NameAssociation, content_size}
-use Rattle.wenc_base.specs.Prelude.{cut_to, name_association}
+use Rattle.wenc_base.specs.Prelude.{Accepted, HolderState, NameAssociation, content_size, cut_to}
+use Rattle.wenc_base.specs.Prelude.{name_association}
+use Rattle.wenc_base.specs.declared.fault.Fault.{Fault}
 use Rattle.wenc_base.specs.declared.fault.Fault.TheVariants.{TooMany, TooLarge}
 use Rattle.wenc_base.proofs.Groups.{size_monotone}
 use Rattle.wenc_builder.specs.Prelude.{NamesFit, Namespace, SpaceCause, namespace_with, space_view}

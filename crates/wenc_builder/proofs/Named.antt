@@ -9,12 +9,13 @@ use Rattle.std.proofs.lemmas.List.Folds.{flat_map-map}
 use Rattle.std.specs.List.{flat_map}
 use Rattle.std.specs.Option.{MatchOption}
 use Rattle.std.specs.Result.{OnOk}
-use Rattle.wenc_base.specs.Prelude.{AreBytes, Fault, HolderState, NameAssociation, NoCause, Piece}
-use Rattle.wenc_base.specs.Prelude.{Serves, each, held_text, holding, in_order, name as name_form}
+use Rattle.wenc_base.specs.Prelude.{AreBytes, HolderState, NameAssociation, NoCause, Piece, Serves}
+use Rattle.wenc_base.specs.Prelude.{each, held_text, holding, in_order, name as name_form}
 use Rattle.wenc_base.specs.Prelude.{names_text, size_cause, sized_in_order, unsigned_text, ◌▸◌}
 use Rattle.wenc_base.specs.declared.fault.Fault.TheVariants.{Memory, TooMany, TooLarge, Unfinished}
-use Rattle.wenc_sections.specs.Prelude.{ItemNames, Space, Subsection, item_sort, names_label}
-use Rattle.wenc_sections.specs.Prelude.{subsection}
+use Rattle.wenc_sections.specs.Prelude.{ItemNames, Subsection, item_sort, names_label, subsection}
+use Rattle.wenc_base.specs.declared.fault.Fault.{Fault}
+use Rattle.wenc_sections.specs.declared.space.Space.{Space}
 use Rattle.wenc_sections.specs.Names.{subsections_text, item_names}
 use Rattle.wenc_sections.specs.declared.space.Space.TheVariants as spaces
 use Rattle.wenc_builder.specs.Prelude.{AddsNames, AddsUnindexedSection, Agree, AppendsSection}

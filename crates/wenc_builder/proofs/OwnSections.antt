@@ -1,12 +1,13 @@
 -- Something that stands alone, with indices in a space.
 use Rattle.std.proofs.Common.{◌≡◌, ℕ, true, is_none, List, length, Option, Some, None, Result, Ok, Err, refl, sym, inl, inr, arith, subst}
 use Rattle.std.proofs.lemmas.List.{get_or-set_same}
-use Rattle.wenc_base.specs.Prelude.{Fault, IsWarranted, Piece, Serves, still_warranted}
+use Rattle.wenc_base.specs.Prelude.{IsWarranted, Piece, Serves, still_warranted}
 use Rattle.wenc_builder.specs.Prelude.{AddsSection, AddsUnindexedSection, Agree, AppendsSection}
 use Rattle.wenc_builder.specs.Prelude.{Buffered, CallCause, Indices, Namespace, SpaceCause, Spaced}
 use Rattle.wenc_builder.specs.Prelude.{State, buffer_with, builder_view, content_with_section}
 use Rattle.wenc_builder.specs.Prelude.{namespace_at, namespace_with, no_names}
 use Rattle.wenc_sections.specs.Prelude.{space_number}
+use Rattle.wenc_base.specs.declared.fault.Fault.{Fault}
 use Rattle.wenc_sections.specs.laws.Space.{space_within}
 use Rattle.wenc_builder.proofs.Taken.{settled_before}
 

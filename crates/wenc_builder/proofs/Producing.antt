@@ -1,11 +1,12 @@
 -- A producers section that is held, as the item that it is.
 use Rattle.std.proofs.Common.{◌≡◌, true, is_none, ℕ, List, ◌++◌, length, Result, Ok, Err, [], refl}
 use Rattle.std.specs.Result.{IfErr, OnOk}
-use Rattle.wenc_base.specs.Prelude.{AreBytes, Contains, Fault, HolderState, IsWarranted, NoCause}
-use Rattle.wenc_base.specs.Prelude.{Piece, Producers, custom_lawful, held_text, is_finished}
+use Rattle.wenc_base.specs.Prelude.{AreBytes, Contains, HolderState, IsWarranted, NoCause, Piece}
+use Rattle.wenc_base.specs.Prelude.{Producers, custom_lawful, held_text, is_finished}
 use Rattle.wenc_base.specs.Prelude.{name as name_form, producers_field, producers_held}
 use Rattle.wenc_base.specs.Prelude.{producers_label, serves_itself, still_warranted, unsigned_text}
 use Rattle.wenc_base.specs.Prelude.{◌▸◌}
+use Rattle.wenc_base.specs.declared.fault.Fault.{Fault}
 use Rattle.wenc_builder.specs.Prelude.{Agree, AppendsSection, Buffered, CustomItem}
 use Rattle.wenc_builder.specs.Prelude.{EntersWithoutIndex, IsBuilder, Item, Spaced, State}
 use Rattle.wenc_builder.specs.Prelude.{builder_view, custom_entry, item, producers_entry}

@@ -1,13 +1,14 @@
 -- A builder stays one: its buffer and its spaces agree, and it holds some entries.
 use Rattle.std.proofs.Common.{◌≡◌, ℕ, List, true, is_none, Option, Some, None, Result, Ok, Err, OnOk, OnErr, [], refl, sym, subst}
-use Rattle.wenc_base.specs.Prelude.{Extends, ExtendsListed, Fault, NoCause, Piece, right_free}
+use Rattle.wenc_base.specs.Prelude.{Extends, ExtendsListed, NoCause, Piece, right_free}
 use Rattle.wenc_builder.specs.Prelude.{Buffered, IsBuilder, IsItemText, NoRoom, SectionCause}
 use Rattle.wenc_builder.specs.Prelude.{SectionsState, Spaced, buffer_appended, buffer_begun}
 use Rattle.wenc_builder.specs.Prelude.{buffer_ended, buffer_given_up, buffer_with, builder_view}
 use Rattle.wenc_builder.specs.Prelude.{content_of, is_whole, item_appended, section_appended}
 use Rattle.wenc_builder.specs.Prelude.{section_begun, spaces_begun, spaces_ended}
 use Rattle.wenc_builder.specs.inside.HoldsSome.{HoldsSome}
-use Rattle.wenc_sections.specs.Prelude.{Space}
+use Rattle.wenc_base.specs.declared.fault.Fault.{Fault}
+use Rattle.wenc_sections.specs.declared.space.Space.{Space}
 use Rattle.wenc_builder.specs.inside.Spaces.{spaces_given_up}
 use Rattle.wenc_builder.specs.laws.Held.{some_begun, some_appended, some_ended, some_given_up, some_alone, start_takes_values}
 use Rattle.wenc_sections.specs.declared.space.Space.TheVariants.{Values}

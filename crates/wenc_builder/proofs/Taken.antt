@@ -6,7 +6,7 @@ use Rattle.wenc_builder.specs.Prelude.{AddsItem, AddsWholeItem, Agree, Buffered,
 use Rattle.wenc_builder.specs.Prelude.{SectionCause, SpaceCause, Spaced, State, builder_view}
 use Rattle.wenc_builder.specs.Prelude.{entered, item_appended, item_begun, item_ended, namespace_at}
 use Rattle.wenc_builder.specs.Prelude.{new_item, no_room_in_section, space_with}
-use Rattle.wenc_sections.specs.Prelude.{Space}
+use Rattle.wenc_sections.specs.declared.space.Space.{Space}
 use Rattle.wenc_builder.specs.laws.Caused.{begun_free, whole_free}
 use Rattle.wenc_builder.proofs.Viewed.{finished_is}
 

@@ -2,11 +2,13 @@
 use Rattle.std.proofs.Common.{◌≡◌, ℕ, ◌+◌, ◌<◌, ◌^◌, List, [], ◌∷◌, ◌++◌, length, Option, Result, Ok, Err, OnOk, refl, ap, inl, inr, arith}
 use Rattle.std.proofs.Common.{append_assoc, length-append}
 use Rattle.std.proofs.lemmas.List.{append-nil}
-use Rattle.wenc_base.specs.Prelude.{Fault, Piece, Serves, byte_list, content_size, in_order, name}
-use Rattle.wenc_base.specs.Prelude.{nothing, option, order_serves, serves_itself, size, u32}
-use Rattle.wenc_base.specs.Prelude.{unsigned_text, ◌▸◌}
-use Rattle.wenc_parts.specs.Prelude.{ComponentExportKind, ComponentTypeRef, ExternName}
-use Rattle.wenc_parts.specs.Prelude.{component_export_kind, extern_name, type_reference}
+use Rattle.wenc_base.specs.Prelude.{Piece, Serves, byte_list, content_size, in_order, name, nothing}
+use Rattle.wenc_base.specs.Prelude.{option, order_serves, serves_itself, size, u32, unsigned_text}
+use Rattle.wenc_base.specs.Prelude.{◌▸◌}
+use Rattle.wenc_parts.specs.Prelude.{ExternName, component_export_kind, extern_name, type_reference}
+use Rattle.wenc_base.specs.declared.fault.Fault.{Fault}
+use Rattle.wenc_parts.specs.declared.exports.ComponentExportKind.{ComponentExportKind}
+use Rattle.wenc_parts.specs.declared.imports.ComponentTypeRef.{ComponentTypeRef}
 use Rattle.wenc_builder.specs.Prelude.{CustomItem, ExportItem, IsItemPiece, Item, RawItem}
 use Rattle.wenc_builder.specs.Prelude.{collected, custom_lead, defines, item, with_bytes}
 

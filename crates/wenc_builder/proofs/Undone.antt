@@ -7,7 +7,8 @@ use Rattle.wenc_builder.specs.Prelude.{namespace_at, namespace_with, no_names, s
 use Rattle.wenc_builder.specs.Prelude.{spaces_begun, spaces_ended, spaces_with, taken, undo_at}
 use Rattle.wenc_builder.specs.Prelude.{undone}
 use Rattle.wenc_builder.specs.inside.Spaces.{before}
-use Rattle.wenc_sections.specs.Prelude.{Space, space_number}
+use Rattle.wenc_sections.specs.Prelude.{space_number}
+use Rattle.wenc_sections.specs.declared.space.Space.{Space}
 use Rattle.wenc_sections.specs.laws.Space.{space_within}
 
 before_with : (i : Space) (n : ℕ) (s : Namespace) (name : Option (List ℕ)) → before (undo_at i s) (namespace_with s n name).names ≡ s

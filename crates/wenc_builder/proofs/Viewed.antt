@@ -1,6 +1,6 @@
 -- A builder's state, by those of its buffer and its spaces.
 use Rattle.std.proofs.Common.{◌≡◌, List, ℕ, is_none, Option, Some, None, Result, Ok, Err, refl, ap, sym, subst, ◌∙◌}
-use Rattle.wenc_base.specs.Prelude.{Extends, ExtendsListed, Fault, Piece, either, still_warranted}
+use Rattle.wenc_base.specs.Prelude.{Extends, ExtendsListed, Piece, either, still_warranted}
 use Rattle.wenc_builder.specs.Prelude.{Agree, Buffered, Content, Namespace, NoRoom, SectionsState}
 use Rattle.wenc_builder.specs.Prelude.{Spaced, State, Undo, Writing, buffer_appended, buffer_ended}
 use Rattle.wenc_builder.specs.Prelude.{buffered_content, builder_is_finished, builder_view}
@@ -9,7 +9,8 @@ use Rattle.wenc_builder.specs.Prelude.{namespace_at, no_room_in_section, section
 use Rattle.wenc_builder.specs.Prelude.{spaces_ended, taken}
 use Rattle.wenc_builder.specs.inside.Spaces.{Taking}
 use Rattle.wenc_builder.specs.inside.View.{begun_of}
-use Rattle.wenc_sections.specs.Prelude.{Space}
+use Rattle.wenc_base.specs.declared.fault.Fault.{Fault}
+use Rattle.wenc_sections.specs.declared.space.Space.{Space}
 use Rattle.wenc_builder.proofs.Undone.{taken_is, ended_spaces}
 
 -- ---- nothing is begun in both, or in none

@@ -2,8 +2,8 @@
 use Rattle.std.proofs.Common.{◌≡◌, ℕ, true, false, is_none, List, [], length, Option, Some, None, Result, Ok, Err, OnOk, OnErr, inl, inr, refl, ap, sym, subst, ◌∙◌}
 use Rattle.std.specs.Prelude.{IfOk, IfErr}
 use Rattle.std.specs.Iterator.Runs.{WholeRun}
-use Rattle.wenc_base.specs.Prelude.{Extended, Extends, Fault, IsWarranted, NoCause, Piece, either}
-use Rattle.wenc_base.specs.Prelude.{nothing, still_warranted}
+use Rattle.wenc_base.specs.Prelude.{Extended, Extends, IsWarranted, NoCause, Piece, either, nothing}
+use Rattle.wenc_base.specs.Prelude.{still_warranted}
 use Rattle.wenc_base.specs.declared.fault.Fault.TheVariants.{Unfinished}
 use Rattle.wenc_base.proofs.Runs.{no_run}
 use Rattle.wenc_builder.specs.Prelude.{AddsItem, AddsListedItem, AddsWholeItem, Buffered, CallCause}
@@ -15,7 +15,8 @@ use Rattle.wenc_builder.specs.Prelude.{item_begun, namespace_at, namespace_with,
 use Rattle.wenc_builder.specs.Prelude.{new_item_indices, section_appended, section_begun, some_in}
 use Rattle.wenc_builder.specs.Prelude.{spaced, spaces_begun, spaces_ended, spaces_with, undo_at}
 use Rattle.wenc_builder.specs.laws.Caused.{space_refuses, beginning_refuses, text_refuses}
-use Rattle.wenc_sections.specs.Prelude.{Space}
+use Rattle.wenc_base.specs.declared.fault.Fault.{Fault}
+use Rattle.wenc_sections.specs.declared.space.Space.{Space}
 use Rattle.wenc_builder.proofs.Undone.{no_undo, is_of, taken_with}
 use Rattle.wenc_builder.proofs.Standing.{writing_none, begun_stands, value_stands, ended_stands}
 use Rattle.wenc_builder.proofs.Taken.{settled_before, begins, added}

@@ -2,8 +2,8 @@
 ghost use Rattle.std.specs.Prelude.{◌≡◌, ◌≤◌, ◌<◌, length, IfOk};
 ghost use Rattle.std.specs.String.{string_bytes};
 ghost use Rattle.wenc_decode.specs.Prelude.{AreCopies, OptionCopies};
-ghost use Rattle.wenc_view.specs.Prelude.{list_view, name_seen};
-ghost use Rattle.wenc_view.specs.Prelude.{labelled_seen, case_seen, defined_seen};
+ghost use Rattle.wenc_view.specs.Prelude.{list_view, name_seen, labelled_seen, case_seen};
+ghost use Rattle.wenc_view.specs.Prelude.{defined_seen};
 ghost use Rattle.wenc_parts.specs.Prelude.{name_tree_view, alias_tree_view, alias_view};
 ghost use Rattle.wenc_types.specs.Prelude.{labelled_type_view, case_view, defined_view};
 
@@ -82,7 +82,7 @@ pub fn room_for(count: u32, bytes: &[u8]) -> usize
 }
 
 impl<'a, A: Allocator + Copy, V: View<'a>, T: TreeOf<V, A>> TreeOf<ListOf<'a, V>, A> for Vec<T, A> {
-    ghost is_copy = { λ ts l. AreCopies T.is_copy V.view ts.items (list_view V.read l) };
+    ghost is_copy = { λ ts l. AreCopies T.is_copy V.view ts.items (list_view V.reading.read l) };
 
     fn tree_of(alloc: A, view: ListOf<'a, V>) -> Result<Vec<T, A>, AllocError> {
         let mut values = Vec::with_capacity(alloc, room_for(view.left, view.bytes))?;

@@ -11,10 +11,11 @@ use Rattle.wenc_builder.specs.Prelude.{InstanceItem, Item, ModuleItem, RawItem, 
 use Rattle.wenc_builder.specs.Prelude.{TypeItem, canonical_space, collected, defined_in, indices_in}
 use Rattle.wenc_builder.specs.Prelude.{item_of, members, next_index, number_in, section_piece}
 use Rattle.wenc_builder.specs.Prelude.{some_in}
-use Rattle.wenc_sections.specs.Prelude.{Space, alias_space, kind_space, space_number}
+use Rattle.wenc_sections.specs.Prelude.{alias_space, kind_space, space_number}
 use Rattle.wenc_sections.specs.declared.space.Space.TheVariants.{CoreModules, CoreTypes, CoreInstances, Instances, Values, Components, Types}
 use Rattle.wenc_sections.specs.laws.Space.{same_number, space_tells}
 use Rattle.wenc_parts.specs.Prelude.{kind_of}
+use Rattle.wenc_sections.specs.declared.space.Space.{Space}
 use Rattle.wenc_list.specs.Prelude.{ListedSection, count_of_sections, item_view, section_view}
 use Rattle.wenc_list.specs.declared.item.ItemTree.{ItemTree}
 use Rattle.wenc_list.proofs.SectionLaws.{Fills, AloneIn, section_framed, members_of}

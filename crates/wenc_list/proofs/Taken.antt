@@ -19,9 +19,10 @@ use Rattle.wenc_builder.specs.Prelude.{CoreTypeItem, CustomItem, ExportItem, Imp
 use Rattle.wenc_builder.specs.Prelude.{InstanceItem, Item, ModuleItem, RawItem, Section, StartItem}
 use Rattle.wenc_builder.specs.Prelude.{TypeItem, collects, item_of, members, section_piece}
 use Rattle.wenc_builder.specs.laws.Reading.{item_of_lawful}
-use Rattle.wenc_read.specs.Prelude.{NestedRefusal, flaw_of}
+use Rattle.wenc_read.specs.Prelude.{flaw_of}
 use Rattle.wenc_read.specs.declared.refusal.NestedRefusal.TheVariants.{Flat, TooDeep}
 use Rattle.wenc_sections.specs.Prelude.{read_start_content, start_content}
+use Rattle.wenc_read.specs.declared.refusal.NestedRefusal.{NestedRefusal}
 use Rattle.wenc_sections.specs.laws.Items.{start_content_lawful, start_content_sound}
 use Rattle.wenc_list.specs.Prelude.{AreWithin, HasDepth, HasTaken, IsFaultHere, IsFaultIn, IsFramed}
 use Rattle.wenc_list.specs.Prelude.{IsSpent, ListFault, Opens, SectionItems, fault_of_content}

@@ -1,7 +1,6 @@
 -- The names that clauses cite, re-exported from the files that define them.
-pub use Rattle.wenc_list.specs.Cursor.{HasTaken, IsCountless, IsFaultIn, IsPlacedIn, IsSpent}
-pub use Rattle.wenc_list.specs.Cursor.{IsLeftOf, LacksCount, Opens, StopsInside}
-pub use Rattle.wenc_list.specs.Cursor.{fault_of_content, fault_of_items, fault_of_list}
+pub use Rattle.wenc_list.specs.Cursor.{HasTaken, IsCountless, IsFaultIn, IsPlacedIn, IsSpent, Opens}
+pub use Rattle.wenc_list.specs.Cursor.{StopsInside, fault_of_content, fault_of_items, fault_of_list}
 pub use Rattle.wenc_list.specs.Cursor.{fault_of_section}
 pub use Rattle.wenc_read.specs.Gives.{left_of}
 pub use Rattle.wenc_list.specs.Items.{IsCountedItem, alone, item_section, item_seen, item_view}
@@ -10,8 +9,8 @@ pub use Rattle.wenc_list.specs.Listing.{AreFrom, ArePlaced, AreWithin, HasDepth,
 pub use Rattle.wenc_list.specs.Listing.{IsFaultBehind, IsFaultHere, IsFaultOf, IsFramed}
 pub use Rattle.wenc_list.specs.Listing.{IsMemoryOrTooDeep, StopsAt, count_of_sections}
 pub use Rattle.wenc_list.specs.Names.{item_name_view, names_view, part, read_core_sort}
-pub use Rattle.wenc_list.specs.Names.{read_item_name, read_item_names, read_names, read_names_in}
-pub use Rattle.wenc_list.specs.Names.{IsCountedNames, read_part, read_sort, subsection_by_id}
+pub use Rattle.wenc_list.specs.Names.{read_item_names, read_names, read_names_in, IsCountedNames}
+pub use Rattle.wenc_list.specs.Names.{read_part, read_sort, subsection_by_id}
 pub use Rattle.wenc_list.specs.Producers.{AreSpent, HasTakenPart, IsMalformed, IsNoField}
 pub use Rattle.wenc_list.specs.Producers.{IsNoNumber, IsNoPart, IsNoTool, Part, part_seen, parts_in}
 pub use Rattle.wenc_list.specs.Producers.{parts_left, producers_parts, tool_seen, with_part}

@@ -1,12 +1,11 @@
 //! The subsections of a name section, and the sections of a core module.
 ghost use Rattle.std.specs.Prelude.{◌≤◌, ℕ, List, length, IfOk, IfErr, MatchOption};
 ghost use Rattle.wenc_base.specs.Prelude.{module_preamble, Wide, done, read_name, NameAssociation};
-ghost use Rattle.wenc_base.specs.Prelude.{name_association, name_association_lawful};
+ghost use Rattle.wenc_base.specs.Prelude.{name_association_lawful};
 ghost use Rattle.wenc_list.specs.Prelude.{names_view, read_part, read_core_sort, read_sort};
-ghost use Rattle.wenc_list.specs.Prelude.{read_item_names, read_names_in};
-ghost use Rattle.wenc_list.specs.Prelude.{item_name_view, read_item_name, item_name_sound};
-ghost use Rattle.wenc_list.specs.Prelude.{IsCountedNames};
-ghost use Rattle.wenc_read.specs.Prelude.{Gives, exact_by, IsWithin};
+ghost use Rattle.wenc_list.specs.Prelude.{read_item_names, read_names_in, item_name_view};
+ghost use Rattle.wenc_list.specs.Prelude.{item_name_sound, IsCountedNames};
+ghost use Rattle.wenc_read.specs.Prelude.{Gives, IsWithin, read_by};
 
 use wenc_read::{Expected, Refusal, byte, u32_of};
 use wenc_sections::Space;
@@ -26,11 +25,7 @@ impl<'a> View<'a> for ItemName<'a> {
 
     ghost view = { item_name_view };
 
-    ghost read = { read_item_name };
-
-    ghost form = { name_association };
-
-    ghost exact = { exact_by item_name_sound name_association_lawful };
+    ghost reading = { read_by item_name_sound name_association_lawful };
 
     fn view_of(bytes: &'a [u8]) -> Result<(ItemName<'a>, &'a [u8]), Refusal> {
         let (index, rest) = u32_of(bytes)?;

@@ -13,14 +13,12 @@ pub use Rattle.wenc_parts.specs.Aliases.{alias_tree_view, alias_view, outer_kind
 pub use Rattle.wenc_parts.specs.inside.NameOptions.{option_entry}
 pub use Rattle.wenc_parts.specs.reading.Aliases.{read_alias, read_core_alias, read_core_export}
 pub use Rattle.wenc_parts.specs.reading.Aliases.{read_export, read_export_or_outer}
-pub use Rattle.wenc_parts.specs.reading.Aliases.{read_exported_alias, read_outer, read_outer_kind}
+pub use Rattle.wenc_parts.specs.reading.Aliases.{read_exported_alias, read_outer}
 pub use Rattle.wenc_parts.specs.reading.Exports.{read_component_export_kind}
 pub use Rattle.wenc_parts.specs.reading.Imports.{option_number, read_extern_name, read_name_option}
-pub use Rattle.wenc_parts.specs.reading.Imports.{read_type_bounds, read_type_reference, with_option}
+pub use Rattle.wenc_parts.specs.reading.Imports.{with_option}
 pub use Rattle.wenc_parts.specs.reading.Instances.{read_module_argument}
-pub use Rattle.wenc_parts.specs.reading.SectionIds.{read_section}
-pub use Rattle.wenc_parts.specs.reading.Types.{primitive_rows, read_primitive, read_result_list}
-pub use Rattle.wenc_parts.specs.reading.Types.{read_value_type}
+pub use Rattle.wenc_parts.specs.reading.Types.{primitive_rows, read_value_type}
 pub use Rattle.wenc_parts.specs.laws.Aliases.{alias_lawful, alias_sound, outer_kind_lawful}
 pub use Rattle.wenc_parts.specs.laws.Exports.{component_export_kind_lawful}
 pub use Rattle.wenc_parts.specs.laws.Exports.{component_export_kind_sound}
@@ -31,11 +29,3 @@ pub use Rattle.wenc_parts.specs.laws.Instances.{module_argument_lawful, module_a
 pub use Rattle.wenc_parts.specs.laws.SectionIds.{section_lawful}
 pub use Rattle.wenc_parts.specs.laws.Types.{primitive_lawful, result_list_lawful, result_list_sound}
 pub use Rattle.wenc_parts.specs.laws.Types.{same_result_list, value_type_lawful, value_type_sound}
-pub use Rattle.wenc_parts.specs.declared.aliases.ComponentOuterAliasKind.{ComponentOuterAliasKind}
-pub use Rattle.wenc_parts.specs.declared.component.ComponentSectionId.{ComponentSectionId}
-pub use Rattle.wenc_parts.specs.declared.exports.ComponentExportKind.{ComponentExportKind}
-pub use Rattle.wenc_parts.specs.declared.imports.ComponentTypeRef.{ComponentTypeRef}
-pub use Rattle.wenc_parts.specs.declared.imports.TypeBounds.{TypeBounds}
-pub use Rattle.wenc_parts.specs.declared.instances.ModuleArg.{ModuleArg}
-pub use Rattle.wenc_parts.specs.declared.types.ComponentValType.{ComponentValType}
-pub use Rattle.wenc_parts.specs.declared.types.PrimitiveValType.{PrimitiveValType}

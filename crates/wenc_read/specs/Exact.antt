@@ -15,3 +15,9 @@ pub record IsExactAt {A : Type 0} (form : Form A) (read : Reader A) (bytes : Lis
 -- The same holds for all bytes.
 abbrev pub IsExact : {A : Type 0} → Form A → Reader A → Type 0
 IsExact form read = (bytes : List ℕ) → IsExactAt form read bytes
+
+-- A reader, and the form whose values it finds exactly.
+pub record Reading (A : Type 0) : Type 1 where
+  pub read : Reader A
+  pub form : Form A
+  pub exact : IsExact form read

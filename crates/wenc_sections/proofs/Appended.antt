@@ -1,10 +1,11 @@
 -- What the section of names takes.
 use Rattle.std.proofs.Common.{ℕ, ◌+◌, ◌≤◌, ◌<◌, ◌^◌, List, [], ◌∷◌, ◌++◌, length, Result, Ok, Err, OnOk, refl, inl, inr, arith, length-append}
 use Rattle.wenc_base.proofs.Groups.{groups_some}
-use Rattle.wenc_base.specs.Prelude.{Contains, Fault, HolderState, NameAssociation, Serves}
-use Rattle.wenc_base.specs.Prelude.{byte_list, custom, held_names, name, name_association, name_map}
+use Rattle.wenc_base.specs.Prelude.{Contains, HolderState, NameAssociation, Serves, byte_list}
+use Rattle.wenc_base.specs.Prelude.{custom, held_names, name, name_association, name_map}
 use Rattle.wenc_base.specs.Prelude.{names_text, size_cause, size_free, sized_in_order}
 use Rattle.wenc_base.specs.Prelude.{unsigned_text, ◌▸◌}
+use Rattle.wenc_base.specs.declared.fault.Fault.{Fault}
 use Rattle.wenc_base.specs.Number.{groups}
 use Rattle.wenc_base.specs.declared.fault.Fault.TheVariants.{Memory, TooMany, TooLarge, Unfinished}
 use Rattle.wenc_sections.specs.Prelude.{AppendsNames, AppendsSubsection, ItemNames, RoomCause}

@@ -1,14 +1,16 @@
 -- What is written of an import, an export, a start and a resource type serves as their forms.
 use Rattle.std.proofs.Common.{◌≡◌, ℕ, List, Option, subst}
-use Rattle.wenc_base.specs.Prelude.{Serves, ValType, in_order, list_in_order, list_is_list, option}
+use Rattle.wenc_base.specs.Prelude.{Serves, in_order, list_in_order, list_is_list, option}
 use Rattle.wenc_base.specs.Prelude.{order_serves, serves_itself, sized_in_order, tagged_serves}
 use Rattle.wenc_base.specs.Prelude.{three_serve, two_serve, u32, val_type, ◌▸◌}
 use Rattle.wenc_sections.specs.Prelude.{ascribed, export_item, import_item, imported, start}
 use Rattle.wenc_sections.specs.Prelude.{started, triple}
 use Rattle.wenc_base.specs.laws.Serves.{sized_serves}
-use Rattle.wenc_parts.specs.Prelude.{ComponentExportKind, ComponentTypeRef, ExternName}
-use Rattle.wenc_parts.specs.Prelude.{component_export_kind, extern_name, type_reference}
+use Rattle.wenc_parts.specs.Prelude.{ExternName, component_export_kind, extern_name, type_reference}
 use Rattle.wenc_types.specs.Prelude.{ResourceType, def_type}
+use Rattle.wenc_base.specs.declared.types.ValType.{ValType}
+use Rattle.wenc_parts.specs.declared.exports.ComponentExportKind.{ComponentExportKind}
+use Rattle.wenc_parts.specs.declared.imports.ComponentTypeRef.{ComponentTypeRef}
 
 pub import_serves : (name : ExternName) (what : ComponentTypeRef) → Serves (in_order (extern_name name) (type_reference what))
     (import_item (imported name what))

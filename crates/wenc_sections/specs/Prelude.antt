@@ -17,7 +17,6 @@ pub use Rattle.wenc_sections.specs.inside.InstanceTrees.{inline_export_tree}
 pub use Rattle.wenc_sections.specs.inside.Operands.{operand_behind}
 pub use Rattle.wenc_sections.specs.reading.Items.{read_core_instance, read_instance, read_start}
 pub use Rattle.wenc_sections.specs.reading.Items.{read_start_content}
-pub use Rattle.wenc_sections.specs.reading.Names.{read_names_section}
 pub use Rattle.wenc_sections.specs.reading.Pairs.{read_pair, read_triple}
 pub use Rattle.wenc_sections.specs.laws.Items.{core_instance_lawful, core_instance_sound}
 pub use Rattle.wenc_sections.specs.laws.Items.{import_lawful, inline_export_lawful, instance_lawful}
@@ -26,7 +25,6 @@ pub use Rattle.wenc_sections.specs.laws.Names.{names_section_lawful, sort_lawful
 pub use Rattle.wenc_sections.specs.laws.Pairs.{pair_lawful, pair_sound, triple_lawful, triple_sound}
 pub use Rattle.wenc_base.specs.declared.fault.Fault.{Fault}
 pub use Rattle.wenc_parts.specs.declared.component.ComponentSectionId.{ComponentSectionId}
-pub use Rattle.wenc_sections.specs.declared.canon_tree.CanonOf.{CanonOf}
 pub use Rattle.wenc_sections.specs.declared.space.Space.{Space}
 pub use Rattle.wenc_sections.specs.inside.Items.{ascribed, imported, read_import}
 pub use Rattle.wenc_sections.specs.inside.Items.{read_inline_export}

@@ -2,15 +2,18 @@
 use Rattle.std.proofs.Common.{String, Result, ◌≡◌, ℕ, Bool, List, [], ◌∷◌, Option, Vec, map, refl, ap, sym, subst}
 use Rattle.std.specs.Borrow.{Bor}
 use Rattle.std.specs.String.{string_bytes}
-use Rattle.wenc_base.specs.Prelude.{Ends, EndsListed, EntityType, Fault, Form, Piece, Serves}
-use Rattle.wenc_base.specs.Prelude.{behind_bytes, behind_is, byte, entity_type, in_order, list}
-use Rattle.wenc_base.specs.Prelude.{list_in_order, list_is_list, list_serves, listed_serves}
-use Rattle.wenc_base.specs.Prelude.{lists_serve, name as name_form, nothing, option, order_serves}
-use Rattle.wenc_base.specs.Prelude.{serves_itself, serves_then, tagged_serves, two_serve, u32}
-use Rattle.wenc_base.specs.Prelude.{verbatim, ◌▸◌, ◌⨾◌}
+use Rattle.wenc_base.specs.Prelude.{Ends, EndsListed, Form, Piece, Serves, behind_bytes, behind_is}
+use Rattle.wenc_base.specs.Prelude.{byte, entity_type, in_order, list, list_in_order, list_is_list}
+use Rattle.wenc_base.specs.Prelude.{list_serves, listed_serves, lists_serve, name as name_form}
+use Rattle.wenc_base.specs.Prelude.{nothing, option, order_serves, serves_itself, serves_then}
+use Rattle.wenc_base.specs.Prelude.{tagged_serves, two_serve, u32, verbatim, ◌▸◌, ◌⨾◌}
 use Rattle.wenc_base.specs.laws.Parents.{extends_for, extends_as}
-use Rattle.wenc_parts.specs.Prelude.{ComponentTypeRef, ComponentValType, ExternName, extern_name}
-use Rattle.wenc_parts.specs.Prelude.{result_list, type_reference, value_type}
+use Rattle.wenc_parts.specs.Prelude.{ExternName, extern_name, result_list, type_reference}
+use Rattle.wenc_parts.specs.Prelude.{value_type}
+use Rattle.wenc_base.specs.declared.imports.EntityType.{EntityType}
+use Rattle.wenc_base.specs.declared.fault.Fault.{Fault}
+use Rattle.wenc_parts.specs.declared.imports.ComponentTypeRef.{ComponentTypeRef}
+use Rattle.wenc_parts.specs.declared.types.ComponentValType.{ComponentValType}
 use Rattle.wenc_types.specs.Prelude.{Case as PureCase, CaseTree, ComponentDecl, DefType}
 use Rattle.wenc_types.specs.Prelude.{InstanceDecl, ModuleDecl, ModuleImport, ModuleOuter, Record}
 use Rattle.wenc_types.specs.Prelude.{Tuple, Variant, async_byte, borrowed_case}

@@ -21,12 +21,11 @@ pub use Rattle.wenc_types.specs.ComponentTypes.{no_component, no_instance}
 pub use Rattle.wenc_types.specs.Declarations.{AddsDeclaration, AddsDeclared, AddsToComponent}
 pub use Rattle.wenc_types.specs.Declarations.{AddsToModule, ComponentDeclares, DeclaredAs}
 pub use Rattle.wenc_types.specs.Declarations.{DeclaresSome, InstanceDeclares, IsDeclaration}
-pub use Rattle.wenc_types.specs.Declarations.{ModuleDeclares}
-pub use Rattle.wenc_types.specs.Declarations.{NoneBegun, TypeState, component_space, indexed_outcome}
-pub use Rattle.wenc_types.specs.Declarations.{instance_space, lead_of, module_space, no_counts}
-pub use Rattle.wenc_types.specs.Declarations.{no_declarations, one_less, one_more, space_of_alias}
-pub use Rattle.wenc_types.specs.Declarations.{space_of_kind, type_appended, type_begun, type_ended}
-pub use Rattle.wenc_types.specs.Declarations.{type_given_up}
+pub use Rattle.wenc_types.specs.Declarations.{ModuleDeclares, NoneBegun, TypeState, component_space}
+pub use Rattle.wenc_types.specs.Declarations.{indexed_outcome, instance_space, lead_of}
+pub use Rattle.wenc_types.specs.Declarations.{module_space, no_counts, no_declarations, one_less}
+pub use Rattle.wenc_types.specs.Declarations.{one_more, space_of_alias, space_of_kind}
+pub use Rattle.wenc_types.specs.Declarations.{type_appended, type_begun, type_ended, type_given_up}
 pub use Rattle.wenc_types.specs.FuncStages.{BeforeParams, RestMakesWhole, goes_on, lead_from}
 pub use Rattle.wenc_types.specs.FuncStages.{params_from}
 pub use Rattle.wenc_types.specs.Borrows.{unchanged_on_err}
@@ -60,10 +59,8 @@ pub use Rattle.wenc_types.specs.laws.DefinedTypes.{labelled_type_lawful, named_s
 pub use Rattle.wenc_types.specs.laws.TypeTrees.{case_sees, defined_sees, named_sees, view_component}
 pub use Rattle.wenc_types.specs.laws.TypeTrees.{view_instance}
 pub use Rattle.wenc_types.specs.declared.counts.IndexSpace.{IndexSpace}
-pub use Rattle.wenc_types.specs.declared.core_type_tree.CoreTypeTree.{CoreTypeTree}
 pub use Rattle.wenc_types.specs.declared.core_type_tree.ModuleDecl.{ModuleDecl}
 pub use Rattle.wenc_types.specs.declared.defined_tree.CaseTree.{CaseTree}
-pub use Rattle.wenc_types.specs.declared.defined_tree.DefinedTree.{DefinedTree}
 pub use Rattle.wenc_types.specs.declared.encoders.func_type.FuncStage.{FuncStage}
 pub use Rattle.wenc_types.specs.declared.type_tree.ComponentDecl.{ComponentDecl}
 pub use Rattle.wenc_types.specs.declared.type_tree.InstanceDecl.{InstanceDecl}

@@ -1,8 +1,9 @@
 -- The tables of value types, and what is made of what they find.
 use Rattle.std.proofs.Common.{ℕ, true, false, List, [], ◌∷◌, map, refl}
-use Rattle.wenc_base.specs.Prelude.{RefType, ValType, abstract_byte, abstract_rows, abstract_types}
-use Rattle.wenc_base.specs.Prelude.{give, long_rows, number_rows, read_heap_type, reference_rows}
-use Rattle.wenc_base.specs.Prelude.{to, val_type_rows}
+use Rattle.wenc_base.specs.Prelude.{abstract_byte, abstract_rows, abstract_types, give, long_rows}
+use Rattle.wenc_base.specs.Prelude.{number_rows, read_heap_type, reference_rows, to, val_type_rows}
+use Rattle.wenc_base.specs.declared.types.RefType.{RefType}
+use Rattle.wenc_base.specs.declared.types.ValType.{ValType}
 use Rattle.wenc_base.specs.declared.types.HeapType.TheVariants.{Abstract}
 use Rattle.wenc_base.specs.declared.types.ValType.TheVariants.{I32, I64, F32, F64, V128, Ref}
 use Rattle.wenc_view.proofs.Rows.{RowsFollow, gives_follow, last_follows, both_follow}

@@ -5,18 +5,17 @@ pub use Rattle.wenc_view.specs.Texts.{name_error}
 pub use Rattle.wenc_view.specs.inside.Names.{option_seen, read_options}
 pub use Rattle.wenc_view.specs.Depth.{OpensTypes}
 pub use Rattle.wenc_view.specs.inside.Tables.{find}
-pub use Rattle.wenc_view.specs.inside.Types.{primitive_types}
+pub use Rattle.wenc_view.specs.inside.Types.{primitive_types, read_defined_row, handle_rows}
 pub use Rattle.wenc_parts.specs.declared.imports.ComponentTypeRef.{ComponentTypeRef}
 pub use Rattle.wenc_parts.specs.declared.imports.TypeBounds.{TypeBounds}
 pub use Rattle.wenc_parts.specs.declared.types.ComponentValType.{ComponentValType}
 pub use Rattle.wenc_view.specs.DefinedTypes.{labelled_seen, case_seen, defined_seen}
 pub use Rattle.wenc_view.specs.DefinedTypes.{IsCountedDefined}
-pub use Rattle.wenc_view.specs.inside.Types.{read_defined_row, handle_rows}
 pub use Rattle.wenc_view.specs.laws.TypeTrees.{defined_sound, type_finds, type_tells}
 pub use Rattle.wenc_view.specs.CoreTypes.{composite_seen, sub_seen, rec_type_seen}
 pub use Rattle.wenc_view.specs.CoreTypes.{module_declaration_seen, core_type_seen}
-pub use Rattle.wenc_view.specs.CoreTypes.{IsCountedComposite, IsCountedGroup}
-pub use Rattle.wenc_view.specs.CoreTypes.{IsCountedModuleDecl, IsCountedCoreType}
+pub use Rattle.wenc_view.specs.CoreTypes.{IsCountedComposite, IsCountedGroup, IsCountedModuleDecl}
+pub use Rattle.wenc_view.specs.CoreTypes.{IsCountedCoreType}
 pub use Rattle.wenc_view.specs.inside.CoreTypes.{read_guarded, read_referred}
 pub use Rattle.wenc_view.specs.inside.Entities.{memory_so, read_bounds, read_maximum, table_so}
 pub use Rattle.wenc_base.specs.declared.exports.ExportKind.{ExportKind}
@@ -39,8 +38,8 @@ pub use Rattle.wenc_view.specs.Types.{IsCountedInstanceDecl, IsCountedComponentD
 pub use Rattle.wenc_view.specs.Types.{component_members, instance_members, type_nests}
 pub use Rattle.wenc_view.specs.Types.{instance_declaration_nests, component_declaration_nests}
 pub use Rattle.wenc_view.specs.Canonicals.{canon_seen, IsCountedCanon}
-pub use Rattle.wenc_view.specs.Instances.{core_instance_seen, instance_seen}
-pub use Rattle.wenc_view.specs.Instances.{IsCountedCoreInstance, IsCountedInstance}
+pub use Rattle.wenc_view.specs.Instances.{core_instance_seen, instance_seen, IsCountedCoreInstance}
+pub use Rattle.wenc_view.specs.Instances.{IsCountedInstance}
 pub use Rattle.wenc_view.specs.inside.Canonicals.{error_context_rows, forward_rows, future_rows}
 pub use Rattle.wenc_view.specs.inside.Canonicals.{read_ty_and_options, read_waited_memory}
 pub use Rattle.wenc_view.specs.inside.Canonicals.{read_zero, stream_rows, thread_rows}

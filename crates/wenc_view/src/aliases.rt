@@ -1,8 +1,8 @@
 //! Aliases. Each begins with a sort, and refers to an instance's export or an outer item.
-ghost use Rattle.wenc_parts.specs.Prelude.{alias_view, read_alias, read_export, read_core_export};
-ghost use Rattle.wenc_parts.specs.Prelude.{read_outer, read_export_or_outer, read_exported_alias};
+ghost use Rattle.wenc_parts.specs.Prelude.{alias_view, read_export, read_core_export, read_outer};
+ghost use Rattle.wenc_parts.specs.Prelude.{read_export_or_outer, read_exported_alias};
 ghost use Rattle.wenc_parts.specs.Prelude.{read_core_alias, AliasOf, alias_sound, alias_lawful};
-ghost use Rattle.wenc_read.specs.Prelude.{Gives, exact_by, IsWithin};
+ghost use Rattle.wenc_read.specs.Prelude.{Gives, IsWithin, read_by};
 
 use crate::view::View;
 use wenc_base::ExportKind;
@@ -115,17 +115,11 @@ fn core(bytes: &[u8]) -> Result<(Alias<'_>, &[u8]), Refusal>
 }
 
 impl<'a> View<'a> for Alias<'a> {
-    ghost use Rattle.wenc_parts.specs.Prelude.{alias};
-
     ghost Value = { AliasOf };
 
     ghost view = { alias_view };
 
-    ghost read = { read_alias };
-
-    ghost form = { alias };
-
-    ghost exact = { exact_by alias_sound alias_lawful };
+    ghost reading = { read_by alias_sound alias_lawful };
 
     #[tactic(auto, unfolding(wenc_base::specs::Readers::choose))]
     #[inline(always)]

@@ -2,14 +2,13 @@
 ghost use Rattle.std.specs.Prelude.{◌∷◌, IfOk};
 ghost use Rattle.wenc_base.specs.Prelude.{pick, nowhere};
 ghost use Rattle.wenc_canon.specs.Prelude.{read_lifted, read_lowered, rows, read_canonical_option};
-ghost use Rattle.wenc_canon.specs.Prelude.{canonical_option, canonical_option_sound};
-ghost use Rattle.wenc_canon.specs.Prelude.{canonical_option_lawful, Canonical, canonical};
-ghost use Rattle.wenc_canon.specs.Prelude.{read_canonical, canonical_sound, canonical_lawful};
+ghost use Rattle.wenc_canon.specs.Prelude.{canonical_option_sound, canonical_option_lawful};
+ghost use Rattle.wenc_canon.specs.Prelude.{Canonical, canonical_sound, canonical_lawful};
 ghost use Rattle.wenc_view.specs.Prelude.{read_zero, stream_rows, future_rows, error_context_rows};
 ghost use Rattle.wenc_view.specs.Prelude.{thread_rows, forward_rows, read_ty_and_options};
 ghost use Rattle.wenc_view.specs.Prelude.{read_waited_memory, CanonicalOption as Value'};
-ghost use Rattle.wenc_read.specs.Prelude.{Gives, exact_by, IsWithin};
 ghost use Rattle.wenc_view.specs.Prelude.{canon_seen, list_view, IsCounted, IsCountedCanon};
+ghost use Rattle.wenc_read.specs.Prelude.{Gives, IsWithin, read_by};
 
 use crate::lists::ListOf;
 use crate::pairs::both;
@@ -27,11 +26,7 @@ impl<'a> View<'a> for CanonicalOption {
 
     ghost view = { λ o. o };
 
-    ghost read = { read_canonical_option };
-
-    ghost form = { canonical_option };
-
-    ghost exact = { exact_by canonical_option_sound canonical_option_lawful };
+    ghost reading = { read_by canonical_option_sound canonical_option_lawful };
 
     #[tactic(auto, unfolding(wenc_base::specs::Readers::choose))]
     fn view_of(bytes: &'a [u8]) -> Result<(CanonicalOption, &'a [u8]), Refusal> {
@@ -348,11 +343,7 @@ impl<'a> View<'a> for CanonView<'a> {
 
     ghost view = { canon_seen };
 
-    ghost read = { read_canonical };
-
-    ghost form = { canonical };
-
-    ghost exact = { exact_by canonical_sound canonical_lawful };
+    ghost reading = { read_by canonical_sound canonical_lawful };
 
     ghost is_counted = { IsCountedCanon };
 

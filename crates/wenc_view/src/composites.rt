@@ -2,14 +2,12 @@
 ghost use Rattle.std.specs.Prelude.{Some, false, true, IfOk};
 ghost use Rattle.wenc_view.specs.Prelude.{composite_seen, sub_seen, rec_type_seen};
 ghost use Rattle.wenc_view.specs.Prelude.{IsCountedComposite, IsCountedGroup};
-ghost use Rattle.wenc_base.specs.Prelude.{read_composite, read_sub_type, read_group, read_closed};
-ghost use Rattle.wenc_base.specs.Prelude.{read_extension, sub_of, read_storage_type, storage_type};
-ghost use Rattle.wenc_base.specs.Prelude.{storage_type_sound, storage_type_lawful, read_field_type};
-ghost use Rattle.wenc_base.specs.Prelude.{field_type, field_type_sound, field_type_lawful};
+ghost use Rattle.wenc_base.specs.Prelude.{read_closed, read_extension, sub_of, storage_type_sound};
+ghost use Rattle.wenc_base.specs.Prelude.{storage_type_lawful, field_type_sound, field_type_lawful};
 ghost use Rattle.wenc_base.specs.Prelude.{Composite, composite_type_sound, composite_type_lawful};
-ghost use Rattle.wenc_base.specs.Prelude.{sub_type, sub_type_sound, sub_type_lawful, RecType};
-ghost use Rattle.wenc_base.specs.Prelude.{rec_type, group_sound, group_lawful};
-ghost use Rattle.wenc_read.specs.Prelude.{Gives, exact_by, IsWithin};
+ghost use Rattle.wenc_base.specs.Prelude.{sub_type_sound, sub_type_lawful, RecType, group_sound};
+ghost use Rattle.wenc_base.specs.Prelude.{group_lawful};
+ghost use Rattle.wenc_read.specs.Prelude.{Gives, IsWithin, read_by};
 
 use crate::lists::ListOf;
 use crate::view::View;
@@ -59,11 +57,7 @@ impl<'a> View<'a> for StorageType {
 
     ghost view = { λ t. t };
 
-    ghost read = { read_storage_type };
-
-    ghost form = { storage_type };
-
-    ghost exact = { exact_by storage_type_sound storage_type_lawful };
+    ghost reading = { read_by storage_type_sound storage_type_lawful };
 
     #[tactic(auto, unfolding(wenc_base::specs::Readers::choose))]
     fn view_of(bytes: &'a [u8]) -> Result<(StorageType, &'a [u8]), Refusal> {
@@ -85,11 +79,7 @@ impl<'a> View<'a> for FieldType {
 
     ghost view = { λ f. f };
 
-    ghost read = { read_field_type };
-
-    ghost form = { field_type };
-
-    ghost exact = { exact_by field_type_sound field_type_lawful };
+    ghost reading = { read_by field_type_sound field_type_lawful };
 
     fn view_of(bytes: &'a [u8]) -> Result<(FieldType, &'a [u8]), Refusal> {
         let (element_type, rest) = StorageType::view_of(bytes)?;
@@ -103,17 +93,11 @@ impl<'a> View<'a> for FieldType {
 }
 
 impl<'a> View<'a> for CompositeView<'a> {
-    ghost use Rattle.wenc_base.specs.Prelude.{composite_type};
-
     ghost Value = { Composite };
 
     ghost view = { composite_seen };
 
-    ghost read = { read_composite };
-
-    ghost form = { composite_type };
-
-    ghost exact = { exact_by composite_type_sound composite_type_lawful };
+    ghost reading = { read_by composite_type_sound composite_type_lawful };
 
     ghost is_counted = { IsCountedComposite };
 
@@ -145,11 +129,7 @@ impl<'a> View<'a> for SubView<'a> {
 
     ghost view = { sub_seen };
 
-    ghost read = { read_sub_type };
-
-    ghost form = { sub_type };
-
-    ghost exact = { exact_by sub_type_sound sub_type_lawful };
+    ghost reading = { read_by sub_type_sound sub_type_lawful };
 
     ghost is_counted = { λ s. IsCountedComposite s.composite_type };
 
@@ -218,11 +198,7 @@ impl<'a> View<'a> for GroupView<'a> {
 
     ghost view = { rec_type_seen };
 
-    ghost read = { read_group };
-
-    ghost form = { rec_type };
-
-    ghost exact = { exact_by group_sound group_lawful };
+    ghost reading = { read_by group_sound group_lawful };
 
     ghost is_counted = { IsCountedGroup };
 

@@ -1,10 +1,9 @@
 //! Imports of core modules.
 ghost use Rattle.std.specs.Prelude.{List, ℕ};
-ghost use Rattle.wenc_base.specs.Prelude.{read_name, name as name_form, name_sound, name_lawful};
-ghost use Rattle.wenc_base.specs.Prelude.{read_entity_type, entity_type, entity_type_sound};
+ghost use Rattle.wenc_base.specs.Prelude.{name_sound, name_lawful, entity_type_sound};
 ghost use Rattle.wenc_base.specs.Prelude.{entity_type_lawful};
-ghost use Rattle.wenc_read.specs.Prelude.{exact_by};
-ghost use Rattle.wenc_sections.specs.Prelude.{read_triple, triple, triple_sound, triple_lawful};
+ghost use Rattle.wenc_read.specs.Prelude.{read_by};
+ghost use Rattle.wenc_sections.specs.Prelude.{triple_sound, triple_lawful};
 ghost use Rattle.wenc_view.specs.Prelude.{EntityType as Type'};
 
 use crate::view::{View, text_of};
@@ -18,12 +17,7 @@ impl<'a> View<'a> for (&'a str, &'a str, EntityType) {
 
     ghost view = { λ x. (x.0.now, x.1.now, x.2) };
 
-    ghost read = { read_triple read_name read_name read_entity_type };
-
-    ghost form = { triple name_form name_form entity_type };
-
-    ghost exact = { exact_by (triple_sound name_sound name_sound entity_type_sound)
-        (triple_lawful name_lawful name_lawful entity_type_lawful) };
+    ghost reading = { read_by (triple_sound name_sound name_sound entity_type_sound) (triple_lawful name_lawful name_lawful entity_type_lawful) };
 
     fn view_of(bytes: &'a [u8]) -> Result<((&'a str, &'a str, EntityType), &'a [u8]), Refusal> {
         let (module, rest) = text_of(bytes)?;

@@ -1,12 +1,11 @@
 //! Core types in a component: recursion groups with guards, and module types.
 ghost use Rattle.std.specs.Prelude.{IfOk};
 ghost use Rattle.wenc_view.specs.Prelude.{read_guarded, IsCountedModuleDecl, IsCountedCoreType};
-ghost use Rattle.wenc_read.specs.Prelude.{Gives, exact_by, IsWithin};
 ghost use Rattle.wenc_view.specs.Prelude.{module_declaration_seen, core_type_seen};
-ghost use Rattle.wenc_types.specs.Prelude.{read_outer_type, ModuleDeclaration, module_declaration};
-ghost use Rattle.wenc_types.specs.Prelude.{read_module_declaration, module_declaration_sound};
-ghost use Rattle.wenc_types.specs.Prelude.{module_declaration_lawful, CoreType, core_type};
-ghost use Rattle.wenc_types.specs.Prelude.{read_core_type, core_type_sound, core_type_lawful};
+ghost use Rattle.wenc_read.specs.Prelude.{Gives, IsWithin, read_by};
+ghost use Rattle.wenc_types.specs.Prelude.{read_outer_type, ModuleDeclaration};
+ghost use Rattle.wenc_types.specs.Prelude.{module_declaration_sound, module_declaration_lawful};
+ghost use Rattle.wenc_types.specs.Prelude.{CoreType, core_type_sound, core_type_lawful};
 
 use crate::composites::{GroupView, SubView, open};
 use crate::lists::ListOf;
@@ -79,11 +78,7 @@ impl<'a> View<'a> for ModuleDeclView<'a> {
 
     ghost view = { module_declaration_seen };
 
-    ghost read = { read_module_declaration };
-
-    ghost form = { module_declaration };
-
-    ghost exact = { exact_by module_declaration_sound module_declaration_lawful };
+    ghost reading = { read_by module_declaration_sound module_declaration_lawful };
 
     ghost is_counted = { IsCountedModuleDecl };
 
@@ -133,11 +128,7 @@ impl<'a> View<'a> for CoreTypeView<'a> {
 
     ghost view = { core_type_seen };
 
-    ghost read = { read_core_type };
-
-    ghost form = { core_type };
-
-    ghost exact = { exact_by core_type_sound core_type_lawful };
+    ghost reading = { read_by core_type_sound core_type_lawful };
 
     ghost is_counted = { IsCountedCoreType };
 

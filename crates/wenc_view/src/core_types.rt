@@ -1,11 +1,10 @@
 //! Value types of core modules.
 ghost use Rattle.std.specs.Prelude.{◌≡◌};
 ghost use Rattle.wenc_base.specs.Prelude.{abstract_byte, abstract_types, to as reference_to};
-ghost use Rattle.wenc_base.specs.Prelude.{read_heap_type, heap_type_sound, heap_type_lawful};
-ghost use Rattle.wenc_base.specs.Prelude.{read_reference, reference_sound, reference_lawful};
-ghost use Rattle.wenc_base.specs.Prelude.{read_val_type, val_type, val_type_sound, val_type_lawful};
+ghost use Rattle.wenc_base.specs.Prelude.{heap_type_sound, heap_type_lawful, reference_sound};
+ghost use Rattle.wenc_base.specs.Prelude.{reference_lawful, val_type_sound, val_type_lawful};
 ghost use Rattle.wenc_view.specs.Prelude.{read_referred, find};
-ghost use Rattle.wenc_read.specs.Prelude.{Gives, exact_by, IsWithin};
+ghost use Rattle.wenc_read.specs.Prelude.{Gives, IsWithin, read_by};
 
 use crate::view::View;
 use wenc_base::{AbstractHeapType, HeapType, RefType, ValType};
@@ -33,18 +32,13 @@ fn abstract_of(byte: u8) -> Option<AbstractHeapType>
 }
 
 impl<'a> View<'a> for HeapType {
-    ghost use Rattle.wenc_base.specs.Prelude.{heap_type};
     ghost use Rattle.wenc_view.specs.Prelude.{HeapType as Value'};
 
     ghost Value = { Value' };
 
     ghost view = { λ h. h };
 
-    ghost read = { read_heap_type };
-
-    ghost form = { heap_type };
-
-    ghost exact = { exact_by heap_type_sound heap_type_lawful };
+    ghost reading = { read_by heap_type_sound heap_type_lawful };
 
     fn view_of(bytes: &'a [u8]) -> Result<(HeapType, &'a [u8]), Refusal> {
         let (first, rest) = byte(bytes)?;
@@ -66,11 +60,7 @@ impl<'a> View<'a> for RefType {
 
     ghost view = { λ r. r };
 
-    ghost read = { read_reference };
-
-    ghost form = { reference };
-
-    ghost exact = { exact_by reference_sound reference_lawful };
+    ghost reading = { read_by reference_sound reference_lawful };
 
     #[tactic(auto, unfolding(wenc_base::specs::Readers::choose))]
     fn view_of(bytes: &'a [u8]) -> Result<(RefType, &'a [u8]), Refusal> {
@@ -110,11 +100,7 @@ impl<'a> View<'a> for ValType {
 
     ghost view = { λ t. t };
 
-    ghost read = { read_val_type };
-
-    ghost form = { val_type };
-
-    ghost exact = { exact_by val_type_sound val_type_lawful };
+    ghost reading = { read_by val_type_sound val_type_lawful };
 
     #[tactic(auto, unfolding(wenc_base::specs::Readers::choose))]
     fn view_of(bytes: &'a [u8]) -> Result<(ValType, &'a [u8]), Refusal> {

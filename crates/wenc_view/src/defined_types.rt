@@ -1,11 +1,10 @@
 //! Defined value types, in place.
 ghost use Rattle.std.specs.Prelude.{◌∷◌, IfOk};
 ghost use Rattle.wenc_base.specs.Prelude.{pick, nowhere};
-ghost use Rattle.wenc_read.specs.Prelude.{Gives, exact_by, IsWithin};
-ghost use Rattle.wenc_types.specs.Prelude.{LabelledType, labelled_type, read_labelled_type};
-ghost use Rattle.wenc_types.specs.Prelude.{named_sound, labelled_type_lawful, Case, case};
-ghost use Rattle.wenc_types.specs.Prelude.{read_case, case_sound, case_lawful, DefValType};
-ghost use Rattle.wenc_types.specs.Prelude.{def_val_type, read_defined, defined_type_lawful};
+ghost use Rattle.wenc_read.specs.Prelude.{Gives, IsWithin, read_by};
+ghost use Rattle.wenc_types.specs.Prelude.{LabelledType, named_sound, labelled_type_lawful, Case};
+ghost use Rattle.wenc_types.specs.Prelude.{case_sound, case_lawful, DefValType};
+ghost use Rattle.wenc_types.specs.Prelude.{defined_type_lawful};
 ghost use Rattle.wenc_view.specs.Prelude.{labelled_seen, case_seen, defined_seen, read_defined_row};
 ghost use Rattle.wenc_view.specs.Prelude.{handle_rows, defined_sound, IsCountedDefined};
 
@@ -80,11 +79,7 @@ impl<'a> View<'a> for (&'a str, ComponentValType) {
 
     ghost view = { labelled_seen };
 
-    ghost read = { read_labelled_type };
-
-    ghost form = { labelled_type };
-
-    ghost exact = { exact_by named_sound labelled_type_lawful };
+    ghost reading = { read_by named_sound labelled_type_lawful };
 
     #[inline(always)]
     fn view_of(bytes: &'a [u8]) -> Result<((&'a str, ComponentValType), &'a [u8]), Refusal> {
@@ -99,11 +94,7 @@ impl<'a> View<'a> for CaseView<'a> {
 
     ghost view = { case_seen };
 
-    ghost read = { read_case };
-
-    ghost form = { case };
-
-    ghost exact = { exact_by case_sound case_lawful };
+    ghost reading = { read_by case_sound case_lawful };
 
     #[tactic(auto, unfolding(wenc_base::specs::Readers::choose))]
     fn view_of(bytes: &'a [u8]) -> Result<(CaseView<'a>, &'a [u8]), Refusal> {
@@ -204,11 +195,7 @@ impl<'a> View<'a> for DefinedView<'a> {
 
     ghost view = { defined_seen };
 
-    ghost read = { read_defined };
-
-    ghost form = { def_val_type };
-
-    ghost exact = { exact_by defined_sound defined_type_lawful };
+    ghost reading = { read_by defined_sound defined_type_lawful };
 
     ghost is_counted = { IsCountedDefined };
 

@@ -1,15 +1,11 @@
 //! Types of the imports and exports of core modules.
-ghost use Rattle.wenc_base.specs.Prelude.{read_memory_type, memory_type, memory_type_sound};
-ghost use Rattle.wenc_base.specs.Prelude.{memory_type_lawful, read_table_type, table_type};
-ghost use Rattle.wenc_base.specs.Prelude.{table_type_sound, table_type_lawful, read_global_type};
-ghost use Rattle.wenc_base.specs.Prelude.{global_type, global_type_sound, global_type_lawful};
-ghost use Rattle.wenc_base.specs.Prelude.{read_tag_type, tag_type, tag_type_sound, tag_type_lawful};
-ghost use Rattle.wenc_base.specs.Prelude.{read_entity_type, entity_type, entity_type_sound};
-ghost use Rattle.wenc_base.specs.Prelude.{entity_type_lawful, read_core_export_kind};
-ghost use Rattle.wenc_base.specs.Prelude.{core_export_kind, core_export_kind_sound};
+ghost use Rattle.wenc_base.specs.Prelude.{memory_type_sound, memory_type_lawful, table_type_sound};
+ghost use Rattle.wenc_base.specs.Prelude.{table_type_lawful, global_type_sound, global_type_lawful};
+ghost use Rattle.wenc_base.specs.Prelude.{tag_type_sound, tag_type_lawful, entity_type_sound};
+ghost use Rattle.wenc_base.specs.Prelude.{entity_type_lawful, core_export_kind_sound};
 ghost use Rattle.wenc_base.specs.Prelude.{core_export_kind_lawful};
 ghost use Rattle.wenc_view.specs.Prelude.{read_maximum, read_bounds, memory_so, table_so};
-ghost use Rattle.wenc_read.specs.Prelude.{Gives, exact_by, IsWithin};
+ghost use Rattle.wenc_read.specs.Prelude.{Gives, IsWithin, read_by};
 
 use crate::view::View;
 use wenc_base::{
@@ -58,11 +54,7 @@ impl<'a> View<'a> for MemoryType {
 
     ghost view = { λ m. m };
 
-    ghost read = { read_memory_type };
-
-    ghost form = { memory_type };
-
-    ghost exact = { exact_by memory_type_sound memory_type_lawful };
+    ghost reading = { read_by memory_type_sound memory_type_lawful };
 
     #[tactic(auto, unfolding(wenc_base::specs::Readers::choose))]
     fn view_of(bytes: &'a [u8]) -> Result<(MemoryType, &'a [u8]), Refusal> {
@@ -109,11 +101,7 @@ impl<'a> View<'a> for TableType {
 
     ghost view = { λ t. t };
 
-    ghost read = { read_table_type };
-
-    ghost form = { table_type };
-
-    ghost exact = { exact_by table_type_sound table_type_lawful };
+    ghost reading = { read_by table_type_sound table_type_lawful };
 
     #[tactic(auto, unfolding(wenc_base::specs::Readers::choose))]
     fn view_of(bytes: &'a [u8]) -> Result<(TableType, &'a [u8]), Refusal> {
@@ -135,11 +123,7 @@ impl<'a> View<'a> for GlobalType {
 
     ghost view = { λ g. g };
 
-    ghost read = { read_global_type };
-
-    ghost form = { global_type };
-
-    ghost exact = { exact_by global_type_sound global_type_lawful };
+    ghost reading = { read_by global_type_sound global_type_lawful };
 
     fn view_of(bytes: &'a [u8]) -> Result<(GlobalType, &'a [u8]), Refusal> {
         let (val_type, rest) = ValType::view_of(bytes)?;
@@ -155,11 +139,7 @@ impl<'a> View<'a> for TagType {
 
     ghost view = { λ t. t };
 
-    ghost read = { read_tag_type };
-
-    ghost form = { tag_type };
-
-    ghost exact = { exact_by tag_type_sound tag_type_lawful };
+    ghost reading = { read_by tag_type_sound tag_type_lawful };
 
     #[tactic(auto, unfolding(wenc_base::specs::Readers::choose))]
     fn view_of(bytes: &'a [u8]) -> Result<(TagType, &'a [u8]), Refusal> {
@@ -180,11 +160,7 @@ impl<'a> View<'a> for EntityType {
 
     ghost view = { λ e. e };
 
-    ghost read = { read_entity_type };
-
-    ghost form = { entity_type };
-
-    ghost exact = { exact_by entity_type_sound entity_type_lawful };
+    ghost reading = { read_by entity_type_sound entity_type_lawful };
 
     #[tactic(auto, unfolding(wenc_base::specs::Readers::choose))]
     fn view_of(bytes: &'a [u8]) -> Result<(EntityType, &'a [u8]), Refusal> {
@@ -221,11 +197,7 @@ impl<'a> View<'a> for ExportKind {
 
     ghost view = { λ k. k };
 
-    ghost read = { read_core_export_kind };
-
-    ghost form = { core_export_kind };
-
-    ghost exact = { exact_by core_export_kind_sound core_export_kind_lawful };
+    ghost reading = { read_by core_export_kind_sound core_export_kind_lawful };
 
     #[tactic(auto, unfolding(wenc_base::specs::Readers::choose))]
     fn view_of(bytes: &'a [u8]) -> Result<(ExportKind, &'a [u8]), Refusal> {

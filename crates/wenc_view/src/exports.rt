@@ -1,9 +1,8 @@
 //! Sorts of items.
 ghost use Rattle.wenc_view.specs.Prelude.{ComponentExportKind as Value'};
-ghost use Rattle.wenc_parts.specs.Prelude.{read_component_export_kind, component_export_kind};
 ghost use Rattle.wenc_parts.specs.Prelude.{component_export_kind_sound};
 ghost use Rattle.wenc_parts.specs.Prelude.{component_export_kind_lawful};
-ghost use Rattle.wenc_read.specs.Prelude.{exact_by};
+ghost use Rattle.wenc_read.specs.Prelude.{read_by};
 
 use crate::view::View;
 use wenc_parts::ComponentExportKind;
@@ -14,11 +13,7 @@ impl<'a> View<'a> for ComponentExportKind {
 
     ghost view = { λ k. k };
 
-    ghost read = { read_component_export_kind };
-
-    ghost form = { component_export_kind };
-
-    ghost exact = { exact_by component_export_kind_sound component_export_kind_lawful };
+    ghost reading = { read_by component_export_kind_sound component_export_kind_lawful };
 
     #[tactic(auto, unfolding(wenc_base::specs::Readers::choose))]
     #[inline(always)]

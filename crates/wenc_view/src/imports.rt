@@ -1,8 +1,7 @@
 //! The `externdesc` of imports and exports.
-ghost use Rattle.wenc_parts.specs.Prelude.{read_type_bounds, type_bounds, type_bounds_sound};
-ghost use Rattle.wenc_parts.specs.Prelude.{type_bounds_lawful, read_type_reference, type_reference};
+ghost use Rattle.wenc_parts.specs.Prelude.{type_bounds_sound, type_bounds_lawful};
 ghost use Rattle.wenc_parts.specs.Prelude.{type_reference_sound, type_reference_lawful};
-ghost use Rattle.wenc_read.specs.Prelude.{exact_by};
+ghost use Rattle.wenc_read.specs.Prelude.{read_by};
 
 use crate::view::View;
 use wenc_parts::{ComponentTypeRef, ComponentValType, TypeBounds};
@@ -15,11 +14,7 @@ impl<'a> View<'a> for TypeBounds {
 
     ghost view = { λ b. b };
 
-    ghost read = { read_type_bounds };
-
-    ghost form = { type_bounds };
-
-    ghost exact = { exact_by type_bounds_sound type_bounds_lawful };
+    ghost reading = { read_by type_bounds_sound type_bounds_lawful };
 
     #[tactic(auto, unfolding(wenc_base::specs::Readers::choose))]
     #[inline(always)]
@@ -42,11 +37,7 @@ impl<'a> View<'a> for ComponentTypeRef {
 
     ghost view = { λ r. r };
 
-    ghost read = { read_type_reference };
-
-    ghost form = { type_reference };
-
-    ghost exact = { exact_by type_reference_sound type_reference_lawful };
+    ghost reading = { read_by type_reference_sound type_reference_lawful };
 
     #[tactic(auto, unfolding(wenc_base::specs::Readers::choose))]
     #[inline(always)]

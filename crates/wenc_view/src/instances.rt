@@ -1,26 +1,18 @@
 //! Instances of core modules and of components, by arguments or by inline exports.
 ghost use Rattle.std.specs.Prelude.{ℕ, List};
-ghost use Rattle.wenc_base.specs.Prelude.{read_name, pair, name as name_form, name_sound};
-ghost use Rattle.wenc_base.specs.Prelude.{name_lawful, read_core_export_kind, read_u32};
-ghost use Rattle.wenc_base.specs.Prelude.{core_export_kind, core_export_kind_sound};
-ghost use Rattle.wenc_base.specs.Prelude.{core_export_kind_lawful, u32 as number, u32_sound};
-ghost use Rattle.wenc_base.specs.Prelude.{u32_lawful};
+ghost use Rattle.wenc_base.specs.Prelude.{name_sound, name_lawful, core_export_kind_sound};
+ghost use Rattle.wenc_base.specs.Prelude.{core_export_kind_lawful, u32_sound, u32_lawful};
 ghost use Rattle.wenc_view.specs.Prelude.{ModuleArg as Value', core_instance_seen, instance_seen};
 ghost use Rattle.wenc_view.specs.Prelude.{name_seen, IsCountedCoreInstance, IsCountedInstance};
-ghost use Rattle.wenc_parts.specs.Prelude.{read_module_argument, module_argument};
 ghost use Rattle.wenc_parts.specs.Prelude.{module_argument_sound, module_argument_lawful};
-ghost use Rattle.wenc_parts.specs.Prelude.{read_component_export_kind, component_export_kind};
 ghost use Rattle.wenc_parts.specs.Prelude.{component_export_kind_sound};
 ghost use Rattle.wenc_parts.specs.Prelude.{component_export_kind_lawful, ExternName};
-ghost use Rattle.wenc_parts.specs.Prelude.{read_extern_name, extern_name, extern_name_sound};
-ghost use Rattle.wenc_parts.specs.Prelude.{extern_name_lawful};
-ghost use Rattle.wenc_read.specs.Prelude.{exact_by};
-ghost use Rattle.wenc_sections.specs.Prelude.{named_pair, named_triple, read_pair, pair_sound};
-ghost use Rattle.wenc_sections.specs.Prelude.{pair_lawful, read_triple, triple, triple_sound};
-ghost use Rattle.wenc_sections.specs.Prelude.{triple_lawful, CoreInstance, core_instance};
-ghost use Rattle.wenc_sections.specs.Prelude.{read_core_instance, core_instance_sound};
-ghost use Rattle.wenc_sections.specs.Prelude.{core_instance_lawful, read_instance, instance_sound};
-ghost use Rattle.wenc_sections.specs.Prelude.{instance_lawful};
+ghost use Rattle.wenc_parts.specs.Prelude.{extern_name_sound, extern_name_lawful};
+ghost use Rattle.wenc_read.specs.Prelude.{read_by};
+ghost use Rattle.wenc_sections.specs.Prelude.{named_pair, named_triple, pair_sound, pair_lawful};
+ghost use Rattle.wenc_sections.specs.Prelude.{triple_sound, triple_lawful, CoreInstance};
+ghost use Rattle.wenc_sections.specs.Prelude.{core_instance_sound, core_instance_lawful};
+ghost use Rattle.wenc_sections.specs.Prelude.{instance_sound, instance_lawful};
 
 use crate::lists::ListOf;
 use crate::names::NameView;
@@ -62,11 +54,7 @@ impl<'a> View<'a> for ModuleArg {
 
     ghost view = { λ a. a };
 
-    ghost read = { read_module_argument };
-
-    ghost form = { module_argument };
-
-    ghost exact = { exact_by module_argument_sound module_argument_lawful };
+    ghost reading = { read_by module_argument_sound module_argument_lawful };
 
     #[tactic(auto, unfolding(wenc_base::specs::Readers::choose))]
     #[inline(always)]
@@ -87,12 +75,7 @@ impl<'a> View<'a> for (&'a str, ModuleArg) {
 
     ghost view = { named_pair (λ s. s.now) };
 
-    ghost read = { read_pair read_name read_module_argument };
-
-    ghost form = { pair name_form module_argument };
-
-    ghost exact = { exact_by (pair_sound name_sound module_argument_sound)
-        (pair_lawful name_lawful module_argument_lawful) };
+    ghost reading = { read_by (pair_sound name_sound module_argument_sound) (pair_lawful name_lawful module_argument_lawful) };
 
     #[inline(always)]
     fn view_of(bytes: &'a [u8]) -> Result<((&'a str, ModuleArg), &'a [u8]), Refusal> {
@@ -110,12 +93,7 @@ impl<'a> View<'a> for (&'a str, ExportKind, u32) {
 
     ghost view = { named_triple (λ s. s.now) };
 
-    ghost read = { read_triple read_name read_core_export_kind read_u32 };
-
-    ghost form = { triple name_form core_export_kind number };
-
-    ghost exact = { exact_by (triple_sound name_sound core_export_kind_sound u32_sound)
-        (triple_lawful name_lawful core_export_kind_lawful u32_lawful) };
+    ghost reading = { read_by (triple_sound name_sound core_export_kind_sound u32_sound) (triple_lawful name_lawful core_export_kind_lawful u32_lawful) };
 
     #[inline(always)]
     fn view_of(bytes: &'a [u8]) -> Result<((&'a str, ExportKind, u32), &'a [u8]), Refusal> {
@@ -131,11 +109,7 @@ impl<'a> View<'a> for CoreInstanceView<'a> {
 
     ghost view = { core_instance_seen };
 
-    ghost read = { read_core_instance };
-
-    ghost form = { core_instance };
-
-    ghost exact = { exact_by core_instance_sound core_instance_lawful };
+    ghost reading = { read_by core_instance_sound core_instance_lawful };
 
     ghost is_counted = { IsCountedCoreInstance };
 
@@ -165,12 +139,7 @@ impl<'a> View<'a> for (&'a str, ComponentExportKind, u32) {
 
     ghost view = { named_triple (λ s. s.now) };
 
-    ghost read = { read_triple read_name read_component_export_kind read_u32 };
-
-    ghost form = { triple name_form component_export_kind number };
-
-    ghost exact = { exact_by (triple_sound name_sound component_export_kind_sound u32_sound)
-        (triple_lawful name_lawful component_export_kind_lawful u32_lawful) };
+    ghost reading = { read_by (triple_sound name_sound component_export_kind_sound u32_sound) (triple_lawful name_lawful component_export_kind_lawful u32_lawful) };
 
     #[inline(always)]
     fn view_of(
@@ -191,12 +160,7 @@ impl<'a> View<'a> for (NameView<'a>, ComponentExportKind, u32) {
 
     ghost view = { named_triple name_seen };
 
-    ghost read = { read_triple read_extern_name read_component_export_kind read_u32 };
-
-    ghost form = { triple extern_name component_export_kind number };
-
-    ghost exact = { exact_by (triple_sound extern_name_sound component_export_kind_sound u32_sound)
-        (triple_lawful extern_name_lawful component_export_kind_lawful u32_lawful) };
+    ghost reading = { read_by (triple_sound extern_name_sound component_export_kind_sound u32_sound) (triple_lawful extern_name_lawful component_export_kind_lawful u32_lawful) };
 
     #[inline(always)]
     fn view_of(
@@ -210,17 +174,13 @@ impl<'a> View<'a> for (NameView<'a>, ComponentExportKind, u32) {
 }
 
 impl<'a> View<'a> for InstanceView<'a> {
-    ghost use Rattle.wenc_sections.specs.Prelude.{Instance, instance};
+    ghost use Rattle.wenc_sections.specs.Prelude.{Instance};
 
     ghost Value = { Instance };
 
     ghost view = { instance_seen };
 
-    ghost read = { read_instance };
-
-    ghost form = { instance };
-
-    ghost exact = { exact_by instance_sound instance_lawful };
+    ghost reading = { read_by instance_sound instance_lawful };
 
     ghost is_counted = { IsCountedInstance };
 

@@ -10,7 +10,7 @@ use crate::view::View;
 /// The reader of each `View` type is exact: what `view_of` returns is read widely, with the bytes
 /// that follow, and it returns whatever is read so.
 pub fn views_are_exact<'a, T: View<'a>>()
-    ensures { IsExact T.form T.read }
+    ensures { IsExact T.reading.form T.reading.read }
 {}
 
 /// What `type_at` returns is read widely, with the bytes that follow, and no deeper than its depth.

@@ -1,8 +1,8 @@
 //! Lists that are read on demand.
 ghost use Rattle.std.specs.Prelude.{◌≡◌, ◌+◌, List, IfSome, MatchOption};
 ghost use Rattle.std.specs.Iterator.{at_most};
-ghost use Rattle.wenc_base.specs.Prelude.{times, read_list, list};
-ghost use Rattle.wenc_read.specs.Prelude.{Gives, list_exact, IsWithin};
+ghost use Rattle.wenc_base.specs.Prelude.{times, list};
+ghost use Rattle.wenc_read.specs.Prelude.{Gives, reading_list, IsWithin};
 ghost use Rattle.wenc_view.specs.Prelude.{members_of, list_view, GivesFirst, IsCounted};
 
 use crate::view::View;
@@ -23,8 +23,8 @@ pub struct ListOf<'a, T> {
 
 /// Reads over `count` values. Returns the bytes after them.
 fn passed<'a, T: View<'a>>(count: u32, bytes: &'a [u8]) -> Result<&'a [u8], Refusal>
-    ensures found { Gives (λ rest. (members_of T.read count bytes.now, rest.now)) result
-        (times T.read count bytes.now) }
+    ensures found { Gives (λ rest. (members_of T.reading.read count bytes.now, rest.now)) result
+        (times T.reading.read count bytes.now) }
     ensures place { IsWithin (λ rest. rest.now) bytes.now result }
 {
     let mut rest = bytes;
@@ -40,15 +40,11 @@ fn passed<'a, T: View<'a>>(count: u32, bytes: &'a [u8]) -> Result<&'a [u8], Refu
 impl<'a, T: View<'a>> View<'a> for ListOf<'a, T> {
     ghost Value = { List T.Value };
 
-    ghost view = { λ l. list_view T.read l };
+    ghost view = { λ l. list_view T.reading.read l };
 
-    ghost read = { read_list T.read };
+    ghost reading = { reading_list T.reading };
 
-    ghost form = { list T.form };
-
-    ghost exact = { list_exact T.exact };
-
-    ghost is_counted = { λ l. IsCounted T.read l };
+    ghost is_counted = { λ l. IsCounted T.reading.read l };
 
     fn view_of(bytes: &'a [u8]) -> Result<(ListOf<'a, T>, &'a [u8]), Refusal> {
         let (left, start) = u32_of(bytes)?;
@@ -67,7 +63,7 @@ impl<'a, T: View<'a>> Iterator for ListOf<'a, T> {
 
     ghost remaining = { λ l. at_most l.left };
 
-    ghost next_gives = { λ a r b. GivesFirst T.view (list_view T.read a) r (list_view T.read b)
+    ghost next_gives = { λ a r b. GivesFirst T.view (list_view T.reading.read a) r (list_view T.reading.read b)
         × IfSome r T.is_counted × MatchOption r (b ≡ a) (λ _. a.left ≡ b.left + 1) };
 
     #[inline]

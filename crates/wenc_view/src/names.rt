@@ -1,9 +1,8 @@
 //! Names of imports and exports, in place.
 ghost use Rattle.std.specs.Prelude.{◌≡◌, ◌≤◌, length};
-ghost use Rattle.wenc_parts.specs.Prelude.{ExternName, extern_name, extern_name_sound};
-ghost use Rattle.wenc_parts.specs.Prelude.{extern_name_lawful, option_number, with_option};
-ghost use Rattle.wenc_parts.specs.Prelude.{read_name_option, read_extern_name};
-ghost use Rattle.wenc_read.specs.Prelude.{Gives, exact_by, IsWithin};
+ghost use Rattle.wenc_parts.specs.Prelude.{ExternName, extern_name_sound, extern_name_lawful};
+ghost use Rattle.wenc_parts.specs.Prelude.{option_number, with_option, read_name_option};
+ghost use Rattle.wenc_read.specs.Prelude.{Gives, IsWithin, read_by};
 ghost use Rattle.wenc_view.specs.Prelude.{name_seen, option_seen, read_options};
 
 use crate::view::{View, text_of};
@@ -147,11 +146,7 @@ impl<'a> View<'a> for NameView<'a> {
 
     ghost view = { name_seen };
 
-    ghost read = { read_extern_name };
-
-    ghost form = { extern_name };
-
-    ghost exact = { exact_by extern_name_sound extern_name_lawful };
+    ghost reading = { read_by extern_name_sound extern_name_lawful };
 
     #[tactic(auto, unfolding(wenc_base::specs::Readers::choose))]
     #[inline(always)]

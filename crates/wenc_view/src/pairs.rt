@@ -11,7 +11,7 @@ pub(crate) fn both<'a, T: View<'a>, U: View<'a>>(
     bytes: &'a [u8],
 ) -> Result<(T, U, &'a [u8]), Refusal>
     ensures found { Gives (λ x. ((T.view x.0, U.view x.1), x.2.now)) result
-        (read_pair T.read U.read bytes.now) }
+        (read_pair T.reading.read U.reading.read bytes.now) }
     ensures place { IsWithin (λ x. x.2.now) bytes.now result }
 {
     let (first, rest) = T::view_of(bytes)?;

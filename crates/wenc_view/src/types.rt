@@ -1,13 +1,10 @@
 //! Value types of components.
 ghost use Rattle.wenc_view.specs.Prelude.{ComponentValType as Value'};
-ghost use Rattle.wenc_view.specs.Prelude.{ComponentValType as ValueType};
-ghost use Rattle.wenc_parts.specs.Prelude.{read_value_type, value_type, value_type_sound};
-ghost use Rattle.wenc_parts.specs.Prelude.{value_type_lawful, read_result_list, result_list};
-ghost use Rattle.wenc_parts.specs.Prelude.{result_list_sound, result_list_lawful};
-ghost use Rattle.wenc_read.specs.Prelude.{exact_by};
+ghost use Rattle.wenc_view.specs.Prelude.{ComponentValType as ValueType, find, primitive_types};
+ghost use Rattle.wenc_parts.specs.Prelude.{value_type_sound, value_type_lawful, result_list_sound};
+ghost use Rattle.wenc_parts.specs.Prelude.{result_list_lawful, primitive_byte};
+ghost use Rattle.wenc_read.specs.Prelude.{read_by};
 ghost use Rattle.std.specs.Prelude.{◌≡◌};
-ghost use Rattle.wenc_view.specs.Prelude.{find, primitive_types};
-ghost use Rattle.wenc_parts.specs.Prelude.{primitive_byte};
 
 use crate::view::View;
 use wenc_parts::{ComponentValType, PrimitiveValType, ResultList};
@@ -41,11 +38,7 @@ impl<'a> View<'a> for ComponentValType {
 
     ghost view = { λ t. t };
 
-    ghost read = { read_value_type };
-
-    ghost form = { value_type };
-
-    ghost exact = { exact_by value_type_sound value_type_lawful };
+    ghost reading = { read_by value_type_sound value_type_lawful };
 
     #[tactic(auto, unfolding(wenc_base::specs::Readers::choose))]
     #[inline(always)]
@@ -68,11 +61,7 @@ impl<'a> View<'a> for ResultList {
 
     ghost view = { λ r. r.0 };
 
-    ghost read = { read_result_list };
-
-    ghost form = { result_list };
-
-    ghost exact = { exact_by result_list_sound result_list_lawful };
+    ghost reading = { read_by result_list_sound result_list_lawful };
 
     #[tactic(auto, unfolding(wenc_base::specs::Readers::choose))]
     #[inline(always)]

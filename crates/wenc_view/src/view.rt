@@ -1,10 +1,9 @@
 //! The trait `View`, and the parts of every form.
 ghost use Rattle.std.specs.Prelude.{◌≡◌, ◌+◌, ◌-◌, ⊤, length, IfOk, IfErr};
 ghost use Rattle.std.specs.Str.{valid_up_to};
-ghost use Rattle.wenc_base.specs.Prelude.{Form, Reader, read_u32, u32 as number, u32_sound};
-ghost use Rattle.wenc_base.specs.Prelude.{u32_lawful, read_name, name as name_form, name_sound};
+ghost use Rattle.wenc_base.specs.Prelude.{u32_sound, u32_lawful, read_name, name_sound};
 ghost use Rattle.wenc_base.specs.Prelude.{name_lawful};
-ghost use Rattle.wenc_read.specs.Prelude.{IsExact, Gives, exact_by, IsWithin};
+ghost use Rattle.wenc_read.specs.Prelude.{Gives, IsWithin, read_by, reading_option, Reading};
 ghost use Rattle.wenc_read.specs.declared.expected.Expected.TheVariants.{Utf8};
 ghost use Rattle.wenc_view.specs.Prelude.{name_error};
 
@@ -28,14 +27,8 @@ pub trait View<'a>: Sized + Copy {
 
     ghost view: { Self → Value };
 
-    /// The reader that finds the value.
-    ghost read: { Reader Value };
-
-    /// The form that is read.
-    ghost form: { Form Value };
-
-    /// The reader finds what is read widely, and nothing else.
-    ghost exact: { IsExact form read };
+    /// The reader that finds the value: what is read widely as its form, and nothing else.
+    ghost reading: { Reading Value };
 
     /// Each list in it has as many members as it says.
     ghost is_counted: { Self → Type 0 } = { λ _. ⊤ };
@@ -47,7 +40,7 @@ pub trait View<'a>: Sized + Copy {
     ///
     /// Fails if no value begins the bytes.
     fn view_of(bytes: &'a [u8]) -> Result<(Self, &'a [u8]), Refusal>
-        ensures found { Gives (λ x. (view x.0, x.1.now)) result (read bytes.now) }
+        ensures found { Gives (λ x. (view x.0, x.1.now)) result (reading.read bytes.now) }
         ensures place { IsWithin (λ x. x.1.now) bytes.now result }
         ensures counted { IfOk result (λ x. is_counted x.0) };
 }
@@ -59,11 +52,7 @@ impl<'a> View<'a> for u32 {
 
     ghost view = { λ n. n };
 
-    ghost read = { read_u32 };
-
-    ghost form = { number };
-
-    ghost exact = { exact_by u32_sound u32_lawful };
+    ghost reading = { read_by u32_sound u32_lawful };
 
     #[inline(always)]
     fn view_of(bytes: &'a [u8]) -> Result<(u32, &'a [u8]), Refusal> {
@@ -118,11 +107,7 @@ impl<'a> View<'a> for &'a str {
 
     ghost view = { λ s. s.now };
 
-    ghost read = { read_name };
-
-    ghost form = { name_form };
-
-    ghost exact = { exact_by name_sound name_lawful };
+    ghost reading = { read_by name_sound name_lawful };
 
     #[inline(always)]
     fn view_of(bytes: &'a [u8]) -> Result<(&'a str, &'a [u8]), Refusal> {
@@ -133,18 +118,13 @@ impl<'a> View<'a> for &'a str {
 /// An option: a byte `00`, or a byte `01` and a value.
 impl<'a, T: View<'a>> View<'a> for Option<T> {
     ghost use Rattle.std.specs.Prelude.{IfSome, Option as OptionOf, option_map};
-    ghost use Rattle.wenc_base.specs.Prelude.{read_option, option};
-    ghost use Rattle.wenc_read.specs.Prelude.{option_exact};
+    ghost use Rattle.wenc_read.specs.Prelude.{reading_option};
 
     ghost Value = { OptionOf T.Value };
 
     ghost view = { option_map T.view };
 
-    ghost read = { read_option T.read };
-
-    ghost form = { option T.form };
-
-    ghost exact = { option_exact T.exact };
+    ghost reading = { reading_option T.reading };
 
     ghost is_counted = { λ o. IfSome o T.is_counted };
 
@@ -163,17 +143,13 @@ impl<'a, T: View<'a>> View<'a> for Option<T> {
 
 impl<'a> View<'a> for bool {
     ghost use Rattle.std.specs.Prelude.{Bool};
-    ghost use Rattle.wenc_base.specs.Prelude.{read_flag, flag, flag_sound, flag_lawful};
+    ghost use Rattle.wenc_base.specs.Prelude.{flag_sound, flag_lawful};
 
     ghost Value = { Bool };
 
     ghost view = { λ b. b };
 
-    ghost read = { read_flag };
-
-    ghost form = { flag };
-
-    ghost exact = { exact_by flag_sound flag_lawful };
+    ghost reading = { read_by flag_sound flag_lawful };
 
     fn view_of(bytes: &'a [u8]) -> Result<(bool, &'a [u8]), Refusal> {
         flag_of(bytes)

@@ -3,14 +3,15 @@ use Rattle.std.specs.Option.{option_map}
 use Rattle.std.proofs.Common.{◌≡◌, ℕ, inl, inr, List, [], ◌∷◌, ◌++◌, Option, Some, None, refl}
 use Rattle.std.proofs.Common.{Result, Ok, Err, sym, ap, subst}
 use Rattle.std.specs.Result.{MatchResult}
-use Rattle.wenc_base.specs.Prelude.{Fault, IsWarranted, still_warranted}
+use Rattle.wenc_base.specs.Prelude.{IsWarranted, still_warranted}
 use Rattle.wenc_builder.specs.Prelude.{AddingCause, EnterCause, Enters, EntersWith, Entry}
 use Rattle.wenc_builder.specs.Prelude.{EntryCause, Holds, IndexCause, Indices, IsCountAt, IsIndexAt}
 use Rattle.wenc_builder.specs.Prelude.{IsIndexOf, Item, Namespace, OpenSection, SectionCause}
 use Rattle.wenc_builder.specs.Prelude.{SpaceCause, State, defines, index_of, item, items}
 use Rattle.wenc_builder.specs.Prelude.{namespace_at, namespace_of, next_index, open_of, runs}
 use Rattle.wenc_builder.specs.Prelude.{with_entry}
-use Rattle.wenc_sections.specs.Prelude.{Space}
+use Rattle.wenc_base.specs.declared.fault.Fault.{Fault}
+use Rattle.wenc_sections.specs.declared.space.Space.{Space}
 use Rattle.wenc_builder.specs.laws.EntryCause.{from_counts, to_counts, encodable_free}
 use Rattle.wenc_builder.specs.laws.Step.{sections_step, spaces_hold_more}
 

@@ -3,14 +3,16 @@ use Rattle.std.proofs.Common.{◌≡◌, ℕ, ◌+◌, ◌<◌, ◌^◌, ◌⊎�
 use Rattle.std.proofs.Common.{Some, None, sym, refl, arith, length-append, subst}
 use Rattle.std.proofs.lemmas.List.{get_or-set_same}
 use Rattle.std.proofs.lemmas.Bool.Decides.{eqb_tells}
-use Rattle.wenc_base.specs.Prelude.{Fault, either, number_size}
+use Rattle.wenc_base.specs.Prelude.{either, number_size}
 use Rattle.wenc_base.specs.declared.fault.Fault.TheVariants.{Memory, TooMany, TooLarge, Unfinished}
 use Rattle.wenc_builder.specs.Prelude.{AddingCause, CallCause, IndexCause, Indices, Namespace}
 use Rattle.wenc_builder.specs.Prelude.{NewItem, NoRoom, OpenSection, SectionCause, SpaceCause}
 use Rattle.wenc_builder.specs.Prelude.{State, content_of, entered, entered_at, item_begun}
 use Rattle.wenc_builder.specs.Prelude.{namespace_at, new_item, new_item_indices, no_names}
 use Rattle.wenc_builder.specs.Prelude.{space_with}
-use Rattle.wenc_sections.specs.Prelude.{Space, space_number}
+use Rattle.wenc_sections.specs.Prelude.{space_number}
+use Rattle.wenc_base.specs.declared.fault.Fault.{Fault}
+use Rattle.wenc_sections.specs.declared.space.Space.{Space}
 use Rattle.wenc_sections.specs.laws.Space.{space_within}
 
 -- ---- a section, a space

@@ -3,9 +3,10 @@ use Rattle.std.proofs.Common.{◌≡◌, ℕ, ◌≤◌, ◌^◌, ◌⊎◌, inl
 use Rattle.std.proofs.Common.{Some, None, refl, sym, ap, subst, ◌∙◌, arith, length-append}
 use Rattle.std.proofs.lemmas.Bool.Decides.{eqb_tells}
 use Rattle.std.specs.List.{flat_map, AllByRecursion}
-use Rattle.wenc_base.specs.Prelude.{AnyCause, Fault, NameAssociation, NoCause, count_free}
+use Rattle.wenc_base.specs.Prelude.{AnyCause, NameAssociation, NoCause, count_free}
 use Rattle.wenc_base.specs.Prelude.{name_association, name_map, names_text, size_cause, size_free}
 use Rattle.wenc_base.specs.Prelude.{sized, unsigned_text}
+use Rattle.wenc_base.specs.declared.fault.Fault.{Fault}
 use Rattle.wenc_base.specs.declared.fault.Fault.TheVariants.{TooMany, TooLarge, Unfinished}
 use Rattle.wenc_builder.specs.Prelude.{AddingCause, Alone, Entry, EntryCause, IndexCause, Indices}
 use Rattle.wenc_builder.specs.Prelude.{IsEncodable, Item, OpenSection, Run, Section, SectionCause}

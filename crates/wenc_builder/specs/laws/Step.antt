@@ -11,8 +11,9 @@ use Rattle.wenc_builder.specs.Prelude.{next_index, no_names, open_of, preamble, 
 use Rattle.wenc_builder.specs.Prelude.{spaces_with, step, with_entry}
 use Rattle.wenc_sections.specs.laws.Space.{space_within, same_number, space_decides, space_tells, space_ne}
 use Rattle.wenc_builder.specs.laws.Fits.{SectionsFit, HasRoom, sections_fit_more}
-use Rattle.wenc_sections.specs.Prelude.{Space, space_number}
+use Rattle.wenc_sections.specs.Prelude.{space_number}
 use Rattle.wenc_base.specs.Prelude.{NameAssociation, name_association, names_text}
+use Rattle.wenc_sections.specs.declared.space.Space.{Space}
 use Rattle.wenc_builder.specs.Entry.{named_as}
 use Rattle.wenc_builder.specs.Holds.{SpacesHold}
 use Rattle.wenc_builder.specs.laws.Runs.{sections_hold_more}

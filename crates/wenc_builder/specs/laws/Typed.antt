@@ -1,7 +1,8 @@
 -- What an item that is begun and then written owes to its entry's cause.
 use Rattle.std.proofs.Common.{◌≡◌, ℕ, List, [], ◌∷◌, ◌++◌, Option, Some, refl, sym, ap, subst, ◌∙◌, inl, inr}
-use Rattle.wenc_base.specs.Prelude.{Fault, NoCause, either}
+use Rattle.wenc_base.specs.Prelude.{NoCause, either}
 use Rattle.wenc_types.specs.Prelude.{CoreType, DefType}
+use Rattle.wenc_base.specs.declared.fault.Fault.{Fault}
 use Rattle.wenc_builder.specs.Prelude.{BeginCause, CallCause, Content, Entry, EntryCause, Holds}
 use Rattle.wenc_builder.specs.Prelude.{Indices, NewItem, State, collected, content_of}
 use Rattle.wenc_builder.specs.Prelude.{core_type_entry, defines, item, item_appended, item_begun}

@@ -1,10 +1,11 @@
 -- What is written of a row is the builtin that its opcode and values say.
 use Rattle.std.proofs.Common.{◌≡◌, ℕ, List, [], ◌∷◌, refl, ap, subst, sym, append_assoc, ◌++◌, inl, inr}
 use Rattle.std.specs.Prelude.{codes, decimal}
-use Rattle.wenc_base.specs.Prelude.{Piece, Serves, ValType, behind_bytes, behind_is, both_serve}
-use Rattle.wenc_base.specs.Prelude.{either_free, in_order, left_free, list, listed, nothing}
-use Rattle.wenc_base.specs.Prelude.{order_serves, right_free, serves_itself, serves_then}
-use Rattle.wenc_base.specs.Prelude.{tagged_serves, u32, with_nothing, ◌▸◌, ◌⨾◌}
+use Rattle.wenc_base.specs.Prelude.{Piece, Serves, behind_bytes, behind_is, both_serve, either_free}
+use Rattle.wenc_base.specs.Prelude.{in_order, left_free, list, listed, nothing, order_serves}
+use Rattle.wenc_base.specs.Prelude.{right_free, serves_itself, serves_then, tagged_serves, u32}
+use Rattle.wenc_base.specs.Prelude.{with_nothing, ◌▸◌, ◌⨾◌}
+use Rattle.wenc_base.specs.declared.types.ValType.{ValType}
 use Rattle.wenc_canon.specs.declared.canonicals.CanonicalOption.{CanonicalOption}
 use Rattle.wenc_canon.specs.Canonicals.{canonical_option, Field, Index, Options, Flag, Zero}
 use Rattle.wenc_canon.specs.Canonicals.{CoreType, Results, Value, field, Values, fields, Builtin}

@@ -14,8 +14,9 @@ use Rattle.wenc_base.specs.Prelude.{u32_lawful, u32_sound, weaken, whole_lawful,
 use Rattle.wenc_base.specs.laws.Sound.{whole_sound}
 use Rattle.wenc_read.specs.Prelude.{IsExactAt}
 use Rattle.wenc_read.specs.laws.Exact.{found_and_read}
-use Rattle.wenc_sections.specs.Prelude.{ComponentName, ItemNames, RawNames, Space, Subsection}
-use Rattle.wenc_sections.specs.Prelude.{item_sort, sort_lawful, subsection}
+use Rattle.wenc_sections.specs.Prelude.{ComponentName, ItemNames, RawNames, Subsection, item_sort}
+use Rattle.wenc_sections.specs.Prelude.{sort_lawful, subsection}
+use Rattle.wenc_sections.specs.declared.space.Space.{Space}
 use Rattle.wenc_sections.specs.declared.space.Space.TheVariants.{CoreModules, CoreFuncs, CoreTypes}
 use Rattle.wenc_sections.specs.declared.space.Space.TheVariants.{CoreMemories, CoreTables}
 use Rattle.wenc_sections.specs.declared.space.Space.TheVariants.{CoreInstances, CoreTags}

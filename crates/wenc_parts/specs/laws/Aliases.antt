@@ -1,10 +1,11 @@
 -- The laws of aliases.
 use Rattle.std.proofs.Common.{ℕ, List, [], ◌∷◌, refl}
-use Rattle.wenc_base.specs.Prelude.{ExportKind, Form, Lawful, Piece, Sound, Wide, byte, choose}
-use Rattle.wenc_base.specs.Prelude.{choose_tells, export_kind_byte, first_of_two, last, last_tells}
+use Rattle.wenc_base.specs.Prelude.{Form, Lawful, Piece, Sound, Wide, byte, choose, choose_tells}
+use Rattle.wenc_base.specs.Prelude.{export_kind_byte, first_of_two, last, last_tells}
 use Rattle.wenc_base.specs.Prelude.{name as name_form, name_lawful, name_sound, nowhere}
 use Rattle.wenc_base.specs.Prelude.{nowhere_tells, row_byte, row_lawful, sound_behind, then}
 use Rattle.wenc_base.specs.Prelude.{then_tells, u32, u32_lawful, u32_sound, ◌▸◌, ◌⨾◌}
+use Rattle.wenc_base.specs.declared.exports.ExportKind.{ExportKind}
 use Rattle.wenc_base.specs.laws.Lawful.{first_byte}
 use Rattle.wenc_base.specs.declared.exports.ExportKind.TheVariants as cores
 use Rattle.wenc_parts.specs.declared.exports.ComponentExportKind.{ComponentExportKind}

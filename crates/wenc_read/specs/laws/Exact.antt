@@ -4,7 +4,7 @@ use Rattle.wenc_base.specs.Prelude.{Bad, Deep, Flaw, Form, LawfulForm, Reader, S
 use Rattle.wenc_base.specs.Prelude.{byte, count_lawful, each, list, list_sound, option}
 use Rattle.wenc_base.specs.Prelude.{option_sound, read_byte, read_list, read_option, times}
 use Rattle.wenc_base.specs.Readers.{choose}
-use Rattle.wenc_read.specs.Exact.{IsExactAt, IsExact}
+use Rattle.wenc_read.specs.Exact.{IsExactAt, IsExact, Reading}
 use Rattle.wenc_read.specs.laws.Tables.{first_there}
 
 -- ---- from the laws of a form
@@ -24,6 +24,14 @@ pub exact_by : {A : Type 0} {form : Form A} {read : Reader A} → Sound form rea
     → LawfulForm form (λ fuel. read) → IsExact form read
 exact_by s laws bytes = found_and_read (s.tells bytes) (λ v. (laws v).finds (laws v).depth
     (omega arith) Wide bytes)
+
+abbrev pub read_by : {A : Type 0} {form : Form A} {read : Reader A} → Sound form read
+    → LawfulForm form (λ fuel. read) → Reading A
+read_by {form = form} {read = read} s laws = record {
+  read = read;
+  form = form;
+  exact = exact_by s laws;
+}
 
 pub byte_exact : IsExact byte read_byte
 byte_exact [] = record {
@@ -75,3 +83,17 @@ option_exact {form = form} {read = read} x bytes = found_and_read
         → read_option read bytes ≡ Ok (o, rest)
     found None rest r = rw r refl
     found (Some v) rest r = rw (r.1, (x r.0).read_is_given v rest r.2) refl
+
+abbrev pub reading_list : {A : Type 0} → Reading A → Reading (List A)
+reading_list r = record {
+  read = read_list r.read;
+  form = list r.form;
+  exact = list_exact r.exact;
+}
+
+abbrev pub reading_option : {A : Type 0} → Reading A → Reading (Option A)
+reading_option r = record {
+  read = read_option r.read;
+  form = option r.form;
+  exact = option_exact r.exact;
+}

@@ -1,13 +1,16 @@
 -- What the code writes of instances serves as their forms.
 use Rattle.std.proofs.Common.{ℕ, List, refl, map, inl, inr}
-use Rattle.wenc_base.specs.Prelude.{ExportKind, Form, Piece, Serves, both_serve}
-use Rattle.wenc_base.specs.Prelude.{core_export_kind as core_kind, in_order, list, list_in_order}
-use Rattle.wenc_base.specs.Prelude.{list_serves, listed, lists_serve, name, nothing, order_serves}
-use Rattle.wenc_base.specs.Prelude.{pair, right_free, serves_itself, serves_then, tagged_serves}
-use Rattle.wenc_base.specs.Prelude.{three_serve, two_serve, u32, with_nothing, ◌▸◌, ◌⨾◌}
+use Rattle.wenc_base.specs.Prelude.{Form, Piece, Serves, both_serve, core_export_kind as core_kind}
+use Rattle.wenc_base.specs.Prelude.{in_order, list, list_in_order, list_serves, listed, lists_serve}
+use Rattle.wenc_base.specs.Prelude.{name, nothing, order_serves, pair, right_free, serves_itself}
+use Rattle.wenc_base.specs.Prelude.{serves_then, tagged_serves, three_serve, two_serve, u32}
+use Rattle.wenc_base.specs.Prelude.{with_nothing, ◌▸◌, ◌⨾◌}
 use Rattle.wenc_sections.specs.Pairs.{triple}
-use Rattle.wenc_parts.specs.Prelude.{ComponentExportKind, ExternName, ModuleArg}
-use Rattle.wenc_parts.specs.Prelude.{component_export_kind, extern_name, module_argument}
+use Rattle.wenc_parts.specs.Prelude.{ExternName, component_export_kind, extern_name}
+use Rattle.wenc_parts.specs.Prelude.{module_argument}
+use Rattle.wenc_base.specs.declared.exports.ExportKind.{ExportKind}
+use Rattle.wenc_parts.specs.declared.exports.ComponentExportKind.{ComponentExportKind}
+use Rattle.wenc_parts.specs.declared.instances.ModuleArg.{ModuleArg}
 use Rattle.wenc_sections.specs.Instances.{CoreInstantiate, CoreExports, core_instance, Instantiate}
 use Rattle.wenc_sections.specs.Instances.{Exports, instance, named_pair, named_triple}
 

@@ -4,17 +4,23 @@ use Rattle.std.proofs.Common.{map, refl, sym, ap, subst, ◌∙◌}
 use Rattle.std.specs.Cmp.{IsEquivalence}
 use Rattle.std.specs.Cmp.Lexicographic.{pointwise}
 use Rattle.std.specs.String.{string_bytes}
-use Rattle.wenc_base.specs.Prelude.{AlikeIsEqual, Composite, CompositeType, EntityType, FieldType}
-use Rattle.wenc_base.specs.Prelude.{Form, FuncType, GroupTree, Lawful, Reader, Rec, RecType}
-use Rattle.wenc_base.specs.Prelude.{RowsAreSound, Single, Sound, StructType, Sub, SubType, Wide}
-use Rattle.wenc_base.specs.Prelude.{both_tables, choose, choose_tells, composite_view}
-use Rattle.wenc_base.specs.Prelude.{entity_type_lawful, entity_type_sound, final_rows, group_lawful}
-use Rattle.wenc_base.specs.Prelude.{group_sound, last, last_tells, list, list_lawful, list_sound}
-use Rattle.wenc_base.specs.Prelude.{name_lawful, name_sound, nowhere, nowhere_tells, params_of}
-use Rattle.wenc_base.specs.Prelude.{read_types, rec_type_view, results_of, row_lawful, same_element}
+use Rattle.wenc_base.specs.Prelude.{AlikeIsEqual, Composite, Form, Lawful, Reader, Rec, RecType}
+use Rattle.wenc_base.specs.Prelude.{RowsAreSound, Single, Sound, Sub, Wide, both_tables, choose}
+use Rattle.wenc_base.specs.Prelude.{choose_tells, composite_view, entity_type_lawful}
+use Rattle.wenc_base.specs.Prelude.{entity_type_sound, final_rows, group_lawful, group_sound, last}
+use Rattle.wenc_base.specs.Prelude.{last_tells, list, list_lawful, list_sound, name_lawful}
+use Rattle.wenc_base.specs.Prelude.{name_sound, nowhere, nowhere_tells, params_of, read_types}
+use Rattle.wenc_base.specs.Prelude.{rec_type_view, results_of, row_lawful, same_element}
 use Rattle.wenc_base.specs.Prelude.{same_fields, same_params, same_results, sound_behind, standing}
 use Rattle.wenc_base.specs.Prelude.{sub_of, sub_type_of, sub_view, then, then_tells, u32_lawful}
 use Rattle.wenc_base.specs.Prelude.{u32_sound}
+use Rattle.wenc_base.specs.declared.types.composite.CompositeType.{CompositeType}
+use Rattle.wenc_base.specs.declared.imports.EntityType.{EntityType}
+use Rattle.wenc_base.specs.declared.types.storage.FieldType.{FieldType}
+use Rattle.wenc_base.specs.declared.types.composite.FuncType.{FuncType}
+use Rattle.wenc_base.specs.declared.types.groups.GroupTree.{GroupTree}
+use Rattle.wenc_base.specs.declared.types.composite.StructType.{StructType}
+use Rattle.wenc_base.specs.declared.types.sub.SubType.{SubType}
 use Rattle.wenc_base.specs.declared.types.composite.CompositeType.TheVariants as composites
 use Rattle.wenc_base.specs.declared.types.groups.GroupTree.TheVariants as groups
 use Rattle.wenc_base.specs.Composites.{guard_before}

@@ -1,9 +1,10 @@
 -- What follows for the declarations of module types, component types and instance types.
 use Rattle.std.proofs.Common.{◌≡◌, ℕ, ◌+◌, ◌-◌, List, [], ◌∷◌, ◌++◌, Option, Some, None, refl, ap, Result, sym, ◌∙◌, arith}
-use Rattle.wenc_base.specs.Prelude.{EncodeCause, Fault, Form, HolderState, Piece, Serves}
-use Rattle.wenc_base.specs.Prelude.{contains_next, contains_opened, given_up_is_before}
-use Rattle.wenc_base.specs.Prelude.{held_members, list, member_appended_twice, refused_for}
-use Rattle.wenc_base.specs.Prelude.{serves_itself, serves_then, with_member, ◌▸◌}
+use Rattle.wenc_base.specs.Prelude.{EncodeCause, Form, HolderState, Piece, Serves, contains_next}
+use Rattle.wenc_base.specs.Prelude.{contains_opened, given_up_is_before, held_members, list}
+use Rattle.wenc_base.specs.Prelude.{member_appended_twice, refused_for, serves_itself, serves_then}
+use Rattle.wenc_base.specs.Prelude.{with_member, ◌▸◌}
+use Rattle.wenc_base.specs.declared.fault.Fault.{Fault}
 use Rattle.wenc_types.specs.ComponentTypes.{InstanceDeclaration, ComponentDeclaration}
 use Rattle.wenc_types.specs.ComponentTypes.{ComponentType, InstanceType, instances_of}
 use Rattle.wenc_types.specs.ComponentTypes.{components_of, def_type, instance_declaration}

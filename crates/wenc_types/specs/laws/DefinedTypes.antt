@@ -5,8 +5,9 @@ use Rattle.wenc_base.specs.Prelude.{choose_tells, give_tells, last, last_tells, 
 use Rattle.wenc_base.specs.Prelude.{list_sound, name_lawful, name_sound, nowhere, nowhere_tells}
 use Rattle.wenc_base.specs.Prelude.{option_lawful, option_sound, row_byte, row_lawful, then}
 use Rattle.wenc_base.specs.Prelude.{then_tells, u32_lawful, u32_sound}
-use Rattle.wenc_parts.specs.Prelude.{ComponentValType, primitive_rows, result_list_lawful}
-use Rattle.wenc_parts.specs.Prelude.{value_type_lawful, value_type_sound}
+use Rattle.wenc_parts.specs.Prelude.{primitive_rows, result_list_lawful, value_type_lawful}
+use Rattle.wenc_parts.specs.Prelude.{value_type_sound}
+use Rattle.wenc_parts.specs.declared.types.ComponentValType.{ComponentValType}
 use Rattle.wenc_parts.specs.laws.Types.{primitive_row}
 use Rattle.wenc_types.specs.DefinedTypes.{LabelledType, labelled_type, Case, case, DefValType}
 use Rattle.wenc_types.specs.DefinedTypes.{Primitive, Record, Variant, ListOf, MapOf}

@@ -2,9 +2,10 @@
 use Rattle.std.proofs.Common.{◌≡◌, ℕ, ◌+◌, ◌-◌, ◌≤◌, Bool, true, false, is_none, List, [], ◌∷◌}
 use Rattle.std.proofs.Common.{◌++◌, Option, Some, None, refl, ap, sym, subst, arith}
 use Rattle.std.proofs.Math.Logic.{∥∥₁_map, ∥∥₁_map₂}
-use Rattle.wenc_base.specs.Prelude.{EncodeCause, Form, HasForm, Opening, Serves, closed_as_it_is}
+use Rattle.wenc_base.specs.Prelude.{EncodeCause, Form, HasForm, Serves, closed_as_it_is}
 use Rattle.wenc_base.specs.Prelude.{held_members, held_text, is_finished, member_text, refused_for}
 use Rattle.wenc_base.specs.Prelude.{with_member, ◌▸◌}
+use Rattle.wenc_base.specs.declared.holder.openings.Opening.{Opening}
 use Rattle.wenc_base.specs.laws.Members.{finished_back, closed_as_more, within_finished}
 use Rattle.wenc_types.specs.ComponentTypes.{ComponentType, InstanceType, components_of}
 use Rattle.wenc_types.specs.ComponentTypes.{instances_of, def_type, component_declaration}

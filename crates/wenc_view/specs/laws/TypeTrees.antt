@@ -3,23 +3,23 @@
 use Rattle.std.proofs.Common.{ℕ, zero, suc, ◌<◌, ◌≤◌, Bool, true, false, List, [], ◌∷◌, Option}
 use Rattle.std.proofs.Common.{refl, ◌∙◌, inl, inr, arith}
 use Rattle.std.specs.List.{AllByRecursion}
-use Rattle.wenc_base.specs.Prelude.{Fewer, Finds, Form, Reader, Several, Sound, Tells, Told}
-use Rattle.wenc_base.specs.Prelude.{ValType, Wide, both_tables, choose, choose_tells, count_lawful}
-use Rattle.wenc_base.specs.Prelude.{deep_where, each, give, last, last_finds, last_tells}
-use Rattle.wenc_base.specs.Prelude.{lawful_finds, list_lawful, list_sound, nowhere_tells}
-use Rattle.wenc_base.specs.Prelude.{only_where, option_lawful, option_sound, or_deeper, read_u32}
-use Rattle.wenc_base.specs.Prelude.{sound_behind, sound_tells, then, then_tells, times, times_told}
-use Rattle.wenc_base.specs.Prelude.{told_on, too_deep, u32, u32_lawful, u32_sound, val_type_lawful}
+use Rattle.wenc_base.specs.Prelude.{Fewer, Finds, Form, Reader, Several, Sound, Tells, Told, Wide}
+use Rattle.wenc_base.specs.Prelude.{both_tables, choose, choose_tells, count_lawful, deep_where}
+use Rattle.wenc_base.specs.Prelude.{each, give, last, last_finds, last_tells, lawful_finds}
+use Rattle.wenc_base.specs.Prelude.{list_lawful, list_sound, nowhere_tells, only_where}
+use Rattle.wenc_base.specs.Prelude.{option_lawful, option_sound, or_deeper, read_u32, sound_behind}
+use Rattle.wenc_base.specs.Prelude.{sound_tells, then, then_tells, times, times_told, told_on}
+use Rattle.wenc_base.specs.Prelude.{too_deep, u32, u32_lawful, u32_sound, val_type_lawful}
 use Rattle.wenc_base.specs.Prelude.{val_type_sound, ◌>>=◌}
 use Rattle.wenc_base.specs.laws.Sound.{too_deep_tells}
 use Rattle.wenc_base.specs.laws.Sound.{RowsTell}
 use Rattle.wenc_base.specs.laws.Sound.{each_plain}
 use Rattle.wenc_base.specs.laws.Sound.{nothing_finds, then_finds}
 use Rattle.wenc_base.specs.laws.Sound.{too_deep_finds, row_finds, other_finds}
-use Rattle.wenc_parts.specs.Prelude.{ComponentValType, alias_lawful, alias_sound}
-use Rattle.wenc_parts.specs.Prelude.{extern_name_lawful, extern_name_sound, primitive_rows}
-use Rattle.wenc_parts.specs.Prelude.{read_alias, result_list_lawful, result_list_sound}
-use Rattle.wenc_parts.specs.Prelude.{type_reference_lawful, type_reference_sound}
+use Rattle.wenc_parts.specs.Prelude.{alias_lawful, alias_sound, extern_name_lawful}
+use Rattle.wenc_parts.specs.Prelude.{extern_name_sound, primitive_rows, read_alias}
+use Rattle.wenc_parts.specs.Prelude.{result_list_lawful, result_list_sound, type_reference_lawful}
+use Rattle.wenc_parts.specs.Prelude.{type_reference_sound}
 use Rattle.wenc_parts.specs.laws.Types.{primitive_rows_sound}
 use Rattle.wenc_types.specs.Prelude.{Aliased, ComponentDeclaration, ComponentDeclarations}
 use Rattle.wenc_types.specs.Prelude.{ComponentType, CoreTyped, Declared, DefType, DefValType}
@@ -37,6 +37,8 @@ use Rattle.wenc_types.specs.Prelude.{read_core_type, read_defined, read_exported
 use Rattle.wenc_types.specs.Prelude.{read_instance_declaration, read_instance_type}
 use Rattle.wenc_types.specs.Prelude.{read_resource_type, read_shallow, read_signature, to_function}
 use Rattle.wenc_types.specs.Prelude.{type_rows}
+use Rattle.wenc_base.specs.declared.types.ValType.{ValType}
+use Rattle.wenc_parts.specs.declared.types.ComponentValType.{ComponentValType}
 use Rattle.wenc_types.specs.ComponentTypes.{instance_depth, component_depth, declared_depth}
 use Rattle.wenc_types.specs.laws.ComponentTypes.{instances_counted, components_counted}
 use Rattle.wenc_types.specs.laws.ComponentTypes.{instance_list, component_list, instances_relisted}

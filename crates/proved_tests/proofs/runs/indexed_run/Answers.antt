@@ -1,8 +1,8 @@
 use Rattle.std.proofs.Common.{◌≡◌, ℕ, List, ◌++◌, ◌∷◌, [], Ok, Err, Option, Some, Result, subst, map, length}
 use Rattle.std.specs.Result.{IfOk}
-use Rattle.wenc_base.specs.Prelude.{Fault}
 use Rattle.wasm_encoder.specs.Prelude.{CommandTree, Ran, RanFrom, command_view}
 use Rattle.wenc_builder.specs.Prelude.{Entry}
+use Rattle.wenc_base.specs.declared.fault.Fault.{Fault}
 use Rattle.proved_tests.specs.Prelude.{IsIndexedAt}
 use Rattle.proved_tests.proofs.IndexedRuns.{indexed_at}
 use Rattle.proved_tests.proofs.NeverUnfinished.{refused}

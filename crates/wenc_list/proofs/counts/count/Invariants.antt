@@ -1,6 +1,7 @@
 use Rattle.std.proofs.Common.{◌≡◌, ◌+◌, map, take, get_or}
-use Rattle.wenc_sections.specs.Prelude.{Space, space_number}
+use Rattle.wenc_sections.specs.Prelude.{space_number}
 use Rattle.wenc_builder.specs.Prelude.{next_index}
+use Rattle.wenc_sections.specs.declared.space.Space.{Space}
 use Rattle.wenc_list.specs.Prelude.{item_view}
 use Rattle.wenc_list.proofs.counts.count.Given as goal
 

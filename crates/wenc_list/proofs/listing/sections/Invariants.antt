@@ -1,5 +1,6 @@
 use Rattle.std.proofs.Common.{◌≡◌, ◌≤◌, ◌*◌, ◌^◌, length, map, get_or}
-use Rattle.wenc_sections.specs.Prelude.{Space, space_number}
+use Rattle.wenc_sections.specs.Prelude.{space_number}
+use Rattle.wenc_sections.specs.declared.space.Space.{Space}
 use Rattle.wenc_list.specs.Prelude.{AreFrom, AreWithin, count_of_sections, section_view}
 use Rattle.wenc_list.proofs.listing.sections.Given as goal
 

@@ -2,8 +2,8 @@ use Rattle.std.proofs.Common.{ℕ, List}
 use Rattle.wenc_base.specs.Prelude.{Piece, Serves, appends_as, fits_as, in_order, list_in_order}
 use Rattle.wenc_base.specs.Prelude.{list_is_list, order_serves, serves_itself, serves_then, u32}
 use Rattle.wenc_base.specs.Prelude.{◌▸◌}
-use Rattle.wenc_canon.specs.Prelude.{CanonicalOption, Lift, canonical, canonical_option}
-use Rattle.wenc_canon.specs.Prelude.{lift_serves}
+use Rattle.wenc_canon.specs.Prelude.{Lift, canonical, canonical_option, lift_serves}
+use Rattle.wenc_canon.specs.declared.canonicals.CanonicalOption.{CanonicalOption}
 use Rattle.wenc_sections.proofs.canon_tree.lifted.Goals as goal
 
 abbrev lead : ℕ → Piece

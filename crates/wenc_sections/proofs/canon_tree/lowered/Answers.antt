@@ -2,7 +2,8 @@ use Rattle.std.proofs.Common.{ℕ, List, [], ◌∷◌}
 use Rattle.wenc_base.specs.Prelude.{Piece, Serves, appends_as, fits_as, in_order, list}
 use Rattle.wenc_base.specs.Prelude.{list_in_order, list_is_list, order_serves, serves_itself}
 use Rattle.wenc_base.specs.Prelude.{serves_then, u32, ◌▸◌}
-use Rattle.wenc_canon.specs.Prelude.{CanonicalOption, Lower, canonical, canonical_option}
+use Rattle.wenc_canon.specs.Prelude.{Lower, canonical, canonical_option}
+use Rattle.wenc_canon.specs.declared.canonicals.CanonicalOption.{CanonicalOption}
 use Rattle.wenc_canon.specs.laws.Rows.{front_serves}
 use Rattle.wenc_sections.proofs.canon_tree.lowered.Goals as goal
 

@@ -1,8 +1,8 @@
 use Rattle.std.proofs.Common.{ℕ, List}
 use Rattle.wenc_base.specs.Prelude.{Piece, Serves, appends_as, fits_as, in_order, list_in_order}
 use Rattle.wenc_base.specs.Prelude.{list_is_list, order_serves, serves_itself, serves_then, ◌▸◌}
-use Rattle.wenc_canon.specs.Prelude.{CanonicalOption, Field, Values, canonical_option, fields}
-use Rattle.wenc_canon.specs.Prelude.{row_then}
+use Rattle.wenc_canon.specs.Prelude.{Field, Values, canonical_option, fields, row_then}
+use Rattle.wenc_canon.specs.declared.canonicals.CanonicalOption.{CanonicalOption}
 use Rattle.wenc_canon.specs.laws.Rows.{row_serves}
 use Rattle.wenc_sections.proofs.canon_tree.with_options.Goals as goal
 

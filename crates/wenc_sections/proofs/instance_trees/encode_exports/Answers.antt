@@ -2,7 +2,8 @@ use Rattle.std.proofs.Common.{Ok, Err, Result, OnErr, ◌∙◌, rules}
 use Rattle.std.proofs.lemmas.List.{take_all}
 use Rattle.wenc_base.proofs.Members.{warranted_member, written_at}
 use Rattle.wenc_base.proofs.Runs.{handed_on}
-use Rattle.wenc_base.specs.Prelude.{Fault, IsWarranted, member_cause}
+use Rattle.wenc_base.specs.Prelude.{IsWarranted, member_cause}
+use Rattle.wenc_base.specs.declared.fault.Fault.{Fault}
 use Rattle.wenc_sections.specs.Prelude.{inline_export_tree}
 use Rattle.wenc_sections.proofs.instance_trees.encode_exports.Goals as goal
 

@@ -1,9 +1,11 @@
 use Rattle.std.proofs.Common.{ℕ, ◌≡◌, List, Option, Some, refl, subst, sym}
 use Rattle.std.specs.Option.{option_copied}
 use Rattle.std.specs.Prelude.{Vec}
-use Rattle.wenc_base.specs.Prelude.{ValType}
-use Rattle.wenc_sections.specs.Prelude.{CanonOf, canon_view}
-use Rattle.wenc_canon.specs.Prelude.{CanonicalOption, builtin_name}
+use Rattle.wenc_sections.specs.Prelude.{canon_view}
+use Rattle.wenc_canon.specs.Prelude.{builtin_name}
+use Rattle.wenc_base.specs.declared.types.ValType.{ValType}
+use Rattle.wenc_sections.specs.declared.canon_tree.CanonOf.{CanonOf}
+use Rattle.wenc_canon.specs.declared.canonicals.CanonicalOption.{CanonicalOption}
 use Rattle.wenc_sections.specs.declared.canon_tree.CanonOf.TheVariants as trees
 use Rattle.wenc_builder.specs.Prelude.{Enters, Entry, canonical_entry, canonical_tree_entry}
 use Rattle.wenc_builder.proofs.builder.ComponentBuilder.canonical_tree.Goals as goal

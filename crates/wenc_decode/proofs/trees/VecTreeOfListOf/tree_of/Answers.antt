@@ -17,12 +17,12 @@ loop-value-preserved g c =
       callable = goes.0;
       finite = goes.1;
       so_far = one_copied g.T.TreeOf.is_copy g.V.View.view c.loop-value.values.items c.push.new.self.items c.in_ok-tree.tree c.in-Some.value
-          (list_view g.V.View.read c.loop-value.value-iterator) (list_view g.V.View.read c.next.new.self) _ c.in_ok-push.ensures.items c.in_ok-tree.ensures
+          (list_view g.V.View.reading.read c.loop-value.value-iterator) (list_view g.V.View.reading.read c.next.new.self) _ c.in_ok-push.ensures.items c.in_ok-tree.ensures
           c.in-Some.ensures.steps.0 c.loop-value.invariant.so_far;
     }
 
 pub returns : goal.returns
 returns g c =
-    all_copied g.T.TreeOf.is_copy g.V.View.view c.loop-value.values.items (list_view g.V.View.read c.loop-value.value-iterator)
-    (list_view g.V.View.read c.args.view) c.in-None.ensures.steps.0
+    all_copied g.T.TreeOf.is_copy g.V.View.view c.loop-value.values.items (list_view g.V.View.reading.read c.loop-value.value-iterator)
+    (list_view g.V.View.reading.read c.args.view) c.in-None.ensures.steps.0
     (rw c.into_iter-value-iterator.ensures.into_iter_gives at c.loop-value.invariant.so_far)

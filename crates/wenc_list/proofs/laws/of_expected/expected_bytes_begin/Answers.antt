@@ -4,16 +4,18 @@ use Rattle.std.specs.Str.{is_utf8}
 use Rattle.wenc_base.specs.Readers.{choose}
 use Rattle.wenc_base.specs.reading.Forms.{text_at}
 use Rattle.wenc_base.specs.reading.Numbers.{read_groups}
-use Rattle.wenc_base.specs.Prelude.{RefType, table_of}
+use Rattle.wenc_base.specs.Prelude.{table_of}
 use Rattle.wenc_base.specs.reading.Entities.{read_unshared}
-use Rattle.wenc_parts.specs.Prelude.{ComponentExportKind, ComponentOuterAliasKind, read_core_alias}
-use Rattle.wenc_parts.specs.Prelude.{read_export_or_outer, read_value_type}
+use Rattle.wenc_parts.specs.Prelude.{read_core_alias, read_export_or_outer, read_value_type}
 use Rattle.wenc_types.specs.Prelude.{read_core_type, read_instance_declaration}
 use Rattle.wenc_types.specs.reading.ComponentTypes.{read_type}
 use Rattle.wenc_canon.specs.Prelude.{read_canonical}
 use Rattle.wenc_list.specs.Prelude.{read_core_sort}
 use Rattle.wenc_read.specs.Prelude.{BeginsWith, OthersFail, begins, choose_fails, index_fails}
 use Rattle.wenc_read.specs.Prelude.{nowhere_fails, ranges_of, then_fails}
+use Rattle.wenc_base.specs.declared.types.RefType.{RefType}
+use Rattle.wenc_parts.specs.declared.exports.ComponentExportKind.{ComponentExportKind}
+use Rattle.wenc_parts.specs.declared.aliases.ComponentOuterAliasKind.{ComponentOuterAliasKind}
 use Rattle.wenc_read.specs.declared.expected.Expected.TheVariants.{CoreType, ComponentValType}
 use Rattle.wenc_read.specs.declared.expected.Expected.TheVariants.{«Type», InstanceDecl, Opcode}
 use Rattle.wenc_read.specs.declared.expected.Expected.TheVariants.{TableLimits, CoreSort}
