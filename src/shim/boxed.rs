@@ -1,9 +1,10 @@
 //! Values on the heap.
 
-use super::alloc::{AllocFailed, Global, ask};
+use super::alloc::{AllocFailed, Global, is_refused};
 use alloc::boxed::Box as Inner;
 use alloc::vec::Vec;
 use core::fmt;
+use core::marker::PhantomData;
 use core::ops::{Deref, DerefMut};
 
 /// std's `Box`, whose [`try_new`](Self::try_new) returns an error if the allocation fails.
@@ -19,8 +20,8 @@ impl<T> Box<T> {
     /// could fail.
     pub(crate) fn new(_alloc: Global, value: T) -> Result<Self, AllocFailed<T>> {
         let mut one = Vec::new();
-        if ask().is_err() || one.try_reserve_exact(1).is_err() {
-            return Err(AllocFailed { value });
+        if is_refused() || one.try_reserve_exact(1).is_err() {
+            return Err(AllocFailed(PhantomData));
         }
         one.push(value);
         match one.into_boxed_slice().try_into() {

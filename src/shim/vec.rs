@@ -1,7 +1,8 @@
 //! Vectors: std's, with Rattle's calls, which return an error if an allocation fails.
 
-use super::alloc::{AllocError, AllocFailed, Global, ask, with_room};
+use super::alloc::{AllocError, AllocFailed, Global, is_refused};
 pub use alloc::vec::Vec;
+use core::marker::PhantomData;
 
 /// The least capacity of a vector of bytes, or a string, that grows from none. std's begin with 8:
 /// a type of a few members, or a section of a few items, would be reallocated three times.
@@ -26,10 +27,10 @@ pub trait VecUsing<T>: Sized {
     /// Reserves room for at least this many more elements.
     fn try_reserve_using(&mut self, more: usize) -> Result<(), AllocError>;
 
-    /// Appends an element, or returns it.
+    /// Appends an element.
     fn push_using(&mut self, value: T) -> Result<(), AllocFailed<T>>;
 
-    /// Inserts an element at an index, or returns it.
+    /// Inserts an element at an index.
     fn insert_using(&mut self, at: usize, value: T) -> Result<(), AllocFailed<T>>;
 
     /// Appends the elements of a slice.
@@ -43,10 +44,14 @@ pub trait VecUsing<T>: Sized {
 #[cold]
 #[inline(never)]
 fn grow<T>(vec: &mut Vec<T>, more: usize) -> Result<(), AllocError> {
-    ask()?;
-    let is_small = size_of::<T>() == 1 && vec.capacity() < FIRST_BYTES;
-    let least = if is_small { FIRST_BYTES - vec.len() } else { 0 };
-    Ok(vec.try_reserve(more.saturating_add(1).max(least))?)
+    let mut room = more.saturating_add(1);
+    if const { size_of::<T>() == 1 } && vec.capacity() < FIRST_BYTES {
+        room = room.max(FIRST_BYTES - vec.len());
+    }
+    if is_refused() || vec.try_reserve(room).is_err() {
+        return Err(AllocError);
+    }
+    Ok(())
 }
 
 /// Appends an element for which there is no room. Apart from `push_using`, so that std's is
@@ -55,7 +60,7 @@ fn grow<T>(vec: &mut Vec<T>, more: usize) -> Result<(), AllocError> {
 #[inline(never)]
 fn push_growing<T>(vec: &mut Vec<T>, value: T) -> Result<(), AllocFailed<T>> {
     if grow(vec, 1).is_err() {
-        return Err(AllocFailed { value });
+        return Err(AllocFailed(PhantomData));
     }
     vec.push(value);
     Ok(())
@@ -78,7 +83,11 @@ impl<T> VecUsing<T> for Vec<T> {
 
     #[inline]
     fn with_capacity_using(_alloc: Global, capacity: usize) -> Result<Self, AllocError> {
-        with_room(capacity, Vec::try_reserve_exact)
+        let mut made = Vec::new();
+        if capacity > 0 && (is_refused() || made.try_reserve_exact(capacity).is_err()) {
+            return Err(AllocError);
+        }
+        Ok(made)
     }
 
     #[inline]
@@ -109,7 +118,7 @@ impl<T> VecUsing<T> for Vec<T> {
                 return push_growing(self, value);
             }
             if grow(self, 1).is_err() {
-                return Err(AllocFailed { value });
+                return Err(AllocFailed(PhantomData));
             }
         }
         self.push(value);
@@ -119,7 +128,7 @@ impl<T> VecUsing<T> for Vec<T> {
     #[inline(never)]
     fn insert_using(&mut self, at: usize, value: T) -> Result<(), AllocFailed<T>> {
         if self.try_reserve_using(1).is_err() {
-            return Err(AllocFailed { value });
+            return Err(AllocFailed(PhantomData));
         }
         self.insert(at, value);
         Ok(())
