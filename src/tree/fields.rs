@@ -59,16 +59,41 @@ pub(super) type Visit<'v> = dyn FnMut(&dyn Tree, Option<&[u8]>) -> ControlFlow<(
 
 /// A value that is an item or within one, owned or borrowed.
 pub(super) trait Tree {
-    /// Returns the value at this place as a node.
-    fn node<'n>(&'n self, place: Place<'n>) -> Node<'n>;
+    /// Sets the values of the fields, and returns their shape; or the node of a value at this place
+    /// that has no shape.
+    fn shape<'n>(
+        &'n self,
+        place: Place<'n>,
+        values: &mut Values<&'n dyn Tree>,
+    ) -> Result<&'static Shape, Node<'n>>;
+}
 
-    /// Returns the space and the number of the indices that the declaration defines.
-    fn defined(&self) -> Option<(Space, u32)> {
-        None
+/// Returns the value at this place as a node.
+#[inline(never)]
+pub(super) fn node_of<'n>(tree: &'n dyn Tree, place: Place<'n>) -> Node<'n> {
+    let mut values = Values::new();
+    match tree.shape(place, &mut values) {
+        Ok(shape) => shape.node(&values, tree, place),
+        Err(node) => node,
     }
 }
 
-/// A value with fields.
+/// Returns the fields of the value at this place, if it has a shape.
+#[inline(never)]
+pub(super) fn fields_of<'n>(tree: &'n dyn Tree, place: Place<'n>) -> Named<'n> {
+    let mut values = Values::new();
+    tree.shape(place, &mut values).map_or([None; 4], |shape| shape.named(&values, place))
+}
+
+/// Returns the space and the number of the indices that a declaration defines.
+#[inline(never)]
+pub(super) fn defined(declaration: &dyn Tree) -> Option<(Space, u32)> {
+    let mut values = Values::new();
+    declaration.shape(Place::default(), &mut values).ok()?;
+    values.defined
+}
+
+/// A value whose fields are lists of another type, or parts of it.
 pub(super) trait Whole {
     /// Returns the fields of the value at this place.
     fn fields<'n>(&'n self, place: Place<'n>) -> Named<'n>;
@@ -92,12 +117,6 @@ pub(super) trait Elements {
     fn each(&self, visit: &mut Visit<'_>) -> ControlFlow<()>;
 }
 
-/// A variant or a struct, whose shape is constant.
-trait Shaped {
-    /// Sets the values of the fields, and returns the shape.
-    fn shape<'n>(&'n self, values: &mut Values<&'n dyn Tree>) -> &'static Shape;
-}
-
 /// Returns an index in this space, which a declaration defines.
 fn one(space: impl Into<Space>) -> Option<(Space, u32)> {
     Some((space.into(), 1))
@@ -106,56 +125,6 @@ fn one(space: impl Into<Space>) -> Option<(Space, u32)> {
 /// Returns the space and the number of the indices that a group of `len` core types defines.
 fn group(len: impl TryInto<u32>) -> Option<(Space, u32)> {
     Some((Space::CoreTypes, len.try_into().unwrap_or(u32::MAX)))
-}
-
-/// Implements `Tree` and `Whole` for a type by its shape.
-macro_rules! by_shape {
-    ([$($generics:tt)*] $ty:ty, $($defined:tt)*) => {
-        impl $($generics)* Tree for $ty {
-            fn node<'n>(&'n self, place: Place<'n>) -> Node<'n> {
-                let mut values = Values::new();
-                self.shape(&mut values).node(&values, self, place)
-            }
-
-            $($defined)*
-        }
-
-        impl $($generics)* Whole for $ty {
-            fn fields<'n>(&'n self, place: Place<'n>) -> Named<'n> {
-                let mut values = Values::new();
-                self.shape(&mut values).named(&values, place)
-            }
-        }
-    };
-}
-
-/// Returns what a variant defines, if anything.
-macro_rules! definition {
-    () => {
-        Option::None
-    };
-    ($defined:expr) => {
-        $defined
-    };
-}
-
-/// Defines what the variants of an enum define, if any does.
-macro_rules! defined {
-    ({
-        $($name:ident $(($one:ident $(: $of:tt)?))? $({ $($field:ident $(: $role:tt)?),+ })?
-            $(in $outer:tt)?),+ $(,)?
-    }) => {};
-    ({
-        $($name:ident $(($one:ident $(: $of:tt)?))? $({ $($field:ident $(: $role:tt)?),+ })?
-            $(in $outer:tt)? $(=> $defined:expr)?),+ $(,)?
-    }) => {
-        #[allow(unused_variables, reason = "not all fields say what is defined")]
-        fn defined(&self) -> Option<(Space, u32)> {
-            match self {
-                $(Self::$name $(($one))? $({ $($field),+ })? => definition!($($defined)?),)+
-            }
-        }
-    };
 }
 
 /// Defines the shapes of an enum, which are called as the variants.
@@ -176,21 +145,21 @@ macro_rules! node_of_enum {
         $($name:ident $(($one:ident $(: $of:tt)?))? $({ $($field:ident $(: $role:tt)?),+ })?
             $(in $outer:tt)? $(=> $defined:expr)?),+ $(,)?
     }) => {
-        impl $($generics)* Shaped for $ty {
+        impl $($generics)* Tree for $ty {
             #[allow(unused_variables, reason = "not all enums have fields")]
-            fn shape<'n>(&'n self, values: &mut Values<&'n dyn Tree>) -> &'static Shape {
-                match self {$(
-                    Self::$name $(($one))? $({ $($field),+ })? => filled!(
-                        values $name [$($outer)?] $($one)? $($($field)+)?
-                    ),
-                )+}
+            fn shape<'n>(
+                &'n self,
+                _: Place<'n>,
+                values: &mut Values<&'n dyn Tree>,
+            ) -> Result<&'static Shape, Node<'n>> {
+                Ok(match self {$(
+                    Self::$name $(($one))? $({ $($field),+ })? => {
+                        $(values.defined = $defined;)?
+                        filled!(values $name [$($outer)?] $($one)? $($($field)+)?)
+                    }
+                )+})
             }
         }
-
-        by_shape! { [$($generics)*] $ty, defined! { {
-            $($name $(($one $(: $of)?))? $({ $($field $(: $role)?),+ })?
-                $(in $outer)? $(=> $defined)?),+
-        } } }
     };
 }
 
@@ -244,14 +213,16 @@ macro_rules! enums {
 /// Implements `Tree` for a struct, by its fields.
 macro_rules! node_of_struct {
     ($ty:ty, { $($field:ident $(: $role:tt)?),+ }) => {
-        impl Shaped for $ty {
-            fn shape<'n>(&'n self, values: &mut Values<&'n dyn Tree>) -> &'static Shape {
+        impl Tree for $ty {
+            fn shape<'n>(
+                &'n self,
+                _: Place<'n>,
+                values: &mut Values<&'n dyn Tree>,
+            ) -> Result<&'static Shape, Node<'n>> {
                 let Self { $($field),+ } = self;
-                filled!(values SHAPE [] $($field)+)
+                Ok(filled!(values SHAPE [] $($field)+))
             }
         }
-
-        by_shape! { [] $ty, }
     };
 }
 
@@ -332,7 +303,7 @@ enums! {
 
     ComponentDecl = ComponentDeclView {
         Import { name, ty } => one(ty.kind()),
-        Decl(declared) => declared.defined(),
+        Decl(declared) => defined(declared),
     }
 
     ComponentExportKind { Module, Func, Value, Type, Instance, Component }
@@ -367,7 +338,7 @@ enums! {
     CoreStorageType { I8, I16, Val(ty) }
 
     CoreTypeTree = CoreTypeView {
-        Group(ty: group) => ty.defined(),
+        Group(ty: group) => defined(ty),
         Module(declared: inner) => one(Space::CoreTypes),
     }
 
@@ -388,9 +359,9 @@ enums! {
     }
 
     InstanceDecl = InstanceDeclView {
-        CoreType(ty) => ty.defined(),
+        CoreType(ty) => defined(ty),
         Type(ty) => one(Space::Types),
-        Alias(alias) => alias.defined(),
+        Alias(alias) => defined(alias),
         Export { name, ty } => one(ty.kind()),
     }
 
@@ -410,8 +381,8 @@ enums! {
     ModuleArg { Instance(index: CoreInstances) }
 
     ModuleDecl = ModuleDeclView {
-        Import { module, name, ty } => ty.defined(),
-        Type(ty: group) => ty.defined(),
+        Import { module, name, ty } => defined(ty),
+        Type(ty: group) => defined(ty),
         Alias { count, index: outer } in (*count, Space::CoreTypes) => one(Space::CoreTypes),
         Export { name, ty },
     }

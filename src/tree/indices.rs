@@ -14,7 +14,7 @@ pub(super) use visited::Visitor;
 
 #[cfg(feature = "tree")]
 use super::ItemTree;
-use super::fields::Tree;
+use super::fields::defined;
 use super::{CoreEntityType, Space};
 use crate::view::{ItemView, ModuleDeclView};
 
@@ -54,7 +54,7 @@ macro_rules! defined_indices {
             /// ```
             pub fn defined_indices(&self) -> Option<(Space, u32)> {
                 match self {
-                    Self::CoreType(ty) => ty.defined(),
+                    Self::CoreType(ty) => defined(ty),
                     _ => self.indices(),
                 }
             }
@@ -69,10 +69,10 @@ defined_indices! { ItemView<'_> }
 /// Returns the index space in which a declaration of a module type defines indices, and their
 /// number.
 pub(crate) fn defined_in_module(decl: &ModuleDeclView<'_>) -> Option<(Space, u32)> {
-    decl.defined()
+    defined(decl)
 }
 
 /// Returns the index space of core items of a type.
 pub(crate) fn space_of(ty: &CoreEntityType) -> Option<Space> {
-    ty.defined().map(|(space, _)| space)
+    defined(ty).map(|(space, _)| space)
 }

@@ -1,6 +1,8 @@
 //! Items as nodes with named fields.
 
-use super::fields::{Elements, IndexCounts, Part, Place, Scopes, Tree, Visit, Whole};
+use super::fields::{
+    Elements, IndexCounts, Part, Place, Scopes, Tree, Visit, Whole, defined, fields_of, node_of,
+};
 #[cfg(feature = "tree")]
 use super::{ItemTree, ValType};
 use super::{Scope, Space};
@@ -228,7 +230,7 @@ impl<'a> Child<'a> {
     pub fn node(self) -> Node<'a> {
         let place = self.place;
         match self.source {
-            Source::Tree(tree) => tree.node(place),
+            Source::Tree(tree) => node_of(tree, place),
             Source::Part(whole) => whole.part(place),
             Source::Present(whole) => Node::Present(Self::part(whole, place)),
             #[cfg(feature = "tree")]
@@ -335,7 +337,7 @@ impl<'a> List<'a> {
             let inner = around.inner(declared);
             let place = place.in_scopes(&inner);
             visit(Child { source: Source::Tree(element), place, encoded })?;
-            declared.define(element.defined());
+            declared.define(defined(element));
             ControlFlow::Continue(())
         })
     }
@@ -368,12 +370,18 @@ pub struct Fields<'a> {
 
 #[derive(Clone, Copy)]
 enum Fielded<'a> {
+    Tree(&'a dyn Tree),
     Whole(&'a dyn Whole),
     Part(&'a dyn Part),
 }
 
 impl<'a> Fields<'a> {
-    pub(super) fn new(whole: &'a dyn Whole, place: Place<'a>) -> Self {
+    pub(super) fn new(tree: &'a dyn Tree, place: Place<'a>) -> Self {
+        Self { fielded: Fielded::Tree(tree), place }
+    }
+
+    /// The fields of a value without a shape.
+    pub(super) fn whole(whole: &'a dyn Whole, place: Place<'a>) -> Self {
         Self { fielded: Fielded::Whole(whole), place }
     }
 
@@ -392,6 +400,7 @@ impl<'a> Fields<'a> {
     #[inline(never)]
     fn get(self, at: usize) -> Option<(&'static str, Child<'a>)> {
         let named = match self.fielded {
+            Fielded::Tree(tree) => fields_of(tree, self.place),
             Fielded::Whole(whole) => whole.fields(self.place),
             Fielded::Part(whole) => whole.part_fields(self.place),
         };
@@ -420,7 +429,7 @@ impl fmt::Debug for Fields<'_> {
 impl ItemTree {
     /// Returns the item as a node: the variant of this type that it is.
     pub fn node(&self) -> Node<'_> {
-        Tree::node(self, Place::default())
+        node_of(self, Place::default())
     }
 }
 
@@ -431,7 +440,7 @@ macro_rules! nodes {
             /// Returns the value as a [`Node`], which is that of the owned value. Nothing is
             /// allocated. The scopes of its indices are those that an item's would have.
             pub fn node(&self) -> Node<'_> {
-                Tree::node(self, Place::default())
+                node_of(self, Place::default())
             }
         }
     )+};
@@ -468,7 +477,7 @@ impl ItemView<'_> {
     /// # Ok::<(), ListFault>(())
     /// ```
     pub fn node_in<'n>(&'n self, scopes: &'n Scopes<'n>) -> Node<'n> {
-        Tree::node(self, Place::of_item(scopes))
+        node_of(self, Place::of_item(scopes))
     }
 }
 
@@ -487,6 +496,6 @@ impl CoreItem<'_> {
     /// assert!(matches!(child.node(), Node::Index { index: 3, .. }));
     /// ```
     pub fn node(&self) -> Node<'_> {
-        Tree::node(self, Place::default())
+        node_of(self, Place::default())
     }
 }

@@ -41,7 +41,7 @@ pub(in crate::tree) fn each_index(
         // the field that is visited behind those before it
         let mut left: Option<(&mut dyn TreeMut, Place<'_>)> = None;
         for (value, role) in values.into_fields(shape) {
-            let place = role.place(place, || value.defined());
+            let place = role.place(place);
             match left {
                 Some((_, Place { is_last: true, .. })) => each_index(value, place, visitor),
                 _ => {
@@ -71,9 +71,10 @@ macro_rules! indices_of_enum {
                 values: &mut Values<&'n mut dyn TreeMut>,
             ) -> Option<&'static Shape> {
                 Some(match self {$(
-                    Self::$name $(($one))? $({ $($field),+ })? => filled!(
-                        values $name [$($outer)?] $($one)? $($($field)+)?
-                    ),
+                    Self::$name $(($one))? $({ $($field),+ })? => {
+                        $(values.defined = $defined;)?
+                        filled!(values $name [$($outer)?] $($one)? $($($field)+)?)
+                    }
                 )+})
             }
         }
@@ -98,8 +99,8 @@ macro_rules! indices_of_struct {
 pub(super) use {indices_of_enum, indices_of_struct};
 
 leaves! {
-    String, text => Node::Text(text);
-    Vec<u8>, bytes => Node::Bytes(bytes);
+    String, text, _ => Node::Text(text);
+    Vec<u8>, bytes, _ => Node::Bytes(bytes);
 }
 
 impl TreeMut for bool {}
@@ -123,8 +124,12 @@ impl TreeMut for u32 {
 }
 
 impl<T: Tree> Tree for Vec<T> {
-    fn node<'n>(&'n self, place: Place<'n>) -> Node<'n> {
-        Node::List(List::new(self, place))
+    fn shape<'n>(
+        &'n self,
+        place: Place<'n>,
+        _: &mut Values<&'n dyn Tree>,
+    ) -> Result<&'static Shape, Node<'n>> {
+        Err(Node::List(List::new(self, place)))
     }
 }
 
@@ -160,8 +165,9 @@ impl<T: TreeMut> TreeMut for Vec<T> {
     }
 }
 
-/// The shape of a value that is another one: it has no node.
+/// The shapes of a value that is another one, and of a name with an index: they have no node.
 static INNER: Shape = Shape::new(Kind::Variant, "", &[("0", Role::Plain)]);
+static INDEX: Shape = Shape::new(Kind::Variant, "", &[("0", Role::Outer)]);
 
 impl<T: TreeMut> TreeMut for Option<T> {
     fn shape_mut<'n>(
@@ -173,12 +179,12 @@ impl<T: TreeMut> TreeMut for Option<T> {
 }
 
 impl<T: Tree> Tree for Box<T> {
-    fn node<'n>(&'n self, place: Place<'n>) -> Node<'n> {
-        (**self).node(place)
-    }
-
-    fn defined(&self) -> Option<(Space, u32)> {
-        (**self).defined()
+    fn shape<'n>(
+        &'n self,
+        place: Place<'n>,
+        values: &mut Values<&'n dyn Tree>,
+    ) -> Result<&'static Shape, Node<'n>> {
+        (**self).shape(place, values)
     }
 }
 
@@ -187,7 +193,7 @@ impl<T: TreeMut> TreeMut for Box<T> {
         &'n mut self,
         values: &mut Values<&'n mut dyn TreeMut>,
     ) -> Option<&'static Shape> {
-        Some(values.one(&INNER, &mut **self))
+        (**self).shape_mut(values)
     }
 }
 
@@ -205,12 +211,9 @@ impl<N: Tree, K: Tree + Copy + Into<Space>> TreeMut for (N, K, u32) {
         &'n mut self,
         values: &mut Values<&'n mut dyn TreeMut>,
     ) -> Option<&'static Shape> {
-        values.set_itself(self)
-    }
-
-    fn visit(&mut self, place: Place<'_>, visitor: &mut Visitor<'_>) {
         let (_, kind, index) = self;
-        index.visit(place.outer(0, (*kind).into()), visitor);
+        values.outer = (0, (*kind).into());
+        Some(values.one(&INDEX, index))
     }
 }
 
@@ -219,13 +222,17 @@ impl TreeMut for CoreArrayType {
         &'n mut self,
         values: &mut Values<&'n mut dyn TreeMut>,
     ) -> Option<&'static Shape> {
-        Some(values.one(&INNER, &mut self.0))
+        self.0.shape_mut(values)
     }
 }
 
 impl Tree for CoreFuncType {
-    fn node<'n>(&'n self, place: Place<'n>) -> Node<'n> {
-        Node::Record("CoreFuncType", Fields::new(self, place))
+    fn shape<'n>(
+        &'n self,
+        place: Place<'n>,
+        _: &mut Values<&'n dyn Tree>,
+    ) -> Result<&'static Shape, Node<'n>> {
+        Err(Node::Record("CoreFuncType", Fields::whole(self, place)))
     }
 }
 

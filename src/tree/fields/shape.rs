@@ -1,7 +1,7 @@
 //! What is constant of a variant or a struct, as data: one function makes the nodes of all types
 //! from it, and another visits their indices.
 
-use super::{Place, Space, Tree, Whole};
+use super::{Place, Space, Tree};
 use crate::tree::node::{Child, Fields, Node};
 
 /// The names and the values of some fields: nodes would be large with them.
@@ -16,22 +16,6 @@ pub(super) fn named<'a>(all: &[(&'static str, Child<'a>)]) -> Named<'a> {
     named
 }
 
-/// Returns the two values of a tuple.
-pub(super) fn pair<'n>(name: &'n dyn Tree, value: &'n dyn Tree, place: Place<'n>) -> Named<'n> {
-    named(&[("0", Child::new(name, place)), ("1", Child::new(value, place))])
-}
-
-/// Returns a name, and the kind and the index of the named item, which has this place.
-pub(super) fn named_index<'n>(
-    name: &'n dyn Tree,
-    kind: &'n dyn Tree,
-    (index, of): (&'n dyn Tree, Place<'n>),
-    place: Place<'n>,
-) -> Named<'n> {
-    let [name, kind] = [Child::new(name, place), Child::new(kind, place)];
-    named(&[("0", name), ("1", kind), ("2", Child::new(index, of))])
-}
-
 /// What a field is, besides its value.
 #[derive(Clone, Copy)]
 pub(super) enum Role {
@@ -39,7 +23,8 @@ pub(super) enum Role {
     Plain,
     /// The declarations of a type that has index spaces of its own.
     Inner,
-    /// Core types that may refer to each other.
+    /// Core types that may refer to each other. The indices that they define are those that the
+    /// value defines.
     Group,
     /// An index, for which [`Values::outer`] is set.
     Outer,
@@ -60,6 +45,10 @@ pub(super) enum Kind {
     Struct,
     /// A struct.
     Record,
+    /// Values of several types.
+    Tuple,
+    /// An option that is `Some`.
+    Present,
 }
 
 /// A variant or a struct without its values.
@@ -78,13 +67,16 @@ pub(in crate::tree) struct Values<V> {
     fourth: Option<V>,
     /// How far out the scope is of the index whose role is [`Role::Outer`], and its space.
     pub(super) outer: (u32, Space),
+    /// The space and the number of the indices that it defines, if it is a declaration.
+    pub(super) defined: Option<(Space, u32)>,
 }
 
 /// Its methods are called once for each variant, and compiled once.
 impl<V> Values<V> {
     #[inline(never)]
     pub(super) fn new() -> Self {
-        Self { first: None, second: None, third: None, fourth: None, outer: (0, Space::Types) }
+        let (outer, defined) = ((0, Space::Types), None);
+        Self { first: None, second: None, third: None, fourth: None, outer, defined }
     }
 
     #[inline(never)]
@@ -133,61 +125,49 @@ impl Shape {
     }
 
     /// Returns the node of a value of this shape.
-    #[inline(never)]
     pub(super) fn node<'n>(
         &self,
         values: &Values<&'n dyn Tree>,
-        whole: &'n dyn Whole,
+        whole: &'n dyn Tree,
         place: Place<'n>,
     ) -> Node<'n> {
-        let name = self.name;
-        match self.kind {
-            Kind::Word => Node::Word(name),
-            Kind::Variant => match self.child(0, values.first, values.outer, place) {
-                Some((_, child)) => Node::Variant(name, child),
-                None => Node::Word(name),
-            },
-            Kind::Struct => Node::Struct(name, Fields::new(whole, place)),
-            Kind::Record => Node::Record(name, Fields::new(whole, place)),
+        let (name, fields) = (self.name, Fields::new(whole, place));
+        match (self.kind, self.named(values, place)[0]) {
+            (Kind::Variant, Some((_, child))) => Node::Variant(name, child),
+            (Kind::Present, Some((_, child))) => Node::Present(child),
+            (Kind::Word | Kind::Variant | Kind::Present, _) => Node::Word(name),
+            (Kind::Struct, _) => Node::Struct(name, fields),
+            (Kind::Record, _) => Node::Record(name, fields),
+            (Kind::Tuple, _) => Node::Tuple(fields),
         }
     }
 
     /// Returns the fields of a value of this shape.
     #[inline(never)]
     pub(super) fn named<'n>(&self, values: &Values<&'n dyn Tree>, place: Place<'n>) -> Named<'n> {
-        let &Values { first, second, third, fourth, outer } = values;
-        let child = |at, value| self.child(at, value, outer, place);
-        [child(0, first), child(1, second), child(2, third), child(3, fourth)]
-    }
-
-    /// Returns the field with this number.
-    fn child<'n>(
-        &self,
-        at: usize,
-        value: Option<&'n dyn Tree>,
-        outer: (u32, Space),
-        place: Place<'n>,
-    ) -> Option<(&'static str, Child<'n>)> {
-        let ((name, role), value) = (*self.fields.get(at)?, value?);
-        Some((name, Child::new(value, Placed(role, outer).place(place, || value.defined()))))
+        let &Values { first, second, third, fourth, outer, defined } = values;
+        let mut named = [None; 4];
+        let values = [first, second, third, fourth].into_iter().flatten();
+        for ((field, (name, role)), value) in named.iter_mut().zip(self.fields).zip(values) {
+            let place = Placed(*role, outer, defined).place(place);
+            *field = Some((*name, Child::new(value, place)));
+        }
+        named
     }
 }
 
-/// The role of a field, and how far out the scope of an outer index is, and its space.
-pub(super) struct Placed(Role, (u32, Space));
+/// The role of a field, how far out the scope of an outer index is and its space, and what the
+/// value defines.
+pub(super) struct Placed(Role, (u32, Space), Option<(Space, u32)>);
 
 impl Placed {
-    /// Returns the place of a field, which defines these indices, of a value at `place`.
-    pub(super) fn place<'n>(
-        self,
-        place: Place<'n>,
-        defined: impl FnOnce() -> Option<(Space, u32)>,
-    ) -> Place<'n> {
-        let Self(role, (count, of_outer)) = self;
+    /// Returns the place of a field of a value at `place`.
+    pub(super) fn place(self, place: Place<'_>) -> Place<'_> {
+        let Self(role, (count, of_outer), defined) = self;
         match role {
             Role::Plain => place,
             Role::Inner => place.inner(),
-            Role::Group => place.within(defined()),
+            Role::Group => place.within(defined),
             Role::Outer => place.outer(count, of_outer),
             Role::Last(space) => place.outer(0, space).last(),
             Role::Index(space) => place.outer(0, space),
@@ -210,9 +190,10 @@ impl<V> Values<V> {
 
     /// Returns the values of this shape in order, each with its role and how far out it is.
     pub(super) fn into_fields(self, shape: &Shape) -> impl Iterator<Item = (V, Placed)> {
-        let Self { first, second, third, fourth, outer } = self;
+        let Self { first, second, third, fourth, outer, defined } = self;
         let values = [first, second, third, fourth].into_iter().flatten();
-        values.zip(shape.fields).map(move |(value, (_, role))| (value, Placed(*role, outer)))
+        let fields = values.zip(shape.fields);
+        fields.map(move |(value, (_, role))| (value, Placed(*role, outer, defined)))
     }
 }
 

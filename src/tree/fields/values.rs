@@ -1,20 +1,24 @@
 //! The fields of containers, and of borrowed types whose fields aren't those of the owned ones.
 
-use super::shape::{named_index, pair};
-use super::{Elements, Named, Node, Part, Place, Tree, Visit, Whole, named};
+use super::shape::{Kind, Role, Shape, Values};
+use super::{Elements, Named, Node, Part, Place, Tree, Visit, Whole, named, node_of};
 use crate::proved::wenc_view::View;
 use crate::tree::node::{Child, Fields, List};
 use crate::tree::{CoreArrayType, Space};
 use crate::view::{ComponentDecls, CoreCompositeView, InstanceDecls, ListOf, NameView};
 use core::ops::ControlFlow;
 
-/// Implements `Tree` for types without fields.
+/// Implements `Tree` for types without a shape.
 macro_rules! leaves {
-    ($($ty:ty, $value:ident => $node:expr;)+) => {$(
+    ($($ty:ty, $value:ident, $place:tt => $node:expr;)+) => {$(
         impl Tree for $ty {
-            fn node<'n>(&'n self, _: Place<'n>) -> Node<'n> {
+            fn shape<'n>(
+                &'n self,
+                $place: Place<'n>,
+                _: &mut Values<&'n dyn Tree>,
+            ) -> Result<&'static Shape, Node<'n>> {
                 let $value = self;
-                $node
+                Err($node)
             }
         }
     )+};
@@ -24,24 +28,27 @@ macro_rules! leaves {
 pub(super) use leaves;
 
 leaves! {
-    bool, flag => Node::Flag(*flag);
-    u64, number => Node::Number(*number);
-    &str, text => Node::Text(text);
-    &[u8], bytes => Node::Bytes(bytes);
-}
-
-impl Tree for u32 {
-    fn node<'n>(&'n self, place: Place<'n>) -> Node<'n> {
-        place.number(*self)
-    }
+    bool, flag, _ => Node::Flag(*flag);
+    u64, number, _ => Node::Number(*number);
+    u32, number, place => place.number(*number);
+    &str, text, _ => Node::Text(text);
+    &[u8], bytes, _ => Node::Bytes(bytes);
+    // Its node is that of the owned name, whose options are a struct.
+    NameView<'_>, name, place => Node::Record("NameTree", Fields::whole(name, place));
+    // Its node is that of the owned type, whose variants have a struct.
+    CoreCompositeView<'_>, ty, place => Node::Variant(ty.word(), Child::part(ty, place));
 }
 
 /// Implements `Tree` for borrowed lists, whose elements are read one by one.
 macro_rules! lists {
     ($($name:ident $(<$element:ident>)?)+) => {$(
         impl<'a $(, $element: View<'a> + Tree)?> Tree for $name<'a $(, $element)?> {
-            fn node<'n>(&'n self, place: Place<'n>) -> Node<'n> {
-                Node::List(List::new(self, place))
+            fn shape<'n>(
+                &'n self,
+                place: Place<'n>,
+                _: &mut Values<&'n dyn Tree>,
+            ) -> Result<&'static Shape, Node<'n>> {
+                Err(Node::List(List::new(self, place)))
             }
         }
 
@@ -54,14 +61,19 @@ macro_rules! lists {
                 let mut list = *self;
                 let mut before = list.bytes;
                 while let Some(element) = list.next() {
-                    let len = before.len() - list.bytes.len();
-                    visit(&element, before.get(..len))?;
+                    visit(&element, read_up_to(before, list.bytes))?;
                     before = list.bytes;
                 }
                 ControlFlow::Continue(())
             }
         }
     )+};
+}
+
+/// Returns the bytes that were read, given those before and after reading.
+#[inline(never)]
+fn read_up_to<'a>(before: &'a [u8], left: &[u8]) -> Option<&'a [u8]> {
+    before.get(..before.len() - left.len())
 }
 
 lists! {
@@ -71,45 +83,43 @@ lists! {
 }
 
 impl<T: Tree> Tree for Option<T> {
-    fn node<'n>(&'n self, place: Place<'n>) -> Node<'n> {
-        match self {
-            Some(value) => Node::Present(Child::new(value, place)),
-            None => Node::Absent,
-        }
+    fn shape<'n>(
+        &'n self,
+        _: Place<'n>,
+        values: &mut Values<&'n dyn Tree>,
+    ) -> Result<&'static Shape, Node<'n>> {
+        static PRESENT: Shape = Shape::new(Kind::Present, "", &[("0", Role::Plain)]);
+        self.as_ref().map(|value| values.one(&PRESENT, value)).ok_or(Node::Absent)
     }
 }
 
 /// A name and the named value.
 impl<N: Tree, T: Tree> Tree for (N, T) {
-    fn node<'n>(&'n self, place: Place<'n>) -> Node<'n> {
-        Node::Tuple(Fields::new(self, place))
-    }
-}
-
-impl<N: Tree, T: Tree> Whole for (N, T) {
-    fn fields<'n>(&'n self, place: Place<'n>) -> Named<'n> {
-        pair(&self.0, &self.1, place)
+    fn shape<'n>(
+        &'n self,
+        _: Place<'n>,
+        values: &mut Values<&'n dyn Tree>,
+    ) -> Result<&'static Shape, Node<'n>> {
+        static PAIR: Shape = Shape::new(Kind::Tuple, "", &[("0", Role::Plain), ("1", Role::Plain)]);
+        Ok(values.two(&PAIR, &self.0, &self.1))
     }
 }
 
 /// A name, and the kind and the index of the named item.
 impl<N: Tree, K: Tree + Copy + Into<Space>> Tree for (N, K, u32) {
-    fn node<'n>(&'n self, place: Place<'n>) -> Node<'n> {
-        Node::Tuple(Fields::new(self, place))
-    }
-}
-
-impl<N: Tree, K: Tree + Copy + Into<Space>> Whole for (N, K, u32) {
-    fn fields<'n>(&'n self, place: Place<'n>) -> Named<'n> {
+    fn shape<'n>(
+        &'n self,
+        _: Place<'n>,
+        values: &mut Values<&'n dyn Tree>,
+    ) -> Result<&'static Shape, Node<'n>> {
+        static ITEM: Shape = Shape::new(
+            Kind::Tuple,
+            "",
+            &[("0", Role::Plain), ("1", Role::Plain), ("2", Role::Outer)],
+        );
         let (name, kind, index) = self;
-        named_index(name, kind, (index, place.outer(0, (*kind).into())), place)
-    }
-}
-
-/// Its node is that of the owned name, whose options are a struct.
-impl Tree for NameView<'_> {
-    fn node<'n>(&'n self, place: Place<'n>) -> Node<'n> {
-        Node::Record("NameTree", Fields::new(self, place))
+        values.outer = (0, (*kind).into());
+        Ok(values.three(&ITEM, name, kind, index))
     }
 }
 
@@ -139,15 +149,14 @@ impl Part for NameView<'_> {
     }
 }
 
-/// Its node is that of the owned type, whose variants have a struct.
-impl Tree for CoreCompositeView<'_> {
-    fn node<'n>(&'n self, place: Place<'n>) -> Node<'n> {
-        let name = match self {
+impl CoreCompositeView<'_> {
+    /// Returns the name of the variant.
+    fn word(&self) -> &'static str {
+        match self {
             Self::Func { .. } => "Func",
             Self::Array(_) => "Array",
             Self::Struct(_) => "Struct",
-        };
-        Node::Variant(name, Child::part(self, place))
+        }
     }
 }
 
@@ -155,7 +164,7 @@ impl Part for CoreCompositeView<'_> {
     fn part<'n>(&'n self, place: Place<'n>) -> Node<'n> {
         match self {
             Self::Func { .. } => Node::Record("CoreFuncType", Fields::part(self, place)),
-            Self::Array(ty) => ty.node(place),
+            Self::Array(ty) => node_of(ty, place),
             Self::Struct(_) => Node::Record("CoreStructType", Fields::part(self, place)),
         }
     }
@@ -173,7 +182,11 @@ impl Part for CoreCompositeView<'_> {
 }
 
 impl Tree for CoreArrayType {
-    fn node<'n>(&'n self, place: Place<'n>) -> Node<'n> {
-        self.0.node(place)
+    fn shape<'n>(
+        &'n self,
+        place: Place<'n>,
+        values: &mut Values<&'n dyn Tree>,
+    ) -> Result<&'static Shape, Node<'n>> {
+        self.0.shape(place, values)
     }
 }
