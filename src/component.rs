@@ -247,6 +247,7 @@ pub struct UnknownSectionId(
 );
 
 impl fmt::Display for UnknownSectionId {
+    #[inline]
     fn fmt(&self, f: &mut fmt::Formatter<'_>) -> fmt::Result {
         write!(f, "no section has the id {}", self.0)
     }

@@ -160,6 +160,7 @@ pub enum ModuleFault {
 }
 
 impl fmt::Display for ModuleFault {
+    #[inline]
     fn fmt(&self, f: &mut fmt::Formatter<'_>) -> fmt::Result {
         match self {
             Self::NotAModule { found } => write!(f, "no core module's header: found {found}"),

@@ -224,6 +224,7 @@ pub enum NamesFault {
 }
 
 impl fmt::Display for NamesFault {
+    #[inline]
     fn fmt(&self, f: &mut fmt::Formatter<'_>) -> fmt::Result {
         match self {
             Self::NoMemory => f.write_str("no memory"),

@@ -155,6 +155,7 @@ impl ListFault {
 }
 
 /// Writes the part of a section that can't be read, then the section's place.
+#[inline]
 fn write_unread(
     f: &mut fmt::Formatter<'_>,
     item: &str,
@@ -169,6 +170,7 @@ fn write_unread(
 }
 
 /// Writes what was found where an item is expected.
+#[inline]
 fn write_expected(
     f: &mut fmt::Formatter<'_>,
     section: ComponentSectionId,
@@ -189,11 +191,13 @@ fn write_expected(
 }
 
 /// Writes why, behind what.
+#[inline]
 pub(crate) fn write_cause(f: &mut fmt::Formatter<'_>, cause: Option<Cause>) -> fmt::Result {
     cause.map_or(Ok(()), |cause| write!(f, ": {cause}"))
 }
 
 /// Writes the part of a section that can't be read.
+#[inline]
 pub(crate) fn write_part(f: &mut fmt::Formatter<'_>, item: &str, unread: Unread) -> fmt::Result {
     match unread {
         Unread::Count { place } => write!(f, "bad count at {place:#x}"),
@@ -203,6 +207,7 @@ pub(crate) fn write_part(f: &mut fmt::Formatter<'_>, item: &str, unread: Unread)
 }
 
 impl fmt::Display for ListFault {
+    #[inline]
     fn fmt(&self, f: &mut fmt::Formatter<'_>) -> fmt::Result {
         match *self {
             Self::NoMemory => f.write_str("no memory"),

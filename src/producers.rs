@@ -113,6 +113,7 @@ impl ProducersFault {
 }
 
 impl fmt::Display for ProducersFault {
+    #[inline]
     fn fmt(&self, f: &mut fmt::Formatter<'_>) -> fmt::Result {
         write!(f, "bad producers at {:#x}: {}", self.place, self.cause)
     }

@@ -102,6 +102,7 @@ impl Cause {
 }
 
 impl fmt::Display for Cause {
+    #[inline]
     fn fmt(&self, f: &mut fmt::Formatter<'_>) -> fmt::Result {
         match *self {
             Self::Byte { place, byte, expected } => {
@@ -138,6 +139,7 @@ impl Bytes {
 
 /// Writes the ranges in order, or that the end is expected.
 impl fmt::Display for Bytes {
+    #[inline]
     fn fmt(&self, f: &mut fmt::Formatter<'_>) -> fmt::Result {
         if self.ranges().next().is_none() {
             return f.write_str("the end");

@@ -61,6 +61,7 @@ impl Found {
 }
 
 impl fmt::Display for Found {
+    #[inline]
     fn fmt(&self, f: &mut fmt::Formatter<'_>) -> fmt::Result {
         f.write_str(match self {
             Self::Nothing => "nothing",
@@ -74,6 +75,7 @@ impl fmt::Display for Found {
 }
 
 /// What an item of a section is called.
+#[inline]
 pub(super) fn item_of(section: ComponentSectionId) -> &'static str {
     match section {
         ComponentSectionId::CoreCustom => "a custom section",

@@ -31,6 +31,7 @@ impl Space {
 /// The sort of what is in the space, as the standard's text format writes it: `core module`,
 /// `func`.
 impl fmt::Display for Space {
+    #[inline]
     fn fmt(&self, f: &mut fmt::Formatter<'_>) -> fmt::Result {
         f.pad(match self {
             Self::CoreModules => "core module",

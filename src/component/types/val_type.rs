@@ -6,6 +6,7 @@ use core::fmt;
 
 /// The type as WIT and the text format write it: `u8`, `error-context`.
 impl fmt::Display for PrimitiveValType {
+    #[inline]
     fn fmt(&self, f: &mut fmt::Formatter<'_>) -> fmt::Result {
         f.pad(match self {
             Self::Bool => "bool",

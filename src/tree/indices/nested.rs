@@ -175,6 +175,7 @@ impl From<Error> for OuterFault {
 }
 
 impl fmt::Display for OuterFault {
+    #[inline]
     fn fmt(&self, f: &mut fmt::Formatter<'_>) -> fmt::Result {
         match self {
             Self::Read(fault) => write!(f, "a nested component isn't read: {fault}"),
