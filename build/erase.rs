@@ -15,8 +15,9 @@
 //!   ([`NARROWED`]) to `pub(crate)`;
 //! - *adds*: the names that are in scope by default, before a file's first item; the derives that
 //!   users of Rust expect of a type ([`known::TREES`], [`known::DERIVED_TOO`]); `Display` and
-//!   `Error` after an enum that derives `Error`; `pub` to `main`; `#[inline]` to the functions in
-//!   [`INLINED`]; conditions to the items that exist only with a feature ([`with_conditions`]);
+//!   `Error` after an enum that derives `Error`; `pub` to `main`; `pub(crate)` to the functions in
+//!   [`WIDENED`]; `#[inline]` to the functions in [`INLINED`]; conditions to the items that exist
+//!   only with a feature ([`with_conditions`]);
 //! - *refuses*: everything else that it doesn't know, such as a module with a body, and a `Clone`
 //!   or a `clone` that the source defines itself. No crate is better than one that does something
 //!   else than was proved.
@@ -39,7 +40,7 @@ mod lexer;
 
 #[allow(unused_imports, reason = "the build script has crates of features")]
 pub use conditions::{TREE, WALK, is_owned};
-use known::{ALLOCATING, HANDED, INLINED, KEYWORDS, MAKING, NARROWED, OWNED, PLAIN};
+use known::{ALLOCATING, HANDED, INLINED, KEYWORDS, MAKING, NARROWED, OWNED, PLAIN, WIDENED};
 use lexer::{Kind, Token, tokens};
 use std::borrow::Cow;
 
@@ -184,6 +185,7 @@ impl<'a> Eraser<'a> {
         match self.at(i) {
             "Drop" => self.bound(i)?,
             "fn" if self.at(i + 1) == "main" => self.put(i, "pub fn"),
+            "fn" if self.is_widened(i) => self.put(i, "pub(crate) fn"),
             word @ ("fn" | "pub") if self.is_inlined(i) => self.put(i, format!("#[inline] {word}")),
             "mod" if self.is_taken(self.at(i + 1)) => {
                 return Err((self.line(i), "a module with the name of a crate"));
@@ -248,6 +250,12 @@ impl<'a> Eraser<'a> {
         let is_item = |j: &usize| matches!(self.before(*j, 1), "" | ";" | "]" | "}" | "pub");
         let mut owners = (0..i).rev().filter(|j| self.at(*j) == keyword).filter(is_item);
         owners.next().is_some_and(|j| NARROWED.contains(&(self.owner(j), name)))
+    }
+
+    /// Returns whether a private function begins here that the facade calls.
+    fn is_widened(&self, i: usize) -> bool {
+        let is_private = !["pub", ")"].contains(&self.before(i, 1));
+        is_private && WIDENED.contains(&(self.name, self.at(i + 1)))
     }
 
     /// Returns whether a function begins here that is inlined, and that has no attribute in Rust.

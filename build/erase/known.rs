@@ -156,6 +156,9 @@ pub const NARROWED: [(&str, &str); 10] = [
     ("NameTree", "as_name"),
 ];
 
+/// Private functions that the facade calls, each with its crate.
+pub const WIDENED: [(&str, &str); 1] = [("wasm_encoder", "run")];
+
 /// The modules that exist only with a feature, each with its condition.
 pub const PARTIAL: [(&str, &str); 9] = [
     ("canon_tree", WALK),

@@ -3,12 +3,12 @@
 
 use super::allocators;
 use super::erase::TREE;
-use super::erase::known::{DERIVED_TOO, INNER, NARROWED, OWNED, PARTIAL, TREES};
+use super::erase::known::{DERIVED_TOO, INNER, NARROWED, OWNED, PARTIAL, TREES, WIDENED};
 use super::lexer::{Token, lex};
 use std::collections::BTreeMap;
 
 /// The ways, each of which some source takes.
-pub const WAYS: [&str; 28] = [
+pub const WAYS: [&str; 29] = [
     "kept",
     "prelude",
     "attribute of the prover left out",
@@ -33,6 +33,7 @@ pub const WAYS: [&str; 28] = [
     "function that is handed an allocator",
     "macro that is handed an allocator",
     "main is pub",
+    "function that the facade calls",
     "function that is inlined",
     "module of a feature",
     "item of a feature",
@@ -466,6 +467,9 @@ impl<'a> Source<'a> {
                 Some(step("member that stays in this crate", 1, "pub(crate)"))
             }
             "fn" if next == "main" => Some(step("main is pub", 2, "pub fn main")),
+            "fn" if self.before(1) != "pub" && WIDENED.contains(&(self.crate_name, next)) => {
+                Some(step("function that the facade calls", 1, "pub(crate) fn"))
+            }
             _ if self.allocators.iter().any(|name| name == word) => {
                 Some(step("allocator is Global", 1, "crate::shim::alloc::Global"))
             }

@@ -3,7 +3,9 @@
 use crate::Error;
 use crate::SectionItem;
 use crate::component::ComponentBuilder;
-use crate::proved::wasm_encoder as proved;
+use crate::proved::wasm_encoder::CustomSection;
+use crate::proved::wasm_encoder::command::run;
+use crate::shim::alloc::Global;
 use crate::tree::{Command, ItemTree};
 use crate::twins::twins;
 
@@ -34,12 +36,7 @@ impl ComponentBuilder {
             debug_name: Option<&str>,
             item: &impl SectionItem,
         ) -> Option<u32> {
-            let was_finished = self.is_finished();
-            let added = item.with_tree(|item| self.tree(debug_name, item));
-            if added.is_err() && was_finished {
-                self.discard_unfinished();
-            }
-            added
+            self.or_unchanged(|builder| item.with_tree(|item| builder.tree(debug_name, item)))
         }
     }
 
@@ -71,7 +68,7 @@ impl ComponentBuilder {
                 builder.export(name.as_name(), *kind, *index, *ty)?
             }
             ItemTree::Custom { name, data } => {
-                builder.custom_section(&proved::CustomSection { name, data })?;
+                builder.custom_section(&CustomSection { name, data })?;
                 return Ok(None);
             }
         };
@@ -109,81 +106,19 @@ impl ComponentBuilder {
     /// # Ok::<(), wenc::Error>(())
     /// ```
     pub fn command(&mut self, command: &Command) -> Result<Option<u32>, Error> {
+        self.or_unchanged(|builder| Ok(run(command, Global, &mut builder.0)??))
+    }
+
+    /// Adds an item. If that fails, discards the type that it leaves unfinished.
+    fn or_unchanged(
+        &mut self,
+        add: impl FnOnce(&mut Self) -> Result<Option<u32>, Error>,
+    ) -> Result<Option<u32>, Error> {
         let was_finished = self.is_finished();
-        let result = self.run(command);
-        if result.is_err() && was_finished {
+        let added = add(self);
+        if added.is_err() && was_finished {
             self.discard_unfinished();
         }
-        result
-    }
-
-    /// Makes the call that a command describes. A type that can't be encoded is left unfinished.
-    fn run(&mut self, command: &Command) -> Result<Option<u32>, Error> {
-        let (builder, name) = (&mut self.0, debug_name(command));
-        let index = match command {
-            Command::CoreModule { bytes, .. } => builder.core_module_raw(name, bytes)?,
-            Command::CoreInstance { instance, .. } => builder.core_instance_tree(name, instance)?,
-            Command::CoreType { ty, .. } => {
-                let (index, encoder) = builder.core_type(name)?;
-                encoder.tree(ty)?;
-                index
-            }
-            Command::Component { commands, .. } => self.nested(name, commands)?,
-            Command::ComponentRaw { bytes, .. } => builder.component_raw(name, bytes)?,
-            Command::Instance { instance, .. } => builder.instance_tree(name, instance)?,
-            Command::Alias { alias, .. } => builder.alias(name, alias.as_alias())?,
-            Command::Type { ty, .. } => {
-                let (index, encoder) = builder.ty(name)?;
-                encoder.tree(ty)?;
-                index
-            }
-            Command::Canon { canon, .. } => builder.canonical_tree(name, canon)?,
-            Command::Start { function, args, results } => {
-                builder.start(*function, args, *results)?
-            }
-            Command::Import { name, ty } => builder.import(name.as_name(), *ty)?,
-            Command::Export { name, kind, index, ty } => {
-                builder.export(name.as_name(), *kind, *index, *ty)?
-            }
-            Command::AppendNames => return self.try_append_names().map(|()| None),
-            Command::Custom { name, data } => {
-                builder.custom_section(&proved::CustomSection { name, data })?;
-                return Ok(None);
-            }
-            Command::RawCustom { bytes } => {
-                return self.try_raw_custom_section(bytes).map(|()| None);
-            }
-        };
-        Ok(Some(index))
-    }
-
-    /// Builds the component that these commands describe, and nests it.
-    fn nested(&mut self, debug_name: Option<&str>, commands: &[Command]) -> Result<u32, Error> {
-        let mut nested = Self::try_new()?;
-        for command in commands {
-            nested.command(command)?;
-        }
-        self.try_component(debug_name, nested)
-    }
-}
-
-/// The debug name of a command's item.
-fn debug_name(command: &Command) -> Option<&str> {
-    match command {
-        Command::CoreModule { debug_name, .. }
-        | Command::CoreInstance { debug_name, .. }
-        | Command::CoreType { debug_name, .. }
-        | Command::Component { debug_name, .. }
-        | Command::ComponentRaw { debug_name, .. }
-        | Command::Instance { debug_name, .. }
-        | Command::Alias { debug_name, .. }
-        | Command::Type { debug_name, .. }
-        | Command::Canon { debug_name, .. } => debug_name.as_deref(),
-        Command::Start { .. }
-        | Command::Import { .. }
-        | Command::Export { .. }
-        | Command::AppendNames
-        | Command::Custom { .. }
-        | Command::RawCustom { .. } => None,
+        added
     }
 }
