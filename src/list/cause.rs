@@ -161,6 +161,7 @@ impl fmt::Display for Bytes {
 }
 
 impl fmt::Debug for Bytes {
+    #[inline]
     fn fmt(&self, f: &mut fmt::Formatter<'_>) -> fmt::Result {
         f.debug_set().entries(self.ranges()).finish()
     }

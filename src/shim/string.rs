@@ -48,10 +48,12 @@ impl StringUsing for String {
     #[inline]
     fn from_str(_alloc: Global, text: &str) -> Result<Self, AllocError> {
         let mut made = String::new();
-        if !text.is_empty() && (is_refused() || made.try_reserve_exact(text.len()).is_err()) {
-            return Err(AllocError);
+        if !text.is_empty() {
+            if is_refused() || made.try_reserve_exact(text.len()).is_err() {
+                return Err(AllocError);
+            }
+            made.push_str(text);
         }
-        made.push_str(text);
         Ok(made)
     }
 

@@ -132,7 +132,7 @@ impl<'a> Visited<'a> {
                 visit(IndexUse { space, scope: Scope::Component(out), index });
                 self.is_changed |= *index != before;
             })?;
-            self.add(|builder| builder.command(&item.into()).map(drop));
+            self.add(|builder| builder.try_item(None, &item).map(drop));
         }
         Ok(())
     }
