@@ -47,11 +47,12 @@ use core::ops::ControlFlow;
 #[cfg(feature = "tree")]
 pub(super) use owned::each_index;
 #[cfg(feature = "tree")]
-use owned::{TreeMut, indices_of_enum, indices_of_struct};
+use owned::{Muts, TreeMut};
 pub(super) use place::Place;
 pub use place::{IndexCounts, Scopes};
 pub(super) use shape::Named;
 use shape::{Kind, Role, Shape, Values, filled, named, role, shape};
+use values::leaves;
 
 /// A function that takes the elements of a list, each with the bytes that it was read from, until
 /// it breaks.
@@ -61,19 +62,21 @@ pub(super) type Visit<'v> = dyn FnMut(&dyn Tree, Option<&[u8]>) -> ControlFlow<(
 pub(super) trait Tree {
     /// Sets the values of the fields, and returns their shape; or the node of a value at this place
     /// that has no shape.
-    fn shape<'n>(
-        &'n self,
-        place: Place<'n>,
-        values: &mut Values<&'n dyn Tree>,
-    ) -> Result<&'static Shape, Node<'n>>;
+    fn shape<'n>(&'n self, place: Place<'n>, values: &mut Refs<'n>) -> Shaped<'n>;
 }
+
+/// The values of the fields of a borrowed or owned value.
+pub(super) type Refs<'n> = Values<&'n dyn Tree>;
+
+/// The shape of a value, or its node.
+pub(super) type Shaped<'n> = Result<&'static Shape, Node<'n>>;
 
 /// Returns the value at this place as a node.
 #[inline(never)]
 pub(super) fn node_of<'n>(tree: &'n dyn Tree, place: Place<'n>) -> Node<'n> {
     let mut values = Values::new();
     match tree.shape(place, &mut values) {
-        Ok(shape) => shape.node(&values, tree, place),
+        Ok(shape) => shape.node(&mut values, tree, place),
         Err(node) => node,
     }
 }
@@ -82,7 +85,10 @@ pub(super) fn node_of<'n>(tree: &'n dyn Tree, place: Place<'n>) -> Node<'n> {
 #[inline(never)]
 pub(super) fn fields_of<'n>(tree: &'n dyn Tree, place: Place<'n>) -> Named<'n> {
     let mut values = Values::new();
-    tree.shape(place, &mut values).map_or([None; 4], |shape| shape.named(&values, place))
+    match tree.shape(place, &mut values) {
+        Ok(shape) => shape.named(&mut values, place),
+        Err(_) => [None; 4],
+    }
 }
 
 /// Returns the space and the number of the indices that a declaration defines.
@@ -139,25 +145,49 @@ macro_rules! shapes {
     };
 }
 
-/// Implements `Tree` for an enum, by its variants.
-macro_rules! node_of_enum {
-    ([$($generics:tt)*] $ty:ty, {
+/// Sets the values of the fields of an enum, and returns the shape of the variant.
+macro_rules! variant {
+    ($whole:ident $values:ident {
         $($name:ident $(($one:ident $(: $of:tt)?))? $({ $($field:ident $(: $role:tt)?),+ })?
             $(in $outer:tt)? $(=> $defined:expr)?),+ $(,)?
     }) => {
+        match $whole {$(
+            Self::$name $(($one))? $({ $($field),+ })? => {
+                $($values.defined = $defined;)?
+                filled!($values $name [$($outer)?] $($one)? $($($field)+)?)
+            }
+        )+}
+    };
+}
+
+/// Sets the values of the fields of a struct, and returns its shape.
+macro_rules! record {
+    ($whole:ident $values:ident { $($field:ident $(: $role:tt)?),+ }) => {{
+        let Self { $($field),+ } = $whole;
+        filled!($values SHAPE [] $($field)+)
+    }};
+}
+
+/// Implements `Tree` for a type by its shapes.
+macro_rules! tree_by {
+    ($shape:ident $fields:tt [$($generics:tt)*] $ty:ty) => {
         impl $($generics)* Tree for $ty {
-            #[allow(unused_variables, reason = "not all enums have fields")]
-            fn shape<'n>(
-                &'n self,
-                _: Place<'n>,
-                values: &mut Values<&'n dyn Tree>,
-            ) -> Result<&'static Shape, Node<'n>> {
-                Ok(match self {$(
-                    Self::$name $(($one))? $({ $($field),+ })? => {
-                        $(values.defined = $defined;)?
-                        filled!(values $name [$($outer)?] $($one)? $($($field)+)?)
-                    }
-                )+})
+            #[allow(unused_variables, reason = "not all variants have fields")]
+            fn shape<'n>(&'n self, _: Place<'n>, values: &mut Refs<'n>) -> Shaped<'n> {
+                Ok($shape!(self values $fields))
+            }
+        }
+    };
+}
+
+/// Implements `TreeMut` for a type by its shapes.
+#[cfg(feature = "tree")]
+macro_rules! tree_mut_by {
+    ($shape:ident $fields:tt [$($generics:tt)*] $ty:ty) => {
+        impl $($generics)* TreeMut for $ty {
+            #[allow(unused_variables, reason = "not all variants have fields")]
+            fn shape_mut<'n>(&'n mut self, values: &mut Muts<'n>) -> Option<&'static Shape> {
+                Some($shape!(self values $fields))
             }
         }
     };
@@ -175,9 +205,9 @@ macro_rules! enums {
     };
     ($tree:ident = $ty:ident<$of:ident> $variants:tt $($rest:tt)*) => {
         enums! { @shaped $variants
-            node_of_enum! { [<$of: Tree>] $ty<$of>, $variants }
+            tree_by! { variant $variants [<$of: Tree>] $ty<$of> }
             #[cfg(feature = "tree")]
-            indices_of_enum! { [<$of: TreeMut>] $ty<$of>, $variants }
+            tree_mut_by! { variant $variants [<$of: TreeMut>] $ty<$of> }
         }
         #[cfg(all(test, feature = "tree"))]
         random::random_enum! { super::$tree, $variants }
@@ -185,24 +215,24 @@ macro_rules! enums {
     };
     ($tree:ident = $view:ident $variants:tt $($rest:tt)*) => {
         enums! { @shaped $variants
-            node_of_enum! { [] $view<'_>, $variants }
+            tree_by! { variant $variants [] $view<'_> }
             #[cfg(feature = "tree")]
-            node_of_enum! { [] $tree, $variants }
+            tree_by! { variant $variants [] $tree }
             #[cfg(feature = "tree")]
-            indices_of_enum! { [] $tree, $variants }
+            tree_mut_by! { variant $variants [] $tree }
         }
         #[cfg(all(test, feature = "tree"))]
         random::random_enum! { $tree, $variants }
         enums! { $($rest)* }
     };
     ($view:ident<'_> $variants:tt) => {
-        enums! { @shaped $variants node_of_enum! { [] $view<'_>, $variants } }
+        enums! { @shaped $variants tree_by! { variant $variants [] $view<'_> } }
     };
     ($ty:ident $variants:tt $($rest:tt)*) => {
         enums! { @shaped $variants
-            node_of_enum! { [] $ty, $variants }
+            tree_by! { variant $variants [] $ty }
             #[cfg(feature = "tree")]
-            indices_of_enum! { [] $ty, $variants }
+            tree_mut_by! { variant $variants [] $ty }
         }
         #[cfg(all(test, feature = "tree"))]
         random::random_enum! { $ty, $variants }
@@ -210,20 +240,15 @@ macro_rules! enums {
     };
 }
 
-/// Implements `Tree` for a struct, by its fields.
-macro_rules! node_of_struct {
-    ($ty:ty, { $($field:ident $(: $role:tt)?),+ }) => {
-        impl Tree for $ty {
-            fn shape<'n>(
-                &'n self,
-                _: Place<'n>,
-                values: &mut Values<&'n dyn Tree>,
-            ) -> Result<&'static Shape, Node<'n>> {
-                let Self { $($field),+ } = self;
-                Ok(filled!(values SHAPE [] $($field)+))
-            }
-        }
-    };
+/// Implements `Tree` and `TreeMut` for enums without fields, and in tests `Random`.
+macro_rules! words {
+    ($($ty:ident { $($name:ident),+ $(,)? })+) => {$(
+        leaves! { $ty, word, _ => Node::Word(match word { $($ty::$name => stringify!($name)),+ }); }
+        #[cfg(feature = "tree")]
+        impl TreeMut for $ty {}
+        #[cfg(all(test, feature = "tree"))]
+        random::random_enum! { $ty, { $($name),+ } }
+    )+};
 }
 
 /// Implements `Tree` and `TreeMut` for structs, and in tests `Random`. A name is that of the owned
@@ -233,11 +258,11 @@ macro_rules! structs {
     ($tree:ident = $view:ident $fields:tt $($rest:tt)*) => {
         const _: () = {
             static SHAPE: Shape = shape!(Record $tree $fields);
-            node_of_struct! { $view<'_>, $fields }
+            tree_by! { record $fields [] $view<'_> }
             #[cfg(feature = "tree")]
-            node_of_struct! { $tree, $fields }
+            tree_by! { record $fields [] $tree }
             #[cfg(feature = "tree")]
-            indices_of_struct! { $tree, $fields }
+            tree_mut_by! { record $fields [] $tree }
         };
         #[cfg(all(test, feature = "tree"))]
         random::random_struct! { $tree, $fields }
@@ -246,9 +271,9 @@ macro_rules! structs {
     ($ty:ident $fields:tt $($rest:tt)*) => {
         const _: () = {
             static SHAPE: Shape = shape!(Record $ty $fields);
-            node_of_struct! { $ty, $fields }
+            tree_by! { record $fields [] $ty }
             #[cfg(feature = "tree")]
-            indices_of_struct! { $ty, $fields }
+            tree_mut_by! { record $fields [] $ty }
         };
         #[cfg(all(test, feature = "tree"))]
         random::random_struct! { $ty, $fields }
@@ -288,6 +313,18 @@ enums! {
     }
 }
 
+words! {
+    ComponentExportKind { Module, Func, Value, Type, Instance, Component }
+    ComponentOuterAliasKind { CoreModule, CoreType, Type, Component }
+    CoreAbstractHeapType {
+        Func, Extern, Any, None, NoExtern, NoFunc, Eq, Struct, Array, I31, Exn, NoExn
+    }
+    ExportKind { Func, Table, Memory, Global, Tag }
+    PrimitiveValType {
+        Bool, S8, U8, S16, U16, S32, U32, S64, U64, F32, F64, Char, String, ErrorContext
+    }
+}
+
 enums! {
     AliasTree = Alias {
         InstanceExport { instance: Instances, kind, name } => one(*kind),
@@ -304,23 +341,12 @@ enums! {
     ComponentDecl = ComponentDeclView {
         Import { name, ty } => one(ty.kind()),
         Decl(declared) => defined(declared),
-    }
-
-    ComponentExportKind { Module, Func, Value, Type, Instance, Component }
-
-    ComponentOuterAliasKind { CoreModule, CoreType, Type, Component }
-
-    ComponentTypeRef {
+    }    ComponentTypeRef {
         Module(index: CoreTypes), Func(index: Types), Value(ty), Type(bounds),
         Instance(index: Types), Component(index: Types),
     }
 
     ComponentValType { Primitive(ty), Type(index: Types) }
-
-    CoreAbstractHeapType {
-        Func, Extern, Any, None, NoExtern, NoFunc, Eq, Struct, Array, I31, Exn, NoExn
-    }
-
     CoreEntityType {
         Function(index: CoreTypes) => one(Space::CoreFuncs),
         Table(ty) => one(Space::CoreTables),
@@ -350,9 +376,6 @@ enums! {
         Option(ty), Result { ok, err },
         Own(index: Types), Borrow(index: Types), Future(ty), Stream(ty),
     }
-
-    ExportKind { Func, Table, Memory, Global, Tag }
-
     GroupTree = GroupView {
         Sub(ty) => one(Space::CoreTypes),
         Rec(types) => group(types.len()),
@@ -386,11 +409,6 @@ enums! {
         Alias { count, index: outer } in (*count, Space::CoreTypes) => one(Space::CoreTypes),
         Export { name, ty },
     }
-
-    PrimitiveValType {
-        Bool, S8, U8, S16, U16, S32, U32, S64, U64, F32, F64, Char, String, ErrorContext
-    }
-
     TypeBounds { Eq(index: Types), SubResource }
 
     TypeTree = TypeView {

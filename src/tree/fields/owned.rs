@@ -2,7 +2,7 @@
 
 use super::shape::{Kind, Role, Shape, Values};
 use super::values::leaves;
-use super::{Elements, Named, Node, Place, Tree, Visit, Whole, named};
+use super::{Elements, Named, Node, Place, Refs, Shaped, Tree, Visit, Whole, named};
 use crate::shim::vec::VecUsing;
 use crate::tree::indices::{IndexUse, Visitor};
 use crate::tree::node::{Child, Fields, List};
@@ -18,13 +18,16 @@ use core::ops::ControlFlow;
 pub(in crate::tree) trait TreeMut: Tree {
     /// Sets the values of the fields, and returns the shape. A value without a shape, but with
     /// indices, is set itself.
-    fn shape_mut<'n>(&'n mut self, _: &mut Values<&'n mut dyn TreeMut>) -> Option<&'static Shape> {
+    fn shape_mut<'n>(&'n mut self, _: &mut Muts<'n>) -> Option<&'static Shape> {
         None
     }
 
     /// Visits the indices in the value at this place, which has no shape.
     fn visit(&mut self, _: Place<'_>, _: &mut Visitor<'_>) {}
 }
+
+/// The values of the fields of an owned value.
+pub(super) type Muts<'n> = Values<&'n mut dyn TreeMut>;
 
 /// Visits each index in the value at this place, in the order in which they are encoded. It calls
 /// itself for lists, and for all but one of the fields, so that nested types take little stack.
@@ -36,12 +39,13 @@ pub(in crate::tree) fn each_index(
     loop {
         let mut values = Values::new();
         let Some(shape) = tree.shape_mut(&mut values) else {
-            return values.itself().map_or((), |tree| tree.visit(place, visitor));
+            return values.take(0).map_or((), |tree| tree.visit(place, visitor));
         };
         // the field that is visited behind those before it
         let mut left: Option<(&mut dyn TreeMut, Place<'_>)> = None;
-        for (value, role) in values.into_fields(shape) {
-            let place = role.place(place);
+        for (at, (_, role)) in shape.fields.iter().enumerate() {
+            let Some(value) = values.take(at) else { continue };
+            let place = values.place(*role, place);
             match left {
                 Some((_, Place { is_last: true, .. })) => each_index(value, place, visitor),
                 _ => {
@@ -58,46 +62,6 @@ pub(in crate::tree) fn each_index(
     }
 }
 
-/// Implements `TreeMut` for an enum, by its variants.
-macro_rules! indices_of_enum {
-    ([$($generics:tt)*] $ty:ty, {
-        $($name:ident $(($one:ident $(: $of:tt)?))? $({ $($field:ident $(: $role:tt)?),+ })?
-            $(in $outer:tt)? $(=> $defined:expr)?),+ $(,)?
-    }) => {
-        impl $($generics)* TreeMut for $ty {
-            #[allow(unused_variables, reason = "not all enums have fields")]
-            fn shape_mut<'n>(
-                &'n mut self,
-                values: &mut Values<&'n mut dyn TreeMut>,
-            ) -> Option<&'static Shape> {
-                Some(match self {$(
-                    Self::$name $(($one))? $({ $($field),+ })? => {
-                        $(values.defined = $defined;)?
-                        filled!(values $name [$($outer)?] $($one)? $($($field)+)?)
-                    }
-                )+})
-            }
-        }
-    };
-}
-
-/// Implements `TreeMut` for a struct, by its fields.
-macro_rules! indices_of_struct {
-    ($ty:ident, { $($field:ident $(: $role:tt)?),+ }) => {
-        impl TreeMut for $ty {
-            fn shape_mut<'n>(
-                &'n mut self,
-                values: &mut Values<&'n mut dyn TreeMut>,
-            ) -> Option<&'static Shape> {
-                let Self { $($field),+ } = self;
-                Some(filled!(values SHAPE [] $($field)+))
-            }
-        }
-    };
-}
-
-pub(super) use {indices_of_enum, indices_of_struct};
-
 leaves! {
     String, text, _ => Node::Text(text);
     Vec<u8>, bytes, _ => Node::Bytes(bytes);
@@ -109,11 +73,9 @@ impl TreeMut for String {}
 impl TreeMut for Vec<u8> {}
 
 impl TreeMut for u32 {
-    fn shape_mut<'n>(
-        &'n mut self,
-        values: &mut Values<&'n mut dyn TreeMut>,
-    ) -> Option<&'static Shape> {
-        values.set_itself(self)
+    fn shape_mut<'n>(&'n mut self, values: &mut Muts<'n>) -> Option<&'static Shape> {
+        values.one(&INNER, self);
+        None
     }
 
     fn visit(&mut self, place: Place<'_>, visitor: &mut Visitor<'_>) {
@@ -124,11 +86,7 @@ impl TreeMut for u32 {
 }
 
 impl<T: Tree> Tree for Vec<T> {
-    fn shape<'n>(
-        &'n self,
-        place: Place<'n>,
-        _: &mut Values<&'n dyn Tree>,
-    ) -> Result<&'static Shape, Node<'n>> {
+    fn shape<'n>(&'n self, place: Place<'n>, _: &mut Refs<'n>) -> Shaped<'n> {
         Err(Node::List(List::new(self, place)))
     }
 }
@@ -149,11 +107,9 @@ impl<T: Tree> Elements for Vec<T> {
 }
 
 impl<T: TreeMut> TreeMut for Vec<T> {
-    fn shape_mut<'n>(
-        &'n mut self,
-        values: &mut Values<&'n mut dyn TreeMut>,
-    ) -> Option<&'static Shape> {
-        values.set_itself(self)
+    fn shape_mut<'n>(&'n mut self, values: &mut Muts<'n>) -> Option<&'static Shape> {
+        values.one(&INNER, self);
+        None
     }
 
     fn visit(&mut self, place: Place<'_>, visitor: &mut Visitor<'_>) {
@@ -170,47 +126,31 @@ static INNER: Shape = Shape::new(Kind::Variant, "", &[("0", Role::Plain)]);
 static INDEX: Shape = Shape::new(Kind::Variant, "", &[("0", Role::Outer)]);
 
 impl<T: TreeMut> TreeMut for Option<T> {
-    fn shape_mut<'n>(
-        &'n mut self,
-        values: &mut Values<&'n mut dyn TreeMut>,
-    ) -> Option<&'static Shape> {
+    fn shape_mut<'n>(&'n mut self, values: &mut Muts<'n>) -> Option<&'static Shape> {
         Some(values.one(&INNER, self.as_mut()?))
     }
 }
 
 impl<T: Tree> Tree for Box<T> {
-    fn shape<'n>(
-        &'n self,
-        place: Place<'n>,
-        values: &mut Values<&'n dyn Tree>,
-    ) -> Result<&'static Shape, Node<'n>> {
+    fn shape<'n>(&'n self, place: Place<'n>, values: &mut Refs<'n>) -> Shaped<'n> {
         (**self).shape(place, values)
     }
 }
 
 impl<T: TreeMut> TreeMut for Box<T> {
-    fn shape_mut<'n>(
-        &'n mut self,
-        values: &mut Values<&'n mut dyn TreeMut>,
-    ) -> Option<&'static Shape> {
+    fn shape_mut<'n>(&'n mut self, values: &mut Muts<'n>) -> Option<&'static Shape> {
         (**self).shape_mut(values)
     }
 }
 
 impl<N: Tree, T: TreeMut> TreeMut for (N, T) {
-    fn shape_mut<'n>(
-        &'n mut self,
-        values: &mut Values<&'n mut dyn TreeMut>,
-    ) -> Option<&'static Shape> {
+    fn shape_mut<'n>(&'n mut self, values: &mut Muts<'n>) -> Option<&'static Shape> {
         Some(values.one(&INNER, &mut self.1))
     }
 }
 
 impl<N: Tree, K: Tree + Copy + Into<Space>> TreeMut for (N, K, u32) {
-    fn shape_mut<'n>(
-        &'n mut self,
-        values: &mut Values<&'n mut dyn TreeMut>,
-    ) -> Option<&'static Shape> {
+    fn shape_mut<'n>(&'n mut self, values: &mut Muts<'n>) -> Option<&'static Shape> {
         let (_, kind, index) = self;
         values.outer = (0, (*kind).into());
         Some(values.one(&INDEX, index))
@@ -218,20 +158,13 @@ impl<N: Tree, K: Tree + Copy + Into<Space>> TreeMut for (N, K, u32) {
 }
 
 impl TreeMut for CoreArrayType {
-    fn shape_mut<'n>(
-        &'n mut self,
-        values: &mut Values<&'n mut dyn TreeMut>,
-    ) -> Option<&'static Shape> {
+    fn shape_mut<'n>(&'n mut self, values: &mut Muts<'n>) -> Option<&'static Shape> {
         self.0.shape_mut(values)
     }
 }
 
 impl Tree for CoreFuncType {
-    fn shape<'n>(
-        &'n self,
-        place: Place<'n>,
-        _: &mut Values<&'n dyn Tree>,
-    ) -> Result<&'static Shape, Node<'n>> {
+    fn shape<'n>(&'n self, place: Place<'n>, _: &mut Refs<'n>) -> Shaped<'n> {
         Err(Node::Record("CoreFuncType", Fields::whole(self, place)))
     }
 }
@@ -246,11 +179,9 @@ impl Whole for CoreFuncType {
 }
 
 impl TreeMut for CoreFuncType {
-    fn shape_mut<'n>(
-        &'n mut self,
-        values: &mut Values<&'n mut dyn TreeMut>,
-    ) -> Option<&'static Shape> {
-        values.set_itself(self)
+    fn shape_mut<'n>(&'n mut self, values: &mut Muts<'n>) -> Option<&'static Shape> {
+        values.one(&INNER, self);
+        None
     }
 
     fn visit(&mut self, place: Place<'_>, visitor: &mut Visitor<'_>) {

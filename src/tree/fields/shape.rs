@@ -1,7 +1,7 @@
 //! What is constant of a variant or a struct, as data: one function makes the nodes of all types
 //! from it, and another visits their indices.
 
-use super::{Place, Space, Tree};
+use super::{Place, Refs, Space, Tree};
 use crate::tree::node::{Child, Fields, Node};
 
 /// The names and the values of some fields: nodes would be large with them.
@@ -61,10 +61,7 @@ pub(in crate::tree) struct Shape {
 
 /// The values of a variant or a struct, each a reference.
 pub(in crate::tree) struct Values<V> {
-    first: Option<V>,
-    second: Option<V>,
-    third: Option<V>,
-    fourth: Option<V>,
+    values: [Option<V>; 4],
     /// How far out the scope is of the index whose role is [`Role::Outer`], and its space.
     pub(super) outer: (u32, Space),
     /// The space and the number of the indices that it defines, if it is a declaration.
@@ -75,19 +72,18 @@ pub(in crate::tree) struct Values<V> {
 impl<V> Values<V> {
     #[inline(never)]
     pub(super) fn new() -> Self {
-        let (outer, defined) = ((0, Space::Types), None);
-        Self { first: None, second: None, third: None, fourth: None, outer, defined }
+        Self { values: [None, None, None, None], outer: (0, Space::Types), defined: None }
     }
 
     #[inline(never)]
     pub(super) fn one(&mut self, shape: &'static Shape, first: V) -> &'static Shape {
-        self.first = Some(first);
+        self.values[0] = Some(first);
         shape
     }
 
     #[inline(never)]
     pub(super) fn two(&mut self, shape: &'static Shape, first: V, second: V) -> &'static Shape {
-        self.second = Some(second);
+        self.values[1] = Some(second);
         self.one(shape, first)
     }
 
@@ -99,7 +95,7 @@ impl<V> Values<V> {
         second: V,
         third: V,
     ) -> &'static Shape {
-        self.third = Some(third);
+        self.values[2] = Some(third);
         self.two(shape, first, second)
     }
 
@@ -109,8 +105,26 @@ impl<V> Values<V> {
         shape: &'static Shape,
         [first, second, third, fourth]: [V; 4],
     ) -> &'static Shape {
-        self.fourth = Some(fourth);
+        self.values[3] = Some(fourth);
         self.three(shape, first, second, third)
+    }
+
+    /// Takes the value with this number, if it is set.
+    pub(super) fn take(&mut self, at: usize) -> Option<V> {
+        self.values.get_mut(at)?.take()
+    }
+
+    /// Returns the place of a field with this role, of a value at `place`.
+    pub(super) fn place<'n>(&self, role: Role, place: Place<'n>) -> Place<'n> {
+        let (count, space) = self.outer;
+        match role {
+            Role::Plain => place,
+            Role::Inner => place.inner(),
+            Role::Group => place.within(self.defined),
+            Role::Outer => place.outer(count, space),
+            Role::Last(space) => place.outer(0, space).last(),
+            Role::Index(space) => place.outer(0, space),
+        }
     }
 }
 
@@ -127,7 +141,7 @@ impl Shape {
     /// Returns the node of a value of this shape.
     pub(super) fn node<'n>(
         &self,
-        values: &Values<&'n dyn Tree>,
+        values: &mut Refs<'n>,
         whole: &'n dyn Tree,
         place: Place<'n>,
     ) -> Node<'n> {
@@ -144,56 +158,13 @@ impl Shape {
 
     /// Returns the fields of a value of this shape.
     #[inline(never)]
-    pub(super) fn named<'n>(&self, values: &Values<&'n dyn Tree>, place: Place<'n>) -> Named<'n> {
-        let &Values { first, second, third, fourth, outer, defined } = values;
+    pub(super) fn named<'n>(&self, values: &mut Refs<'n>, place: Place<'n>) -> Named<'n> {
         let mut named = [None; 4];
-        let values = [first, second, third, fourth].into_iter().flatten();
-        for ((field, (name, role)), value) in named.iter_mut().zip(self.fields).zip(values) {
-            let place = Placed(*role, outer, defined).place(place);
-            *field = Some((*name, Child::new(value, place)));
+        for (at, (name, role)) in self.fields.iter().enumerate() {
+            let Some(value) = values.take(at) else { continue };
+            named[at] = Some((*name, Child::new(value, values.place(*role, place))));
         }
         named
-    }
-}
-
-/// The role of a field, how far out the scope of an outer index is and its space, and what the
-/// value defines.
-pub(super) struct Placed(Role, (u32, Space), Option<(Space, u32)>);
-
-impl Placed {
-    /// Returns the place of a field of a value at `place`.
-    pub(super) fn place(self, place: Place<'_>) -> Place<'_> {
-        let Self(role, (count, of_outer), defined) = self;
-        match role {
-            Role::Plain => place,
-            Role::Inner => place.inner(),
-            Role::Group => place.within(defined),
-            Role::Outer => place.outer(count, of_outer),
-            Role::Last(space) => place.outer(0, space).last(),
-            Role::Index(space) => place.outer(0, space),
-        }
-    }
-}
-
-#[cfg(feature = "tree")]
-impl<V> Values<V> {
-    /// Sets a value without a shape.
-    pub(super) fn set_itself(&mut self, value: V) -> Option<&'static Shape> {
-        self.first = Some(value);
-        None
-    }
-
-    /// Returns the value without a shape, if it is set.
-    pub(super) fn itself(self) -> Option<V> {
-        self.first
-    }
-
-    /// Returns the values of this shape in order, each with its role and how far out it is.
-    pub(super) fn into_fields(self, shape: &Shape) -> impl Iterator<Item = (V, Placed)> {
-        let Self { first, second, third, fourth, outer, defined } = self;
-        let values = [first, second, third, fourth].into_iter().flatten();
-        let fields = values.zip(shape.fields);
-        fields.map(move |(value, (_, role))| (value, Placed(*role, outer, defined)))
     }
 }
 

@@ -1,7 +1,7 @@
 //! The fields of containers, and of borrowed types whose fields aren't those of the owned ones.
 
-use super::shape::{Kind, Role, Shape, Values};
-use super::{Elements, Named, Node, Part, Place, Tree, Visit, Whole, named, node_of};
+use super::shape::{Kind, Role, Shape};
+use super::{Elements, Named, Node, Part, Place, Refs, Shaped, Tree, Visit, Whole, named, node_of};
 use crate::proved::wenc_view::View;
 use crate::tree::node::{Child, Fields, List};
 use crate::tree::{CoreArrayType, Space};
@@ -12,11 +12,7 @@ use core::ops::ControlFlow;
 macro_rules! leaves {
     ($($ty:ty, $value:ident, $place:tt => $node:expr;)+) => {$(
         impl Tree for $ty {
-            fn shape<'n>(
-                &'n self,
-                $place: Place<'n>,
-                _: &mut Values<&'n dyn Tree>,
-            ) -> Result<&'static Shape, Node<'n>> {
+            fn shape<'n>(&'n self, $place: Place<'n>, _: &mut Refs<'n>) -> Shaped<'n> {
                 let $value = self;
                 Err($node)
             }
@@ -24,7 +20,6 @@ macro_rules! leaves {
     )+};
 }
 
-#[cfg(feature = "tree")]
 pub(super) use leaves;
 
 leaves! {
@@ -43,11 +38,7 @@ leaves! {
 macro_rules! lists {
     ($($name:ident $(<$element:ident>)?)+) => {$(
         impl<'a $(, $element: View<'a> + Tree)?> Tree for $name<'a $(, $element)?> {
-            fn shape<'n>(
-                &'n self,
-                place: Place<'n>,
-                _: &mut Values<&'n dyn Tree>,
-            ) -> Result<&'static Shape, Node<'n>> {
+            fn shape<'n>(&'n self, place: Place<'n>, _: &mut Refs<'n>) -> Shaped<'n> {
                 Err(Node::List(List::new(self, place)))
             }
         }
@@ -83,11 +74,7 @@ lists! {
 }
 
 impl<T: Tree> Tree for Option<T> {
-    fn shape<'n>(
-        &'n self,
-        _: Place<'n>,
-        values: &mut Values<&'n dyn Tree>,
-    ) -> Result<&'static Shape, Node<'n>> {
+    fn shape<'n>(&'n self, _: Place<'n>, values: &mut Refs<'n>) -> Shaped<'n> {
         static PRESENT: Shape = Shape::new(Kind::Present, "", &[("0", Role::Plain)]);
         self.as_ref().map(|value| values.one(&PRESENT, value)).ok_or(Node::Absent)
     }
@@ -95,11 +82,7 @@ impl<T: Tree> Tree for Option<T> {
 
 /// A name and the named value.
 impl<N: Tree, T: Tree> Tree for (N, T) {
-    fn shape<'n>(
-        &'n self,
-        _: Place<'n>,
-        values: &mut Values<&'n dyn Tree>,
-    ) -> Result<&'static Shape, Node<'n>> {
+    fn shape<'n>(&'n self, _: Place<'n>, values: &mut Refs<'n>) -> Shaped<'n> {
         static PAIR: Shape = Shape::new(Kind::Tuple, "", &[("0", Role::Plain), ("1", Role::Plain)]);
         Ok(values.two(&PAIR, &self.0, &self.1))
     }
@@ -107,11 +90,7 @@ impl<N: Tree, T: Tree> Tree for (N, T) {
 
 /// A name, and the kind and the index of the named item.
 impl<N: Tree, K: Tree + Copy + Into<Space>> Tree for (N, K, u32) {
-    fn shape<'n>(
-        &'n self,
-        _: Place<'n>,
-        values: &mut Values<&'n dyn Tree>,
-    ) -> Result<&'static Shape, Node<'n>> {
+    fn shape<'n>(&'n self, _: Place<'n>, values: &mut Refs<'n>) -> Shaped<'n> {
         static ITEM: Shape = Shape::new(
             Kind::Tuple,
             "",
@@ -182,11 +161,7 @@ impl Part for CoreCompositeView<'_> {
 }
 
 impl Tree for CoreArrayType {
-    fn shape<'n>(
-        &'n self,
-        place: Place<'n>,
-        values: &mut Values<&'n dyn Tree>,
-    ) -> Result<&'static Shape, Node<'n>> {
+    fn shape<'n>(&'n self, place: Place<'n>, values: &mut Refs<'n>) -> Shaped<'n> {
         self.0.shape(place, values)
     }
 }
