@@ -24,7 +24,7 @@ pub use names::*;
 pub use start::*;
 pub use types::*;
 
-use crate::encode::{Encode, Foreign, Own, copied};
+use crate::encode::{Encode, Foreign, Own};
 use crate::error::{Error, or_panic};
 use crate::proved::wasm_encoder as proved;
 use crate::twins::twins;
@@ -94,6 +94,63 @@ impl<S: ComponentSection + ?Sized> proved::ComponentSection for Foreign<'_, S> {
     }
 }
 
+/// Implements the calls of what is built section by section. What follows is the example.
+macro_rules! built {
+    ($name:ident of $section:ident, $what:literal: $(#[$example:meta])*) => {
+        impl $name {
+            #[doc = concat!("The first bytes of every ", $what, ".")]
+            pub const HEADER: [u8; 8] = <$crate::proved::wasm_encoder::$name>::HEADER;
+
+            #[doc = concat!("Creates a ", $what, " without sections.")]
+            ///
+            /// # Panics
+            ///
+            /// Panics if [`try_new`](Self::try_new) fails.
+            pub fn new() -> Self {
+                $crate::error::or_panic(Self::try_new())
+            }
+
+            /// Does what [`new`](Self::new) does, but returns an error instead of panicking.
+            ///
+            /// # Errors
+            ///
+            /// [`NoMemory`](crate::Error::NoMemory).
+            ///
+            $(#[$example])*
+            pub fn try_new() -> Result<Self, $crate::Error> {
+                Ok(Self { bytes: $crate::encode::copied(Self::HEADER)? })
+            }
+
+            twins! {
+                /// Appends a section. A section of your own fails as its
+                /// [`try_encode`](crate::Encode::try_encode) does.
+                fn section | try_section(&mut self, section: &impl $section) -> &mut Self {
+                    append_section(section, &mut self.bytes)?;
+                    Ok(self)
+                }
+            }
+
+            /// Returns the bytes so far.
+            pub fn as_slice(&self) -> &[u8] {
+                &self.bytes
+            }
+
+            #[doc = concat!("Returns the bytes of the ", $what, ".")]
+            pub fn finish(self) -> alloc::vec::Vec<u8> {
+                self.bytes
+            }
+        }
+
+        impl Default for $name {
+            fn default() -> Self {
+                Self::new()
+            }
+        }
+    };
+}
+
+pub(crate) use built;
+
 /// A component that is built section by section, in order. Neither the order nor the sections are
 /// checked.
 ///
@@ -117,25 +174,8 @@ pub struct Component {
     bytes: Vec<u8>,
 }
 
-impl Component {
-    /// The first bytes of every component.
-    pub const HEADER: [u8; 8] = <proved::Component>::HEADER;
-
-    /// Creates a component without sections.
-    ///
-    /// # Panics
-    ///
-    /// Panics if [`try_new`](Self::try_new) fails.
-    pub fn new() -> Self {
-        or_panic(Self::try_new())
-    }
-
-    /// Does what [`new`](Self::new) does, but returns an error instead of panicking.
-    ///
-    /// # Errors
-    ///
-    /// [`NoMemory`](Error::NoMemory).
-    ///
+built! {
+    Component of ComponentSection, "component":
     /// ```
     /// use wenc::{Component, CustomSection};
     ///
@@ -144,34 +184,6 @@ impl Component {
     /// assert_eq!(component.finish(), b"\0asm\x0d\0\x01\0\0\x06\x01ndata");
     /// # Ok::<(), wenc::Error>(())
     /// ```
-    pub fn try_new() -> Result<Self, Error> {
-        Ok(Self { bytes: copied(Self::HEADER)? })
-    }
-
-    /// Returns the bytes of the component.
-    pub fn finish(self) -> Vec<u8> {
-        self.bytes
-    }
-
-    twins! {
-        /// Appends a section. A section of your own fails as its
-        /// [`try_encode`](Encode::try_encode) does.
-        fn section | try_section(&mut self, section: &impl ComponentSection) -> &mut Self {
-            append_section(section, &mut self.bytes)?;
-            Ok(self)
-        }
-    }
-
-    /// Returns the bytes so far.
-    pub fn as_slice(&self) -> &[u8] {
-        &self.bytes
-    }
-}
-
-impl Default for Component {
-    fn default() -> Self {
-        Self::new()
-    }
 }
 
 /// Implements the methods of sections with a count, their ids, and comparison by content.
@@ -227,7 +239,8 @@ impl TryFrom<u8> for ComponentSectionId {
     type Error = UnknownSectionId;
 
     fn try_from(id: u8) -> Result<Self, UnknownSectionId> {
-        Self::ALL.into_iter().find(|known| u8::from(*known) == id).ok_or(UnknownSectionId(id))
+        let known = Self::ALL.iter().find(|known| u8::from(**known) == id);
+        known.copied().ok_or(UnknownSectionId(id))
     }
 }
 

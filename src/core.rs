@@ -26,7 +26,8 @@ pub use tags::{TagKind, TagType};
 pub use types::*;
 
 use crate::UnknownSectionId;
-use crate::encode::{Encode, Foreign, Own, copied, encode};
+use crate::component::built;
+use crate::encode::{Encode, Foreign, Own, encode};
 use crate::error::{Error, or_panic};
 use crate::proved::wasm_encoder as proved;
 use crate::proved::wenc_base::Verbatim;
@@ -150,7 +151,8 @@ impl TryFrom<u8> for SectionId {
     type Error = UnknownSectionId;
 
     fn try_from(id: u8) -> Result<Self, UnknownSectionId> {
-        Self::ALL.into_iter().find(|known| u8::from(*known) == id).ok_or(UnknownSectionId(id))
+        let known = Self::ALL.iter().find(|known| u8::from(**known) == id);
+        known.copied().ok_or(UnknownSectionId(id))
     }
 }
 
@@ -183,25 +185,8 @@ pub struct Module {
     bytes: Vec<u8>,
 }
 
-impl Module {
-    /// The first bytes of every module.
-    pub const HEADER: [u8; 8] = <proved::Module>::HEADER;
-
-    /// Creates a module without sections.
-    ///
-    /// # Panics
-    ///
-    /// Panics if [`try_new`](Self::try_new) fails.
-    pub fn new() -> Self {
-        or_panic(Self::try_new())
-    }
-
-    /// Does what [`new`](Self::new) does, but returns an error instead of panicking.
-    ///
-    /// # Errors
-    ///
-    /// [`NoMemory`](Error::NoMemory).
-    ///
+built! {
+    Module of Section, "module":
     /// ```
     /// use wenc::{CustomSection, Module};
     ///
@@ -210,34 +195,6 @@ impl Module {
     /// assert_eq!(module.finish(), b"\0asm\x01\0\0\0\0\x06\x01ndata");
     /// # Ok::<(), wenc::Error>(())
     /// ```
-    pub fn try_new() -> Result<Self, Error> {
-        Ok(Self { bytes: copied(Self::HEADER)? })
-    }
-
-    twins! {
-        /// Appends a section. A section of your own fails as its
-        /// [`try_encode`](Encode::try_encode) does.
-        fn section | try_section(&mut self, section: &impl Section) -> &mut Self {
-            append_section(section, &mut self.bytes)?;
-            Ok(self)
-        }
-    }
-
-    /// Returns the bytes so far.
-    pub fn as_slice(&self) -> &[u8] {
-        &self.bytes
-    }
-
-    /// Returns the bytes of the module.
-    pub fn finish(self) -> Vec<u8> {
-        self.bytes
-    }
-}
-
-impl Default for Module {
-    fn default() -> Self {
-        Self::new()
-    }
 }
 
 encode! {

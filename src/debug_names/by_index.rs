@@ -108,8 +108,11 @@ impl ByIndex {
     fn split(&mut self, page: usize) -> Result<(), AllocError> {
         let mut half = Vec::with_capacity_using(Global, PAGE)?;
         self.pages.try_reserve_using(1)?;
-        #[expect(clippy::disallowed_methods, reason = "there is room")]
-        half.extend(self.pages[page].drain(PAGE / 2..));
+        while self.pages[page].len() > PAGE / 2 {
+            let last = self.pages[page].pop();
+            last.map_or(Ok(()), |name| half.push_using(name))?;
+        }
+        half.reverse();
         // 32 bits: there are fewer pages than bytes.
         Ok(self.pages.insert_using(page + 1, half)?)
     }

@@ -5,6 +5,7 @@ use crate::SectionItem;
 use crate::component::ComponentBuilder;
 use crate::proved::wasm_encoder::CustomSection;
 use crate::proved::wasm_encoder::command::run;
+use crate::proved::wenc_base::Fault;
 use crate::shim::alloc::Global;
 use crate::tree::{Command, ItemTree};
 use crate::twins::twins;
@@ -36,43 +37,40 @@ impl ComponentBuilder {
             debug_name: Option<&str>,
             item: &impl SectionItem,
         ) -> Option<u32> {
-            self.or_unchanged(|builder| item.with_tree(|item| builder.tree(debug_name, item)))
+            self.or_unchanged(|builder| {
+                item.with_tree(|item| Ok(builder.tree(debug_name, item)?))
+            })
         }
     }
 
     /// Adds an item. A type that can't be encoded is left unfinished.
-    fn tree(&mut self, name: Option<&str>, item: &ItemTree) -> Result<Option<u32>, Error> {
+    fn tree(&mut self, name: Option<&str>, item: &ItemTree) -> Result<Option<u32>, Fault> {
         let builder = &mut self.0;
-        let index = match item {
-            ItemTree::Module(bytes) => builder.core_module_raw(name, bytes)?,
-            ItemTree::CoreInstance(instance) => builder.core_instance_tree(name, instance)?,
+        let added = match item {
+            ItemTree::Module(bytes) => builder.core_module_raw(name, bytes),
+            ItemTree::CoreInstance(instance) => builder.core_instance_tree(name, instance),
             ItemTree::CoreType(ty) => {
                 let (index, encoder) = builder.core_type(name)?;
-                encoder.tree(ty)?;
-                index
+                encoder.tree(ty).map(|()| index)
             }
-            ItemTree::Component(bytes) => builder.component_raw(name, bytes)?,
-            ItemTree::Instance(instance) => builder.instance_tree(name, instance)?,
-            ItemTree::Alias(alias) => builder.alias(name, alias.as_alias())?,
+            ItemTree::Component(bytes) => builder.component_raw(name, bytes),
+            ItemTree::Instance(instance) => builder.instance_tree(name, instance),
+            ItemTree::Alias(alias) => builder.alias(name, alias.as_alias()),
             ItemTree::Type(ty) => {
                 let (index, encoder) = builder.ty(name)?;
-                encoder.tree(ty)?;
-                index
+                encoder.tree(ty).map(|()| index)
             }
-            ItemTree::Canon(canon) => builder.canonical_tree(name, canon)?,
-            ItemTree::Start { function, args, results } => {
-                builder.start(*function, args, *results)?
-            }
-            ItemTree::Import { name, ty } => builder.import(name.as_name(), *ty)?,
+            ItemTree::Canon(canon) => builder.canonical_tree(name, canon),
+            ItemTree::Start { function, args, results } => builder.start(*function, args, *results),
+            ItemTree::Import { name, ty } => builder.import(name.as_name(), *ty),
             ItemTree::Export { name, kind, index, ty } => {
-                builder.export(name.as_name(), *kind, *index, *ty)?
+                builder.export(name.as_name(), *kind, *index, *ty)
             }
             ItemTree::Custom { name, data } => {
-                builder.custom_section(&CustomSection { name, data })?;
-                return Ok(None);
+                return builder.custom_section(&CustomSection { name, data }).map(|()| None);
             }
         };
-        Ok(Some(index))
+        added.map(Some)
     }
 
     /// Makes the call that a command describes. Returns the index of the item that it adds, or

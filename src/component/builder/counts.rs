@@ -38,6 +38,7 @@ macro_rules! counts {
             /// builder.import("file", ComponentTypeRef::Type(TypeBounds::SubResource));
             /// assert_eq!((builder.count(Space::Types), builder.count(Space::Funcs)), (1, 0));
             /// ```
+            #[inline]
             pub fn count(&self, space: Space) -> u32 {
                 match space {
                     $(Space::$space => self.$name(),)*

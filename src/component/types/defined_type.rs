@@ -1,9 +1,9 @@
 //! The encoder of defined value types.
 
 use super::{ComponentValType, PrimitiveValType};
-use crate::Error;
 use crate::adapters::{Labelled, List, is_array};
 use crate::encoders::{encoders, on};
+use crate::proved::wenc_base::Fault;
 #[cfg(feature = "tree")]
 use crate::tree::DefinedTree;
 use crate::twins::twins;
@@ -43,8 +43,8 @@ encoders! {
 /// arrays only over the builder: with each parent it would be compiled four times.
 macro_rules! define {
     ($self:ident.$name:ident, $array:ty: $list:expr => $item:ty) => {{
-        fn listed(by: DefinedBy<'_>, list: List<'_, $item>) -> Result<(), Error> {
-            Ok(on!(by, DefinedBy, encoder => encoder.$name(list))?)
+        fn listed(by: DefinedBy<'_>, list: List<'_, $item>) -> Result<(), Fault> {
+            on!(by, DefinedBy, encoder => encoder.$name(list))
         }
 
         let mut list = $list;
@@ -53,7 +53,7 @@ macro_rules! define {
                 return Ok(encoder.$name(list)?);
             }
         }
-        listed($self.by, List(&mut list))
+        Ok(listed($self.by, List(&mut list))?)
     }};
 }
 
