@@ -44,6 +44,7 @@ mod definition;
 mod fault;
 mod follow;
 mod meaning;
+mod unread;
 
 use crate::tree::Space;
 use alloc::vec::Vec;
@@ -56,12 +57,15 @@ pub use meaning::Meaning;
 /// No definition, or no scope.
 const NONE: u32 = u32::MAX;
 
+/// An index, or a number of indices, that depends on items that can't be read.
+const UNKNOWN: u64 = u64::MAX;
+
 /// The definitions of a component, in all of its scopes.
 ///
 /// Needs the feature `walk`.
 ///
 /// On a 64-bit machine each item, each declaration of a type, and each export or argument in the
-/// list of an instance takes at most 296 bytes of memory, and a scope that isn't at its end 216
+/// list of an instance takes at most 296 bytes of memory, and a scope that isn't at its end 328
 /// more; a list that grows takes up to twice as much. Each byte is read once, and once more for
 /// each type around it. What a definition is the same as is found when it is read, so that
 /// [`resolve`](Definition::resolve) follows any number of exports and aliases in the time of one.
@@ -116,9 +120,18 @@ struct Frame {
     ends: (u32, u32),
     /// Its exports, in `names`.
     names: (u32, u32),
+    /// The first entry of exports that can't be read.
+    unread: u32,
     /// The newest entry of each space.
     newest: [u32; Space::ALL.len()],
 }
+
+// What the documentation of `Definitions` states.
+#[cfg(target_pointer_width = "64")]
+const _: () = {
+    assert!(size_of::<(Entry, Frame, (&str, u32), (u32, ScopeFault))>() <= 296);
+    assert!(size_of::<build::Open>() <= 328);
+};
 
 impl Frame {
     /// A scope without definitions: the outermost if there is no memory for it.
@@ -128,6 +141,7 @@ impl Frame {
         start: 0,
         ends: (NONE, NONE),
         names: (0, 0),
+        unread: NONE,
         newest: [NONE; Space::ALL.len()],
     };
 }
@@ -184,18 +198,28 @@ impl<'a> Definitions<'a> {
         let newest = self.frame(scope).newest[space.number()];
         let is_wanted = |number, entry: &Entry| number < before && entry.first <= u64::from(index);
         let found = self.seek(newest, is_wanted);
-        let found = found.filter(|number| u64::from(index) < self.entry(*number).end());
-        found.ok_or_else(|| {
-            let count = self.count(scope, before, space);
-            ScopeFault::OutOfRange { place, space, index, count }
-        })
+        match found.map(|number| (number, self.entry(number))) {
+            Some((number, entry)) if u64::from(index) < entry.end() => match entry.meaning {
+                Meaning::Unread { .. } => {
+                    Err(ScopeFault::Unread { place, space, unread: entry.place })
+                }
+                _ => Ok(number),
+            },
+            _ => {
+                let count = self.count(scope, before, space);
+                Err(ScopeFault::OutOfRange { place, space, index, count })
+            }
+        }
     }
 }
 
 impl<'a> Entry<'a> {
     /// Returns the index after its own.
     fn end(&self) -> u64 {
-        self.first.saturating_add(self.count.into())
+        match self.meaning {
+            Meaning::Unread { is_known: false, .. } => UNKNOWN,
+            _ => self.first.saturating_add(self.count.into()),
+        }
     }
 }
 
@@ -226,7 +250,8 @@ impl<'s, 'a> Scope<'s, 'a> {
         self.all.frame(self.number).place
     }
 
-    /// Returns the number of indices in a space.
+    /// Returns the number of indices in a space; [`u64::MAX`] if it depends on items that can't be
+    /// read.
     pub fn count(self, space: Space) -> u64 {
         self.all.count(self.number, self.before, space)
     }
@@ -235,8 +260,8 @@ impl<'s, 'a> Scope<'s, 'a> {
     ///
     /// # Errors
     ///
-    /// [`ScopeFault::OutOfRange`], with the byte offset of the definition before which this scope
-    /// is seen, or otherwise of the scope.
+    /// [`ScopeFault::OutOfRange`] or [`ScopeFault::Unread`], with the byte offset of the definition
+    /// before which this scope is seen, or otherwise of the scope.
     pub fn get(self, space: Space, index: u32) -> Result<Definition<'s, 'a>, ScopeFault> {
         let number = self.all.find((self.number, self.before, self.place), space, index)?;
         Ok(Definition::new(self.all, number))

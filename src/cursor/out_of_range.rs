@@ -81,6 +81,7 @@ impl<'a> Finder<'a> {
                     self.define(&ItemView::Component(&[]));
                 }
                 Step::Item { place, item, .. } => self.find_in(place, &item)?,
+                Step::Unread { fault, .. } => return Err(fault),
             }
         }
     }

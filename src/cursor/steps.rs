@@ -18,6 +18,16 @@ pub(crate) enum Step<'a> {
         end: usize,
         item: ItemView<'a>,
     },
+    /// The rest of a section, whose items can't be read. The next step is after the section.
+    Unread {
+        fault: ListFault,
+        /// The section's id.
+        section: u8,
+        /// The byte offset of the rest.
+        place: usize,
+        /// The number of items in it.
+        count: u32,
+    },
 }
 
 /// A walk through a component and those nested in it.
@@ -27,8 +37,8 @@ pub(crate) struct Steps<'a> {
     depth: usize,
     /// The next section, with the depth of its component.
     section: Option<(usize, SectionReader<'a>)>,
-    /// The items that are left of the section before.
-    items: Option<Items<'a>>,
+    /// The items that are left of the section before, and its id.
+    items: Option<(Items<'a>, u8)>,
 }
 
 impl<'a> Steps<'a> {
@@ -36,10 +46,11 @@ impl<'a> Steps<'a> {
         Self { sections, depth: 0, section: None, items: None }
     }
 
-    /// Returns the next step, or `None` at the end of the sections.
+    /// Returns the next step, or `None` at the end of the sections. After an error there are only
+    /// those that leave components.
     pub fn next(&mut self) -> Result<Option<Step<'a>>, ListFault> {
         loop {
-            if let Some(step) = self.next_item()? {
+            if let Some(step) = self.next_item() {
                 return Ok(Some(step));
             }
             if self.section.is_none() {
@@ -52,16 +63,18 @@ impl<'a> Steps<'a> {
                 self.depth = self.depth.saturating_add(1);
                 return Ok(Some(Step::Enter(section.left.reached(), section.left.rest)));
             }
-            self.items = Some(section.items());
+            self.items = Some((section.items(), section.id()));
         }
     }
 
-    /// Returns the next item of the section.
-    fn next_item(&mut self) -> Result<Option<Step<'a>>, ListFault> {
-        let Some(items) = &mut self.items else { return Ok(None) };
-        let end = items.left().map_or(0, |(range, _)| range.end);
-        let item = items.next().transpose()?;
-        Ok(item.map(|(range, item)| Step::Item { place: range.start, end, item }))
+    /// Returns the next item of the section, or its rest.
+    fn next_item(&mut self) -> Option<Step<'a>> {
+        let (items, section) = self.items.as_mut()?;
+        let (left, count) = items.left()?;
+        Some(match items.next()? {
+            Ok((range, item)) => Step::Item { place: range.start, end: left.end, item },
+            Err(fault) => Step::Unread { fault, section: *section, place: left.start, count },
+        })
     }
 
     /// Leaves the innermost component if more than this many are open.

@@ -19,41 +19,53 @@ impl<'a> Definitions<'a> {
     /// nested deeper, and [`ListFault::NoMemory`]. Indices that can't be followed are no error
     /// here.
     pub fn new(bytes: &'a [u8], limit: usize) -> Result<Self, ListFault> {
-        let (definitions, fault) = Self::up_to_fault(bytes, limit);
-        fault.map_or(Ok(definitions), Err)
+        let mut reader = Reader::new();
+        reader.read(bytes, limit, &mut Err)?;
+        Ok(reader.all)
     }
 
-    /// Reads a component as [`new`](Self::new) does. Returns what comes before its first fault, and
-    /// the fault.
+    /// Reads a component as [`new`](Self::new) does, and calls a function with each fault. After
+    /// items that can't be read, the next section is read; what isn't a section ends it.
+    ///
+    /// Where the items of a section can't be read, the indices after them aren't known in the
+    /// spaces in which such items define some ([`ScopeFault::Unread`]). Canonical functions that
+    /// can't be read are known to be core functions, and so are the indices after them, once an
+    /// item refers to the last core function that there is then: if one of them were a lifted
+    /// function, that index would be out of range.
     ///
     /// ```
-    /// use wenc::scope::Definitions;
+    /// use wenc::scope::{Definitions, ScopeFault};
     /// use wenc::tree::Space;
     ///
-    /// // a type, and an export of it, whose last byte is cut off
-    /// let component = b"\0asm\x0d\0\x01\0\x07\x02\x01\x79\x0b\x07\x01\0\x01t\x03\0\0";
-    /// let (definitions, fault) = Definitions::up_to_fault(&component[..20], 100);
-    /// assert_eq!(definitions.component().count(Space::Types), 1);
-    /// assert_eq!(fault, Definitions::new(&component[..20], 100).err());
-    /// assert!(fault.is_some());
+    /// // a canonical function that isn't one, a type, a lifted function and an export
+    /// let component = b"\0asm\x0d\0\x01\0\x08\x02\x01\xff\x07\x05\x01\x40\0\x01\0\
+    ///     \x08\x06\x01\0\0\0\0\0\x0b\x07\x01\0\x01f\x01\0\0";
+    /// let mut faults = 0;
+    /// let definitions = Definitions::past_faults(component, 100, |_| faults += 1);
+    /// assert_eq!(faults, 1);
+    /// let export = definitions.component().export("f").expect("it is read");
+    /// // core function 0 is the last one, so that function 0 is the lifted one
+    /// assert_eq!(export.resolve()?.place(), 22);
+    /// let unread = definitions.component().get(Space::CoreFuncs, 0).err();
+    /// assert!(matches!(unread, Some(ScopeFault::Unread { unread: 11, .. })));
+    /// # Ok::<(), ScopeFault>(())
     /// ```
-    pub fn up_to_fault(bytes: &'a [u8], limit: usize) -> (Self, Option<ListFault>) {
-        let (entries, frames, names, faults) = Default::default();
-        let all = Self { entries, frames, names, faults };
-        let mut reader = Reader { all, open: Vec::new(), names: Vec::new(), types: Vec::new() };
-        let mut fault = reader.read(bytes, limit).err();
-        while fault != Some(ListFault::NoMemory) && !reader.open.is_empty() {
-            fault = reader.leave().err().or(fault);
-        }
-        (reader.all, fault)
+    pub fn past_faults(bytes: &'a [u8], limit: usize, mut tell: impl FnMut(ListFault)) -> Self {
+        let mut reader = Reader::new();
+        let read = reader.read(bytes, limit, &mut |fault| {
+            tell(fault);
+            Ok(())
+        });
+        read.unwrap_or_else(tell);
+        reader.all
     }
 }
 
 /// What was read so far.
-struct Reader<'a> {
-    all: Definitions<'a>,
+pub(super) struct Reader<'a> {
+    pub all: Definitions<'a>,
     /// The scopes around the next definition, the outermost first.
-    open: Vec<Open<'a>>,
+    pub open: Vec<Open<'a>>,
     /// The exports of these.
     names: Vec<(&'a str, u32)>,
     /// The declarations that are left of the types around the next one.
@@ -61,12 +73,14 @@ struct Reader<'a> {
 }
 
 /// A scope whose definitions are being read.
-struct Open<'a> {
+pub(super) struct Open<'a> {
     /// Its number.
-    scope: u32,
+    pub scope: u32,
     /// What defines it in the scope around it, and its byte offset.
     opener: (usize, Meaning<'a>),
-    counts: IndexCounts,
+    pub counts: IndexCounts,
+    /// Its counts if all canonical functions that can't be read are core functions.
+    pub assumed: Option<IndexCounts>,
     /// The number of exports in the scopes around it.
     names: usize,
     /// Whether it is a list in an instance, whose indices are meant in the scope around it.
@@ -74,7 +88,7 @@ struct Open<'a> {
 }
 
 /// Returns a number of definitions, which take more memory than there are numbers.
-fn numbered(len: usize) -> Result<u32, ListFault> {
+pub(super) fn numbered(len: usize) -> Result<u32, ListFault> {
     u32::try_from(len).ok().filter(|number| *number != NONE).ok_or(ListFault::NoMemory)
 }
 
@@ -83,19 +97,37 @@ fn push<T>(all: &mut Vec<T>, value: T) -> Result<(), ListFault> {
 }
 
 impl<'a> Reader<'a> {
-    fn read(&mut self, bytes: &'a [u8], limit: usize) -> Result<(), ListFault> {
+    fn new() -> Self {
+        let (entries, frames, names, faults) = Default::default();
+        let all = Definitions { entries, frames, names, faults };
+        Self { all, open: Vec::new(), names: Vec::new(), types: Vec::new() }
+    }
+
+    /// Reads a component, and passes on its faults, unless it is none or there is no memory.
+    fn read(
+        &mut self,
+        bytes: &'a [u8],
+        limit: usize,
+        tell: &mut dyn FnMut(ListFault) -> Result<(), ListFault>,
+    ) -> Result<(), ListFault> {
         self.enter(0, Meaning::Item(ItemView::Component(bytes)))?;
         let mut steps = Steps::new(Sections::new(bytes)?.nested(limit));
-        while let Some(step) = steps.next()? {
-            match step {
-                Step::Enter(place, bytes) => {
+        loop {
+            match steps.next() {
+                Ok(Some(Step::Enter(place, bytes))) => {
                     self.enter(place, Meaning::Item(ItemView::Component(bytes)))?;
                 }
-                Step::Leave => self.leave_and_define()?,
-                Step::Item { place, end, item } => self.item(place, end, item)?,
+                Ok(Some(Step::Leave)) => self.leave_and_define()?,
+                Ok(Some(Step::Item { place, end, item })) => self.item(place, end, item)?,
+                Ok(Some(Step::Unread { fault, section, place, count })) => {
+                    tell(fault)?;
+                    self.unread(section, place, count)?;
+                }
+                Err(fault) => tell(fault)?,
+                Ok(None) => break,
             }
         }
-        Ok(())
+        self.leave().map(|_| ())
     }
 
     /// Begins the scope of what is at this byte offset.
@@ -105,7 +137,8 @@ impl<'a> Reader<'a> {
         push(&mut self.all.frames, Frame { place, outer, start, ..Frame::EMPTY })?;
         let (counts, names) = (IndexCounts::default(), self.names.len());
         let is_list = matches!(opener.space(), Some(Space::Instances | Space::CoreInstances));
-        push(&mut self.open, Open { scope, opener: (place, opener), counts, names, is_list })
+        let (opener, assumed) = ((place, opener), None);
+        push(&mut self.open, Open { scope, opener, counts, assumed, names, is_list })
     }
 
     /// Ends the innermost scope. Returns it.
@@ -130,6 +163,7 @@ impl<'a> Reader<'a> {
 
     /// Adds an item at this byte offset, of a section that ends at this one.
     fn item(&mut self, place: usize, end: usize, item: ItemView<'a>) -> Result<(), ListFault> {
+        self.settle(&item);
         self.meaning(place, Meaning::Item(item))?;
         while let Some(declarations) = self.types.last_mut() {
             let place = end.saturating_sub(declarations.bytes_left());
@@ -216,7 +250,12 @@ impl<'a> Reader<'a> {
     }
 
     /// Adds a definition at this byte offset, and the scope that it is.
-    fn define(&mut self, place: usize, meaning: Meaning<'a>, inner: u32) -> Result<(), ListFault> {
+    pub fn define(
+        &mut self,
+        place: usize,
+        meaning: Meaning<'a>,
+        inner: u32,
+    ) -> Result<(), ListFault> {
         let number = numbered(self.all.entries.len())?;
         let is_list = self.open.last().is_some_and(|open| open.is_list);
         let innermost = self.open.len().saturating_sub(if is_list { 2 } else { 1 });
@@ -240,9 +279,11 @@ impl<'a> Reader<'a> {
             meaning, place, first, count, space, scope, previous, jump, depth, next, target, last,
             typed, inner,
         };
-        if let Some((space, count @ 1..)) = meaning.defined().filter(|_| !is_list) {
-            (entry.count, entry.first) = (count, self.open[innermost].counts.of(space));
-            self.open[innermost].counts.define(Some((space, count)));
+        if let Some((space, count)) = meaning.defined().filter(|_| !is_list) {
+            let Open { counts, assumed, .. } = &mut self.open[innermost];
+            (entry.count, entry.first) = (count, counts.of(space));
+            counts.define(Some((space, count)));
+            assumed.iter_mut().for_each(|counts| counts.define(Some((space, count))));
             self.chain(space, number, &mut entry);
         }
         self.link(number, meaning.export())?;

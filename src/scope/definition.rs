@@ -34,8 +34,9 @@ impl<'s, 'a> Definition<'s, 'a> {
         self.all.entry(self.number).space
     }
 
-    /// Returns its index, or the first of several; `None` if it defines none. A recursion group has
-    /// one for each of its types, a start function one for each of its results.
+    /// Returns its index, or the first of several; `None` if it defines none, or if the index depends
+    /// on items that can't be read. A recursion group has one for each of its types, a start function
+    /// one for each of its results.
     pub fn index(self) -> Option<u32> {
         let entry = self.all.entry(self.number);
         u32::try_from(entry.first).ok().filter(|_| entry.count > 0)

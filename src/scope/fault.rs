@@ -39,6 +39,16 @@ pub enum ScopeFault {
         /// The space that it is in.
         found: Space,
     },
+    /// What is meant depends on items that can't be read (see
+    /// [`Definitions::past_faults`](super::Definitions::past_faults)).
+    Unread {
+        /// The byte offset of the item that refers to it.
+        place: usize,
+        /// The space that it is in.
+        space: Space,
+        /// The byte offset from which on items can't be read.
+        unread: usize,
+    },
     /// The type of a component, an instance or a core module is that of something else.
     OtherType {
         /// The byte offset of the import or the declaration with that type.
@@ -55,6 +65,7 @@ impl ScopeFault {
             Self::OutOfRange { place, .. }
             | Self::NoExport { place, .. }
             | Self::OtherExport { place, .. }
+            | Self::Unread { place, .. }
             | Self::OtherType { place, .. } => place,
         }
     }
@@ -71,6 +82,9 @@ impl fmt::Display for ScopeFault {
             }
             Self::OtherExport { place, space, found } => {
                 write!(f, "no {space} is exported by the name at {place:#x}: found {found}")
+            }
+            Self::Unread { place, space, unread } => {
+                write!(f, "the {space} at {place:#x} depends on what isn't read at {unread:#x}")
             }
             Self::OtherType { place, space } => {
                 write!(f, "the type at {place:#x} is of no {space}")

@@ -99,9 +99,12 @@ impl Definitions<'_> {
         let spaces = || named.iter().filter_map(|(_, number)| self.entry(*number).space);
         match spaces().position(|found| found == space) {
             Some(at) => Ok(Some(named[at].1)),
-            None => Err(match spaces().next() {
-                Some(found) => ScopeFault::OtherExport { place, space, found },
-                None => ScopeFault::NoExport { place, space },
+            None => Err(match (spaces().next(), self.frame(scope).unread) {
+                (Some(found), _) => ScopeFault::OtherExport { place, space, found },
+                (None, NONE) => ScopeFault::NoExport { place, space },
+                (None, number) => {
+                    ScopeFault::Unread { place, space, unread: self.entry(number).place }
+                }
             }),
         }
     }

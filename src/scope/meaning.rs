@@ -5,7 +5,10 @@ use crate::view::{
     CanonView, ComponentDeclView, ComponentDecls, CoreTypeView, InstanceDeclView, InstanceDecls,
     ItemView, ListOf, ModuleDeclView, NameView, TypeView,
 };
-use crate::{Alias, ComponentExportKind, ComponentTypeRef, ExportKind, ModuleArg, TypeBounds};
+use crate::{
+    Alias, ComponentExportKind, ComponentSectionId, ComponentTypeRef, ExportKind, ModuleArg,
+    TypeBounds,
+};
 
 /// What a [`Definition`](super::Definition) is.
 ///
@@ -40,6 +43,18 @@ pub enum Meaning<'a> {
         /// The core instance.
         argument: ModuleArg,
     },
+    /// Items of a section from a byte offset on that can't be read, once for each space in which
+    /// such items define indices (see [`Definitions::past_faults`](super::Definitions::past_faults)).
+    Unread {
+        /// The section.
+        section: ComponentSectionId,
+        /// The space.
+        space: Space,
+        /// The number of indices that they define in it, if it is known.
+        count: u32,
+        /// Whether it is known.
+        is_known: bool,
+    },
     /// An export in the list of a core instance. One in the list of an instance is an
     /// [`Item`](Self::Item).
     CoreExport {
@@ -67,6 +82,7 @@ impl<'a> Meaning<'a> {
             Self::Item(item) => item.defined_indices(),
             Self::Declared { ty, .. } => Some((ty.kind().into(), 1)),
             Self::Module(decl) => defined_in_module(decl),
+            Self::Unread { space, count, .. } => Some((*space, *count)),
             _ => None,
         }
     }

@@ -1,6 +1,7 @@
 //! The list of index spaces.
 
 use super::Space;
+use crate::ComponentSectionId;
 use core::fmt;
 
 impl Space {
@@ -26,6 +27,45 @@ impl Space {
         Self::Components,
         Self::Types,
     ];
+}
+
+impl ComponentSectionId {
+    /// Returns the spaces in which items of such a section define indices.
+    pub(crate) const fn spaces(self) -> &'static [Space] {
+        match self {
+            Self::CoreCustom => &[],
+            Self::CoreModule => &[Space::CoreModules],
+            Self::CoreInstance => &[Space::CoreInstances],
+            Self::CoreType => &[Space::CoreTypes],
+            Self::Component => &[Space::Components],
+            Self::Instance => &[Space::Instances],
+            Self::Alias => &[
+                Space::CoreModules,
+                Space::CoreFuncs,
+                Space::CoreTypes,
+                Space::CoreMemories,
+                Space::CoreTables,
+                Space::CoreTags,
+                Space::CoreGlobals,
+                Space::Funcs,
+                Space::Instances,
+                Space::Values,
+                Space::Components,
+                Space::Types,
+            ],
+            Self::Type => &[Space::Types],
+            Self::CanonicalFunction => &[Space::CoreFuncs, Space::Funcs],
+            Self::Start => &[Space::Values],
+            Self::Import | Self::Export => &[
+                Space::CoreModules,
+                Space::Funcs,
+                Space::Instances,
+                Space::Values,
+                Space::Components,
+                Space::Types,
+            ],
+        }
+    }
 }
 
 /// The sort of what is in the space, as the standard's text format writes it: `core module`,

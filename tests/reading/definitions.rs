@@ -346,25 +346,106 @@ fn cases() -> Vec<(Vec<u8>, ScopeFault, String)> {
     out.into_iter().chain(others).collect()
 }
 
-/// What comes before a section that can't be read, also in a nested component and a type.
+/// Reads a component past its faults. Returns the number of these.
+fn past_faults(component: &[u8]) -> (Definitions<'_>, usize) {
+    let mut faults = Vec::new();
+    let definitions = Definitions::past_faults(component, 100, |fault| faults.push(fault));
+    assert_eq!(faults.first().copied(), Definitions::new(component, 100).err());
+    (definitions, faults.len())
+}
+
+/// What comes before and after items that can't be read, also in a nested component and a type.
 #[test]
-fn up_to_a_fault() {
+fn past_a_fault() {
     let ty = many(7, &[b"\x79"]);
-    for (sections, types, is_whole) in [
-        ([&ty[..], b"\x0b\x01\x01"].concat(), 1, false),
-        ([&ty[..], &nested(b"\x07\x02\x01\x79\x07\x01\x01")].concat(), 1, false),
-        ([&ty[..], &section(7, b"\x02\x79\x42\x01\x01\x79\x07")].concat(), 3, false),
-        ([&ty[..], &section(7, b"\x02\x79\x42\x01\x01\x79")].concat(), 3, true),
-        (b"\x0c\0".to_vec(), 0, false),
+    for (sections, types, faults) in [
+        // after what isn't a section, or has no count, nothing is read
+        ([&ty[..], &section(10, b"\x80"), &ty].concat(), 1, 1),
+        ([&ty[..], b"\x0b\x7f\x01", &ty].concat(), 1, 1),
+        ([&ty[..], &nested(b"\x07\x02\x01\x79\x07\x01\x01"), &ty].concat(), 2, 1),
+        ([&ty[..], &section(7, b"\x02\x79\x42\x01\x01\x79\x07"), &ty].concat(), 4, 1),
+        ([&ty[..], &section(7, b"\x02\x79\x42\x01\x01\x79"), &ty].concat(), 4, 0),
+        ([&ty[..], &section(8, b"\x01\x07"), &section(9, b"\x80"), &ty].concat(), 2, 2),
+        ([&ty[..], &section(8, b"\x01\x07"), &section(10, b"\x01"), &ty].concat(), u64::MAX, 2),
+        ([&ty[..], &section(7, b"\x02\x79\x07"), &ty].concat(), u64::MAX, 1),
+        (b"\x0c\0".to_vec(), 0, 1),
     ] {
         let all = component(&sections);
-        let (definitions, fault) = Definitions::up_to_fault(&all, 100);
-        assert_eq!(fault, Definitions::new(&all, 100).err());
-        assert_eq!(fault.is_none(), is_whole, "{sections:x?}");
-        assert_eq!(definitions.component().count(Space::Types), types);
+        let (definitions, found) = past_faults(&all);
+        let count = definitions.component().count(Space::Types);
+        assert_eq!((found, count), (faults, types), "{sections:x?}");
     }
-    let (nothing, fault) = Definitions::up_to_fault(b"", 100);
-    assert!(fault.is_some() && nothing.component().definitions().next().is_none());
+    let (nothing, faults) = past_faults(b"");
+    assert!(faults == 1 && nothing.component().definitions().next().is_none());
+}
+
+/// Two canonical functions that can't be read, at 18, and a function of a type at 11 that is lifted
+/// from this core function, at 23, and exported as `f`, at 31.
+fn lifting(core: u8) -> Vec<u8> {
+    let lift = section(8, &[1, 0, 0, core, 0, 0]);
+    let unread = section(8, b"\x02\xff\xff");
+    let export = section(11, b"\x01\0\x01f\x01\0\0");
+    component(&[many(7, &[b"\x40\0\x01\0"]), unread, lift, export].concat())
+}
+
+/// The space and the number of what can't be read, and whether that number is known.
+fn unread(scope: Scope<'_, '_>) -> Vec<(Space, u32, bool)> {
+    let unread = scope.definitions().filter_map(|of| match of.meaning() {
+        Meaning::Unread { space, count, is_known, .. } => Some((space, count, is_known)),
+        _ => None,
+    });
+    unread.collect()
+}
+
+/// Indices that depend on what can't be read aren't known.
+#[test]
+fn indices_after_a_fault() {
+    let (place, space) = (31, Space::Funcs);
+    // the last one of both may be a lifted function, if there is a core function 0, or none
+    for core in [0, 2] {
+        let all = lifting(core);
+        let (definitions, _) = past_faults(&all);
+        let scope = definitions.component();
+        let export = scope.export("f").expect("it is read");
+        let fault = ScopeFault::Unread { place, space, unread: 18 };
+        assert_eq!((export.target(), export.ty().err()), (Err(fault), Some(fault)));
+        assert_eq!(fault.to_string(), "the func at 0x1f depends on what isn't read at 0x12");
+        assert_eq!(unread(scope), [(Space::CoreFuncs, 2, false), (space, 0, false)]);
+        assert_eq!((export.index(), scope.count(space)), (None, u64::MAX));
+        assert_eq!((scope.count(Space::CoreFuncs), scope.count(Space::Types)), (u64::MAX, 1));
+        assert_eq!(resolved(scope, Space::Types, 0), Ok(11));
+    }
+    // neither is an export of an instance whose component has exports that can't be read, at 21
+    let aliased = |inner: Vec<u8>| {
+        let sections = [nested(&inner), many(5, &[b"\0\0\0"]), many(6, &[b"\x01\0\0\x01f"])];
+        let all = component(&sections.concat());
+        let target =
+            past_faults(&all).0.component().get(space, 0).expect("an alias").target().err();
+        target.expect("it isn't followed")
+    };
+    let exports = aliased(section(11, b"\x01\xff"));
+    assert_eq!(exports, ScopeFault::Unread { place: 31, space, unread: 21 });
+    let types = aliased(section(7, b"\x01\xff"));
+    assert_eq!(types, ScopeFault::NoExport { place: 31, space });
+}
+
+/// They are known once the last core function is referred to that there can be.
+#[test]
+fn indices_after_core_functions() {
+    let all = lifting(1);
+    let (definitions, _) = past_faults(&all);
+    let scope = definitions.component();
+    let export = scope.export("f").expect("it is read");
+    assert_eq!(export.resolve().map(|of| (of.place(), of.index())), Ok((23, Some(0))));
+    assert_eq!((export.index(), scope.count(Space::Funcs)), (Some(1), 2));
+    assert_eq!(unread(scope), [(Space::CoreFuncs, 2, true), (Space::Funcs, 0, true)]);
+    let space = Space::CoreFuncs;
+    for index in [0, 1] {
+        let fault = ScopeFault::Unread { place: 0, space, unread: 18 };
+        assert_eq!(scope.get(space, index), Err(fault));
+    }
+    let missing = ScopeFault::OutOfRange { place: 0, space, index: 2, count: 2 };
+    assert_eq!(scope.get(space, 2), Err(missing));
 }
 
 #[test]

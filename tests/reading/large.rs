@@ -96,7 +96,7 @@ fn imports(count: usize) -> Vec<u8> {
 fn defined(component: &[u8], count: usize) -> Definitions<'_> {
     let (read, requested) = requested(|| Definitions::new(component, usize::MAX));
     // lists that double, each of a part of what the documentation states
-    assert!(requested <= 4 * (296 + 216) * count, "{requested}");
+    assert!(requested <= 4 * (296 + 328) * count, "{requested}");
     read.expect("it is read")
 }
 

@@ -4,10 +4,11 @@
 use crate::indices::{found, with_indices};
 use crate::toolchain::linker;
 use crate::{corpus, features, random};
+use std::collections::BTreeSet;
 use wenc::scope::{Definition, Definitions, Meaning, Scope as Around, ScopeFault};
-use wenc::tree::{AliasTree, ItemTree, Scope, Space, UsedIndex};
+use wenc::tree::{AliasTree, IndexCounts, ItemTree, Scope, Space, UsedIndex};
 use wenc::view::ItemView;
-use wenc::{Component, ItemSection, Sections};
+use wenc::{Alias, Component, ComponentSectionId, ItemSection, Sections};
 
 /// An index without a definition, and the number of those that its space has.
 type Missing = (Space, u32, u64);
@@ -117,6 +118,62 @@ fn valid_components_are_followed() {
         let seen = is_valid("random", &bytes);
         assert!(seen.definitions > 10 * count, "{seed}: {}", seen.definitions);
     }
+}
+
+/// Builtins that moved can't be read. What comes after them has the indices that the names of the
+/// component say.
+#[test]
+fn builtins_that_moved() {
+    let of_cancellable = [(1, "0"), (2, "1"), (6, "run"), (7, "cabi_realloc")];
+    let of_unsuspend = [(1, "run"), (2, "cabi_realloc")];
+    for (name, unread, aliases) in [
+        ("39-cancellable", &[0, 3, 4, 5][..], &of_cancellable[..]),
+        ("37-thread-unsuspend", &[0], &of_unsuspend),
+    ] {
+        let bytes = corpus::read(&format!("wasm/{name}.wasm"));
+        let definitions = Definitions::past_faults(&bytes, 100, |_| {});
+        let (scope, mut named) = (definitions.component(), 0);
+        for (space, index, of) in Sections::new(&bytes).expect("a component").names().iter() {
+            let found = scope.get(space, index);
+            let is_unread = matches!(found, Err(ScopeFault::Unread { .. }));
+            assert_eq!(is_unread, space == Space::CoreFuncs && unread.contains(&index), "{of}");
+            assert!(is_unread || found.is_ok_and(|found| found.index() == Some(index)), "{of}");
+            named += 1;
+        }
+        assert!(named > 8, "{named}");
+        for (index, of) in aliases {
+            let alias = scope.get(Space::CoreFuncs, *index).expect("it is read").meaning();
+            let Meaning::Item(ItemView::Alias(Alias::CoreInstanceExport { name, .. })) = alias
+            else {
+                panic!("{name} {index}")
+            };
+            assert_eq!(name, *of);
+        }
+    }
+}
+
+/// Items define indices in the spaces that `add_unread` makes unknown, and in each of them.
+#[test]
+fn spaces_of_unread_items() {
+    let mut seen = BTreeSet::new();
+    let components = corpus::components().into_iter().map(|(_, bytes)| bytes);
+    let random = (1..=16).map(|seed| random::components(seed, 2, false).0);
+    // aliases of an instance, a value and a component, and a start function with a result
+    let others = b"\0asm\x0d\0\x01\0\x06\x10\x03\x05\0\0\x01a\x02\0\0\x01b\x04\0\0\x01c\
+        \x09\x03\0\0\x01";
+    for bytes in components.chain([features::known(), others.to_vec()]).chain(random) {
+        for (_, section) in Sections::new(&bytes).expect("a component").nested(100).flatten() {
+            let spaces = section.items().flatten().filter_map(|(_, item)| item.defined_indices());
+            seen.extend(spaces.map(|(space, _)| (section.id(), space)));
+        }
+    }
+    let unknown = ComponentSectionId::ALL.into_iter().flat_map(|id| {
+        let mut counts = IndexCounts::default();
+        counts.add_unread(id);
+        let is_unknown = move |space: &Space| counts.of(*space) == u64::MAX;
+        Space::ALL.into_iter().filter(is_unknown).map(move |space| (id.into(), space))
+    });
+    assert_eq!(seen, unknown.collect());
 }
 
 /// Expects that the only index without a definition is one of this space. Returns how many

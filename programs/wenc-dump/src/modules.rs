@@ -4,7 +4,7 @@ use super::cause::{self, Cause};
 use super::fault::{Failure, Fault};
 use super::phrase;
 use super::report::{Content, Contents, Core, Part, Report};
-use super::walk::{Walk, label, note};
+use super::walk::{Walk, label};
 use super::words;
 use std::ops::Range;
 use wenc::tree::{CoreEntityType, IndexCounts, Space};
@@ -101,7 +101,9 @@ impl<R: Report> Walk<'_, '_, R> {
                 Ok((range, item)) => self.core_item(at, section, range, &item, counts)?,
                 Err(fault) => {
                     let fault = Fault::of_module(at, fault, None);
-                    note(counts, &fault);
+                    if !fault.is_behind_items() {
+                        counts.add_unknown();
+                    }
                     self.unread_of(fault, range.end, !are_shown)?;
                 }
             }

@@ -167,16 +167,19 @@ fn wit(
             return Ok(());
         }
     };
-    let (definitions, fault) = Definitions::up_to_fault(&bytes, DEPTH);
+    let mut is_component = true;
+    let definitions = Definitions::past_faults(&bytes, DEPTH, |fault| {
+        is_component &= !matches!(fault, ListFault::NotAComponent { place: 0, .. });
+        tell(&match fault {
+            ListFault::NoMemory => Fault::NoMemory,
+            fault => Fault::List(fault, None),
+        });
+    });
     let (text, unwritten) = Wit::of(&definitions);
-    if !matches!(fault, Some(ListFault::NotAComponent { place: 0, .. })) {
+    if is_component {
         print(out, &text)?;
     }
-    let fault = fault.map(|fault| match fault {
-        ListFault::NoMemory => Fault::NoMemory,
-        fault => Fault::List(fault, None),
-    });
-    fault.into_iter().chain(unwritten.into_iter().map(Fault::Unwritten)).for_each(|of| tell(&of));
+    unwritten.into_iter().map(Fault::Unwritten).for_each(|of| tell(&of));
     Ok(())
 }
 

@@ -37,17 +37,10 @@ pub(super) fn label<'a>(
     count: u32,
     names: Option<&'a DebugNames>,
 ) -> Label<'a> {
-    let from = counts.filter(|counts| !counts.are_unknown()).map(|counts| counts.of(space));
+    let from = counts.map(|counts| counts.of(space)).filter(|from| *from < u64::MAX);
     let index = from.and_then(|from| u32::try_from(from).ok()).filter(|_| count > 0);
     let name = names.zip(index).and_then(|(names, index)| names.get(space, index));
     Label { space, from, count, name }
-}
-
-/// Notes that an item or a section can't be read.
-pub(super) fn note(counts: &mut IndexCounts, fault: &Fault) {
-    if !fault.is_behind_items() {
-        counts.add_unknown();
-    }
 }
 
 /// Reports the component or the core module with these bytes, and passes on its faults, with those
@@ -81,10 +74,13 @@ fn names_of(sections: Sections) -> Result<DebugNames, Failure> {
 }
 
 impl<'f, R: Report> Walk<'f, '_, R> {
-    /// Notes that an item or a section of the innermost component can't be read.
-    fn note(&mut self, fault: &Fault) {
-        if let Some(counts) = self.check.innermost_mut() {
-            note(counts, fault);
+    /// Notes that a section of the innermost component with this id, or an item of it, can't be
+    /// read.
+    fn note(&mut self, section: u8, fault: &Fault) {
+        match (self.check.innermost_mut(), section.try_into()) {
+            (Some(counts), Ok(section)) if !fault.is_behind_items() => counts.add_unread(section),
+            (Some(counts), Err(_)) => counts.add_unknown(),
+            _ => {}
         }
     }
 
@@ -212,7 +208,7 @@ impl<'f, R: Report> Walk<'f, '_, R> {
         };
         let (end, word) = (range.end, words::section(id));
         self.report.open(&Part::Section { range, id, word, count: None, core: None })?;
-        self.note(&fault);
+        self.note(id, &fault);
         self.unread(fault, end)?;
         Ok(self.report.close()?)
     }
@@ -237,7 +233,7 @@ impl<'f, R: Report> Walk<'f, '_, R> {
                 }
                 Err(fault) => Fault::List(fault, None),
             };
-            self.note(&fault);
+            self.note(id, &fault);
             self.unread(fault, section.range().end)?;
         }
         Ok(self.report.close()?)

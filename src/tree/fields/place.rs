@@ -1,6 +1,7 @@
 //! Where a value is, which determines what an index is of, and whether there is such an index.
 
 use super::{Scope, Space};
+use crate::ComponentSectionId;
 use crate::tree::Node;
 use crate::view::ItemView;
 
@@ -30,7 +31,8 @@ impl Default for IndexCounts {
 }
 
 impl IndexCounts {
-    /// Returns the number of indices in a space.
+    /// Returns the number of indices in a space: [`u64::MAX`] after an item that can't be read and
+    /// may define some in it.
     pub fn of(&self, space: Space) -> u64 {
         self.0[space.number()]
     }
@@ -43,6 +45,12 @@ impl IndexCounts {
     /// Adds an item that can't be read: then no index is out of range.
     pub fn add_unknown(&mut self) {
         self.0 = [u64::MAX; Space::ALL.len()];
+    }
+
+    /// Adds items of a section that can't be read: then no index is out of range in the spaces in
+    /// which items of such a section define indices.
+    pub fn add_unread(&mut self, section: ComponentSectionId) {
+        section.spaces().iter().for_each(|space| self.0[space.number()] = u64::MAX);
     }
 
     /// Returns whether there was an item that can't be read.

@@ -1,0 +1,69 @@
+//! Items that can't be read, and the indices after them.
+
+use super::build::{Reader, numbered};
+use super::{Meaning, NONE, UNKNOWN};
+use crate::tree::{Scope, Space};
+use crate::view::ItemView;
+use crate::{ComponentSectionId, ListFault};
+
+impl Reader<'_> {
+    /// Adds what a section with this id has from this byte offset on: items that can't be read.
+    pub fn unread(&mut self, section: u8, place: usize, count: u32) -> Result<(), ListFault> {
+        let (Ok(section), 1.., Some(open)) =
+            (ComponentSectionId::try_from(section), count, self.open.last_mut())
+        else {
+            return Ok(());
+        };
+        let is_canonical = section == ComponentSectionId::CanonicalFunction;
+        let frame = &mut self.all.frames[open.scope as usize];
+        if is_canonical {
+            open.assumed.get_or_insert(open.counts);
+        } else if section == ComponentSectionId::Export {
+            frame.unread = frame.unread.min(numbered(self.all.entries.len())?);
+        }
+        for &space in section.spaces() {
+            let count = if is_canonical && space == Space::CoreFuncs { count } else { 0 };
+            let meaning = Meaning::Unread { section, space, count, is_known: false };
+            self.define(place, meaning, NONE)?;
+        }
+        if let Some(open) = self.open.last_mut() {
+            open.counts.add_unread(section);
+            open.assumed.iter_mut().filter(|_| !is_canonical).for_each(|of| of.add_unread(section));
+        }
+        Ok(())
+    }
+
+    /// Finds out whether all canonical functions that can't be read are core functions: if an item
+    /// refers to the last one that there is then.
+    pub fn settle(&mut self, item: &ItemView<'_>) {
+        let Some(open) = self.open.last_mut() else { return };
+        let Some(assumed) = open.assumed else { return };
+        let (end, mut is_last) = (assumed.of(Space::CoreFuncs), false);
+        item.node().each_index(|of| {
+            let is_own = (of.space, of.scope) == (Space::CoreFuncs, Scope::Component(0));
+            is_last |= is_own && u64::from(of.index) + 1 == end;
+        });
+        if is_last {
+            (open.counts, open.assumed) = (assumed, None);
+            let newest = self.all.frames[open.scope as usize].newest;
+            for space in [Space::CoreFuncs, Space::Funcs] {
+                self.number(newest[space.number()], assumed.of(space));
+            }
+        }
+    }
+
+    /// Numbers the entries of a space up to this one, whose indices weren't known and end here.
+    fn number(&mut self, mut number: u32, mut end: u64) {
+        while let Some(entry) = self.all.entries.get_mut(number as usize).filter(|_| end < UNKNOWN)
+        {
+            if let Meaning::Unread { is_known, .. } = &mut entry.meaning {
+                *is_known = true;
+            }
+            if entry.first < UNKNOWN {
+                break;
+            }
+            end = end.saturating_sub(entry.count.into());
+            (entry.first, number) = (end, entry.previous);
+        }
+    }
+}
