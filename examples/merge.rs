@@ -9,37 +9,34 @@
 //! second uses the import of the first: whether their types agree is left to a validator. They
 //! export different names. Debug names are kept, except that of the second component itself.
 
-use wenc::tree::{Command, IndexUse, ItemTree, NameTree, Scope, Space, build};
+use wenc::tree::{Command, IndexCounts, IndexUse, ItemTree, NameTree, Scope, Space, build};
 use wenc::{ComponentExportKind as Kind, ComponentNameSection, DebugNames, Sections};
 
 /// The maximum nesting depth of components.
 const LIMIT: usize = 100;
 
-/// The indices in the whole of a component's items, by the number of their space.
+/// The indices in the whole of a component's items.
 #[derive(Default)]
 struct Moved {
-    /// The first index of each item, and that index in the whole.
-    firsts: [Vec<(u32, u32)>; 13],
-    /// The number of indices that are defined in each space.
-    counts: [u32; 13],
+    /// The first index of each item, and that index in the whole, by the number of their space.
+    firsts: [Vec<(u64, u64)>; 13],
+    counts: IndexCounts,
 }
 
 impl Moved {
     /// Adds the next indices in a space, which begin at `to` in the whole.
-    fn define(&mut self, space: Space, count: u32, to: u32) -> Result<(), String> {
-        let next = &mut self.counts[space.number()];
-        self.firsts[space.number()].push((*next, to));
-        *next = next.checked_add(count).ok_or("too many indices")?;
-        Ok(())
+    fn define(&mut self, space: Space, count: u32, to: u64) {
+        self.firsts[space.number()].push((self.counts.of(space), to));
+        self.counts.define(Some((space, count)));
     }
 
     /// Returns the index in the whole. A valid component has no index that nothing defines.
     fn index(&self, space: Space, index: u32) -> u32 {
         let firsts = &self.firsts[space.number()];
-        let after = firsts.partition_point(|(first, _)| *first <= index);
+        let after = firsts.partition_point(|(first, _)| *first <= index.into());
         after.checked_sub(1).map_or(index, |at| {
             let (first, to) = firsts[at];
-            to.saturating_add(index - first)
+            u32::try_from(to + u64::from(index) - first).unwrap_or(u32::MAX)
         })
     }
 
@@ -54,9 +51,8 @@ impl Moved {
 #[derive(Default)]
 struct Merged {
     commands: Vec<Command>,
-    /// The number of indices that are defined in each space.
-    counts: [u32; 13],
-    imports: Vec<(NameTree, Kind, u32)>,
+    counts: IndexCounts,
+    imports: Vec<(NameTree, Kind, u64)>,
     exports: Vec<NameTree>,
     names: DebugNames,
 }
@@ -91,9 +87,10 @@ impl Merged {
                 let (kind, space) = (ty.kind(), Space::from(ty.kind()));
                 let mut imports = self.imports.iter();
                 if let Some((.., index)) = imports.find(|of| of.0 == *name && of.1 == kind) {
-                    return moved.define(space, 1, *index);
+                    moved.define(space, 1, *index);
+                    return Ok(());
                 }
-                self.imports.push((name.clone(), kind, self.counts[space.number()]));
+                self.imports.push((name.clone(), kind, self.counts.of(space)));
             }
             ItemTree::Export { name, .. } if self.exports.contains(name) => {
                 return Err(format!("both export {}", &*name.name));
@@ -102,9 +99,8 @@ impl Merged {
             _ => {}
         }
         if let Some((space, count)) = item.defined_indices() {
-            let next = &mut self.counts[space.number()];
-            moved.define(space, count, *next)?;
-            *next = next.checked_add(count).ok_or("too many indices")?;
+            moved.define(space, count, self.counts.of(space));
+            self.counts.define(Some((space, count)));
         }
         item.indices_mut(|used| moved.renumber(used));
         let nested = item.outer_indices_mut(LIMIT, |used| moved.renumber(used));
@@ -228,7 +224,7 @@ mod tests {
         assert_eq!(merge(&export, &export), Err("both export h".into()));
         assert_eq!(merge(b"", &export), Err("no component's header at 0x0: found nothing".into()));
         let start = component(&[b"\x09\x07\0\0\xff\xff\xff\xff\x0f"]);
-        assert_eq!(merge(&start, &start), Err("too many indices".into()));
+        assert_eq!(merge(&start, &start), Err("too many".into()));
         let nested = component(&[b"\x04\x01\0"]);
         let told = "a nested component isn't read: no component's header at 0x0: found other bytes";
         assert_eq!(merge(&nested, &start), Err(told.into()));

@@ -8,7 +8,7 @@ use alloc::vec::Vec;
 use core::ffi::c_char;
 use core::fmt::{self, Write};
 use core::ops::Range;
-use wenc::tree::Space;
+use wenc::tree::{IndexCounts, Space};
 use wenc::view::ItemView;
 use wenc::{
     Cause, ComponentSectionId, DebugNames, Items, ListFault, NamesFault, NamesReader,
@@ -21,8 +21,7 @@ pub struct Listed {
     bytes: Vec<u8>,
     sections: Vec<Section>,
     items: Vec<Item>,
-    /// The number of indices in each space, by its number.
-    counts: [u64; 13],
+    counts: IndexCounts,
 }
 
 /// A section of it.
@@ -42,8 +41,8 @@ struct Item {
 impl Listed {
     /// Reads a component.
     fn read(bytes: &[u8]) -> Result<Self, ListFault> {
-        let (sections, items) = (Vec::new(), Vec::new());
-        let mut listed = Self { bytes: Vec::new(), sections, items, counts: [0; 13] };
+        let (sections, items, counts) = (Vec::new(), Vec::new(), IndexCounts::default());
+        let mut listed = Self { bytes: Vec::new(), sections, items, counts };
         for section in Sections::new(bytes)? {
             listed.read_section(section?)?;
         }
@@ -56,13 +55,8 @@ impl Listed {
         push(&mut self.sections, Section { row, before })?;
         for item in section.items() {
             let (range, item) = item?;
-            let mut index = 0;
-            if let Some((space, taken)) = item.defined_indices() {
-                let count = &mut self.counts[space.number()];
-                index = *count;
-                // A component of 2^32 such items would have more bytes than there are.
-                *count = count.saturating_add(taken.into());
-            }
+            let index = item.defined_indices().map_or(0, |(space, _)| self.counts.of(space));
+            self.counts.add(&item);
             push(&mut self.items, Item { place: range.start, index })?;
         }
         Ok(())
@@ -75,7 +69,7 @@ impl Listed {
 
     /// Returns the number of items in an index space.
     pub(crate) fn count(&self, space: Space) -> Result<u32> {
-        let count = u32::try_from(self.counts[space.number()]);
+        let count = u32::try_from(self.counts.of(space));
         count.map_err(|_| Refused::from(Status::TooLarge).of(c"space"))
     }
 
