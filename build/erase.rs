@@ -10,7 +10,8 @@
 //! - *renames*: the roots of paths, so that `crate::` and `wenc_base::` are modules of
 //!   `crate::proved`, and `std::` is `crate::shim`, which has what the sources use of Rattle's
 //!   library; other allocators to `Global`; `Clone` and `clone`, which can fail in Rattle, to
-//!   `TryClone` and `try_clone`; the calls in [`ALLOCATING`] and [`MAKING`], by appending `_using`;
+//!   `TryClone` and `try_clone`; the `Iterator` of an `impl` to `Members`, which has no more than
+//!   Rattle's; the calls in [`ALLOCATING`] and [`MAKING`], by appending `_using`;
 //!   `derive_where` to `derive`; `pub` of the methods and fields that aren't for users
 //!   ([`NARROWED`]) to `pub(crate)`;
 //! - *adds*: the names that are in scope by default, before a file's first item; the derives that
@@ -198,6 +199,7 @@ impl<'a> Eraser<'a> {
             }
             "unsafe" => return Err((self.line(i), "an `unsafe`")),
             "pub" if self.is_narrowed(i) => self.put(i, "pub(crate)"),
+            "Iterator" if self.at(i + 1) == "for" => self.put(i, "crate::shim::iter::Members"),
             "Clone" if self.is_bound(i) => self.put(i, "TryClone"),
             "clone" if self.is_method(i) => self.put(i, "try_clone"),
             "Clone" => return Err((self.line(i), "a `Clone` that is no bound")),

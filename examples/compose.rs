@@ -57,7 +57,8 @@ fn main() -> Result<(), String> {
         return Err("compose PROVIDER CONSUMER OUT".into());
     };
     let read = |path| std::fs::read(path).map_err(|error| format!("{path}: {error}"));
-    let composed = compose(&read(provider)?, &read(consumer)?)?;
+    let composed = compose(&read(provider)?, &read(consumer)?);
+    let composed = composed.map_err(|error| format!("{provider} and {consumer}: {error}"))?;
     std::fs::write(out, composed).map_err(|error| format!("{out}: {error}"))
 }
 

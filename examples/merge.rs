@@ -139,7 +139,8 @@ fn main() -> Result<(), String> {
         return Err("merge ONE OTHER OUT".into());
     };
     let read = |path| std::fs::read(path).map_err(|error| format!("{path}: {error}"));
-    let merged = merge(&read(one)?, &read(other)?)?;
+    let merged = merge(&read(one)?, &read(other)?);
+    let merged = merged.map_err(|error| format!("{one} and {other}: {error}"))?;
     std::fs::write(out, merged).map_err(|error| format!("{out}: {error}"))
 }
 

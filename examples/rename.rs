@@ -62,13 +62,14 @@ pub fn rename(component: &[u8], old: &str, new: &str) -> Result<Vec<u8>, Box<dyn
 }
 
 #[allow(dead_code)]
-fn main() -> Result<(), Box<dyn Error>> {
+fn main() -> Result<(), String> {
     let arguments: Vec<String> = std::env::args().skip(1).collect();
     let [component, old, new, out] = arguments.as_slice() else {
         return Err("rename COMPONENT OLD NEW OUT".into());
     };
-    let renamed = rename(&std::fs::read(component)?, old, new)?;
-    Ok(std::fs::write(out, renamed)?)
+    let bytes = std::fs::read(component).map_err(|error| format!("{component}: {error}"))?;
+    let renamed = rename(&bytes, old, new).map_err(|error| format!("{component}: {error}"))?;
+    std::fs::write(out, renamed).map_err(|error| format!("{out}: {error}"))
 }
 
 #[cfg(test)]

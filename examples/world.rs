@@ -195,8 +195,8 @@ fn main() -> Result<(), String> {
     let read = |path| std::fs::read(path).map_err(|error| format!("{path}: {error}"));
     let text = String::from_utf8(read(world)?).map_err(|error| format!("{world}: {error}"))?;
     let mut object = read(object)?;
-    let (name, world) = encode(&text)?;
-    embed(&mut object, name, &world);
+    let (name, encoded) = encode(&text).map_err(|error| format!("{world}: {error}"))?;
+    embed(&mut object, name, &encoded);
     std::fs::write(out, object).map_err(|error| format!("{out}: {error}"))
 }
 

@@ -247,6 +247,8 @@ impl TryFrom<u8> for ComponentSectionId {
 /// The error of converting a `u8` that isn't a section's id to a [`ComponentSectionId`] or a
 /// [`SectionId`](crate::SectionId).
 ///
+/// It doesn't convert into [`Error`](crate::Error), which says what can't be written.
+///
 /// ```
 /// use wenc::{ComponentSectionId, UnknownSectionId};
 ///

@@ -4,6 +4,7 @@ use crate::proved::wenc_read::{Expected, Refusal, u32_of};
 use crate::proved::wenc_view::View;
 use crate::tree::CoreEntityType;
 use crate::{Cause, CoreSection, ExportKind, ModuleFault, SectionId, Unread};
+use core::iter::FusedIterator;
 use core::ops::Range;
 
 /// An item of a core module, which borrows from the module (WebAssembly 3.0, binary format, "Import
@@ -182,4 +183,13 @@ impl<'a> Iterator for CoreItems<'a> {
         }
         next
     }
+
+    fn size_hint(&self) -> (usize, Option<usize>) {
+        let left = self.kind.map_or(Ok(0), |_| self.left).map_or(1, |left| left as usize);
+        // after the last one there may be bytes, which are an error
+        let len = left.saturating_add(self.kind.map_or(0, |_| self.rest.len().min(1)));
+        (len.min(1), Some(len))
+    }
 }
+
+impl FusedIterator for CoreItems<'_> {}

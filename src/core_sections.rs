@@ -1,10 +1,12 @@
 //! A core module section by section.
 
+use crate::cursor::parts_in;
 use crate::list::{Cause, Found, Unread, write_cause, write_part};
 use crate::proved::wenc_list::{behind_module_header, part_of};
 use crate::proved::wenc_view::text_of;
 use crate::{RawSection, SectionId};
 use core::fmt;
+use core::iter::FusedIterator;
 use core::ops::Range;
 
 /// A section of a core module (WebAssembly 3.0, binary format, "Sections").
@@ -64,6 +66,7 @@ impl<'a> CoreSections<'a> {
     /// # Errors
     ///
     /// [`ModuleFault::NotAModule`] if the bytes don't begin with the header of a core module.
+    #[doc(alias = "parse")]
     pub fn new(module: &'a [u8]) -> Result<Self, ModuleFault> {
         let rest = behind_module_header(module)
             .ok_or_else(|| ModuleFault::NotAModule { found: Found::of(module) })?;
@@ -130,9 +133,17 @@ impl<'a> Iterator for CoreSections<'a> {
         let fault = |cause| ModuleFault::BadSection { place, cause };
         Some(first.map(|(section, _)| section).map_err(fault))
     }
+
+    fn size_hint(&self) -> (usize, Option<usize>) {
+        parts_in(self.rest.len())
+    }
 }
 
+impl FusedIterator for CoreSections<'_> {}
+
 /// Why a core module can't be read.
+///
+/// It doesn't convert into [`Error`](crate::Error), which says what can't be written.
 ///
 /// Needs the feature `walk`.
 #[derive(Clone, Copy, Debug, PartialEq, Eq, Hash)]

@@ -16,7 +16,7 @@ use crate::{
     RawSection,
 };
 use core::fmt;
-use core::iter;
+use core::iter::{self, FusedIterator};
 use core::ops::Range;
 
 pub use items::Items;
@@ -72,6 +72,7 @@ impl<'a> Sections<'a> {
     /// # Errors
     ///
     /// [`ListFault::NotAComponent`] if the bytes don't begin with a component's header.
+    #[doc(alias = "parse")]
     pub fn new(bytes: &'a [u8]) -> Result<Self, ListFault> {
         let found = || Found::of(bytes);
         let left = proved::Sections::new(bytes)
@@ -138,7 +139,7 @@ impl<'a> Sections<'a> {
     /// read.
     pub fn items(
         self,
-    ) -> impl Iterator<Item = Result<(Range<usize>, ItemView<'a>), ListFault>> + 'a {
+    ) -> impl FusedIterator<Item = Result<(Range<usize>, ItemView<'a>), ListFault>> + 'a {
         self.each_of(|_| true, |section| section.items())
     }
 
@@ -146,14 +147,16 @@ impl<'a> Sections<'a> {
     ///
     /// Needs the feature `tree`.
     #[cfg(feature = "tree")]
-    pub fn trees(self) -> impl Iterator<Item = Result<(Range<usize>, ItemTree), ListFault>> + 'a {
+    pub fn trees(
+        self,
+    ) -> impl FusedIterator<Item = Result<(Range<usize>, ItemTree), ListFault>> + 'a {
         self.each_of(|_| true, |section| section.trees())
     }
 
     /// Returns the imports, each by its name and its type. The items of other sections aren't read.
     pub fn imports(
         self,
-    ) -> impl Iterator<Item = Result<(NameView<'a>, ComponentTypeRef), ListFault>> + 'a {
+    ) -> impl FusedIterator<Item = Result<(NameView<'a>, ComponentTypeRef), ListFault>> + 'a {
         let is_kept = |id| id == ComponentSectionId::Import.into();
         self.each_of(is_kept, |section| section.items()).filter_map(|item| match item {
             Ok((_, ItemView::Import { name, ty })) => Some(Ok((name, ty))),
@@ -166,7 +169,7 @@ impl<'a> Sections<'a> {
     /// Ascribed types are left out. The items of other sections aren't read.
     pub fn exports(
         self,
-    ) -> impl Iterator<Item = Result<(NameView<'a>, ComponentExportKind, u32), ListFault>> + 'a
+    ) -> impl FusedIterator<Item = Result<(NameView<'a>, ComponentExportKind, u32), ListFault>> + 'a
     {
         let is_kept = |id| id == ComponentSectionId::Export.into();
         self.each_of(is_kept, |section| section.items()).filter_map(|item| match item {
@@ -243,9 +246,9 @@ impl<'a> Sections<'a> {
     pub fn out_of_range(
         self,
         limit: usize,
-    ) -> impl Iterator<Item = Result<OutOfRange, ListFault>> + 'a {
+    ) -> impl FusedIterator<Item = Result<OutOfRange, ListFault>> + 'a {
         let mut finder = out_of_range::Finder::new(self.nested(limit));
-        up_to_fault(iter::from_fn(move || finder.find().transpose()))
+        UpToFault(Some(iter::from_fn(move || finder.find().transpose())))
     }
 
     /// Returns the fault, after which there are no sections.
@@ -261,16 +264,16 @@ impl<'a> Sections<'a> {
         self,
         is_kept: impl Fn(u8) -> bool + 'a,
         items_of: impl Fn(SectionReader<'a>) -> I + 'a,
-    ) -> impl Iterator<Item = Result<T, ListFault>> + 'a {
+    ) -> impl FusedIterator<Item = Result<T, ListFault>> + 'a {
         let sections =
             self.filter(move |section| section.as_ref().map_or(true, |of| is_kept(of.id())));
-        up_to_fault(sections.flat_map(move |section| {
+        UpToFault(Some(sections.flat_map(move |section| {
             let (items, fault) = match section {
                 Ok(section) => (Some(items_of(section)), None),
                 Err(fault) => (None, Some(Err(fault))),
             };
             items.into_iter().flatten().chain(fault)
-        }))
+        })))
     }
 }
 
@@ -280,16 +283,31 @@ impl fmt::Debug for Sections<'_> {
     }
 }
 
-/// Returns the values up to the first fault, and the fault.
-fn up_to_fault<T, E>(
-    mut values: impl Iterator<Item = Result<T, E>>,
-) -> impl Iterator<Item = Result<T, E>> {
-    let mut is_over = false;
-    iter::from_fn(move || {
-        let value = if is_over { None } else { values.next() };
-        is_over = !matches!(value, Some(Ok(_)));
-        value
-    })
+/// The values of an iterator up to the first fault, and the fault; `None` after the last one.
+struct UpToFault<I>(Option<I>);
+
+impl<T, E, I: Iterator<Item = Result<T, E>>> Iterator for UpToFault<I> {
+    type Item = Result<T, E>;
+
+    fn next(&mut self) -> Option<Self::Item> {
+        let next = self.0.as_mut()?.next();
+        if !matches!(next, Some(Ok(_))) {
+            self.0 = None;
+        }
+        next
+    }
+
+    fn size_hint(&self) -> (usize, Option<usize>) {
+        let hint = self.0.as_ref().map_or((0, Some(0)), Iterator::size_hint);
+        (hint.0.min(1), hint.1)
+    }
+}
+
+impl<T, E, I: Iterator<Item = Result<T, E>>> FusedIterator for UpToFault<I> {}
+
+/// Returns how many parts there are in this many bytes, of two bytes at least, or one that isn't.
+pub(crate) fn parts_in(len: usize) -> (usize, Option<usize>) {
+    (len.min(1), Some(len.div_ceil(2)))
 }
 
 /// # Errors
@@ -311,7 +329,13 @@ impl<'a> Iterator for Sections<'a> {
             }
         }
     }
+
+    fn size_hint(&self) -> (usize, Option<usize>) {
+        parts_in(self.left.map_or(0, |left| left.rest.len()))
+    }
 }
+
+impl FusedIterator for Sections<'_> {}
 
 /// A section of a component. Appended to another component, as a
 /// [`ComponentSection`](crate::ComponentSection), it is copied byte for byte.

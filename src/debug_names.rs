@@ -13,6 +13,7 @@ use crate::{Cause, ComponentNameSection, ComponentSectionId, Error, NameMap, Sec
 use alloc::string::String;
 use by_index::ByIndex;
 use core::fmt;
+use core::iter::FusedIterator;
 
 pub use reader::{DebugName, NamesReader};
 
@@ -141,7 +142,7 @@ impl DebugNames {
 
     /// Returns the names of the items with their spaces and indices, ordered by space, as in
     /// [`Space::ALL`], and then by index.
-    pub fn iter(&self) -> impl Iterator<Item = (Space, u32, &str)> {
+    pub fn iter(&self) -> impl FusedIterator<Item = (Space, u32, &str)> {
         Space::ALL
             .into_iter()
             .zip(&self.items)
@@ -206,6 +207,8 @@ impl From<&DebugNames> for ComponentNameSection {
 }
 
 /// Why debug names can't be read.
+///
+/// It doesn't convert into [`Error`](crate::Error), which says what can't be written.
 ///
 /// Needs the feature `walk`.
 #[derive(Clone, Copy, Debug, PartialEq, Eq, Hash)]

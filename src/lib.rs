@@ -1,4 +1,4 @@
-//! Writes and lists WebAssembly components. The code is proved as Rattle and compiled as Rust.
+//! Writes and reads WebAssembly components. The code is proved as Rattle and compiled as Rust.
 //!
 //! The names and signatures are those of the component layer of `wasm-encoder` 0.263.0. A program
 //! that builds components with `wasm_encoder::ComponentBuilder`, or section by section, changes its
@@ -107,6 +107,8 @@
     all(feature = "walk", not(feature = "tree")),
     allow(rustdoc::broken_intra_doc_links, rustdoc::private_intra_doc_links)
 )]
+// Names the feature of each item where docs.rs builds this.
+#![cfg_attr(docsrs, feature(doc_cfg))]
 #![no_std]
 #![forbid(unsafe_code)]
 #![deny(missing_docs)]

@@ -25,6 +25,8 @@ mod unread;
 /// Why a component can't be listed. A place is a byte offset in the component; for a section, the
 /// offset of its id.
 ///
+/// It doesn't convert into [`Error`](crate::Error), which says what can't be written.
+///
 /// Needs the feature `walk`.
 ///
 /// ```
@@ -276,6 +278,7 @@ impl core::error::Error for ListFault {}
 /// assert_eq!(list(&bytes[..13]), Err(ListFault::BadSection { place: 8, cause }));
 /// # Ok::<(), ListFault>(())
 /// ```
+#[doc(alias = "parse")]
 #[cfg(feature = "tree")]
 pub fn list(bytes: &[u8]) -> Result<Listing, ListFault> {
     list_or_refusal(Global, bytes).map_err(|refusal| ListFault::new(bytes, refusal))

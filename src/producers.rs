@@ -4,6 +4,7 @@ use crate::Cause;
 use crate::proved::wenc_list::{ProducersPart, ProducersParts};
 use crate::proved::wenc_read::Refusal;
 use core::fmt;
+use core::iter::FusedIterator;
 
 /// A tool that produced a module or a component.
 ///
@@ -55,6 +56,7 @@ impl<'a> ProducersReader<'a> {
     pub const SECTION: &'static str = "producers";
 
     /// Returns the tools in the data of a section with this name.
+    #[doc(alias = "parse")]
     pub fn new(data: &'a [u8]) -> Self {
         Self { data, field: "", parts: Some(ProducersParts::new(data)) }
     }
@@ -86,7 +88,15 @@ impl<'a> Iterator for ProducersReader<'a> {
             }
         }
     }
+
+    fn size_hint(&self) -> (usize, Option<usize>) {
+        let rest = self.parts.as_ref().map(|parts| parts.as_ref().map_or(0, |of| of.rest.len()));
+        // after the last one there may be one that isn't
+        (0, Some(rest.map_or(0, |rest| rest / 2 + 1)))
+    }
 }
+
+impl FusedIterator for ProducersReader<'_> {}
 
 impl fmt::Debug for ProducersReader<'_> {
     fn fmt(&self, f: &mut fmt::Formatter<'_>) -> fmt::Result {
@@ -95,6 +105,8 @@ impl fmt::Debug for ProducersReader<'_> {
 }
 
 /// Why producers can't be read.
+///
+/// It doesn't convert into [`Error`](crate::Error), which says what can't be written.
 ///
 /// Needs the feature `walk`.
 #[derive(Clone, Copy, Debug, PartialEq, Eq, Hash)]

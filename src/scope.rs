@@ -48,7 +48,8 @@ mod unread;
 
 use crate::tree::Space;
 use alloc::vec::Vec;
-use core::{fmt, iter};
+use core::fmt;
+use core::iter::{self, FusedIterator};
 
 pub use definition::Definition;
 pub use fault::ScopeFault;
@@ -284,7 +285,7 @@ impl<'s, 'a> Scope<'s, 'a> {
 
     /// Returns the definitions in their order, with exports, custom sections and others that define
     /// no index.
-    pub fn definitions(self) -> impl Iterator<Item = Definition<'s, 'a>> {
+    pub fn definitions(self) -> impl FusedIterator<Item = Definition<'s, 'a>> {
         let numbered = move |number: u32| (number < self.before).then_some(number);
         let first = numbered(self.all.frame(self.number).ends.0);
         let numbers = iter::successors(first, move |number| numbered(self.all.entry(*number).next));

@@ -5,6 +5,7 @@ use crate::proved::wenc_read::NestedRefusal;
 use crate::view::ItemView;
 use crate::{ComponentSectionId, ListFault};
 use core::fmt;
+use core::iter::FusedIterator;
 use core::ops::Range;
 
 #[cfg(feature = "tree")]
@@ -112,7 +113,16 @@ impl<'a> Iterator for Items<'a> {
             }
         }
     }
+
+    fn size_hint(&self) -> (usize, Option<usize>) {
+        let (left, rest) = self.left.map_or((0, 0), |of| (of.left as usize, of.rest.len()));
+        // after the last one there may be bytes, which are an error
+        let len = left.saturating_add(rest.min(1));
+        (len.min(1), Some(len))
+    }
 }
+
+impl FusedIterator for Items<'_> {}
 
 impl fmt::Debug for Items<'_> {
     fn fmt(&self, f: &mut fmt::Formatter<'_>) -> fmt::Result {

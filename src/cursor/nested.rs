@@ -1,10 +1,11 @@
 //! Reading the components that are nested in a component.
 
-use super::{SectionReader, Sections};
+use super::{SectionReader, Sections, parts_in};
 use crate::ListFault;
 use crate::proved::wenc_list as proved;
 use crate::shim::vec::VecUsing;
 use alloc::vec::Vec;
+use core::iter::FusedIterator;
 use core::mem;
 
 /// The sections of a component and of all components nested in it, one by one, up to the first that
@@ -103,7 +104,17 @@ impl<'a> Iterator for NestedSections<'a> {
         }
         next.transpose()
     }
+
+    fn size_hint(&self) -> (usize, Option<usize>) {
+        let last = self.last.map(|section| section.range().start);
+        let left = last.or(self.innermost.offset()).map(|at| self.innermost.bytes.len() - at);
+        // after the last one there may be a component that isn't one
+        let len = left.and_then(|left| parts_in(left).1).map_or(0, |len| len.saturating_add(1));
+        (0, Some(len))
+    }
 }
+
+impl FusedIterator for NestedSections<'_> {}
 
 /// The number of byte offsets that take no memory.
 const FEW: usize = 8;

@@ -11,6 +11,8 @@ use alloc::vec::Vec;
 
 /// An index that its space doesn't have before the item that contains it, as
 /// [`Sections::out_of_range`](crate::Sections::out_of_range) finds it.
+///
+/// Needs the feature `walk`.
 #[derive(Clone, Copy, Debug, PartialEq, Eq)]
 pub struct OutOfRange {
     /// The byte offset of the item, from the start of the outermost component.

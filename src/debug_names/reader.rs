@@ -2,9 +2,11 @@
 
 use super::NamesFault;
 use crate::Cause;
+use crate::cursor::parts_in;
 use crate::proved::wenc_list::{ItemName, Names, names_in, part_of};
 use crate::proved::wenc_view::View;
 use crate::tree::Space;
+use core::iter::FusedIterator;
 
 /// A debug name.
 ///
@@ -49,6 +51,7 @@ pub struct NamesReader<'a> {
 
 impl<'a> NamesReader<'a> {
     /// Returns the names in the data of a section, which follow its own name.
+    #[doc(alias = "parse")]
     pub fn new(data: &'a [u8]) -> Self {
         Self { data, rest: Some(data), within: None }
     }
@@ -139,4 +142,10 @@ impl<'a> Iterator for NamesReader<'a> {
             }
         }
     }
+
+    fn size_hint(&self) -> (usize, Option<usize>) {
+        (0, parts_in(self.rest.map_or(0, <[u8]>::len)).1)
+    }
 }
+
+impl FusedIterator for NamesReader<'_> {}

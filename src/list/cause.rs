@@ -2,6 +2,7 @@
 
 use crate::proved::wenc_read::{Expected, Refusal};
 use core::fmt;
+use core::iter::FusedIterator;
 use core::ops::RangeInclusive;
 
 /// Why bytes can't be read, and from which byte on. Each place is a byte offset.
@@ -127,12 +128,14 @@ impl fmt::Display for Cause {
 }
 
 /// The bytes that are expected in one place, as up to four ranges; none where the end is.
+///
+/// Needs the feature `walk`.
 #[derive(Clone, Copy, PartialEq, Eq, Hash)]
 pub struct Bytes([(u8, u8); 4]);
 
 impl Bytes {
     /// Returns the ranges, which ascend.
-    pub fn ranges(self) -> impl Iterator<Item = RangeInclusive<u8>> {
+    pub fn ranges(self) -> impl FusedIterator<Item = RangeInclusive<u8>> {
         self.0.into_iter().map(|(first, last)| first..=last).filter(|range| !range.is_empty())
     }
 }

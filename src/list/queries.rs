@@ -3,20 +3,21 @@
 use crate::tree::{ItemTree, NameTree, Space};
 use crate::twins::twins;
 use crate::{ComponentExportKind, ComponentTypeRef, DebugNames, Listing};
+use core::iter::FusedIterator;
 
 impl Listing {
     /// Returns all items, in their order.
-    pub fn items(&self) -> impl Iterator<Item = &ItemTree> {
+    pub fn items(&self) -> impl FusedIterator<Item = &ItemTree> {
         self.sections.iter().flat_map(|section| &section.items)
     }
 
     /// Returns all items by value, in their order.
-    pub fn into_items(self) -> impl Iterator<Item = ItemTree> {
+    pub fn into_items(self) -> impl FusedIterator<Item = ItemTree> {
         self.sections.into_iter().flat_map(|section| section.items)
     }
 
     /// Returns the imports in their order, each by its name and its type.
-    pub fn imports(&self) -> impl Iterator<Item = (&NameTree, ComponentTypeRef)> {
+    pub fn imports(&self) -> impl FusedIterator<Item = (&NameTree, ComponentTypeRef)> {
         self.items().filter_map(|item| match item {
             ItemTree::Import { name, ty } => Some((name, *ty)),
             _ => None,
@@ -25,7 +26,7 @@ impl Listing {
 
     /// Returns the exports in their order, each by its name, and the kind and the index of what is
     /// exported. Their ascribed types are left out.
-    pub fn exports(&self) -> impl Iterator<Item = (&NameTree, ComponentExportKind, u32)> {
+    pub fn exports(&self) -> impl FusedIterator<Item = (&NameTree, ComponentExportKind, u32)> {
         self.items().filter_map(|item| match item {
             ItemTree::Export { name, kind, index, ty: _ } => Some((name, *kind, *index)),
             _ => None,

@@ -18,6 +18,7 @@ impl<'a> Definitions<'a> {
     /// The first fault of a section or of an item, [`ListFault::TooDeep`] for a component that is
     /// nested deeper, and [`ListFault::NoMemory`]. Indices that can't be followed are no error
     /// here.
+    #[doc(alias = "parse")]
     pub fn new(bytes: &'a [u8], limit: usize) -> Result<Self, ListFault> {
         let mut reader = Reader::new();
         reader.read(bytes, limit, &mut Err)?;
@@ -28,20 +29,23 @@ impl<'a> Definitions<'a> {
     /// items that can't be read, the next section is read; what isn't a section ends it.
     ///
     /// Where the items of a section can't be read, the indices after them aren't known in the
-    /// spaces in which such items define some ([`ScopeFault::Unread`]). Canonical functions that
-    /// can't be read are known to be core functions, and so are the indices after them, once an
-    /// item refers to the last core function that there is then: if one of them were a lifted
-    /// function, that index would be out of range.
+    /// spaces in which such items define some: what depends on them is
+    /// [`Unread`](super::ScopeFault::Unread). Canonical functions that can't be read are known to
+    /// be core functions, and so are the indices after them, once an item refers to the last core
+    /// function that there is then: if one of them were a lifted function, that index would be out
+    /// of range.
     ///
     /// ```
     /// use wenc::scope::{Definitions, ScopeFault};
     /// use wenc::tree::Space;
     ///
-    /// // a canonical function that isn't one, a type, a lifted function and an export
-    /// let component = b"\0asm\x0d\0\x01\0\x08\x02\x01\xff\x07\x05\x01\x40\0\x01\0\
+    /// // a canonical function, a type, a function of that type that is lifted, and an export
+    /// let mut component = *b"\0asm\x0d\0\x01\0\x08\x02\x01\x05\x07\x05\x01\x40\0\x01\0\
     ///     \x08\x06\x01\0\0\0\0\0\x0b\x07\x01\0\x01f\x01\0\0";
+    /// // the first can't be read
+    /// component[11] = 0xff;
     /// let mut faults = 0;
-    /// let definitions = Definitions::past_faults(component, 100, |_| faults += 1);
+    /// let definitions = Definitions::past_faults(&component, 100, |_| faults += 1);
     /// assert_eq!(faults, 1);
     /// let export = definitions.component().export("f").expect("it is read");
     /// // core function 0 is the last one, so that function 0 is the lifted one

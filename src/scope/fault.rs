@@ -8,7 +8,7 @@ use core::fmt;
 ///
 /// Needs the feature `walk`.
 ///
-/// It isn't an [`Error`](crate::Error), which says what can't be encoded.
+/// It doesn't convert into [`Error`](crate::Error), which says what can't be written.
 #[derive(Clone, Copy, Debug, PartialEq, Eq)]
 #[non_exhaustive]
 pub enum ScopeFault {

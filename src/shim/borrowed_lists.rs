@@ -1,13 +1,17 @@
 //! What users expect of borrowed lists, by their members, and what the derives of types that
 //! contain lists need.
 
-use crate::proved::wenc_view::{ComponentDecls, InstanceDecls, ListOf, View};
+use super::iter::Members;
+use crate::proved::wenc_view::{
+    ComponentDeclView, ComponentDecls, InstanceDeclView, InstanceDecls, ListOf, View,
+};
 use core::fmt;
 use core::hash::{Hash, Hasher};
+use core::iter::FusedIterator;
 
 /// Implements what users expect of a list, by its members.
 macro_rules! lists {
-    ($($name:ident $(<$member:ident>)?)+) => {$(
+    ($($name:ident $(<$member:ident>)? of $item:ty;)+) => {$(
         impl<'a $(, $member: View<'a>)?> $name<'a $(, $member)?> {
             /// Returns the number of members that are left. Nothing is read.
             pub fn len(&self) -> u32 {
@@ -19,6 +23,29 @@ macro_rules! lists {
                 self.left == 0
             }
         }
+
+        impl<'a $(, $member: View<'a>)?> Iterator for $name<'a $(, $member)?> {
+            type Item = $item;
+
+            #[inline]
+            fn next(&mut self) -> Option<Self::Item> {
+                let member = Members::next(self);
+                if member.is_none() {
+                    self.left = 0;
+                }
+                member
+            }
+
+            #[inline]
+            fn size_hint(&self) -> (usize, Option<usize>) {
+                let left = usize::try_from(self.left).ok();
+                (left.unwrap_or(usize::MAX), left)
+            }
+        }
+
+        impl<'a $(, $member: View<'a>)?> ExactSizeIterator for $name<'a $(, $member)?> {}
+
+        impl<'a $(, $member: View<'a>)?> FusedIterator for $name<'a $(, $member)?> {}
 
         impl<'a $(, $member: View<'a> + fmt::Debug)?> fmt::Debug for $name<'a $(, $member)?> {
             #[inline]
@@ -47,7 +74,7 @@ macro_rules! lists {
 }
 
 lists! {
-    ComponentDecls
-    InstanceDecls
-    ListOf<T>
+    ComponentDecls of ComponentDeclView<'a>;
+    InstanceDecls of InstanceDeclView<'a>;
+    ListOf<T> of T;
 }

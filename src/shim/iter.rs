@@ -3,6 +3,15 @@
 use super::alloc::{AllocError, Global};
 use super::vec::{Vec, VecUsing};
 
+/// Rattle's `Iterator`, which doesn't say how many members there are.
+pub trait Members {
+    /// A member.
+    type Item;
+
+    /// Returns the next member.
+    fn next(&mut self) -> Option<Self::Item>;
+}
+
 /// Rattle's `collect`, under another name, since Rust's iterators already have a `collect`.
 pub trait CollectUsing: Iterator {
     /// Collects the items in their order.

@@ -59,7 +59,7 @@ use values::leaves;
 pub(super) type Visit<'v> = dyn FnMut(&dyn Tree, Option<&[u8]>) -> ControlFlow<()> + 'v;
 
 /// A value that is an item or within one, owned or borrowed.
-pub(super) trait Tree {
+pub(super) trait Tree: Sync {
     /// Sets the values of the fields, and returns their shape; or the node of a value at this place
     /// that has no shape.
     fn shape<'n>(&'n self, place: Place<'n>, values: &mut Refs<'n>) -> Shaped<'n>;
@@ -100,13 +100,13 @@ pub(super) fn defined(declaration: &dyn Tree) -> Option<(Space, u32)> {
 }
 
 /// A value whose fields are lists of another type, or parts of it.
-pub(super) trait Whole {
+pub(super) trait Whole: Sync {
     /// Returns the fields of the value at this place.
     fn fields<'n>(&'n self, place: Place<'n>) -> Named<'n>;
 }
 
 /// A part of a borrowed value that is a value by itself in the owned type.
-pub(super) trait Part {
+pub(super) trait Part: Sync {
     /// Returns the part at this place as a node.
     fn part<'n>(&'n self, place: Place<'n>) -> Node<'n>;
 
@@ -115,7 +115,7 @@ pub(super) trait Part {
 }
 
 /// The elements of a list.
-pub(super) trait Elements {
+pub(super) trait Elements: Sync {
     /// Returns the number of them.
     fn len(&self) -> usize;
 

@@ -13,6 +13,7 @@ use crate::view::{
     NameView, TypeView,
 };
 use core::fmt;
+use core::iter::FusedIterator;
 use core::ops::ControlFlow;
 
 /// An item, or a value within one, by its kind and its fields, from which programs can print it
@@ -391,8 +392,8 @@ impl<'a> Fields<'a> {
     }
 
     /// Returns the names and the values, in the order of the Rust type.
-    pub fn iter(self) -> impl Iterator<Item = (&'static str, Child<'a>)> {
-        (0..).map_while(move |at| self.get(at))
+    pub fn iter(self) -> impl FusedIterator<Item = (&'static str, Child<'a>)> {
+        (0..).map_while(move |at| self.get(at)).fuse()
     }
 
     /// Returns the field with this number. It isn't inlined, so that the stack of a caller that

@@ -2,6 +2,7 @@
 
 use std::borrow::Cow;
 use std::collections::{BTreeSet, HashMap, HashSet};
+use std::error::Error;
 use std::fmt::Debug;
 use wenc::tree::{self, AliasTree, Command, DefinedTree, ItemTree, NameTree, Space, TypeTree};
 use wenc::*;
@@ -213,4 +214,26 @@ fn boxes_of_trees_are_like_boxes() {
     assert_eq!((*boxed, format!("{boxed:?}")), ("x", format!("{:?}", "x")));
     assert_eq!(tree::Box::from("x"), boxed);
     assert_eq!(boxed.into_inner(), "x");
+}
+
+/// What readers borrow, and why something can't be read or written, is handed to other threads.
+#[test]
+fn what_is_read_is_shared_by_threads() {
+    fn are_shared<T: Send + Sync>() {}
+    fn are_errors<T: Error + Send + Sync + Copy + 'static>() {}
+    macro_rules! all {
+        ($call:ident: $($ty:ty)*) => { $($call::<$ty>();)* };
+    }
+    all! { are_errors:
+        wenc::Error ListFault ModuleFault NamesFault ProducersFault UnknownSectionId
+        tree::OuterFault scope::ScopeFault
+    }
+    all! { are_shared:
+        tree::Node tree::Child tree::Fields tree::List tree::Scopes tree::IndexCounts
+        scope::Definitions scope::Definition scope::Scope scope::Meaning
+        Sections SectionReader Items Trees NestedSections OutOfRange CoreSections CoreSection
+        CoreItems CoreItem DebugNames NamesReader ProducersReader Listing view::ItemView
+        view::ComponentDecls view::InstanceDecls view::ListOf<u32> ItemTree Command tree::Built
+        Cause Unread Unsupported
+    }
 }

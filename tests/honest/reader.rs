@@ -27,6 +27,7 @@ pub const WAYS: [&str; 29] = [
     "root of std",
     "root of another crate",
     "pub(crate)",
+    "iterator of members",
     "refusable clone",
     "allocator is Global",
     "method that is handed an allocator",
@@ -472,6 +473,9 @@ impl<'a> Source<'a> {
             }
             _ if self.allocators.iter().any(|name| name == word) => {
                 Some(step("allocator is Global", 1, "crate::shim::alloc::Global"))
+            }
+            "Iterator" if next == "for" => {
+                Some(step("iterator of members", 1, "crate::shim::iter::Members"))
             }
             "Clone" => Some(step("refusable clone", 1, "TryClone")),
             "clone" => Some(step("refusable clone", 1, "try_clone")),

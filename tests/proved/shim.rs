@@ -4,6 +4,7 @@
 
 use super::refusing::Refusing;
 use crate::proved::hex::{self, FromHexError};
+use crate::proved::wenc_view::{ListOf, View};
 use crate::shim::alloc::{AllocError, AllocFailed, Global, TryClone};
 use crate::shim::borrow::CowStr;
 use crate::shim::convert::AsSlice;
@@ -201,4 +202,14 @@ fn digits_are_written() {
     }
     assert_eq!(text, *b"....");
     assert_eq!(hex::encode_to_slice([], &mut []), Ok(()));
+}
+
+/// A list has no more members after one that can't be read.
+#[test]
+fn a_list_ends_where_it_is_not_read() {
+    let (mut list, rest) = ListOf::<&str>::view_of(b"\x03\x01a\x01b\x01c").expect("it is a list");
+    assert_eq!((list.size_hint(), list.next(), rest), ((3, Some(3)), Some("a"), &b""[..]));
+    list.bytes = b"\x80";
+    assert_eq!((list.size_hint(), list.next()), ((2, Some(2)), None));
+    assert_eq!((ExactSizeIterator::len(&list), list.size_hint()), (0, (0, Some(0))));
 }

@@ -18,6 +18,7 @@ mod features;
 mod hex;
 mod indices;
 mod interfaces;
+mod iterators;
 mod random;
 mod shown;
 #[path = "../common/side_by_side.rs"]

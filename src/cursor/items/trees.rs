@@ -6,6 +6,7 @@ use crate::proved::wenc_decode::TreeOf;
 use crate::shim::alloc::Global;
 use crate::tree::ItemTree;
 use crate::view::ItemView;
+use core::iter::FusedIterator;
 use core::ops::Range;
 
 /// An iterator over the items of a section, as [`Items`], but each is owned.
@@ -49,4 +50,10 @@ impl Iterator for Trees<'_> {
         };
         Some(self.owned(item))
     }
+
+    fn size_hint(&self) -> (usize, Option<usize>) {
+        self.0.size_hint()
+    }
 }
+
+impl FusedIterator for Trees<'_> {}

@@ -153,6 +153,8 @@ impl<'a> Visited<'a> {
 }
 
 /// Why the indices of a nested component can't be visited or changed.
+///
+/// It doesn't convert into [`Error`](crate::Error), which says what can't be written.
 #[derive(Clone, Copy, Debug, PartialEq, Eq)]
 pub enum OuterFault {
     /// The component, or one nested in it, can't be read or is nested deeper than the limit. Byte
