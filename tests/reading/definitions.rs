@@ -2,10 +2,10 @@
 //! can't be followed.
 
 use crate::{component, nested, section};
-use wenc::ComponentTypeRef;
 use wenc::scope::{Definition, Definitions, Meaning, Scope, ScopeFault};
 use wenc::tree::Space;
 use wenc::view::{InstanceView, ItemView, ModuleDeclView, TypeView};
+use wenc::{Cause, ComponentTypeRef, ListFault, Unread};
 
 fn read(component: &[u8]) -> Definitions<'_> {
     Definitions::new(component, 100).expect("it is read")
@@ -184,16 +184,18 @@ fn exports_of_core_instances() {
     let exports = kinds.map(|(kind, name, ..)| vec![1, name, kind, 0]);
     let list = [&[1, 5][..], &exports.concat()].concat();
     let import = section(10, b"\x01\0\x01m\0\x11\0");
-    let instances = [many(2, &[b"\0\0\0"]), items(0), many(2, &[&list]), items(1)].concat();
-    let all = component(&[many(3, &[module]), import, instances].concat());
-    let all = read(&all);
+    let front = [many(3, &[module]), import, many(2, &[b"\0\0\0"]), items(0)].concat();
+    let all = component(&[&front[..], &many(2, &[&list]), &items(1)].concat());
+    let (all, inside) = (read(&all), component(&nested(&front)));
+    let inside = read(&inside);
+    let inside = inner(inside.component(), Space::Components, 0);
     for (_, name, space, place) in kinds {
         for index in [0, 1] {
             assert_eq!(resolved(all.component(), space, index), Ok(place), "{space:?} {index}");
         }
-        let instance = all.component().get(Space::CoreInstances, 1).unwrap();
-        let name = char::from(name).to_string();
-        let export = instance.inner().unwrap().export(&name).expect("it is in the list");
+        assert_eq!(resolved(inside, space, 0), Ok(place + 10));
+        let list = inner(all.component(), Space::CoreInstances, 1);
+        let export = list.export(&char::from(name).to_string()).expect("it is in the list");
         assert_eq!((export.space(), export.index()), (Some(space), None));
         assert_eq!(export.resolve().map(Definition::place), Ok(place));
     }
@@ -300,7 +302,8 @@ fn ascribed_types() {
     assert_eq!(targets, [22, 27, 22, 22, 27].map(Ok));
 }
 
-/// Items at 11 with an index that is out of range: its space, the index, and the message.
+/// Items at 11 with an index that is out of range, as one of a cycle is: its space, the index, and
+/// the message.
 fn missing() -> [(Vec<u8>, Space, u32, &'static str); 6] {
     let import = section(10, b"\x01\0\x01x\x05\0");
     [
@@ -446,6 +449,59 @@ fn indices_after_core_functions() {
     }
     let missing = ScopeFault::OutOfRange { place: 0, space, index: 2, count: 2 };
     assert_eq!(scope.get(space, 2), Err(missing));
+}
+
+/// Expects that a definition can't be followed, as this index of this place is out of range.
+fn is_cycle(of: Definition<'_, '_>, place: usize, space: Space, index: u32) {
+    let fault = ScopeFault::OutOfRange { place, space, index, count: index.into() };
+    assert_eq!((of.target(), of.resolve()), (Err(fault), Err(fault)));
+}
+
+/// What would be its own definition refers to an index that isn't there yet.
+#[test]
+fn cycles() {
+    // a declared type that is itself, and an alias of it
+    let ty = b"\x42\x01\x04\0\x01t\x03\0\0";
+    let import = section(10, b"\x01\0\x01i\x05\0");
+    let all = component(&[many(7, &[ty]), import, many(6, &[b"\x03\0\0\x01t"])].concat());
+    let all = read(&all);
+    let declared = inner(all.component(), Space::Types, 0).export("t").expect("it is declared");
+    is_cycle(declared, 13, Space::Types, 0);
+    assert_eq!(all.component().resolve(Space::Types, 1).err(), declared.resolve().err());
+    // a component with an alias of itself, and one of the component behind it
+    for index in [0, 1] {
+        let alias = many(6, &[&[4, 2, 1, index]]);
+        let all = component(&[nested(b""), nested(&alias)].concat()[usize::from(1 - index) * 10..]);
+        let all = read(&all);
+        let alias = inner(all.component(), Space::Components, index.into());
+        let alias = alias.get(Space::Components, 0).expect("an alias");
+        is_cycle(alias, 21 + usize::from(index) * 10, Space::Components, index.into());
+    }
+    // an argument that is its own instance
+    let instance = many(5, &[b"\0\0\x01\x01a\x05\0"]);
+    let all = component(&[nested(b""), instance].concat());
+    let all = read(&all);
+    let argument = inner(all.component(), Space::Instances, 0).export("a").expect("an argument");
+    is_cycle(argument, 21, Space::Instances, 0);
+}
+
+/// Components in one another, and types, up to a limit.
+#[test]
+fn too_deep() {
+    let all = component(&nested(&nested(&nested(b""))));
+    for (limit, place) in [(0, 8), (1, 18), (2, 28)] {
+        let fault = ListFault::TooDeep { place, unread: None, cause: None };
+        assert_eq!(Definitions::new(&all, limit).err(), Some(fault));
+    }
+    assert!(Definitions::new(&all, 3).is_ok());
+    let types = |depth| {
+        let ty = [&b"\x42\x01\x01".repeat(depth)[..], b"\x42\0"].concat();
+        component(&[&b"\x07\xaf\x02\x01"[..], &ty].concat())
+    };
+    let unread = Some(Unread::Item { number: 0, place: 12 });
+    let cause = Some(Cause::Deep { place: 12 + 300 });
+    let fault = ListFault::TooDeep { place: 8, unread, cause };
+    assert_eq!(Definitions::new(&types(100), 0).err(), Some(fault));
 }
 
 #[test]

@@ -3,7 +3,7 @@
 
 use crate::refuse::requested;
 use std::collections::BTreeMap;
-use wenc::scope::Definitions;
+use wenc::scope::{Definitions, ScopeFault};
 use wenc::tree::{ItemTree, OuterFault, Scope, Space};
 use wenc::{Component, DebugNames, ListFault, NestedComponentSection, RawSection, Sections};
 
@@ -131,6 +131,28 @@ fn exports_of_exports_are_followed() {
     }
     let last = definitions.component().definitions().last().expect("an export");
     assert_eq!(last.index(), Some(1_000_000));
+}
+
+/// Sections whose items can't be read, each before an export of a function.
+#[test]
+fn many_sections_that_are_not_read() {
+    const COUNT: usize = 100_000;
+    let sections = b"\x08\x02\x01\xff\x0b\x07\x01\0\x01f\x01\0\0".repeat(COUNT);
+    // a core function that is the last one: an argument of an instance
+    let last = u32::try_from(COUNT - 1).expect("they are few");
+    let list = [&b"\x02\x0a\x01\x01\x01\x01f\0"[..], &number(last as usize)].concat();
+    let component = [&Component::HEADER[..], &sections, &list].concat();
+    let mut faults = 0;
+    let (definitions, requested) =
+        requested(|| Definitions::past_faults(&component, 0, |_| faults += 1));
+    assert!(requested <= 4 * (296 + 328) * 3 * COUNT, "{requested}");
+    let scope = definitions.component();
+    assert_eq!((faults, scope.count(Space::CoreFuncs)), (COUNT, COUNT as u64));
+    let exports = (0..COUNT as u32).map(|index| scope.get(Space::Funcs, index).expect("an export"));
+    for (index, export) in (0..).zip(exports) {
+        assert_eq!(export.index(), Some(index));
+        assert!(matches!(export.target(), Err(ScopeFault::Unread { unread: 11, .. })));
+    }
 }
 
 /// An instance with as many exports as aliases of these, the last export first.

@@ -70,22 +70,29 @@ fn indices_out_of_range() {
     }
 }
 
-/// What is kept of each definition: scopes, names, types that are read, and what isn't followed.
+/// What is kept of each definition: scopes, names, types that are read, what isn't followed and
+/// what isn't read.
 #[test]
 fn definitions() {
-    // an instance type, and a nested component whose export is of no type
-    let inner = b"\x04\x11\0asm\x0d\0\x01\0\x0b\x07\x01\0\x01e\x03\x09\0";
+    // an instance type, and a nested component whose export is of no type, and one that isn't read
+    let inner = b"\x04\x15\0asm\x0d\0\x01\0\x0b\x07\x01\0\x01e\x03\x09\0\x08\x02\x01\xff";
     let ty = b"\x07\x09\x01\x42\x01\x04\0\x01f\x03\x01";
     let component = [&Component::HEADER[..], ty, inner].concat();
+    let mut faults = calmly(|| Vec::with_capacity(2));
+    let mut all = |n| {
+        faults.clear();
+        let (_, is_refused) =
+            refusing(n, || Definitions::past_faults(&component, 8, |fault| faults.push(fault)));
+        (faults.last().copied(), is_refused)
+    };
+    let (read, is_refused) = refusing(u32::MAX, || Definitions::new(&component, 8).err());
+    assert!(matches!((read, is_refused), (Some(ListFault::BadItem { place: 38, .. }), false)));
     let mut requests = 0;
-    loop {
-        let (read, is_refused) = refusing(requests, || Definitions::new(&component, 8));
-        assert_eq!(read.err(), is_refused.then_some(ListFault::NoMemory), "request {requests}");
-        if !is_refused {
-            break;
-        }
+    while let (last, true) = all(requests) {
+        assert_eq!(last, Some(ListFault::NoMemory), "request {requests}");
         requests += 1;
     }
+    assert_eq!(all(requests).0, read);
     // scopes, open ones, definitions, names before and after sorting, types, and faults
     assert!(requests >= 7, "{requests}");
 }
