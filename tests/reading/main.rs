@@ -1,6 +1,4 @@
 //! Reading components and core modules, and writing what was read.
-#![cfg(feature = "tree")]
-#![allow(unsafe_code, reason = "a global allocator is unsafe")]
 
 mod commands;
 mod core_sections;
@@ -9,15 +7,12 @@ mod core_sections;
 mod corpus;
 mod cursor;
 mod debug_names;
-#[cfg(not(target_family = "wasm"))]
-mod deep;
 mod definitions;
 mod faults;
 mod groups;
 #[path = "../common/hex.rs"]
 mod hex;
 mod indices;
-mod large;
 mod listing;
 mod nested;
 mod nodes;
@@ -26,9 +21,6 @@ mod outer;
 mod places;
 mod producers;
 mod real;
-#[allow(dead_code, reason = "some are for others")]
-#[path = "../common/refuse.rs"]
-mod refuse;
 mod rewrite;
 mod scopes;
 #[allow(dead_code, reason = "some are for others")]
