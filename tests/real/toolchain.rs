@@ -7,6 +7,7 @@ use std::io::Write;
 use std::path::{Path, PathBuf};
 use std::process::Command;
 use std::sync::atomic::{AtomicU32, Ordering};
+use std::sync::{LazyLock, OnceLock};
 
 pub struct Linker {
     program: PathBuf,
@@ -19,17 +20,20 @@ fn rustc(args: &[&str]) -> Option<String> {
     String::from_utf8(told.stdout).ok()
 }
 
-/// The linker, or a word on standard error that this is left out for want of one.
+/// The path of the linker.
+fn program() -> Option<PathBuf> {
+    let version = rustc(&["-vV"])?;
+    let host = version.lines().find_map(|line| line.strip_prefix("host: "))?;
+    let sysroot = rustc(&["--print", "sysroot"])?;
+    let tools = Path::new(sysroot.trim()).join("lib/rustlib").join(host).join("bin");
+    let program = tools.join(format!("wasm-component-ld{}", std::env::consts::EXE_SUFFIX));
+    program.exists().then_some(program)
+}
+
+/// The linker. Without one, standard error says that this is left out.
 pub fn linker(left_out: &str) -> Option<Linker> {
-    let program = || {
-        let version = rustc(&["-vV"])?;
-        let host = version.lines().find_map(|line| line.strip_prefix("host: "))?;
-        let sysroot = rustc(&["--print", "sysroot"])?;
-        let tools = Path::new(sysroot.trim()).join("lib/rustlib").join(host).join("bin");
-        let program = tools.join(format!("wasm-component-ld{}", std::env::consts::EXE_SUFFIX));
-        program.exists().then_some(program)
-    };
-    let Some(program) = program() else {
+    static PROGRAM: LazyLock<Option<PathBuf>> = LazyLock::new(program);
+    let Some(program) = PROGRAM.clone() else {
         // past the harness, which keeps what a test that passes prints
         let word = format!("left out: {left_out}: rustc has no wasm-component-ld\n");
         std::io::stderr().write_all(word.as_bytes()).expect("it is told");
@@ -80,16 +84,32 @@ impl Linker {
 
     /// The component of this object and an encoded world.
     pub fn link_encoded(&self, object: &[u8], world: &[u8]) -> Result<Vec<u8>, String> {
+        self.link_world(object, world, &[])
+    }
+
+    fn link_world(&self, object: &[u8], world: &[u8], args: &[&OsStr]) -> Result<Vec<u8>, String> {
         let file = self.file(world);
-        let linked = self.linked(object, &["--component-type".as_ref(), file.as_os_str()]);
+        let of_world = ["--component-type".as_ref(), file.as_os_str()];
+        let linked = self.linked(object, &[&of_world, args].concat());
         std::fs::remove_file(file).expect("the file is removed");
         linked
     }
 
-    /// Why upstream's validator refuses this component, if it does. The linker is handed it as a
-    /// world: it validates it, and then says that it is none.
+    /// Why upstream's validator rejects this component, if it does. The linker validates it as if it
+    /// were a world, and then fails as it is none. Most of its time would be that of `wasm-ld`, so
+    /// this gets a core module that is linked, and copies it.
     pub fn refuses(&self, component: &[u8]) -> Option<String> {
-        let told = self.link_encoded(&corpus::read("o/29-empty.o"), component).err()?;
+        static MODULE: OnceLock<Vec<u8>> = OnceLock::new();
+        let empty = || corpus::read("o/29-empty.o");
+        let told = if cfg!(unix) {
+            let skip = || self.linked(&empty(), &["--skip-wit-component".as_ref()]);
+            let module = MODULE.get_or_init(|| skip().expect("it is linked"));
+            let copy = corpus::path("copy");
+            self.link_world(module, component, &["--wasm-ld-path".as_ref(), copy.as_os_str()])
+        } else {
+            self.link_encoded(&empty(), component)
+        };
+        let told = told.err()?;
         let cause = told.split("Caused by:").last().expect("there is one");
         let cause: Vec<&str> = cause.split_whitespace().collect();
         let cause = cause.join(" ");
