@@ -63,11 +63,10 @@ fn build() {
         println!("cargo::rerun-if-changed={}", top.join("crates").join(name).join("src").display());
     }
     println!("cargo::rustc-cfg=in_repository");
-    if package.join("tests/proved").is_dir() {
-        println!("cargo::rustc-cfg=has_tests");
-    }
-    if variable("CARGO_PKG_NAME") != "wenc" {
+    if variable("CARGO_PKG_NAME") == "wenc-script" {
         println!("cargo::rustc-cfg=script");
+    } else if top.join("tests/proved").is_dir() {
+        println!("cargo::rustc-cfg=has_tests");
     }
     let out = PathBuf::from(variable("OUT_DIR")).join("proved");
     erase_all(&top.join("crates"), &out, ' ', erase::erase);
