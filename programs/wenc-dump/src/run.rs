@@ -42,8 +42,21 @@ pub fn run(
     terminal: Terminal,
     streams: &mut Streams<'_, impl Read, impl Write, impl Write>,
 ) -> u8 {
+    let mut input: &mut dyn Read = streams.input;
+    let mut out: &mut dyn Write = streams.out;
+    let mut err: &mut dyn Write = streams.err;
+    let mut streams = Streams { input: &mut input, out: &mut out, err: &mut err };
+    run_with(&mut arguments_with_name.skip(1), terminal, &mut streams)
+}
+
+/// Does so for any streams, by code that is compiled once.
+fn run_with(
+    mut arguments: &mut dyn Iterator<Item = OsString>,
+    terminal: Terminal,
+    streams: &mut Streams<'_, &mut dyn Read, &mut dyn Write, &mut dyn Write>,
+) -> u8 {
     let mut status = 0;
-    let done = match request(arguments_with_name.skip(1)) {
+    let done = match request(&mut arguments) {
         Ok(Request::Help) => print(streams.out, &format!("{USAGE}{HELP}")),
         Ok(Request::Version) => {
             print(streams.out, concat!("wenc-dump ", env!("CARGO_PKG_VERSION"), "\n"))
