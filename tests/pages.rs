@@ -3,10 +3,8 @@
 //!
 //! A page names a path in a link, relative to itself, or in backquotes: relative to itself, to the
 //! repository or to `crates`, or by its end, where what stands before it is known. In backquotes
-//! `{a,b}` stands for each, `*` for any letters, and a word in capitals for any name. The package
-//! has fewer files: there the links alone are checked.
+//! `{a,b}` stands for each, `*` for any letters, and a word in capitals for any name.
 
-#[cfg(in_repository)]
 #[path = "pages/declared_names.rs"]
 mod declared_names;
 
@@ -48,15 +46,10 @@ impl Tree {
             })
     }
 
-    /// The links of a page that lead to nothing.
-    fn dead_links(&self, page: &str, text: &str) -> Vec<String> {
-        let links = named(text).0.into_iter();
-        links.filter(|link| !self.0.contains(&below(page, link))).collect()
-    }
-
     /// The paths that a page names and that aren't there.
     fn dead(&self, page: &str, text: &str) -> Vec<String> {
-        let quoted = named(text).1;
+        let (links, quoted) = named(text);
+        let dead_links = links.into_iter().filter(|link| !self.0.contains(&below(page, link)));
         let is_path = |path: &String| {
             [below(page, path), path.clone(), format!("crates/{path}")]
                 .iter()
@@ -64,9 +57,7 @@ impl Tree {
                 || self.has(path, true)
                 || MADE.contains(&path.as_str())
         };
-        let mut dead = self.dead_links(page, text);
-        dead.extend(quoted.into_iter().filter(|path| !is_path(path)));
-        dead
+        dead_links.chain(quoted.into_iter().filter(|path| !is_path(path))).collect()
     }
 }
 
@@ -101,7 +92,6 @@ fn is_match(pattern: &str, name: &str) -> bool {
 }
 
 /// The pages that `releasing/make` lays in the tarball.
-#[cfg(in_repository)]
 fn of_tarball(script: &str) -> Vec<&str> {
     let lay = "    releasing/pages . \"$1\" ";
     let pages = script.lines().find_map(|line| line.strip_prefix(lay));
@@ -170,24 +160,17 @@ fn gather(top: &Path, folder: &Path, tree: &mut Tree, pages: &mut Vec<(String, S
     }
 }
 
-/// What is in the repository or, where this is the package, in that; and its pages.
+/// The repository.
+const TOP: &str = concat!(env!("CARGO_MANIFEST_DIR"), "/../..");
+
+/// What is in the repository, and its pages.
 fn gathered() -> (Tree, Vec<(String, String)>) {
-    let top = Path::new(env!("CARGO_MANIFEST_DIR"));
     let (mut tree, mut pages) = (Tree::default(), Vec::new());
-    gather(top, top, &mut tree, &mut pages);
+    gather(TOP.as_ref(), TOP.as_ref(), &mut tree, &mut pages);
     assert!(pages.len() > 20, "only {} pages", pages.len());
     (tree, pages)
 }
 
-#[test]
-fn each_link_leads_to_a_file() {
-    let (tree, pages) = gathered();
-    for (page, text) in &pages {
-        assert_eq!(tree.dead_links(page, text), [""; 0], "{page}");
-    }
-}
-
-#[cfg(in_repository)]
 #[test]
 fn each_path_on_a_page_is_there() {
     let (tree, pages) = gathered();
@@ -202,7 +185,6 @@ fn each_path_on_a_page_is_there() {
 }
 
 /// The tarball has a first page of its own. On the others a link that leads out of it is a text.
-#[cfg(in_repository)]
 #[test]
 fn the_first_page_of_the_tarball_leads_to_the_others() {
     let pages = of_tarball(include_str!("../releasing/make"));

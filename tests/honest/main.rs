@@ -1,17 +1,16 @@
-//! Whether the crate is made of the proved sources: `proof` compares their digests with PROOF,
-//! `eraser` has what the eraser refuses, and this compares each source with the Rust that it
-//! became. Where they differ, it has to be in one of the ways that `reader` lists; whatever else is
+//! Whether the crate is made of the proved sources: `proof` compares their digests with PROOF, and
+//! this compares each source with the Rust that it became. Where they differ, it has to be in one of the ways that `reader` lists; whatever else is
 //! left out, changed, added or moved to another line is found.
 //!
 //! A source is taken without its clauses and ghost items: `gate/erased` compares that with what the
 //! prover reads as code.
 
 mod allocators;
+#[allow(dead_code, reason = "`tests/eraser.rs` tests it")]
 #[path = "../../build/erase.rs"]
 mod erase;
 #[path = "../common/erased.rs"]
 mod erased;
-mod eraser;
 mod lexer;
 mod proof;
 mod reader;
@@ -19,7 +18,7 @@ mod reader;
 use allocators::LEFT_OUT;
 use erase::known::{DERIVED_TOO, NARROWED, PARTIAL, TREES, WIDENED};
 use lexer::{Token, lex};
-use reader::{WAYS, compare, read};
+use reader::{WAYS, compare, has_conditions, read};
 use std::collections::BTreeMap;
 use std::fs;
 use std::path::{Path, PathBuf};
@@ -169,4 +168,12 @@ fn each_token_counts() {
         }
     }
     assert!(planted > 4000, "only {planted} changes");
+}
+
+#[test]
+fn modules_of_trees_have_one_condition() {
+    assert!(erase::is_owned("type_tree") && erase::is_owned("listing"));
+    assert!(!erase::is_owned("canon_tree") && !erase::is_owned("types"));
+    assert!(has_conditions("wenc_types", "types") && !has_conditions("wenc_types", "type_tree"));
+    assert!(has_conditions("wenc_sections", "canon_tree") && !has_conditions("wenc_decode", "lib"));
 }

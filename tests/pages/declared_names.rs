@@ -2,7 +2,7 @@
 //! or a variant of one, or a definition. Of a path with `::`, one file declares the last name, and
 //! has the others in its own path, declares them too or implements something for them.
 
-use super::{gathered, outside_of_code};
+use super::{TOP, gathered, outside_of_code};
 use std::collections::BTreeSet;
 use std::{fs, path::Path};
 
@@ -120,7 +120,6 @@ fn undeclared<'a>(page: &'a str, sources: &[Source]) -> Vec<&'a str> {
     named(page).filter(|name| !is_declared(name)).collect()
 }
 
-#[cfg(in_repository)]
 #[test]
 fn each_name_on_a_page_is_declared() {
     let (tree, pages) = gathered();
@@ -130,7 +129,7 @@ fn each_name_on_a_page_is_declared() {
             && (path.ends_with(".rt") || path.ends_with(".antt"))
     };
     let read = |path: &String| {
-        let text = fs::read_to_string(Path::new(env!("CARGO_MANIFEST_DIR")).join(path));
+        let text = fs::read_to_string(Path::new(TOP).join(path));
         Source::new(path, &text.expect("a source"))
     };
     let sources: Vec<Source> = tree.0.iter().filter(is_source).map(read).collect();
@@ -146,7 +145,6 @@ fn each_name_on_a_page_is_declared() {
     assert!(count > 400, "only {count} names");
 }
 
-#[cfg(in_repository)]
 #[test]
 fn what_is_not_declared_is_found() {
     let code = "/// A type.\npub enum One<'a> {\n    /// Text.\n    Text(&'a str),\n    Two,\n}\n\

@@ -1,11 +1,11 @@
-//! The eraser: each of its refusals with the line, what becomes of comments, and the layout of the
-//! package.
+//! The eraser: what it refuses, and in which line; what becomes of comments; the conditions of items
+//! that exist only with a feature; and the layout of the package.
 
-#[path = "../../build/tidy.rs"]
+#[allow(dead_code, reason = "the crate's tables are for the build script")]
+#[path = "../build/erase.rs"]
+mod erase;
+#[path = "../build/tidy.rs"]
 mod tidy;
-
-use super::erase;
-use super::reader::has_conditions;
 
 const CRATES: [&str; 3] = ["wenc_base", "wenc_parts", "hex"];
 const PRELUDE: &str = "use crate::shim::prelude::*; ";
@@ -23,7 +23,7 @@ fn becomes(source: &str, wanted: &str) {
 fn refuses(source: &str, line: usize, why: &str) {
     match erase::erase("wenc_parts", &CRATES, source) {
         Ok(rust) => panic!("it became {rust:?}"),
-        Err(refused) => assert_eq!(refused, (line, why)),
+        Err(refused) => assert_eq!(refused, (line, why), "{source}"),
     }
 }
 
@@ -94,51 +94,120 @@ fn allocators_are_left_out() {
     }
 }
 
-#[test]
-fn names_that_stay_their_owners() {
-    for source in ["enum Op {\n Clone,\n}", "enum Op { A,\n Clone(u8) }", "use\n a::Clone;"] {
-        refuses(source, 2, "a `Clone` that is no bound");
-    }
-    for source in ["Clone::clone(x)", "a + Clone;", "f::<Clone>()", "struct Clone;"] {
-        refuses(source, 1, "a `Clone` that is no bound");
-    }
-    for source in ["struct S { clone: u8 }", "s.clone", "clone(s)", "S::clone(s)", "(s.clone)()"] {
-        refuses(source, 1, "a `clone` that is no method");
-    }
-}
+/// Reasons of several rows.
+const ATTRIBUTE: &str = "an attribute that is not known";
+const DERIVE: &str = "a derive that is not known";
+const MACRO: &str = "a macro that is not known";
+const GHOST: &str = "a ghost item that is not known";
+const DROP: &str = "a use of `Drop` that is no bound";
+const KIT: &str = "a path that begins with a crate of the kit";
+const CLONE_METHOD: &str = "a `clone` that is no method";
+const CLONE: &str = "a `Clone` that is no bound";
+
+/// What is refused: the line, the reason, and the source.
+const REFUSED: &[(usize, &str, &str)] = &[
+    (2, CLONE, "enum Op {\n Clone,\n}"),
+    (2, CLONE, "enum Op { A,\n Clone(u8) }"),
+    (2, CLONE, "use\n a::Clone;"),
+    (1, CLONE, "Clone::clone(x)"),
+    (1, CLONE, "a + Clone;"),
+    (1, CLONE, "f::<Clone>()"),
+    (1, CLONE, "struct Clone;"),
+    (1, CLONE_METHOD, "struct S { clone: u8 }"),
+    (1, CLONE_METHOD, "s.clone"),
+    (1, CLONE_METHOD, "clone(s)"),
+    (1, CLONE_METHOD, "S::clone(s)"),
+    (1, CLONE_METHOD, "(s.clone)()"),
+    (2, "a block comment", "\n/* a */ fn f() {}\n"),
+    (1, "a raw text or name", "const A: &str = r\"a\";\n"),
+    (3, "a raw text or name", "\n\nlet r#fn = 1;\n"),
+    (1, "a text with a prefix that is not known", "const A: &[u8] = br\"a\";\n"),
+    (2, "a text with a prefix that is not known", "\nconst A: &CStr = c\"a\";\n"),
+    (1, "a text without an end", "const A: &str = \"a;\n"),
+    (1, "a character without an end", "let c = '\\"),
+    (1, "a letter or a sign that is not ASCII", "let é = 1;\n"),
+    (2, GHOST, "\nghost fn f() {}\n"),
+    (2, GHOST, "trait T {\n    ghost law<x>: { a };\n}\n"),
+    (1, GHOST, "ghost a = { b } = { c };\n"),
+    (1, GHOST, "ghost a;\n"),
+    (2, GHOST, "trait T {\n    ghost a: { b } by { c };\n}\n"),
+    (1, "a clause or a ghost item without a block", "ghost a: b;\n"),
+    (2, "a clause or a ghost item without a block", "fn f()\n    requires a b { c }\n{}\n"),
+    (2, "a clause or a ghost item without a block", "fn f()\n    ensures // a\n { b }\n{}\n"),
+    (1, "a ghost item without a name", "ghost { a }\n"),
+    (1, "a ghost item without a name", "ghost // a\n use b;\n"),
+    (1, "a ghost item without an end", "ghost use a.b\n"),
+    (2, "a word in front of a ghost item", "struct S {\n    pub ghost a: { b },\n}\n"),
+    (2, "a block without an end", "fn f()\n    ensures { a { b }\n"),
+    (2, ATTRIBUTE, "\n#[allow(dead_code)]\nfn f() {}\n"),
+    (1, ATTRIBUTE, "#[cfg(unix)]\nfn f() {}\n"),
+    (1, ATTRIBUTE, "#[repr(packed)]\nstruct S;\n"),
+    (1, ATTRIBUTE, "#[unsafe(no_mangle)]\npub fn f() {}\n"),
+    (1, ATTRIBUTE, "#[unsafe(no_mangle)]\nextern \"C\" fn f() {}\n"),
+    (1, ATTRIBUTE, "#[unsafe(naked)]\npub extern \"C\" fn f() {}\n"),
+    (1, ATTRIBUTE, "#[must_use]\nfn f() {}\n"),
+    (1, ATTRIBUTE, "#[test]\nfn t() {}\n"),
+    (1, ATTRIBUTE, "#[cfg(test)]\nmod checks;\n"),
+    (1, ATTRIBUTE, "#![derive(Clone)]\n"),
+    (2, ATTRIBUTE, "enum E {\n    #[error(\"a\")]\n    A,\n}\n"),
+    (1, "a bracket without an end", "#[tactic(auto]\nfn f() {}\n"),
+    (2, DERIVE, "\n#[derive(Clone, Default)]\nstruct S;\n"),
+    (1, DERIVE, "#[derive(Clone, Drop)]\nstruct S;\n"),
+    (1, DERIVE, "#[derive(Error)]\npub enum E {}\n"),
+    (1, DERIVE, "#[derive()]\nstruct S;\n"),
+    (1, DERIVE, "#[derive(a::Clone)]\nstruct S;\n"),
+    (1, DERIVE, "#[derive_where(Eq; T)]\nstruct S;\n"),
+    (2, "an error that is no enum", "#[derive(Clone, Error)]\npub struct E;\n"),
+    (2, "an error that is no enum", "#[derive(Clone, Error)]\nenum E {}\n"),
+    (2, "an error that is no enum", "#[derive(Clone, Error)]\npub enum E<A> {}\n"),
+    (2, "an error that is no enum", "#[derive(Clone, Error)]\npub enum E;\n"),
+    (
+        3,
+        "a variant of an error without its text",
+        "#[derive(Clone, Error)]\npub enum E {\n    A,\n}\n",
+    ),
+    (1, DROP, "impl Drop for S {\n    fn drop(self) {}\n}\n"),
+    (2, DROP, "\nuse a::Drop;\n"),
+    (1, DROP, "fn f<T: Drop + Copy>() {}\n"),
+    (1, DROP, "trait T: Drop {}\n"),
+    (1, DROP, "use a::{Drop, B};\n"),
+    (2, "an `extern` that is not known", "\npub extern \"C\" fn f() {}\n"),
+    (1, "an `extern` that is not known", "extern \"C\" { fn f(); }\n"),
+    (1, "an `extern` that is not known", "fn f(g: extern \"C\" fn()) {}\n"),
+    (1, "an `unsafe`", "fn f() { unsafe { g() } }\n"),
+    (2, "an `unsafe`", "\nunsafe impl Send for S {}\n"),
+    (1, "an `unsafe`", "unsafe fn f() {}\n"),
+    (2, MACRO, "fn f() {\n    println!(rt; \"a\")\n}\n"),
+    (1, MACRO, "debug_assert!(a)\n"),
+    (1, MACRO, "prove!(a)\n"),
+    (1, MACRO, "print!(in a; b)\n"),
+    (2, MACRO, "\nformat!(\"a\")\n"),
+    (1, MACRO, "vec![1]\n"),
+    (1, MACRO, "assert!(rt; a)\n"),
+    (1, MACRO, "panic!(self.rt; \"a\")\n"),
+    (1, MACRO, "include!(\"a\")\n"),
+    (1, MACRO, "include!{\"a\"}\n"),
+    (1, MACRO, "own!(a)\nmacro_rules! own { () => {} }\n"),
+    (2, "a path that begins with `::`", "\nuse ::std::fmt;\n"),
+    (1, "a path that begins with `::`", "f(::core::mem::take(x))\n"),
+    (1, "a path that begins with `::`", "fn f(x: ::std::A) {}\n"),
+    (1, KIT, "use core::mem;\n"),
+    (1, KIT, "use alloc::vec;\n"),
+    (1, KIT, "fn f(x: core::A) {}\n"),
+    (1, KIT, "fn f(x: thiserror::A) {}\n"),
+    (2, "a crate that is no path's root", "\nuse wenc_base as b;\n"),
+    (1, "a crate that is no path's root", "extern crate std;\n"),
+    (2, "a module with the name of a crate", "mod a;\nmod hex;\n"),
+    (1, "a module with the name of a crate", "mod thiserror;\n"),
+    (2, "a module that is no file", "mod a;\nmod b {\n    fn f() {}\n}\n"),
+    (1, "a use of `thiserror` that is not known", "use thiserror::Display;\n"),
+    (2, "an example without an end", "\n/// ```\nfn f() {}\n"),
+    (2, "an example outside of documentation", "/// ```\n// x\n/// ```\nfn f() {}\n"),
+];
 
 #[test]
-fn texts_that_are_not_known() {
-    refuses("\n/* a */ fn f() {}\n", 2, "a block comment");
-    refuses("const A: &str = r\"a\";\n", 1, "a raw text or name");
-    refuses("\n\nlet r#fn = 1;\n", 3, "a raw text or name");
-    refuses("const A: &[u8] = br\"a\";\n", 1, "a text with a prefix that is not known");
-    refuses("\nconst A: &CStr = c\"a\";\n", 2, "a text with a prefix that is not known");
-    refuses("const A: &str = \"a;\n", 1, "a text without an end");
-    refuses("let c = '\\", 1, "a character without an end");
-    refuses("let é = 1;\n", 1, "a letter or a sign that is not ASCII");
-}
-
-#[test]
-fn ghost_forms_that_are_not_known() {
-    let why = "a ghost item that is not known";
-    refuses("\nghost fn f() {}\n", 2, why);
-    refuses("trait T {\n    ghost law<x>: { a };\n}\n", 2, why);
-    refuses("ghost a = { b } = { c };\n", 1, why);
-    refuses("ghost a;\n", 1, why);
-    refuses("ghost a: b;\n", 1, "a clause or a ghost item without a block");
-    refuses("ghost { a }\n", 1, "a ghost item without a name");
-    refuses("ghost use a.b\n", 1, "a ghost item without an end");
-    refuses("ghost // a\n use b;\n", 1, "a ghost item without a name");
-    refuses("trait T {\n    ghost a: { b } by { c };\n}\n", 2, why);
-    refuses("struct S {\n    pub ghost a: { b },\n}\n", 2, "a word in front of a ghost item");
-    refuses("fn f()\n    requires a b { c }\n{}\n", 2, "a clause or a ghost item without a block");
-    refuses("fn f()\n    ensures { a { b }\n", 2, "a block without an end");
-    refuses(
-        "fn f()\n    ensures // a\n { b }\n{}\n",
-        2,
-        "a clause or a ghost item without a block",
-    );
+fn what_is_not_known() {
+    REFUSED.iter().for_each(|(line, why, source)| refuses(source, *line, why));
 }
 
 /// Whatever might end a clause or a ghost item elsewhere for the prover than for the eraser, in
@@ -199,100 +268,6 @@ fn code_is_all_but_ghosts() {
     let code = "\n\n\n/// F.\nfn f() -> u8\n    \n\n{\n    5\n}\n";
     assert_eq!(erase::without_ghosts(source), Ok(code.into()));
     assert_eq!(erase::without_ghosts("ghost a;"), Err((1, "a ghost item that is not known")));
-}
-
-#[test]
-fn attributes_that_are_not_known() {
-    let why = "an attribute that is not known";
-    refuses("\n#[allow(dead_code)]\nfn f() {}\n", 2, why);
-    refuses("#[cfg(unix)]\nfn f() {}\n", 1, why);
-    refuses("#[repr(packed)]\nstruct S;\n", 1, why);
-    refuses("#[unsafe(no_mangle)]\npub fn f() {}\n", 1, why);
-    refuses("#[unsafe(no_mangle)]\nextern \"C\" fn f() {}\n", 1, why);
-    refuses("#[unsafe(naked)]\npub extern \"C\" fn f() {}\n", 1, why);
-    refuses("#[must_use]\nfn f() {}\n", 1, why);
-    refuses("#[test]\nfn t() {}\n", 1, why);
-    refuses("#[cfg(test)]\nmod checks;\n", 1, why);
-    refuses("#![derive(Clone)]\n", 1, why);
-    refuses("enum E {\n    #[error(\"a\")]\n    A,\n}\n", 2, why);
-    refuses("#[tactic(auto]\nfn f() {}\n", 1, "a bracket without an end");
-}
-
-#[test]
-fn derives_that_are_not_known() {
-    let why = "a derive that is not known";
-    refuses("\n#[derive(Clone, Default)]\nstruct S;\n", 2, why);
-    refuses("#[derive(Clone, Drop)]\nstruct S;\n", 1, why);
-    refuses("#[derive(Error)]\npub enum E {}\n", 1, why);
-    refuses("#[derive()]\nstruct S;\n", 1, why);
-    refuses("#[derive(a::Clone)]\nstruct S;\n", 1, why);
-    refuses("#[derive_where(Eq; T)]\nstruct S;\n", 1, why);
-    for no_enum in ["pub struct E;", "enum E {}", "pub enum E<A> {}", "pub enum E;"] {
-        let source = format!("#[derive(Clone, Error)]\n{no_enum}\n");
-        refuses(&source, 2, "an error that is no enum");
-    }
-    refuses(
-        "#[derive(Clone, Error)]\npub enum E {\n    A,\n}\n",
-        3,
-        "a variant of an error without its text",
-    );
-}
-
-#[test]
-fn uses_of_drop_that_are_no_bounds() {
-    let why = "a use of `Drop` that is no bound";
-    refuses("impl Drop for S {\n    fn drop(self) {}\n}\n", 1, why);
-    refuses("\nuse a::Drop;\n", 2, why);
-    refuses("fn f<T: Drop + Copy>() {}\n", 1, why);
-    refuses("trait T: Drop {}\n", 1, why);
-    refuses("use a::{Drop, B};\n", 1, why);
-}
-
-#[test]
-fn what_calls_c_or_is_unsafe() {
-    let why = "an `extern` that is not known";
-    refuses("\npub extern \"C\" fn f() {}\n", 2, why);
-    refuses("extern \"C\" { fn f(); }\n", 1, why);
-    refuses("fn f(g: extern \"C\" fn()) {}\n", 1, why);
-    let why = "an `unsafe`";
-    refuses("fn f() { unsafe { g() } }\n", 1, why);
-    refuses("\nunsafe impl Send for S {}\n", 2, why);
-    refuses("unsafe fn f() {}\n", 1, why);
-}
-
-#[test]
-fn macros_that_are_not_known() {
-    let why = "a macro that is not known";
-    refuses("fn f() {\n    println!(rt; \"a\")\n}\n", 2, why);
-    refuses("debug_assert!(a)\n", 1, why);
-    refuses("prove!(a)\n", 1, why);
-    refuses("print!(in a; b)\n", 1, why);
-    refuses("\nformat!(\"a\")\n", 2, why);
-    refuses("vec![1]\n", 1, why);
-    refuses("assert!(rt; a)\n", 1, why);
-    refuses("panic!(self.rt; \"a\")\n", 1, why);
-    refuses("include!(\"a\")\n", 1, why);
-    refuses("include!{\"a\"}\n", 1, why);
-    refuses("own!(a)\nmacro_rules! own { () => {} }\n", 1, why);
-}
-
-#[test]
-fn paths_that_are_not_known() {
-    refuses("\nuse ::std::fmt;\n", 2, "a path that begins with `::`");
-    refuses("f(::core::mem::take(x))\n", 1, "a path that begins with `::`");
-    refuses("use core::mem;\n", 1, "a path that begins with a crate of the kit");
-    refuses("use alloc::vec;\n", 1, "a path that begins with a crate of the kit");
-    refuses("\nuse wenc_base as b;\n", 2, "a crate that is no path's root");
-    refuses("extern crate std;\n", 1, "a crate that is no path's root");
-    refuses("mod a;\nmod hex;\n", 2, "a module with the name of a crate");
-    refuses("mod a;\nmod b {\n    fn f() {}\n}\n", 2, "a module that is no file");
-    refuses("fn f(x: core::A) {}\n", 1, "a path that begins with a crate of the kit");
-    refuses("fn f(x: ::std::A) {}\n", 1, "a path that begins with `::`");
-    refuses("fn f(x: thiserror::A) {}\n", 1, "a path that begins with a crate of the kit");
-    refuses("mod thiserror;\n", 1, "a module with the name of a crate");
-    refuses("use thiserror::Display;\n", 1, "a use of `thiserror` that is not known");
-    refuses("\n/// ```\nfn f() {}\n", 2, "an example without an end");
-    refuses("/// ```\n// x\n/// ```\nfn f() {}\n", 2, "an example outside of documentation");
 }
 
 /// The Rust becomes this with its conditions, in which `T` and `W` stand for the attributes.
@@ -380,14 +355,6 @@ fn imports_are_parted_by_their_conditions() {
     let why = "an item without an end";
     assert_eq!(erase::with_conditions("a;\nuse b", ' '), Err((2, why)));
     assert_eq!(erase::with_conditions("fn f()", ' '), Err((1, why)));
-}
-
-#[test]
-fn modules_of_trees_have_one_condition() {
-    assert!(erase::is_owned("type_tree") && erase::is_owned("listing"));
-    assert!(!erase::is_owned("canon_tree") && !erase::is_owned("types"));
-    assert!(has_conditions("wenc_types", "types") && !has_conditions("wenc_types", "type_tree"));
-    assert!(has_conditions("wenc_sections", "canon_tree") && !has_conditions("wenc_decode", "lib"));
 }
 
 /// Rattle with all that is left out, as the published package has it.
