@@ -11,16 +11,20 @@ mod short;
 #[path = "vectors/words.rs"]
 pub mod words;
 
+/// Scripts, each with the status and the standard output of its run.
+macro_rules! vectors {
+    ($($script:literal => $status:literal $out:literal;)*) => {
+        &[$(Vector { status: $status, script: $script, out: $out }),*]
+    };
+}
+
+use vectors;
+
 /// A script, and the status and the standard output of its run.
 pub struct Vector {
     pub status: u8,
     pub script: &'static [u8],
     pub out: &'static [u8],
-}
-
-/// A script with this run.
-const fn run(status: u8, script: &'static [u8], out: &'static [u8]) -> Vector {
-    Vector { status, script, out }
 }
 
 /// Those whose lines can all be parsed.

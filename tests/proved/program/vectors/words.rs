@@ -1,9 +1,8 @@
 //! Each word, with each kind and each flag.
 
-use super::{Vector, run};
+use super::{Vector, vectors};
 
-pub static VECTORS: &[Vector] = &[run(
-    0,
+pub static VECTORS: &[Vector] = vectors! {
     b"import m module 1\nimport f func 2\nimport v value 3\nimport t type 4\n\
         import i instance 5\nimport co component 6\nexport module module 64\nexport func func 65\n\
         export value value 66\nexport type type 67\nexport instance instance 68\n\
@@ -22,8 +21,8 @@ pub static VECTORS: &[Vector] = &[run(
         waitable-set.poll 221\nwaitable-set.drop\nwaitable.join\nthread.new-indirect 222 223\n\
         thread.resume-later\nthread.suspend\nthread.suspend-then-resume\nthread.yield-then-resume\n\
         thread.suspend-then-promote\nthread.yield-then-promote\nthread.spawn-ref 224\n\
-        thread.spawn-indirect 225 226\nthread.available-parallelism\nappend-names\n",
-    b"0\n0\n0\n0\n0\n0\n1\n1\n1\n1\n1\n1\n2\n2\n2\n2\n2\n2\n3\n4\n3\n4\n0\n1\n2\n3\n4\n5\n6\n7\n\
+        thread.spawn-indirect 225 226\nthread.available-parallelism\nappend-names\n"
+        => 0 b"0\n0\n0\n0\n0\n0\n1\n1\n1\n1\n1\n1\n2\n2\n2\n2\n2\n2\n3\n4\n3\n4\n0\n1\n2\n3\n4\n5\n6\n7\n\
         8\n9\n10\n11\n12\n13\n14\n15\n16\n17\n18\n19\n20\n21\n22\n23\n24\n25\n26\n27\n28\n29\n30\n\
         31\n32\n33\n34\n35\n36\n37\n38\n39\n40\n41\n42\n-\n\
         0061736d0d0001000a220600016d0011010001660102000176020300017403000400016905050002636f04060b4\
@@ -55,5 +54,5 @@ pub static VECTORS: &[Vector] = &[run(
         011800110300016d01066d6f64756c650208612d6d6f64756c65011b05030001690108696e7374616e6365020a6\
         12d696e7374616e636501130103000166010466756e630206612d66756e63011303030001740104747970650206\
         612d74797065011e04030002636f0109636f6d706f6e656e74020b612d636f6d706f6e656e74011502030001760\
-        10576616c75650207612d76616c7565\n",
-)];
+        10576616c75650207612d76616c7565\n";
+};
