@@ -13,5 +13,7 @@ pub mod format;
 pub mod refuse;
 pub mod size;
 pub mod table;
+#[path = "../../programs/wenc-dump/tests/dump/values.rs"]
+pub mod values;
 #[path = "../common/visited.rs"]
 pub mod visited;

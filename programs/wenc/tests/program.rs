@@ -123,7 +123,7 @@ fn reads_that_fail_have_a_status() {
 #[cfg(unix)]
 #[test]
 fn of_the_manual() {
-    manual::run(env!("CARGO_BIN_EXE_wenc"), 2);
+    manual::run("wenc", env!("CARGO_BIN_EXE_wenc"), 2);
 }
 
 /// The program's one word is completed, and it has no option.

@@ -22,16 +22,16 @@ mod random;
 mod side_by_side;
 mod size;
 mod text;
-mod values;
 mod wit;
 
 use std::fs;
 use std::io::Write;
 use std::path::{Path, PathBuf};
 use std::process::{Command, Output};
+use wenc_calls::values;
 use wenc_dump::{Streams, Terminal};
 
-const PROGRAM: &str = env!("CARGO_BIN_EXE_wenc-dump");
+const PROGRAM: &str = env!("CARGO_BIN_EXE_dump-program");
 
 /// A component that imports a function.
 const FUNCTION: &[u8] = b"\x07\x05\x01\x40\0\x01\0\x0a\x06\x01\0\x01f\x01\0";
@@ -109,5 +109,5 @@ fn expect_of(options: &[&str], file: &Path, out: &str, err: Option<&str>) {
 #[cfg(unix)]
 #[test]
 fn of_the_manual() {
-    manual::run(PROGRAM, 6);
+    manual::run("wenc-dump", PROGRAM, 6);
 }

@@ -7,7 +7,7 @@ use std::process::Command;
 
 /// The shells, and the paths of a program's files for them.
 fn paths(program: &str) -> [(&'static str, PathBuf); 3] {
-    let top = Path::new(env!("CARGO_MANIFEST_DIR")).join("..");
+    let top = Path::new(env!("CARGO_MANIFEST_DIR")).join("../../programs");
     let folder = top.join(program).join("completions");
     [
         ("bash", format!("{program}.bash")),

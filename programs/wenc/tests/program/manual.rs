@@ -30,17 +30,18 @@ fn room(name: &str) -> PathBuf {
     room
 }
 
-/// Runs the examples of a program's page, of which there are so many, with the program in reach.
-pub fn run(program: &str, number: usize) {
-    let program = Path::new(program);
-    let (folder, name) = (program.parent().expect("a folder has it"), program.file_stem());
-    let name = name.expect("it has a name").to_string_lossy();
+/// Runs the examples of a program's page, of which there are so many, with the program in reach
+/// under its name.
+pub fn run(name: &str, program: &str, number: usize) {
+    let room = room(name);
+    let link = room.join(name);
+    let _ = std::fs::remove_file(&link);
+    std::os::unix::fs::symlink(program, link).expect("the program is linked");
     let page = Path::new(env!("CARGO_MANIFEST_DIR")).join(format!("../../docs/man/{name}.1"));
     let page = std::fs::read_to_string(page).expect("the page is there");
-    let path = format!("{}:/usr/bin:/bin", folder.display());
+    let path = format!("{}:/usr/bin:/bin", room.display());
     let examples = examples(&page);
     assert_eq!(examples.len(), number, "{name}");
-    let room = room(&name);
     for (command, printed) in examples {
         let mut shell = Command::new("sh");
         let shell = shell.args(["-c", &command]).env("PATH", &path).current_dir(&room);
