@@ -51,12 +51,12 @@ pub fn run(
 
 /// Does so for any streams, by code that is compiled once.
 fn run_with(
-    mut arguments: &mut dyn Iterator<Item = OsString>,
+    arguments: &mut dyn Iterator<Item = OsString>,
     terminal: Terminal,
     streams: &mut Streams<'_, &mut dyn Read, &mut dyn Write, &mut dyn Write>,
 ) -> u8 {
     let mut status = 0;
-    let done = match request(&mut arguments) {
+    let done = match request(arguments) {
         Ok(Request::Help) => print(streams.out, &format!("{USAGE}{HELP}")),
         Ok(Request::Version) => {
             print(streams.out, concat!("wenc-dump ", env!("CARGO_PKG_VERSION"), "\n"))
