@@ -126,38 +126,45 @@ fn is_possible<T>(at: *const T, len: usize) -> bool {
 /// # Errors
 ///
 /// Fails also with `TooLarge` for more bytes than such a number counts, `TooMany` for more values.
-pub(crate) unsafe fn counted<'a, T>(at: *const T, len: usize) -> Result<&'a [T], Status> {
+pub(crate) unsafe fn counted<'a, T>(
+    argument: &'static CStr,
+    at: *const T,
+    len: usize,
+) -> Result<&'a [T]> {
     if u32::try_from(len).is_err() && is_possible(at, len) {
-        let is_bytes = size_of::<T>() == 1;
-        return Err(if is_bytes { Status::TooLarge } else { Status::TooMany });
+        let status = if size_of::<T>() == 1 { Status::TooLarge } else { Status::TooMany };
+        return Err(Refused::from(status).of(argument));
     }
-    unsafe { list(at, len) }
+    unsafe { list(at, len) }.map_err(|refused| refused.of(argument))
 }
 
 /// Returns a UTF-8 string. Most are ASCII, which is faster to check.
-pub(crate) unsafe fn text<'a>(at: *const u8, len: usize) -> Result<&'a str, Status> {
-    let bytes = unsafe { counted(at, len) }?;
+pub(crate) unsafe fn text<'a>(
+    argument: &'static CStr,
+    at: *const u8,
+    len: usize,
+) -> Result<&'a str> {
+    let bytes = unsafe { counted(argument, at, len) }?;
     if bytes.is_ascii() {
         return Ok(unsafe { str::from_utf8_unchecked(bytes) });
     }
-    str::from_utf8(bytes).map_err(|_| Status::Malformed)
+    str::from_utf8(bytes).map_err(|_| Refused::from(Status::Malformed).of(argument))
 }
 
 /// Returns a debug name, or none.
 pub(crate) unsafe fn debug_name<'a>(name: *const Text) -> Result<Option<&'a str>> {
     let name = unsafe { name.as_ref() };
-    name.map_or(Ok(None), |name| unsafe { name.optional() })
-        .map_err(|status| Refused::from(status).of(c"debug_name"))
+    name.map_or(Ok(None), |name| unsafe { name.optional(c"debug_name") })
 }
 
 impl Text {
     pub const NONE: Self = Self { at: ptr::null(), len: 0 };
 
     /// Returns the string, unless there is none.
-    unsafe fn optional<'a>(&self) -> Result<Option<&'a str>, Status> {
+    unsafe fn optional<'a>(&self, argument: &'static CStr) -> Result<Option<&'a str>> {
         match (self.at.is_null(), self.len) {
             (true, 0) => Ok(None),
-            (_, len) => unsafe { text(self.at, len) }.map(Some),
+            (_, len) => unsafe { text(argument, self.at, len) }.map(Some),
         }
     }
 }
@@ -165,12 +172,11 @@ impl Text {
 impl Name {
     /// Returns the name with its options.
     pub(crate) unsafe fn read<'a>(&self) -> Result<ComponentExternName<'a>> {
-        let wrong = |status: Status| Refused::from(status).of(c"name");
         let option = |option: Text| -> Result<Option<Cow<'a, str>>> {
-            Ok(unsafe { option.optional() }.map_err(wrong)?.map(Into::into))
+            Ok(unsafe { option.optional(c"name") }?.map(Into::into))
         };
         Ok(ComponentExternName {
-            name: unsafe { text(self.name.at, self.name.len) }.map_err(wrong)?.into(),
+            name: unsafe { text(c"name", self.name.at, self.name.len) }?.into(),
             implements: option(self.implements)?,
             version_suffix: option(self.version_suffix)?,
             external_id: option(self.external_id)?,
@@ -202,9 +208,9 @@ pub(crate) unsafe fn named<'a, T>(
     of: impl Fn(u32, u32) -> Option<T> + 'a,
 ) -> Result<impl ExactSizeIterator<Item = (&'a str, T)>> {
     for (member, part) in parts.iter().enumerate() {
-        let wrong = |status: Status| Refused::from(status).of(argument).at(member);
-        unsafe { text(part.name, part.name_len) }.map_err(wrong)?;
-        of(part.kind, part.number).ok_or(Status::BadArgument).map_err(wrong)?;
+        let name = unsafe { text(argument, part.name, part.name_len) };
+        name.map_err(|refused| refused.at(member))?;
+        of(part.kind, part.number).ok_or(Refused::bad(argument).at(member))?;
     }
     Ok(parts.iter().map(move |part| {
         let at = if part.name_len == 0 { NonNull::dangling().as_ptr() } else { part.name };
@@ -234,10 +240,15 @@ pub(crate) unsafe fn names<'a>(
     Ok(unsafe { named(argument, parts, |_, _| Some(())) }?.map(|(name, ())| name))
 }
 
+/// Collects values, and fails if the allocation fails.
+pub(crate) fn collected<T>(values: impl ExactSizeIterator<Item = T>) -> Result<Vec<T>> {
+    let mut all = Vec::new();
+    all.try_reserve_exact(values.len())?;
+    all.extend(values);
+    Ok(all)
+}
+
 /// Returns a copy of the values.
 pub(crate) fn copied<T: Copy>(values: &[T]) -> Result<Vec<T>> {
-    let mut copy = Vec::new();
-    copy.try_reserve_exact(values.len())?;
-    copy.extend_from_slice(values);
-    Ok(copy)
+    collected(values.iter().copied())
 }

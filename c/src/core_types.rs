@@ -1,6 +1,6 @@
 //! The calls that add core types, and that declare the imports and exports of core modules.
 
-use crate::arguments::{Entity, Pair, Subtype, counted, known, unnamed};
+use crate::arguments::{Entity, Pair, Subtype, collected, counted, known, unnamed};
 use crate::session::Session;
 use crate::{Refused, Result, Status, calls, numbers};
 use alloc::vec::Vec;
@@ -10,25 +10,18 @@ use wenc::tree::{
 use wenc::{FieldType, ValType};
 
 calls! {
-    wenc_core_type_function(debug_name: name, params[params_len]: Pair, results[results_len]: Pair)
-        -> index = |session| {
-        let params = unnamed(c"params", params, value)?;
-        let results = unnamed(c"results", results, value)?;
-        session.core_type(debug_name, |encoder| encoder.try_function(params, results))
-    };
-    wenc_core_type_struct(debug_name: name, fields[fields_len]: Pair) -> index = |session| {
-        let fields = unnamed(c"fields", fields, field)?;
-        session.core_type(debug_name, |encoder| encoder.try_struct(fields))
-    };
-    wenc_core_type_array(debug_name: name, element: u32, of: u32) -> index = |session| {
-        let field = known(c"element", field(element, of))?;
-        session.core_type(debug_name, |encoder| {
-            encoder.try_array(&field.element_type, field.mutable)
-        })
+    wenc_core_type_function(
+        debug_name: name, params[params_len]: Pair => unnamed value,
+        results[results_len]: Pair => unnamed value
+    ) -> index = |session| session.core_type(debug_name, |to| to.try_function(params, results));
+    wenc_core_type_struct(debug_name: name, fields[fields_len]: Pair => unnamed field) -> index
+        = |session| session.core_type(debug_name, |to| to.try_struct(fields));
+    wenc_core_type_array(debug_name: name, ty[element, of] => field) -> index = |session| {
+        session.core_type(debug_name, |to| to.try_array(&ty.element_type, ty.mutable))
     };
     wenc_core_type_subtype(debug_name: name, &subtype: Subtype) -> index = |session| {
         let ty = GroupTree::Sub(subtype.read()?);
-        session.core_type(debug_name, |encoder| encoder.try_tree(&ty))
+        session.core_type(debug_name, |to| to.try_tree(&ty))
     };
     wenc_core_type_group(debug_name: name, subtypes[subtypes_len]: Subtype) -> index = |session| {
         let mut types = Vec::new();
@@ -38,7 +31,7 @@ calls! {
             types.push(subtype.read().map_err(wrong)?);
         }
         let ty = GroupTree::Rec(types);
-        session.core_type(debug_name, |encoder| encoder.try_tree(&ty))
+        session.core_type(debug_name, |to| to.try_tree(&ty))
     };
     wenc_core_type_import(module[module_len]: text, name[name_len]: text, &entity: Entity)
         = |session| match session {
@@ -59,13 +52,6 @@ fn field(number: u32, index: u32) -> Option<FieldType> {
     Some(numbers::field(number, index)?.into())
 }
 
-fn collected<T>(values: impl ExactSizeIterator<Item = T>) -> Result<Vec<T>> {
-    let mut all = Vec::new();
-    all.try_reserve_exact(values.len())?;
-    all.extend(values);
-    Ok(all)
-}
-
 impl Subtype {
     /// Returns the type, with copies of its lists.
     unsafe fn read(&self) -> Result<CoreSubType> {
@@ -78,10 +64,10 @@ impl Subtype {
     }
 
     unsafe fn composite(&self) -> Result<CoreCompositeType> {
-        let fields = unsafe { counted(self.fields, self.fields_len) }?;
+        let fields = unsafe { counted(c"subtype", self.fields, self.fields_len) }?;
         Ok(match self.kind {
             1 => {
-                let results = unsafe { counted(self.results, self.results_len) }?;
+                let results = unsafe { counted(c"subtype", self.results, self.results_len) }?;
                 CoreCompositeType::Func(CoreFuncType::from_lists(
                     collected(unnamed(c"fields", fields, numbers::core_value)?)?,
                     collected(unnamed(c"results", results, numbers::core_value)?)?,

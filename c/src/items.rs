@@ -1,10 +1,14 @@
 //! The calls that add items: imports, exports, aliases, modules, components, instances, functions.
 
-use crate::arguments::{Name, Pair, Part, copied, known, named, unnamed};
+use crate::arguments::{Name, Pair, Part, copied, known};
+use crate::numbers::{maybe_type_ref, maybe_value, option, type_ref};
 use crate::session::{Session, counted};
 use crate::{Handle, Refused, Result, calls, numbers, other};
 use core::ffi::CStr;
-use wenc::{Alias, ComponentSectionId, ComponentStartSection, ModuleArg, RawSection};
+use wenc::{
+    Alias, ComponentExportKind, ComponentSectionId, ComponentStartSection, ExportKind, ModuleArg,
+    RawSection,
+};
 
 /// Makes the call of a builder or of a section for a number of `enum wenc_function`.
 macro_rules! builtin {
@@ -79,25 +83,35 @@ macro_rules! slot {
     };
 }
 
-calls! {
-    wenc_import(name[name_len]: text, reference: u32, of: u32) -> index = |session| {
-        session.import(name.into(), known(c"ref", numbers::type_ref(reference, of))?)
+/// Makes the call of a builder, or that of a section of this kind.
+macro_rules! builder_or {
+    ($session:ident, $section:ident, |$to:ident| $call:expr) => {
+        builder_or!($session, |$to| $call, $section: $call)
     };
+    ($session:ident, |$to:ident| $of_builder:expr, $section:ident: $of_section:expr) => {
+        match $session {
+            Session::Building($to) => Ok($of_builder?),
+            Session::$section($to) => counted!($to => $of_section),
+            _ => Err($session.refusal()),
+        }
+    };
+}
+
+calls! {
+    wenc_import(name[name_len]: text, ty[reference, of] => type_ref) -> index
+        = |session| session.import(name.into(), ty);
     wenc_import_named(&name: Name, reference: u32, of: u32) -> index = |session| {
-        session.import(name.read()?, known(c"ref", numbers::type_ref(reference, of))?)
+        session.import(name.read()?, known(c"ref", type_ref(reference, of))?)
     };
     wenc_export(
-        name[name_len]: text, kind: u32, item: u32, reference: u32, of: u32
+        name[name_len]: text, kind: u32 => numbers::kind, item: u32,
+        ty[reference, of] => maybe_type_ref
+    ) -> index = |session| session.export(name.into(), kind, item, ty);
+    wenc_export_named(
+        &name: Name, kind: u32 => numbers::kind, item: u32, reference: u32, of: u32
     ) -> index = |session| {
-        let kind = known(c"kind", numbers::kind(kind))?;
-        let ty = known(c"ref", numbers::maybe_type_ref(reference, of))?;
-        session.export(name.into(), kind, item, ty)
-    };
-    wenc_export_named(&name: Name, kind: u32, item: u32, reference: u32, of: u32) -> index
-        = |session| {
-        let kind = known(c"kind", numbers::kind(kind))?;
         let name = name.read()?;
-        session.export(name, kind, item, known(c"ref", numbers::maybe_type_ref(reference, of))?)
+        session.export(name, kind, item, known(c"ref", maybe_type_ref(reference, of))?)
     };
     wenc_alias_export(instance: u32, kind: u32, name[name_len]: text) -> index = |session| {
         let kind = known(c"kind", numbers::kind(kind))?;
@@ -118,106 +132,76 @@ calls! {
         let kind = known(c"kind", numbers::core_kind(kind))?;
         session.alias(debug_name, Alias::CoreInstanceExport { instance, kind, name })
     };
-    wenc_alias_outer(debug_name: name, kind: u32, count: u32, item: u32) -> index = |session| {
-        let kind = known(c"kind", numbers::outer_kind(kind))?;
-        session.alias(debug_name, Alias::Outer { kind, count, index: item })
-    };
+    wenc_alias_outer(debug_name: name, kind: u32 => numbers::outer_kind, count: u32, item: u32)
+        -> index = |session| session.alias(debug_name, Alias::Outer { kind, count, index: item });
     wenc_core_module(debug_name: name, bytes[len]: u8) -> index = |session| match session {
         Session::Building(builder) => Ok(builder.try_core_module_raw(debug_name, bytes)?),
         _ => session.append(&RawSection { id: ComponentSectionId::CoreModule.into(), data: bytes }),
     };
-    wenc_component_bytes(debug_name: name, bytes[len]: u8) -> index = |session| {
-        add_component(session, debug_name, bytes)
+    wenc_component_bytes(debug_name: name, bytes[len]: u8) -> index
+        = |session| add_component(session, debug_name, bytes);
+    wenc_start(function: u32, args[args_len]: u32, results: u32) -> index
+        = |session| match session {
+        Session::Building(builder) => Ok(builder.try_start(function, copied(args)?, results)?),
+        _ => session.append(&ComponentStartSection { function_index: function, args, results }),
     };
-    wenc_start(function: u32, args[args_len]: u32, results: u32) -> index = |session| {
-        match session {
-            Session::Building(builder) => Ok(builder.try_start(function, copied(args)?, results)?),
-            _ => session.append(&ComponentStartSection { function_index: function, args, results }),
-        }
+    wenc_lift(
+        debug_name: name, function: u32, ty: u32, options[options_len]: Pair => unnamed option
+    ) -> index = |session| builder_or!(
+        session,
+        |to| to.try_lift_func(debug_name, function, ty, options),
+        Functions: to.try_lift(function, ty, options)
+    );
+    wenc_lower(debug_name: name, function: u32, options[options_len]: Pair => unnamed option)
+        -> index = |session| builder_or!(
+        session,
+        |to| to.try_lower_func(debug_name, function, options),
+        Functions: to.try_lower(function, options)
+    );
+    wenc_builtin(function: u32, first: u32, second: u32) -> index
+        = |session| builder_or!(session, Functions, |to| builtin!(to, function, first, second));
+    wenc_builtin_with(function: u32, first: u32, options[options_len]: Pair => unnamed option)
+        -> index = |session| {
+        builder_or!(session, Functions, |to| builtin_with!(to, function, first, options))
     };
-    wenc_lift(debug_name: name, function: u32, ty: u32, options[options_len]: Pair) -> index
+    wenc_task_return(
+        ty[reference, of] => maybe_value, options[options_len]: Pair => unnamed option
+    ) -> index = |session| builder_or!(session, Functions, |to| to.try_task_return(ty, options));
+    wenc_context(function: u32, ty: u32 => numbers::core_number, slot: u32) -> index = |session| {
+        let ty = ty.into();
+        builder_or!(session, Functions, |to| slot!(to, function, ty, slot))
+    };
+    wenc_core_instantiate(debug_name: name, module: u32, args[args_len]: Part => named instance)
+        -> index = |session| builder_or!(
+        session,
+        |to| to.try_core_instantiate(debug_name, module, args),
+        CoreInstances: to.try_instantiate(module, args)
+    );
+    wenc_core_exports(debug_name: name, exports[exports_len]: Part => named core_item) -> index
         = |session| {
-        let options = unnamed(c"options", options, numbers::option)?;
-        match session {
-            Session::Building(to) => Ok(to.try_lift_func(debug_name, function, ty, options)?),
-            Session::Functions(to) => counted!(to => to.try_lift(function, ty, options)),
-            _ => Err(session.refusal()),
-        }
-    };
-    wenc_lower(debug_name: name, function: u32, options[options_len]: Pair) -> index = |session| {
-        let options = unnamed(c"options", options, numbers::option)?;
-        match session {
-            Session::Building(to) => Ok(to.try_lower_func(debug_name, function, options)?),
-            Session::Functions(to) => counted!(to => to.try_lower(function, options)),
-            _ => Err(session.refusal()),
-        }
-    };
-    wenc_builtin(function: u32, first: u32, second: u32) -> index = |session| match session {
-        Session::Building(to) => Ok(builtin!(to, function, first, second)?),
-        Session::Functions(to) => counted!(to => builtin!(to, function, first, second)),
-        _ => Err(session.refusal()),
-    };
-    wenc_builtin_with(function: u32, first: u32, options[options_len]: Pair) -> index = |session| {
-        let options = unnamed(c"options", options, numbers::option)?;
-        match session {
-            Session::Building(to) => Ok(builtin_with!(to, function, first, options)?),
-            Session::Functions(to) => counted!(to => builtin_with!(to, function, first, options)),
-            _ => Err(session.refusal()),
-        }
-    };
-    wenc_task_return(reference: u32, of: u32, options[options_len]: Pair) -> index = |session| {
-        let ty = known(c"ref", numbers::maybe_value(reference, of))?;
-        let options = unnamed(c"options", options, numbers::option)?;
-        match session {
-            Session::Building(to) => Ok(to.try_task_return(ty, options)?),
-            Session::Functions(to) => counted!(to => to.try_task_return(ty, options)),
-            _ => Err(session.refusal()),
-        }
-    };
-    wenc_context(function: u32, ty: u32, slot: u32) -> index = |session| {
-        let ty = known(c"type", numbers::core_number(ty))?.into();
-        match session {
-            Session::Building(to) => Ok(slot!(to, function, ty, slot)?),
-            Session::Functions(to) => counted!(to => slot!(to, function, ty, slot)),
-            _ => Err(session.refusal()),
-        }
-    };
-    wenc_core_instantiate(debug_name: name, module: u32, args[args_len]: Part) -> index
-        = |session| {
-        let args = named(c"args", args, |_, instance| Some(ModuleArg::Instance(instance)))?;
-        match session {
-            Session::Building(to) => Ok(to.try_core_instantiate(debug_name, module, args)?),
-            Session::CoreInstances(to) => counted!(to => to.try_instantiate(module, args)),
-            _ => Err(session.refusal()),
-        }
-    };
-    wenc_core_exports(debug_name: name, exports[exports_len]: Part) -> index = |session| {
-        let item = |kind, item| Some((numbers::core_kind(kind)?, item));
-        let exports = named(c"exports", exports, item)?;
         let exports = exports.map(|(name, (kind, item))| (name, kind, item));
-        match session {
-            Session::Building(to) => Ok(to.try_core_instantiate_exports(debug_name, exports)?),
-            Session::CoreInstances(to) => counted!(to => to.try_export_items(exports)),
-            _ => Err(session.refusal()),
-        }
+        builder_or!(
+            session,
+            |to| to.try_core_instantiate_exports(debug_name, exports),
+            CoreInstances: to.try_export_items(exports)
+        )
     };
-    wenc_instantiate(debug_name: name, component: u32, args[args_len]: Part) -> index = |session| {
-        let args = named(c"args", args, |kind, item| Some((numbers::kind(kind)?, item)))?;
+    wenc_instantiate(debug_name: name, component: u32, args[args_len]: Part => named item) -> index
+        = |session| {
         let args = args.map(|(name, (kind, item))| (name, kind, item));
-        match session {
-            Session::Building(to) => Ok(to.try_instantiate(debug_name, component, args)?),
-            Session::Instances(to) => counted!(to => to.try_instantiate(component, args)),
-            _ => Err(session.refusal()),
-        }
+        builder_or!(
+            session,
+            |to| to.try_instantiate(debug_name, component, args),
+            Instances: to.try_instantiate(component, args)
+        )
     };
-    wenc_export_items(debug_name: name, items[items_len]: Part) -> index = |session| {
-        let items = named(c"items", items, |kind, item| Some((numbers::kind(kind)?, item)))?;
+    wenc_export_items(debug_name: name, items[items_len]: Part => named item) -> index = |session| {
         let items = items.map(|(name, (kind, item))| (name, kind, item));
-        match session {
-            Session::Building(to) => Ok(to.try_instantiate_exports(debug_name, items)?),
-            Session::Instances(to) => counted!(to => to.try_export_items(items)),
-            _ => Err(session.refusal()),
-        }
+        builder_or!(
+            session,
+            |to| to.try_instantiate_exports(debug_name, items),
+            Instances: to.try_export_items(items)
+        )
     };
     wenc_component_ref(debug_name: name, nested: *const Handle) -> index = |session| {
         let nested = other(session, nested).map_err(|refused| refused.of(c"nested"))?;
@@ -229,6 +213,19 @@ calls! {
         super::life::wenc_free(nested);
         Ok(index)
     };
+}
+
+/// The argument of a core module that is a core instance. Its kind isn't used.
+fn instance(_: u32, instance: u32) -> Option<ModuleArg> {
+    Some(ModuleArg::Instance(instance))
+}
+
+fn item(number: u32, item: u32) -> Option<(ComponentExportKind, u32)> {
+    Some((numbers::kind(number)?, item))
+}
+
+fn core_item(number: u32, item: u32) -> Option<(ExportKind, u32)> {
+    Some((numbers::core_kind(number)?, item))
 }
 
 /// Adds a component given as bytes.

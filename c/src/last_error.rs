@@ -60,11 +60,7 @@ impl ErrorRow {
 
 #[unsafe(no_mangle)]
 pub unsafe extern "C" fn wenc_last_error(handle: *const Handle, error: *mut ErrorRow) -> Status {
-    match unsafe { owned(handle) } {
-        Ok(owned) => {
-            unsafe { put(error, owned.last_error.row()) };
-            Status::Done
-        }
-        Err(status) => status,
-    }
+    let Some(owned) = (unsafe { owned(handle) }) else { return Status::NoHandle };
+    unsafe { put(error, owned.last_error.row()) };
+    Status::Done
 }

@@ -161,9 +161,8 @@ unsafe fn begin(handle: *mut Handle, make: impl FnOnce() -> Result<Session>) -> 
 }
 
 /// Returns what a handle owns, to read it.
-unsafe fn owned<'a>(handle: *const Handle) -> Result<&'a Owned, Status> {
-    let handle = unsafe { handle.as_ref() }.ok_or(Status::NoHandle)?;
-    unsafe { handle.at.as_ref() }.ok_or(Status::NoHandle)
+unsafe fn owned<'a>(handle: *const Handle) -> Option<&'a Owned> {
+    unsafe { handle.as_ref()?.at.as_ref() }
 }
 
 /// Returns the session of a second handle, to read it. It must differ from the first.
@@ -173,33 +172,31 @@ unsafe fn other<'a>(session: &Session, handle: *const Handle) -> Result<&'a Sess
     if !at.is_null() && ptr::eq(unsafe { &raw const (*at).session }, session) {
         return Err(Status::BadArgument.into());
     }
-    Ok(&unsafe { owned(handle) }?.session)
+    Ok(&unsafe { owned(handle) }.ok_or(Status::NoHandle)?.session)
 }
 
-/// Makes a call that changes the session of a handle. If it fails, that is recorded.
+/// Makes a call that changes the session of a handle, and writes its result through a pointer from
+/// C. If it fails, that is recorded.
 unsafe fn change<T>(
     handle: *mut Handle,
+    to: *mut T,
     call: impl FnOnce(&mut Session) -> Result<T>,
-) -> Result<T, Status> {
-    let handle = unsafe { handle.as_ref() }.ok_or(Status::NoHandle)?;
-    let owned = unsafe { handle.at.as_mut() }.ok_or(Status::NoHandle)?;
-    call(&mut owned.session).map_err(|refused| {
-        owned.last_error.set(refused);
-        refused.status
-    })
+) -> Status {
+    let handle = unsafe { handle.as_ref() };
+    let Some(owned) = handle.and_then(|handle| unsafe { handle.at.as_mut() }) else {
+        return Status::NoHandle;
+    };
+    let result = call(&mut owned.session).inspect_err(|refused| owned.last_error.set(*refused));
+    result.map(|value| unsafe { put(to, value) }).into()
 }
 
-/// Makes a call that only reads the session of a handle, and writes its result through a pointer
-/// from C. If it fails, that is recorded.
+/// Makes a call that only reads the session of a handle, as [`change`] does.
 unsafe fn read<'a, T>(
     handle: *const Handle,
     to: *mut T,
     call: impl FnOnce(&'a Session) -> Result<T>,
 ) -> Status {
-    let owned = match unsafe { owned(handle) } {
-        Ok(owned) => owned,
-        Err(status) => return status,
-    };
+    let Some(owned) = (unsafe { owned(handle) }) else { return Status::NoHandle };
     let result = call(&owned.session).inspect_err(|refused| owned.last_error.note(*refused));
     result.map(|value| unsafe { put(to, value) }).into()
 }
@@ -211,31 +208,13 @@ unsafe fn put<T>(at: *mut T, value: T) {
     }
 }
 
-/// Makes a call that adds an item, and writes the item's index through a pointer from C.
-unsafe fn indexed(
-    handle: *mut Handle,
-    index: *mut u32,
-    call: impl FnOnce(&mut Session) -> Result<u32>,
-) -> Status {
-    match unsafe { change(handle, call) } {
-        Ok(value) => {
-            unsafe { put(index, value) };
-            Status::Done
-        }
-        Err(status) => status,
-    }
-}
-
-/// Makes a call without a result.
-unsafe fn made(handle: *mut Handle, call: impl FnOnce(&mut Session) -> Result<()>) -> Status {
-    unsafe { change(handle, call) }.err().unwrap_or(Status::Done)
-}
-
 /// Defines functions of C. Their arguments are
 ///
 /// - `name: T`, a `T`, or `&name: T`, a pointer to one;
 /// - `name[name_len]: text`, a string in UTF-8, or `list[list_len]: T`, an array;
-/// - `debug_name: name`, a pointer to a string, or NULL.
+/// - `debug_name: name`, a pointer to a string, or NULL;
+/// - `name: u32 => of` or `name[number, index] => of`, the value of one or two numbers, and
+///   `list[list_len]: Part => named of` or `Pair => unnamed of`, a list of such values.
 ///
 /// The handle comes before them, and with `-> index`, a pointer for the index after them. The body
 /// takes the session and the arguments.
@@ -257,7 +236,7 @@ macro_rules! call {
             $($c)*
             $index: *mut u32,
         ) -> $crate::Status {
-            unsafe { $crate::indexed(handle, $index, |$s| { $($read)* $body }) }
+            unsafe { $crate::change(handle, $index, |$s| { $($read)* $body }) }
         }
     };
     ($f:ident [] $s:ident $body:expr, [$($c:tt)*] [$($read:tt)*] $(,)?) => {
@@ -266,7 +245,7 @@ macro_rules! call {
             handle: *mut $crate::Handle,
             $($c)*
         ) -> $crate::Status {
-            unsafe { $crate::made(handle, |$s| { $($read)* $body }) }
+            unsafe { $crate::change(handle, core::ptr::null_mut(), |$s| { $($read)* $body }) }
         }
     };
     ($f:ident $i:tt $s:ident $b:expr, [$($c:tt)*] [$($r:tt)*] $a:ident: name, $($rest:tt)*) => {
@@ -282,25 +261,42 @@ macro_rules! call {
     };
     (
         $f:ident $i:tt $s:ident $b:expr, [$($c:tt)*] [$($r:tt)*]
-        $a:ident[$l:ident]: text, $($rest:tt)*
+        $a:ident: u32 => $of:path, $($rest:tt)*
     ) => {
         $crate::call! {
-            $f $i $s $b, [$($c)* $a: *const u8, $l: usize,]
+            $f $i $s $b, [$($c)* $a: u32,]
+            [$($r)* let $a = $crate::arguments::known($crate::name_of!($a), $of($a))?;] $($rest)*
+        }
+    };
+    (
+        $f:ident $i:tt $s:ident $b:expr, [$($c:tt)*] [$($r:tt)*]
+        $a:ident[$n:ident, $index:ident] => $of:path, $($rest:tt)*
+    ) => {
+        $crate::call! {
+            $f $i $s $b, [$($c)* $n: u32, $index: u32,]
             [$($r)*
-                let $a = $crate::arguments::text($a, $l)
-                    .map_err(|status| $crate::Refused::from(status).of($crate::name_of!($a)))?;
+                let $a = $crate::arguments::known($crate::name_of!($n), $of($n, $index))?;
             ] $($rest)*
         }
     };
     (
         $f:ident $i:tt $s:ident $b:expr, [$($c:tt)*] [$($r:tt)*]
-        $a:ident[$l:ident]: $t:ty, $($rest:tt)*
+        $a:ident[$l:ident]: text, $($rest:tt)*
+    ) => {
+        $crate::call! {
+            $f $i $s $b, [$($c)* $a: *const u8, $l: usize,]
+            [$($r)* let $a = $crate::arguments::text($crate::name_of!($a), $a, $l)?;] $($rest)*
+        }
+    };
+    (
+        $f:ident $i:tt $s:ident $b:expr, [$($c:tt)*] [$($r:tt)*]
+        $a:ident[$l:ident]: $t:ident $(=> $read:ident $of:path)?, $($rest:tt)*
     ) => {
         $crate::call! {
             $f $i $s $b, [$($c)* $a: *const $t, $l: usize,]
             [$($r)*
-                let $a = $crate::arguments::counted($a, $l)
-                    .map_err(|status| $crate::Refused::from(status).of($crate::name_of!($a)))?;
+                let $a = $crate::arguments::counted($crate::name_of!($a), $a, $l)?;
+                $(let $a = $crate::arguments::$read($crate::name_of!($a), $a, $of)?;)?
             ] $($rest)*
         }
     };
@@ -319,6 +315,12 @@ macro_rules! call {
 
 /// Returns the name of an argument, as C has it.
 macro_rules! name_of {
+    (reference) => {
+        c"ref"
+    };
+    (ty) => {
+        c"type"
+    };
     ($argument:ident) => {
         const {
             match core::ffi::CStr::from_bytes_with_nul(

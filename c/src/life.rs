@@ -135,15 +135,13 @@ pub unsafe extern "C" fn wenc_finish(
     bytes: *mut *const u8,
     len: *mut usize,
 ) -> Status {
-    let finish = |session: &mut Session| finished(session).map(|all| (all.as_ptr(), all.len()));
-    match unsafe { change(handle, finish) } {
-        Ok((at, finished_len)) => {
-            unsafe { put(bytes, at) };
-            unsafe { put(len, finished_len) };
-            Status::Done
-        }
-        Err(status) => status,
-    }
+    let finish = |session: &mut Session| {
+        let all = finished(session)?;
+        unsafe { put(bytes, all.as_ptr()) };
+        unsafe { put(len, all.len()) };
+        Ok(())
+    };
+    unsafe { change(handle, ptr::null_mut(), finish) }
 }
 
 #[unsafe(no_mangle)]

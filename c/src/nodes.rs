@@ -110,27 +110,27 @@ impl Visitor<'_> {
         if goes_on.is_set() { Ok(()) } else { Err(Status::Done) }
     }
 
-    /// Describes a value.
+    /// Describes a value, with its number of `enum wenc_node_kind`.
     fn row(&self, at: Place<'_>, node: Node<'_>) -> NodeRow {
-        let row = self.blank(at, kind(node));
-        let of = |number| NodeRow { number, ..row };
-        let named = |name, number| NodeRow { text: Text::new(name), number, ..row };
+        let of = |kind, number| NodeRow { number, ..self.blank(at, kind) };
+        let named = |kind, name, number| NodeRow { text: Text::new(name), ..of(kind, number) };
         match node {
-            Node::Absent => row,
-            Node::Present(_) => of(1),
-            Node::Number(number) => of(number),
-            Node::Flag(flag) => of(flag.into()),
-            Node::Text(text) => self.borrowed(row, text.as_bytes()),
-            Node::Bytes(bytes) => self.borrowed(of(self.tools(bytes)), bytes),
+            Node::Absent => of(0, 0),
+            Node::Present(_) => of(1, 1),
+            Node::Number(number) => of(2, number),
+            Node::Flag(flag) => of(3, flag.into()),
+            Node::Text(text) => self.borrowed(of(4, 0), text.as_bytes()),
+            Node::Bytes(bytes) => self.borrowed(of(5, self.tools(bytes)), bytes),
             Node::Index { space, scope, index } | Node::OutOfRange { space, scope, index, .. } => {
                 let (space, (scope, out)) = (numbers::of_space(space), numbers::of_scope(scope));
-                NodeRow { number: index.into(), space, scope, out, ..row }
+                NodeRow { space, scope, out, ..of(6, index.into()) }
             }
-            Node::List(list) => of(list.len() as u64),
-            Node::Tuple(fields) => of(count(fields)),
-            Node::Record(name, fields) | Node::Struct(name, fields) => named(name, count(fields)),
-            Node::Word(name) => named(name, 0),
-            Node::Variant(name, _) => named(name, 1),
+            Node::List(list) => of(7, list.len() as u64),
+            Node::Tuple(fields) => of(8, count(fields)),
+            Node::Record(name, fields) => named(9, name, count(fields)),
+            Node::Word(name) => named(10, name, 0),
+            Node::Variant(name, _) => named(11, name, 1),
+            Node::Struct(name, fields) => named(12, name, count(fields)),
         }
     }
 
@@ -170,25 +170,6 @@ impl Visitor<'_> {
 
 fn count(fields: Fields<'_>) -> u64 {
     fields.iter().count() as u64
-}
-
-/// `enum wenc_node_kind`.
-fn kind(node: Node<'_>) -> u32 {
-    match node {
-        Node::Absent => 0,
-        Node::Present(_) => 1,
-        Node::Number(_) => 2,
-        Node::Flag(_) => 3,
-        Node::Text(_) => 4,
-        Node::Bytes(_) => 5,
-        Node::Index { .. } | Node::OutOfRange { .. } => 6,
-        Node::List(_) => 7,
-        Node::Tuple(_) => 8,
-        Node::Record(..) => 9,
-        Node::Word(_) => 10,
-        Node::Variant(..) => 11,
-        Node::Struct(..) => 12,
-    }
 }
 
 #[unsafe(no_mangle)]

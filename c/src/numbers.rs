@@ -94,33 +94,32 @@ pub fn primitive(number: u32) -> Option<PrimitiveValType> {
     nth(&PRIMITIVES, number.checked_sub(1)?)
 }
 
-pub fn kind(number: u32) -> Option<ComponentExportKind> {
-    nth(&KINDS, number)
+/// Defines the value of a number in a list, and the number of a value.
+macro_rules! lists {
+    ($($of_number:ident, $of_value:ident: $ty:ty = $list:expr;)*) => {$(
+        pub fn $of_number(number: u32) -> Option<$ty> {
+            nth(&$list, number)
+        }
+
+        pub fn $of_value(value: $ty) -> u32 {
+            number_in(&$list, &value)
+        }
+    )*};
 }
 
-pub fn core_kind(number: u32) -> Option<ExportKind> {
-    nth(&CORE_KINDS, number)
-}
-
-pub fn outer_kind(number: u32) -> Option<ComponentOuterAliasKind> {
-    nth(&OUTER_KINDS, number)
+lists! {
+    kind, of_kind: ComponentExportKind = KINDS;
+    core_kind, of_core_kind: ExportKind = CORE_KINDS;
+    outer_kind, of_outer_kind: ComponentOuterAliasKind = OUTER_KINDS;
+    space, of_space: Space = Space::ALL;
 }
 
 pub fn section(number: u32) -> Option<ComponentSectionId> {
     nth(&ComponentSectionId::ALL, number)
 }
 
-pub fn space(number: u32) -> Option<Space> {
-    nth(&Space::ALL, number)
-}
-
 /// The number of no index space.
 pub const NO_SPACE: u32 = Space::ALL.len() as u32;
-
-/// Returns the number of an index space in `enum wenc_space`.
-pub fn of_space(space: Space) -> u32 {
-    number_in(&Space::ALL, &space)
-}
 
 /// `enum wenc_scope`, and how far out or in the scope is.
 pub fn of_scope(scope: Scope) -> (u32, u32) {
@@ -128,21 +127,6 @@ pub fn of_scope(scope: Scope) -> (u32, u32) {
         Scope::Component(out) => (0, out),
         Scope::Type(depth) => (1, depth),
     }
-}
-
-/// Returns the number of a kind in `enum wenc_kind`.
-pub fn of_kind(kind: ComponentExportKind) -> u32 {
-    number_in(&KINDS, &kind)
-}
-
-/// Returns the number of a kind in `enum wenc_core_kind`.
-pub fn of_core_kind(kind: ExportKind) -> u32 {
-    number_in(&CORE_KINDS, &kind)
-}
-
-/// Returns the number of a kind in `enum wenc_outer_kind`.
-pub fn of_outer_kind(kind: ComponentOuterAliasKind) -> u32 {
-    number_in(&OUTER_KINDS, &kind)
 }
 
 /// Returns what an alias refers to, in `enum wenc_alias`.
@@ -232,8 +216,7 @@ fn reference(number: u32, index: u32) -> Option<CoreRefType> {
 
 /// `enum wenc_core_type`: a value type.
 pub fn core_value(number: u32, index: u32) -> Option<CoreValType> {
-    let plain = number.checked_sub(1).and_then(|number| nth(&NUMBERS, number));
-    plain.or_else(|| reference(number, index).map(CoreValType::Ref))
+    core_number(number).or_else(|| reference(number, index).map(CoreValType::Ref))
 }
 
 /// `enum wenc_core_type`: a number or vector type.

@@ -53,8 +53,8 @@ calls! {
         let space = known(c"space", numbers::space(space))?;
         let mut map = NameMap::new();
         for (member, named) in names.iter().enumerate() {
-            let wrong = |status: Status| Refused::from(status).of(c"names").at(member);
-            map.try_append(named.index, text(named.name, named.name_len).map_err(wrong)?)?;
+            let name = text(c"names", named.name, named.name_len);
+            map.try_append(named.index, name.map_err(|refused| refused.at(member))?)?;
         }
         Ok(section.try_names(space, &map)?)
     };
@@ -78,25 +78,18 @@ fn of_names(session: &mut Session) -> Result<&mut ComponentNameSection> {
 
 /// Makes a producers section of these tools. Adjacent tools with the same field share it.
 unsafe fn read_producers(producers: &[Producer]) -> Result<ProducersSection> {
+    let field_of = |tool: &Producer| unsafe { text(c"producers", tool.field, tool.field_len) };
+    let is_same = |tool: &Producer, next: &Producer| field_of(tool).ok() == field_of(next).ok();
     let mut section = ProducersSection::new();
-    let mut rest = producers;
-    while let Some(first) = rest.first() {
-        let read = |producer: &Producer, behind: &[Producer]| {
-            let member = producers.len() - behind.len() - 1;
-            let wrong = |refused: Refused| refused.of(c"producers").at(member);
-            unsafe { producer.read() }.map_err(wrong)
-        };
-        let (name, ..) = read(first, &rest[1..])?;
+    let mut tools = producers.iter().enumerate();
+    for group in producers.chunk_by(is_same) {
         let mut field = ProducersField::new();
-        while let Some((producer, behind)) = rest.split_first() {
-            let (of, tool, version) = read(producer, behind)?;
-            if of != name {
-                break;
-            }
-            field.try_value(tool, version)?;
-            rest = behind;
+        for (member, tool) in tools.by_ref().take(group.len()) {
+            let read = unsafe { tool.read() };
+            let (_, name, version) = read.map_err(|refused| refused.at(member))?;
+            field.try_value(name, version)?;
         }
-        section.try_field(name, &field)?;
+        section.try_field(field_of(&group[0])?, &field)?;
     }
     Ok(section)
 }
@@ -104,10 +97,11 @@ unsafe fn read_producers(producers: &[Producer]) -> Result<ProducersSection> {
 impl Producer {
     /// Returns the field, the tool and its version.
     unsafe fn read<'a>(&self) -> Result<(&'a str, &'a str, &'a str)> {
+        let text = |at, len| unsafe { text(c"producers", at, len) };
         Ok((
-            unsafe { text(self.field, self.field_len) }?,
-            unsafe { text(self.tool, self.tool_len) }?,
-            unsafe { text(self.version, self.version_len) }?,
+            text(self.field, self.field_len)?,
+            text(self.tool, self.tool_len)?,
+            text(self.version, self.version_len)?,
         ))
     }
 }

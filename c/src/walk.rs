@@ -68,18 +68,22 @@ unsafe fn moved<C: Copy, T>(
     moved.into()
 }
 
-#[unsafe(no_mangle)]
-pub unsafe extern "C" fn wenc_walk_begin(walk: *mut Walk, bytes: *const u8, len: usize) -> Status {
-    let begun = || {
-        let component = unsafe { list(bytes, len) }?;
-        let next_section = Sections::new(component)?.offset().unwrap_or(len);
-        let walk = Walk { bytes, len, next_section, next_item: 0, end: 0, items: 0, id: 0 };
-        Ok(walk)
-    };
-    if walk.is_null() {
+/// Writes a new cursor through a pointer from C, which mustn't be NULL.
+unsafe fn begun<C>(cursor: *mut C, make: impl FnOnce() -> Result<C>) -> Status {
+    if cursor.is_null() {
         return Status::BadArgument;
     }
-    begun().map(|begun| unsafe { put(walk, begun) }).into()
+    make().map(|made| unsafe { put(cursor, made) }).into()
+}
+
+#[unsafe(no_mangle)]
+pub unsafe extern "C" fn wenc_walk_begin(walk: *mut Walk, bytes: *const u8, len: usize) -> Status {
+    let make = || {
+        let component = unsafe { list(bytes, len) }?;
+        let next_section = Sections::new(component)?.offset().unwrap_or(len);
+        Ok(Walk { bytes, len, next_section, next_item: 0, end: 0, items: 0, id: 0 })
+    };
+    unsafe { begun(walk, make) }
 }
 
 #[unsafe(no_mangle)]
@@ -162,7 +166,7 @@ impl NamesWalk {
 
 #[unsafe(no_mangle)]
 pub unsafe extern "C" fn wenc_walk_names(names: *mut NamesWalk, item: *const ItemRow) -> Status {
-    let begun = || -> Result<NamesWalk> {
+    let make = || {
         let item = unsafe { item.as_ref() }.ok_or(Status::BadArgument)?;
         let name = unsafe { list(item.name.name.at, item.name.name.len) }?;
         if item.section != 0 || name != DebugNames::SECTION.as_bytes() || item.bytes.is_null() {
@@ -170,10 +174,7 @@ pub unsafe extern "C" fn wenc_walk_names(names: *mut NamesWalk, item: *const Ite
         }
         Ok(NamesWalk { bytes: item.bytes, len: item.bytes_len, next: 0, space: 0, names: 0 })
     };
-    if names.is_null() {
-        return Status::BadArgument;
-    }
-    begun().map(|begun| unsafe { put(names, begun) }).into()
+    unsafe { begun(names, make) }
 }
 
 #[unsafe(no_mangle)]
