@@ -32,11 +32,8 @@ would write it. The manual page, wenc-dump(1), has all fields.
 
 /// What the arguments request.
 pub enum Request {
-    /// The help.
     Help,
-    /// The version.
     Version,
-    /// What these files contain.
     Dump(Options),
 }
 
@@ -45,13 +42,9 @@ pub enum Request {
 pub struct Options {
     /// The files, at least one; `-` is standard input.
     pub files: Vec<OsString>,
-    /// Whether the bytes of items are printed.
     pub hex: bool,
-    /// Whether indices that are out of range are marked.
     pub check: bool,
-    /// Whether the world is printed, as WIT.
     pub wit: bool,
-    /// Whether JSON is printed.
     pub json: bool,
     /// The kinds of the sections that are printed; none for all.
     pub sections: Vec<Kind>,

@@ -6,27 +6,15 @@ use wenc::Found;
 /// Why bytes can't be read, and from which byte on. Byte offsets are those of the file.
 #[derive(Clone, Copy, Debug, PartialEq, Eq)]
 pub enum Cause {
-    /// What the reader says.
+    /// The cause that the reader returned.
     Read(wenc::Cause),
-    /// A header of this version.
-    Version {
-        /// The byte offset of the version.
-        place: usize,
-        /// The version.
-        version: u32,
-    },
-    /// Bytes that don't begin with a header.
-    Start {
-        /// The byte offset of the first.
-        place: usize,
-        /// The first of them, padded with zeros.
-        bytes: [u8; 8],
-        /// How many there are, up to 8.
-        len: usize,
-    },
+    /// A header with another version, at this byte offset.
+    Version { place: usize, version: u32 },
+    /// Bytes that aren't a header: the first `len` of them, padded with zeros.
+    Start { place: usize, bytes: [u8; 8], len: usize },
 }
 
-/// Returns what these bytes have in place of a header, if `found` doesn't say it already.
+/// Returns what these bytes have in place of a header, where `found` doesn't contain it.
 pub fn of_header(place: usize, found: Found, bytes: &[u8]) -> Option<Cause> {
     match found {
         Found::OtherVersion => {

@@ -1,4 +1,4 @@
-//! Sections that end elsewhere than their sizes say.
+//! Sections with wrong sizes.
 
 use super::fault::Failure;
 use std::iter;
@@ -9,17 +9,17 @@ use wenc::{Cause, ComponentSectionId, CoreSections, ListFault, SectionReader, Se
 /// The maximum number of bytes by which a size is taken to be wrong.
 const MOST: usize = 4;
 
-/// The maximum number of sections and sizes that are tried, each by reading two sections.
+/// The maximum number of sizes that are tried, each by reading two sections.
 const TRIES: usize = 16;
 
-/// A section whose size is wrong, if the sections behind it are to reach the end.
+/// A section with a wrong size: with another one, the sections after it reach the end.
 #[derive(Clone, Copy, Debug, PartialEq, Eq)]
 pub struct Misfit {
     /// The byte offset of its id.
     pub place: usize,
-    /// The byte offset at which it ends by its size.
+    /// The byte offset of its end by its size.
     pub stated: usize,
-    /// The byte offset at which it may end.
+    /// The byte offset of its likely end.
     pub end: usize,
 }
 
@@ -31,8 +31,8 @@ fn content(bytes: &[u8], place: usize) -> Option<Range<usize>> {
     Some(range.end - section.data.len()..range.end)
 }
 
-/// Returns the section at this byte offset, if all of its items can be read: modules and components
-/// by their header.
+/// Returns the section at this byte offset, if all of its items can be read; of modules and
+/// components, only the header is read.
 fn whole(bytes: &[u8], place: usize) -> Option<SectionReader<'_>> {
     let section = Sections::at(bytes, place)?.next()?.ok()?;
     let is_read = section.items().all(|item| match item {
@@ -43,8 +43,8 @@ fn whole(bytes: &[u8], place: usize) -> Option<SectionReader<'_>> {
     is_read.then_some(section)
 }
 
-/// Returns whether the items of the section at this byte offset fill its content. Sections whose
-/// items are all bytes aren't known to do so.
+/// Returns whether the items of the section at this byte offset fill its content. This isn't known
+/// of sections whose item is the rest of their bytes.
 fn is_filled(bytes: &[u8], place: usize) -> bool {
     let takes_all = [
         ComponentSectionId::CoreCustom,
@@ -54,14 +54,14 @@ fn is_filled(bytes: &[u8], place: usize) -> bool {
     whole(bytes, place).is_some_and(|section| !takes_all.map(u8::from).contains(&section.id()))
 }
 
-/// Returns whether a section begins at this byte offset whose bytes are too few.
+/// Returns whether the section at this byte offset has too few bytes.
 fn is_cut(bytes: &[u8], place: usize) -> bool {
     let next = Sections::at(bytes, place).and_then(|mut sections| sections.next());
     let Some(Err(ListFault::BadSection { cause, .. })) = next else { return false };
     matches!(cause, Some(Cause::Few { .. }))
 }
 
-/// Returns for each byte offset from this one on whether the sections from there on reach the end.
+/// Returns, for each byte offset from this one on, whether the sections from there reach the end.
 fn reaching(bytes: &[u8], from: usize) -> Result<Vec<bool>, Failure> {
     let mut reaching = Vec::new();
     reaching.try_reserve_exact(bytes.len() - from + 1)?;
@@ -74,14 +74,13 @@ fn reaching(bytes: &[u8], from: usize) -> Result<Vec<bool>, Failure> {
     Ok(reaching)
 }
 
-/// Returns the first section, of those from this byte offset on, that may have another size: its
-/// items don't fill it, and with the other size the sections behind it, of which the first can be
-/// read, reach the end of the bytes. Returns `None` if they do so as they are, and if there is no
-/// such section.
+/// Returns the first section from this byte offset on that may have another size: its items don't
+/// fill it, and with the other size the next section can be read and the last one ends with the
+/// bytes. Returns `None` if there is no such section, or if the last one ends there as it is.
 ///
 /// # Errors
 ///
-/// Fails if an allocation fails: one of a byte for each byte that is left, unless all are sections.
+/// Fails if an allocation fails, of up to a byte for each byte from there on.
 pub fn misfit(bytes: &[u8], from: usize) -> Result<Option<Misfit>, Failure> {
     let next = |place: &usize| content(bytes, *place).map(|content| content.end);
     let last = iter::successors(Some(from), next).last().unwrap_or(from);

@@ -1,34 +1,21 @@
 //! The indices of the components around an item, and their check.
 
-use super::fault::Failure;
 use std::fmt::{self, Display};
 use wenc::tree::{IndexCounts, Node, Scope, Scopes, UsedIndex};
 use wenc::view::ItemView;
 
-/// How many indices there are, and the state of the check, if it is wanted.
+/// The index counts of components, and the state of the check.
 pub struct Check {
     is_on: bool,
-    /// What the components around the next item have so far, the outermost first.
-    counts: Vec<IndexCounts>,
-    /// The number of indices that were out of range.
+    /// What the components around the next item define so far, the outermost first.
+    pub counts: Vec<IndexCounts>,
+    /// The number of indices that were found to be out of range.
     pub found: usize,
 }
 
 impl Check {
     pub fn new(is_on: bool) -> Self {
         Self { is_on, counts: Vec::new(), found: 0 }
-    }
-
-    /// Enters a component.
-    pub fn enter(&mut self) -> Result<(), Failure> {
-        self.counts.try_reserve(1)?;
-        self.counts.push(IndexCounts::default());
-        Ok(())
-    }
-
-    /// Leaves the innermost component.
-    pub fn leave(&mut self) {
-        self.counts.pop();
     }
 
     /// Adds what an item of the innermost component defines.
@@ -38,17 +25,7 @@ impl Check {
         }
     }
 
-    /// Returns what the innermost component has so far, to add to it.
-    pub fn innermost_mut(&mut self) -> Option<&mut IndexCounts> {
-        self.counts.last_mut()
-    }
-
-    /// Returns what the innermost component has so far.
-    pub fn innermost(&self) -> Option<&IndexCounts> {
-        self.counts.last()
-    }
-
-    /// Returns the scopes of the next item, if the check is wanted.
+    /// Returns the scopes of the next item, if the check is on.
     pub fn scopes(&self) -> Option<Scopes<'_>> {
         self.is_on.then(|| Scopes::new(&self.counts))
     }

@@ -7,16 +7,14 @@ use std::ffi::OsStr;
 pub enum Hue {
     /// A byte offset, or a range of them.
     Place,
-    /// An index of an item.
     Index,
-    /// A name.
     Name,
     /// An index that is out of range.
     Fault,
 }
 
 impl Hue {
-    /// Returns the number of the colour.
+    /// Returns the number of the colour in ANSI escape sequences.
     pub fn colour(self) -> u8 {
         match self {
             Self::Place => 2,

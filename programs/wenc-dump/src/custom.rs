@@ -55,7 +55,7 @@ impl<R: Report> Walk<'_, '_, R> {
             Ok(()) => Ok(()),
             Err(NamesFault::BadSubsection { place, cause }) => {
                 let cause = Cause::Read(cause.moved(data.start));
-                Ok(self.unread_reported(Fault::Names(data.start + place, cause), data.end)?)
+                Ok(self.unread(Fault::Names(data.start + place, cause), data.end, true)?)
             }
             Err(_) => Err(Failure::NoMemory),
         }
@@ -68,7 +68,7 @@ impl<R: Report> Walk<'_, '_, R> {
                 Ok(tool) => self.entry(Entry::Tool(tool))?,
                 Err(ProducersFault { place, cause }) => {
                     let (end, cause) = (start + data.len(), Cause::Read(cause.moved(start)));
-                    self.unread_reported(Fault::Producers(start + place, cause), end)?;
+                    self.unread(Fault::Producers(start + place, cause), end, true)?;
                 }
             }
         }

@@ -37,7 +37,7 @@ impl<R: Report> Walk<'_, '_, R> {
                     ModuleFault::NotAModule { found } => cause::of_header(at, found, bytes),
                     _ => None,
                 };
-                Ok(self.unread(Fault::of_module(at, fault, cause), at + bytes.len())?)
+                Ok(self.unread(Fault::of_module(at, fault, cause), at + bytes.len(), false)?)
             }
         }
     }
@@ -61,7 +61,9 @@ impl<R: Report> Walk<'_, '_, R> {
                     self.core_section(at, &section, cause, &mut counts)?;
                     sections = here.clone();
                 }
-                (Err(fault), _) => self.unread(Fault::of_module(at, fault, None), module.end)?,
+                (Err(fault), _) => {
+                    self.unread(Fault::of_module(at, fault, None), module.end, false)?
+                }
             }
         }
         Ok(())
@@ -88,10 +90,10 @@ impl<R: Report> Walk<'_, '_, R> {
             core: Some(Core { name: section.name, contents, bytes }),
         })?;
         if no_name.is_some() {
-            self.unread_reported(Fault::NoName(range.start, no_name), range.end)?;
+            self.unread(Fault::NoName(range.start, no_name), range.end, true)?;
         }
         if section.kind().is_none() {
-            self.unread_reported(Fault::UnknownSection(range.start, section.id), range.end)?;
+            self.unread(Fault::UnknownSection(range.start, section.id), range.end, true)?;
         }
         if contents == Contents::Producers {
             self.producers(section.data, range.end - section.data.len())?;
@@ -104,7 +106,7 @@ impl<R: Report> Walk<'_, '_, R> {
                     if !fault.is_behind_items() {
                         counts.add_unknown();
                     }
-                    self.unread_of(fault, range.end, !are_shown)?;
+                    self.unread(fault, range.end, !are_shown)?;
                 }
             }
         }

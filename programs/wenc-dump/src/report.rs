@@ -16,15 +16,15 @@ pub trait Report {
     /// Opens a part, within the innermost open part.
     fn open(&mut self, part: &Part) -> io::Result<()>;
 
-    /// Notes that nothing is read from this byte offset to the end of the innermost open part, what
-    /// can't be read there, and the bytes.
+    /// Reports that nothing is read from this byte offset to the end of the innermost open part,
+    /// what can't be read there, and the bytes.
     fn unread(&mut self, place: usize, what: &str, rest: Rest) -> io::Result<()>;
 
-    /// Notes an index in the innermost open part that is out of range: the item at this byte offset
-    /// contains it.
+    /// Reports an index that is out of range, in the item at this byte offset, which is the
+    /// innermost open part.
     fn out_of_range(&mut self, place: usize, index: &UsedIndex) -> io::Result<()>;
 
-    /// Writes everything that was reported so far.
+    /// Flushes the output.
     fn flush(&mut self) -> io::Result<()>;
 
     /// Closes the innermost open part.
@@ -37,7 +37,6 @@ pub trait Report {
 /// The bytes of the innermost open part that aren't read.
 #[derive(Clone, Copy)]
 pub struct Rest<'a> {
-    /// The bytes.
     pub bytes: &'a [u8],
     /// Whether they are among those of an open part, or are those of many parts.
     pub are_reported: bool,
@@ -47,11 +46,9 @@ pub struct Rest<'a> {
 pub enum Part<'a> {
     /// The component or the core module that the file is.
     File(Range<usize>, Content<'a>),
-    /// A section.
     Section {
-        /// Its bytes, from its id on.
+        /// Its byte offsets, from its id on.
         range: Range<usize>,
-        /// Its id.
         id: u8,
         /// The word for its kind; `None` if the id is unknown.
         word: Option<&'static str>,
@@ -60,13 +57,10 @@ pub enum Part<'a> {
         /// What only sections of core modules have.
         core: Option<Core<'a>>,
     },
-    /// An item of a section.
     Item {
-        /// Its byte offsets.
         range: Range<usize>,
         /// Its indices; `None` if items of its kind have none.
         label: Option<Label<'a>>,
-        /// What it is.
         content: Content<'a>,
         /// Its bytes; empty if parts of it are reported.
         bytes: &'a [u8],
@@ -88,9 +82,7 @@ pub struct Core<'a> {
 /// What is reported of a custom section.
 #[derive(Clone, Copy, PartialEq, Eq)]
 pub enum Contents {
-    /// Debug names.
     Names,
-    /// Tools.
     Producers,
     /// Nothing.
     Other,
@@ -100,17 +92,14 @@ pub enum Contents {
 pub enum Entry<'a> {
     /// The debug name of the item with this index in this space, or of the component.
     Name(Option<(Space, u32)>, &'a str),
-    /// A tool.
     Tool(Producer<'a>),
 }
 
 /// The indices of an item.
 pub struct Label<'a> {
-    /// Their space.
     pub space: Space,
     /// The first of them; `None` if an item before it can't be read.
     pub from: Option<u64>,
-    /// The number of indices.
     pub count: u32,
     /// The debug name of the first.
     pub name: Option<&'a str>,

@@ -81,12 +81,12 @@ fn print(out: &mut impl Write, text: &str) -> io::Result<()> {
     out.flush()
 }
 
-/// Prints a message. An error of that is ignored, since it can't be reported.
+/// Writes a message to standard error. An error is ignored, as it can't be reported.
 fn complain(err: &mut impl Write, message: fmt::Arguments) {
     let _ = err.write_fmt(message).and_then(|()| err.flush());
 }
 
-/// Prints all files, and raises the exit status.
+/// Dumps all files, and raises the exit status to that of the worst fault.
 fn dump(
     options: &Options,
     terminal: Terminal,
@@ -121,7 +121,7 @@ fn dump(
     Ok(())
 }
 
-/// Messages that are held back until the line of JSON that they would break is written.
+/// Messages that are written after the line of JSON that they would interrupt.
 #[derive(Default)]
 struct Kept(String);
 
@@ -166,7 +166,7 @@ fn bytes_of(file: &OsStr, input: &mut impl Read) -> io::Result<Vec<u8>> {
     Ok(bytes)
 }
 
-/// Prints the world of a component, as WIT, and passes on what isn't written.
+/// Prints the world of a component, as WIT, and passes on each fault.
 fn wit(
     out: &mut impl Write,
     file: &OsStr,
@@ -196,7 +196,7 @@ fn wit(
     Ok(())
 }
 
-/// Reports a file, with indices that are out of range if they are wanted, and passes on each fault.
+/// Reports a file, with indices that are out of range if `has_check`, and passes on each fault.
 fn report(
     report: &mut impl Report,
     (file, has_check): (&OsStr, bool),
@@ -215,7 +215,7 @@ fn report(
         Ok(Err(Failure::Write(error))) => return Err(error),
         Ok(Ok(())) => None,
     };
-    // what comes before a fault is written before its message
+    // the report up to a fault precedes its message
     report.flush()?;
     fault.into_iter().for_each(tell);
     report.end(first.as_ref())?;

@@ -7,12 +7,10 @@ use std::ffi::OsStr;
 use std::io;
 use wenc::tree::UsedIndex;
 
-/// The kind of sections, by its word or its id.
+/// A kind of sections, by its word, which components and core modules may share, or by its id.
 #[derive(Clone, Copy, PartialEq, Eq)]
 pub enum Kind {
-    /// A word for sections of components, of core modules or of both.
     Word(&'static str),
-    /// An id.
     Id(u8),
 }
 
@@ -21,8 +19,8 @@ impl Kind {
     fn words() -> impl Iterator<Item = &'static str> {
         let of_components = || (0..=u8::MAX).filter_map(words::section);
         let of_modules = (0..=u8::MAX).filter_map(words::core_section);
-        of_components()
-            .chain(of_modules.filter(move |word| of_components().all(|one| one != *word)))
+        let others = of_modules.filter(move |word| of_components().all(|one| one != *word));
+        of_components().chain(others)
     }
 
     /// Parses a word, with hyphens or spaces, or a decimal id; `None` if there are no such

@@ -77,7 +77,7 @@ impl<'f, R: Report> Walk<'f, '_, R> {
     /// Notes that a section of the innermost component with this id, or an item of it, can't be
     /// read.
     fn note(&mut self, section: u8, fault: &Fault) {
-        match (self.check.innermost_mut(), section.try_into()) {
+        match (self.check.counts.last_mut(), section.try_into()) {
             (Some(counts), Ok(section)) if !fault.is_behind_items() => counts.add_unread(section),
             (Some(counts), Err(_)) => counts.add_unknown(),
             _ => {}
@@ -94,19 +94,9 @@ impl<'f, R: Report> Walk<'f, '_, R> {
         Ok(())
     }
 
-    /// Reports that nothing more is read of the innermost open part, up to its end.
-    pub(super) fn unread(&mut self, fault: Fault, end: usize) -> io::Result<()> {
-        self.unread_of(fault, end, false)
-    }
-
-    /// Reports that nothing more is read of the innermost open part, which ends at this byte offset
-    /// and whose bytes were reported, or are those of many parts.
-    pub(super) fn unread_reported(&mut self, fault: Fault, end: usize) -> io::Result<()> {
-        self.unread_of(fault, end, true)
-    }
-
-    /// Does what [`unread`](Self::unread) or [`unread_reported`](Self::unread_reported) does.
-    pub(super) fn unread_of(
+    /// Reports that nothing more is read of the innermost open part, which ends at this byte
+    /// offset, and whether its bytes were reported, or are those of many parts.
+    pub(super) fn unread(
         &mut self,
         fault: Fault,
         end: usize,
@@ -149,14 +139,15 @@ impl<'f, R: Report> Walk<'f, '_, R> {
     ) -> Result<(), Failure> {
         self.names.try_reserve(1)?;
         self.names.push(names);
-        self.check.enter()?;
+        self.check.counts.try_reserve(1)?;
+        self.check.counts.push(IndexCounts::default());
         let bytes = &self.bytes[..end];
         let misfit = sections.offset().map_or(Ok(None), |from| misfit(bytes, from))?;
         self.sections_to(sections, end, misfit)?;
         if let Some(behind) = misfit.and_then(|misfit| Sections::at(bytes, misfit.end)) {
             self.sections_to(behind, end, None)?;
         }
-        self.check.leave();
+        self.check.counts.pop();
         self.names.pop();
         Ok(())
     }
@@ -181,7 +172,7 @@ impl<'f, R: Report> Walk<'f, '_, R> {
             }
             match (section, frame) {
                 (Ok(section), _) => self.section(section)?,
-                (Err(fault), None) => self.unread(Fault::List(fault, None), end)?,
+                (Err(fault), None) => self.unread(Fault::List(fault, None), end, false)?,
                 (Err(fault), Some((range, raw))) => {
                     self.unread_section(range, raw.id, fault)?;
                     sections = here;
@@ -209,7 +200,7 @@ impl<'f, R: Report> Walk<'f, '_, R> {
         let (end, word) = (range.end, words::section(id));
         self.report.open(&Part::Section { range, id, word, count: None, core: None })?;
         self.note(id, &fault);
-        self.unread(fault, end)?;
+        self.unread(fault, end, false)?;
         Ok(self.report.close()?)
     }
 
@@ -234,7 +225,7 @@ impl<'f, R: Report> Walk<'f, '_, R> {
                 Err(fault) => Fault::List(fault, None),
             };
             self.note(id, &fault);
-            self.unread(fault, section.range().end)?;
+            self.unread(fault, section.range().end, false)?;
         }
         Ok(self.report.close()?)
     }
@@ -247,16 +238,16 @@ impl<'f, R: Report> Walk<'f, '_, R> {
             Ok(Some(sections)) => names_of(sections)?,
             _ => DebugNames::new(),
         };
-        let label = Some(label(self.check.innermost(), Space::Components, 1, self.names.last()));
+        let label = Some(label(self.check.counts.last(), Space::Components, 1, self.names.last()));
         let (content, end) = (Content::Component(own.component()), range.end);
         self.report.open(&Part::Item { range, label, content, bytes: &[] })?;
         match sections {
             _ if self.names.len() == DEPTH => {
-                self.unread_reported(Fault::TooDeep(place, DEPTH), end)?;
+                self.unread(Fault::TooDeep(place, DEPTH), end, true)?;
             }
             Ok(Some(sections)) => self.sections(sections, end, own)?,
             Ok(None) => {}
-            Err(fault) => self.unread(self.of_header(fault, end), end)?,
+            Err(fault) => self.unread(self.of_header(fault, end), end, false)?,
         }
         self.check.add(&ItemView::Component(&[]));
         Ok(self.report.close()?)
@@ -280,7 +271,7 @@ impl<'f, R: Report> Walk<'f, '_, R> {
     /// Reports an item that isn't a component.
     fn item(&mut self, range: Range<usize>, item: &ItemView) -> Result<(), Failure> {
         let names = self.names.last();
-        let counts = self.check.innermost();
+        let counts = self.check.counts.last();
         let label = item.defined_indices().map(|(space, count)| label(counts, space, count, names));
         let bytes = &self.bytes[range.clone()];
         let scopes = self.check.scopes();

@@ -1,4 +1,4 @@
-//! Words for numbers of the format, and for counts.
+//! Words for sections and for counts.
 
 use std::fmt::{self, Display};
 use wenc::{ComponentSectionId, SectionId};
