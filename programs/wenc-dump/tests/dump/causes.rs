@@ -1,26 +1,17 @@
 //! Why items and sections can't be read, and from which byte on.
 
-use crate::component;
-use crate::corpus::corpus;
+use crate::corpus::components;
 use crate::values::Value;
+use crate::{component, dump};
 use std::collections::BTreeSet;
-use std::fs;
-use std::ops::Range;
 use wenc::{ComponentSection, Encode, ListFault, RawSection, Sections, Unread, list};
-use wenc_dump::Terminal;
 
 /// One in this many kinds of damage is tried. Programs that aren't optimized are slow.
 const STEP: usize = if cfg!(debug_assertions) { 9 } else { 3 };
 
-/// Runs the program on these bytes, where there is no terminal.
-fn run(options: &[&str], bytes: &[u8]) -> (u8, String, String) {
-    crate::run(options, bytes, Terminal::default())
-}
-
 /// The byte offset of the first fault's cause, and its words.
 fn cause(bytes: &[u8]) -> Option<(usize, String)> {
-    let (_, out, _) = run(&["--json"], bytes);
-    let json = Value::read(&out);
+    let json = Value::read(&dump(&["--json"], bytes).1);
     let Value::Object(fault) = json.at("fault") else { return None };
     let cause = fault.get("cause")?;
     let place = usize::try_from(cause.at("place").number()).expect("it is small");
@@ -103,8 +94,7 @@ fn long_names_are_passed_over() {
 /// Items of the corpus, each with its section's id, up to this size; all different.
 fn items(size: usize) -> BTreeSet<(u8, Vec<u8>)> {
     let mut items = BTreeSet::new();
-    for file in fs::read_dir(corpus("wasm")).expect("the corpus is there") {
-        let bytes = fs::read(file.expect("it is there").path()).expect("it is there");
+    for bytes in components() {
         for section in Sections::new(&bytes).into_iter().flatten().flatten() {
             if matches!(section.id(), 0 | 1 | 4) {
                 continue;
@@ -251,45 +241,32 @@ const KINDS: [(&[u8], &str); 26] = [
 #[test]
 fn kinds_of_damage_are_told_apart() {
     for (sections, wanted) in KINDS {
-        let (status, _, err) = run(&[], &file_of(sections));
+        let (status, _, err) = dump(&[], &file_of(sections));
         assert_eq!((err.as_str(), status), (&*format!("-: {wanted}\n"), 1), "{sections:02x?}");
     }
 }
 
-/// The components of the corpus that are shorter than this, without faults.
-fn small_components(size: usize) -> Vec<Vec<u8>> {
-    let files = fs::read_dir(corpus("wasm")).expect("the corpus is there");
-    let all = files.map(|file| fs::read(file.expect("it is there").path()).expect("it is there"));
-    all.filter(|bytes| bytes.len() < size && list(bytes).is_ok()).collect()
-}
-
-/// The byte offset of the fault of `list`, as the program tells it, and the bytes in which its
-/// cause is: the item and what follows it in its section.
-fn fault_of(bytes: &[u8]) -> Option<(usize, Range<usize>)> {
-    let fault = list(bytes).err()?;
-    let section = |place: usize| {
-        let mut sections = Sections::new(bytes).expect("it has a header");
-        let frames = std::iter::from_fn(|| sections.next_raw());
-        let ends: Vec<_> = frames.filter(|(range, _)| range.start == place).collect();
-        ends.first().map_or(bytes.len(), |(range, _)| range.end)
-    };
-    match fault {
-        ListFault::BadSection { place, .. } => Some((place, place..section(place))),
-        ListFault::BadItem { place, unread: Some(unread), .. } => match unread {
-            Unread::Count { place: at } | Unread::Item { place: at, .. } => {
-                Some((at, at..section(place)))
-            }
-            Unread::Behind { .. } => None,
+/// Returns the byte offset of the part that `list` can't read, and where its section ends.
+pub fn part_of(bytes: &[u8], fault: ListFault) -> (usize, usize) {
+    let (section, part) = match fault {
+        ListFault::BadSection { place, .. } => (place, place),
+        ListFault::BadItem { place, unread: Some(unread), .. }
+        | ListFault::TooDeep { place, unread: Some(unread), .. } => match unread {
+            Unread::Count { place: at }
+            | Unread::Item { place: at, .. }
+            | Unread::Behind { place: at } => (place, at),
         },
-        _ => None,
-    }
+        fault => panic!("{fault}"),
+    };
+    let mut sections = Sections::at(bytes, section).expect("it is within");
+    (part, sections.next_raw().map_or(bytes.len(), |(range, _)| range.end))
 }
 
-/// The first fault is that of `list`, and its cause is in the bytes that `list` names, or it is
-/// told by the fault itself.
-fn is_fault_of_list(bytes: &[u8]) -> bool {
-    let Some((place, within)) = fault_of(bytes) else { return false };
-    let (status, out, _) = run(&["--json"], bytes);
+/// Returns whether the first fault is that of `list`. Its cause is in the part that `list` can't
+/// read, or the fault has none.
+fn is_fault_of_list(bytes: &[u8], fault: ListFault) -> bool {
+    let (place, end) = part_of(bytes, fault);
+    let (status, out, _) = dump(&["--json"], bytes);
     let json = Value::read(&out);
     let fault = json.at("fault");
     // faults of nested modules come before that of a later section
@@ -298,8 +275,11 @@ fn is_fault_of_list(bytes: &[u8]) -> bool {
     }
     let message = fault.at("message").text();
     match cause(bytes) {
-        Some((cause, _)) => assert!(within.start <= cause && cause <= within.end, "{message}"),
-        None => assert!(message.starts_with("unknown section "), "{message}"),
+        Some((cause, _)) => assert!(place <= cause && cause <= end, "{message}"),
+        None => {
+            let kinds = ["unknown section ", "bytes behind the last item "];
+            assert!(kinds.iter().any(|kind| message.starts_with(kind)), "{message}");
+        }
     }
     assert_eq!(status, 1, "{message}");
     true
@@ -308,14 +288,15 @@ fn is_fault_of_list(bytes: &[u8]) -> bool {
 #[test]
 fn causes_are_in_what_the_reader_names() {
     let (mut faults, mut compared) = (0, 0);
-    for bytes in small_components(640) {
+    for bytes in components().filter(|bytes| bytes.len() < 640 && list(bytes).is_ok()) {
         for at in (8..bytes.len()).step_by(STEP) {
             let mut changed = bytes.clone();
             changed[at] ^= 0xff;
-            faults += usize::from(fault_of(&changed).is_some());
-            compared += usize::from(is_fault_of_list(&changed));
-            faults += usize::from(fault_of(&bytes[..at]).is_some());
-            compared += usize::from(is_fault_of_list(&bytes[..at]));
+            for bytes in [&changed[..], &bytes[..at]] {
+                let Err(fault) = list(bytes) else { continue };
+                faults += 1;
+                compared += usize::from(is_fault_of_list(bytes, fault));
+            }
         }
     }
     assert!(compared > 100 && compared > faults / 2, "{compared} of {faults}");

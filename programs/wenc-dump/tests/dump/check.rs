@@ -1,8 +1,8 @@
 //! Indices that are out of range, with `--check`.
 
-use crate::corpus::{corpus, names};
+use crate::corpus::components;
 use crate::values::Value;
-use crate::{FUNCTION, FUNCTION_TEXT, component, dump, expect, expect_of, file};
+use crate::{FUNCTION, FUNCTION_TEXT, component, dump, expect, expect_of};
 
 /// A type, and items with indices that are out of range.
 fn sections() -> Vec<u8> {
@@ -46,30 +46,26 @@ const TEXT: &str = "\
 
 #[test]
 fn indices_out_of_range_are_marked() {
-    let file = file("out_of_range", &sections());
-    expect_of(&["--check"], &file, TEXT, Some("5 indices are out of range"));
+    let bytes = component(&sections());
+    expect_of(&["--check"], &bytes, TEXT, "5 indices are out of range");
     let lines = TEXT.lines().filter(|line| !line.contains(": type space"));
     let lines = lines.filter(|line| !line.contains(": component space"));
     let plain: String = lines.map(|line| line.replace('!', "") + "\n").collect();
     assert_eq!(plain.lines().count() + 5, TEXT.lines().count());
-    expect("in_any_range", &sections(), &plain, None);
+    expect(&sections(), &plain, "");
 }
 
 #[test]
 fn one_index_and_none() {
     let import = b"\x0a\x06\x01\0\x01g\x01\x01";
-    let file_of_one = file("one_out_of_range", &[FUNCTION, import].concat());
-    let why = format!("{}: 1 index is out of range\n", file_of_one.display());
-    let output = dump(&["--check"], &file_of_one);
-    assert_eq!(String::from_utf8_lossy(&output.stderr), why);
-    assert_eq!(output.status.code(), Some(1));
-    expect_of(&["--check"], &file("none_out_of_range", FUNCTION), FUNCTION_TEXT, None);
+    let (status, _, err) = dump(&["--check"], &component(&[FUNCTION, import].concat()));
+    assert_eq!((status, err.as_str()), (1, "-: 1 index is out of range\n"));
+    expect_of(&["--check"], &component(FUNCTION), FUNCTION_TEXT, "");
 }
 
 #[test]
 fn json_has_them_at_their_items() {
-    let output = dump(&["--check", "--json"], &file("out_of_range_json", &sections()));
-    let json = std::str::from_utf8(&output.stdout).expect("it is text");
+    let (status, json, _) = dump(&["--check", "--json"], &component(&sections()));
     for item in [
         "\"out_of_range\":[\
          {\"space\":\"type\",\"type\":1,\"index\":1,\"count\":0},\
@@ -81,13 +77,12 @@ fn json_has_them_at_their_items() {
     ] {
         assert_eq!(json.matches(item).count(), 1, "{item} in {json}");
     }
-    let fault = Value::read(json);
+    let fault = Value::read(&json);
     let fault = fault.at("fault");
     assert_eq!(fault.at("message").text(), "5 indices are out of range");
-    assert_eq!((fault.at("place"), output.status.code()), (&Value::Null, Some(1)));
-    let plain = dump(&["--json"], &file("in_any_range_json", &sections()));
-    assert!(!String::from_utf8_lossy(&plain.stdout).contains("out_of_range\":"));
-    assert_eq!(plain.status.code(), Some(0));
+    assert_eq!((fault.at("place"), status), (&Value::Null, 1));
+    let (status, json, _) = dump(&["--json"], &component(&sections()));
+    assert!(status == 0 && !json.contains("out_of_range\":"), "{json}");
 }
 
 /// After an item that can't be read, indices aren't checked, except for those in other scopes.
@@ -95,24 +90,21 @@ fn json_has_them_at_their_items() {
 fn indices_after_a_fault_are_not_marked() {
     let bad = b"\x07\x02\x01\x01";
     let import = b"\x0a\x06\x01\0\x01g\x01\x63";
-    let ty = b"\x07\x05\x01\x42\x01\x01\x70\x05";
-    let ty = &[&b"\x07\x06"[..], &ty[2..]].concat();
-    let output = dump(&["--check"], &file("after_a_fault", &[bad, &import[..], ty].concat()));
-    let out = String::from_utf8_lossy(&output.stdout);
+    let ty = b"\x07\x06\x01\x42\x01\x01\x70\x05";
+    let (_, out, err) = dump(&["--check"], &component(&[&bad[..], import, ty].concat()));
     assert!(out.contains("import \"g\" Func(99)\n"), "{out}");
     assert!(out.contains("Instance([Type(Defined(List(Type(5)!)))])\n"), "{out}");
-    assert!(String::from_utf8_lossy(&output.stderr).contains(": 1 index is out of range\n"));
+    assert!(err.contains(": 1 index is out of range\n"), "{err}");
 }
 
 /// No index of a real component is out of range.
 #[test]
 fn real_components_have_none() {
     let mut whole = 0;
-    for name in names() {
-        let file = corpus(&format!("wasm/{name}.wasm"));
-        let (plain, checked) = (dump(&[], &file), dump(&["--check"], &file));
-        assert!(plain == checked, "{name}");
-        whole += u32::from(checked.status.success());
+    for bytes in components() {
+        let checked = dump(&["--check"], &bytes);
+        assert!(dump(&[], &bytes) == checked, "{}", checked.2);
+        whole += u32::from(checked.0 == 0);
     }
     assert_eq!(whole, 40);
 }
@@ -130,7 +122,7 @@ fn types_of_recursion_groups() {
     let nested = [&[4, 38][..], &inner].concat();
     let names = b"\0\x1a\x0ecomponent-name\x01\x09\0\x10\x02\0\x01a\x03\x01b";
     let sections = [&types[..], functions, &nested, names].concat();
-    expect_of(&["--check"], &file("groups", &sections), GROUPS, Some("2 indices are out of range"));
+    expect_of(&["--check"], &component(&sections), GROUPS, "2 indices are out of range");
 }
 
 const GROUPS: &str = "\

@@ -4,7 +4,6 @@ use crate::dump;
 use crate::values::Value;
 use std::fs;
 use std::path::{Path, PathBuf};
-use std::process::Output;
 use wenc::tree::Space;
 use wenc::{ListedSection, list};
 
@@ -20,33 +19,35 @@ fn digest(bytes: &[u8]) -> u64 {
         .fold(0xcbf2_9ce4_8422_2325, |hash, byte| (hash ^ u64::from(*byte)).wrapping_mul(prime))
 }
 
-/// The names of the components.
-pub fn names() -> Vec<String> {
+/// The paths of the components, in order.
+fn paths() -> Vec<PathBuf> {
     let files = fs::read_dir(corpus("wasm")).expect("the corpus is there");
-    let names = files.map(|file| file.expect("it is there").path());
-    let mut names: Vec<String> = names
-        .map(|path| path.file_stem().expect("it has a name").to_string_lossy().into_owned())
-        .collect();
-    names.sort();
-    names
+    let mut paths: Vec<_> = files.map(|file| file.expect("it is there").path()).collect();
+    paths.sort_by_key(|path| path.with_extension(""));
+    paths
 }
 
-/// The number of printed lines and their digest, with the messages for the component.
-fn line(name: &str, output: &Output) -> String {
-    let lines = output.stdout.iter().filter(|byte| **byte == b'\n').count();
-    let err = String::from_utf8_lossy(&output.stderr);
-    let whys = err.lines().filter_map(|line| line.split_once(".wasm: "));
-    let why: String = whys.map(|(_, why)| format!(", {why}")).collect();
-    assert_eq!(output.status.code(), Some((!why.is_empty()).into()), "{name}");
-    format!("{name}: {lines} lines, {:016x}{why}\n", digest(&output.stdout))
+/// The bytes of each component.
+pub fn components() -> impl Iterator<Item = Vec<u8>> {
+    paths().into_iter().map(|path| fs::read(path).expect("it is there"))
+}
+
+/// The name of a component, the number of printed lines and their digest, with the messages.
+fn line(path: &Path) -> String {
+    let name = path.file_stem().expect("it has a name").to_string_lossy();
+    let (status, out, err) = dump(&["-x"], &fs::read(path).expect("it is there"));
+    let messages = err.lines().filter_map(|line| line.strip_prefix("-: "));
+    let messages: String = messages.map(|message| format!(", {message}")).collect();
+    assert_eq!(status, u8::from(!messages.is_empty()), "{name}");
+    let lines = out.matches('\n').count();
+    format!("{name}: {lines} lines, {:016x}{messages}\n", digest(out.as_bytes()))
 }
 
 /// `corpus/dumps.txt` has a line for each component, of its text with all bytes. `DUMPS=write` in
 /// the environment writes it again.
 #[test]
 fn the_corpus() {
-    let dumped = |name: &String| line(name, &dump(&["-x"], &corpus(&format!("wasm/{name}.wasm"))));
-    let lines: String = names().iter().map(dumped).collect();
+    let lines: String = paths().iter().map(|path| line(path)).collect();
     let path = corpus("dumps.txt");
     if std::env::var_os("DUMPS").is_some_and(|wish| wish == "write") {
         fs::write(&path, &lines).expect("it can be written");
@@ -63,9 +64,8 @@ fn the_corpus() {
 /// No line that can be folded is longer than 100 columns: a longer one is one text or one name.
 #[test]
 fn lines_are_folded() {
-    for name in names() {
-        let output = dump(&[], &corpus(&format!("wasm/{name}.wasm")));
-        let text = String::from_utf8(output.stdout).expect("it is text");
+    for bytes in components() {
+        let (_, text, _) = dump(&[], &bytes);
         for line in text.lines().filter(|line| line.chars().count() > 100) {
             assert!(!line.contains(['(', '{', '[']) || line.contains('"'), "{line}");
         }
@@ -77,27 +77,24 @@ fn lines_are_folded() {
 #[test]
 fn json_is_what_is_listed() {
     let mut compared = 0;
-    for name in names() {
-        let file = corpus(&format!("wasm/{name}.wasm"));
-        let output = dump(&["--json"], &file);
-        let json = Value::read(std::str::from_utf8(&output.stdout).expect("it is text"));
-        let bytes = fs::read(file).expect("it is there");
+    for bytes in components() {
+        let json = Value::read(&dump(&["--json"], &bytes).1);
         let Ok(listing) = list(&bytes) else {
-            assert_ne!(json.at("fault"), &Value::Null, "{name}");
+            assert_ne!(json.at("fault"), &Value::Null);
             continue;
         };
         let component = json.at("component");
         let mut next = [0; 13];
         let mut end = 8;
         let sections = component.at("sections").list();
-        assert_eq!(sections.len(), listing.sections.len(), "{name}");
+        assert_eq!(sections.len(), listing.sections.len());
         for (is, listed) in sections.iter().zip(&listing.sections) {
-            assert_eq!(is.at("start").number(), end, "{name}");
+            assert_eq!(is.at("start").number(), end);
             end = is.at("end").number();
             section(is, listed, &mut next);
         }
-        assert_eq!((component.at("start").number(), end), (0, bytes.len() as u128), "{name}");
-        assert_eq!((next, json.at("fault")), (listing.counts, &Value::Null), "{name}");
+        assert_eq!((component.at("start").number(), end), (0, bytes.len() as u128));
+        assert_eq!((next, json.at("fault")), (listing.counts, &Value::Null));
         compared += 1;
     }
     assert_eq!(compared, 40);

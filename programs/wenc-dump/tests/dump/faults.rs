@@ -1,10 +1,8 @@
 //! What is printed before a fault, and its message.
 
-use crate::corpus::corpus;
-use crate::{component, dump, expect, expect_of, file_of};
-use std::fs;
+use crate::corpus::components;
+use crate::{component, dump, expect, expect_of, start};
 use std::path::Path;
-use wenc_dump::Terminal;
 
 #[test]
 fn types_too_deep_are_a_fault() {
@@ -22,7 +20,7 @@ fn types_too_deep_are_a_fault() {
 ";
     let bad = "\
 too deep item 0 at 0xc in the section at 0x8: the type at 0x138 is in 100 others";
-    expect("too_deep_type", &section, out, Some(bad));
+    expect(&section, out, bad);
 }
 
 #[test]
@@ -35,16 +33,15 @@ fn files_that_are_none_of_both() {
     ];
     for (bytes, found) in none {
         let bad = format!("no component's header at 0x0: found {found}");
-        expect_of(&[], &file_of("none_of_both", bytes), "", Some(&bad));
+        expect_of(&[], bytes, "", &bad);
     }
-    let output = dump(&[], Path::new("there is none"));
+    let output = start(&[], Path::new("there is none"));
     assert_eq!((output.status.code(), output.stdout.len()), (Some(1), 0));
     assert!(output.stderr.starts_with(b"there is none: "));
 }
 
 #[test]
 fn core_modules_are_printed_as_far_as_they_are_read() {
-    let file = file_of("cut_module", b"\0asm\x01\0\0\0\0\x02\x01x\x01\x01");
     let out = "\
 0x0..0xe core module, 14 bytes
   0x8..0xc custom section \"x\", 4 bytes
@@ -52,7 +49,7 @@ fn core_modules_are_printed_as_far_as_they_are_read() {
     0xc: 01 01
 ";
     let bad = "bad core section at 0xc: the bytes end at 0xe";
-    expect_of(&[], &file, out, Some(bad));
+    expect_of(&[], b"\0asm\x01\0\0\0\0\x02\x01x\x01\x01", out, bad);
     // the second import has no kind; there is one export less than bytes; no start
     let module = b"\0asm\x01\0\0\0\
         \x02\x0c\x02\x01m\x01f\0\0\x01m\x01f\x05\
@@ -75,7 +72,7 @@ fn core_modules_are_printed_as_far_as_they_are_read() {
 bad item 1 at 0x11: 0x05 at 0x15, where 0x00 to 0x04 is expected
 bytes behind the last item at 0x1d
 bad item 0 at 0x20: the bytes end at 0x20";
-    expect_of(&[], &file_of("bad_entries", module), out, Some(bad));
+    expect_of(&[], module, out, bad);
 }
 
 /// Sections without a count, with an unknown id, without a name, with bytes for no items; one that
@@ -112,7 +109,7 @@ custom section without a name at 0x16: needs 7 bytes or more from 0x19 on, where
 bytes behind the last item at 0x1c
 bad core section at 0x20: needs 127 bytes or more from 0x22 on, where 0 are left";
     let sections = [b"\x01\x18", BAD_SECTIONS, b"\x06\x01\0"].concat();
-    expect("bad_sections_nested", &sections, out, Some(bad));
+    expect(&sections, out, bad);
 }
 
 /// Sections that aren't read, and some that are.
@@ -172,7 +169,7 @@ custom section without a name at 0x16: needs 7 bytes or more from 0x19 on, where
 bad item 0 at 0x2b in the section at 0x28: 0x09 where an alias is expected
 no component's header at 0x2e: found other bytes: 00 61 73
 bad section at 0x4d: needs 5 bytes or more from 0x4f on, where 1 is left";
-    expect("goes_on", FAULTY, FAULTY_TEXT, Some(bad));
+    expect(FAULTY, FAULTY_TEXT, bad);
 }
 
 /// All items before them were read.
@@ -187,7 +184,7 @@ fn indices_behind_bytes_behind_items_are_known() {
     0xf type 0: Defined(Own(0))
 ";
     let bad = "bytes behind the last item at 0xb in the section at 0x8";
-    expect("known", b"\x06\x02\0\0\x07\x03\x01\x69\0", out, Some(bad));
+    expect(b"\x06\x02\0\0\x07\x03\x01\x69\0", out, bad);
 }
 
 #[test]
@@ -199,16 +196,15 @@ fn instance_sections_may_end_early() {
 ";
     let bad = "bad item 0 at 0xb in the section at 0x8: \
         the section ends where an instance is expected";
-    expect("instance_cut", b"\x05\x01\x01", out, Some(bad));
+    expect(b"\x05\x01\x01", out, bad);
     let out = "\
 0x0..0xd component, 13 bytes
   0x8..0xd instance section, 5 bytes, 1 item
     0xb items that aren't read
       0xb: 00 00
 ";
-    let bad = "bad item 0 at 0xb in the section at 0x8: \
-        the bytes end at 0xd";
-    expect("instance_cut_item", b"\x05\x03\x01\0\0", out, Some(bad));
+    let bad = "bad item 0 at 0xb in the section at 0x8: the bytes end at 0xd";
+    expect(b"\x05\x03\x01\0\0", out, bad);
     let out = "\
 0x0..0xf component, 15 bytes
   0x8..0xf instance section, 7 bytes, 2 items
@@ -217,7 +213,7 @@ fn instance_sections_may_end_early() {
 ";
     let bad = "bad item 1 at 0xf in the section at 0x8: \
         the section ends where an instance is expected";
-    expect("instance_long_size", b"\x05\x84\0\x02\0\x07\0", out, Some(bad));
+    expect(b"\x05\x84\0\x02\0\x07\0", out, bad);
 }
 
 /// A list of 64 GiB, and what is none of its bytes: nothing has to follow them.
@@ -226,35 +222,31 @@ fn an_item_may_need_no_bytes_behind_it() {
     let section = b"\x07\x42\x03\x67\x7e\xff\xff\xff\xff\x1f\x42\0\x15wasi:io/streams@0.2.0\
         \x01\x04name\x03\x01\0C\x03\x01a\x87\xa2\xd9\0\x03\xed\xa0\x80\x80\x40\
         \x04name\x06\0dg\x80\x40";
-    let output = dump(&[], &file_of("needs_none", &[b"\0asm\x0d\0\x01\0", &section[..]].concat()));
-    let err = String::from_utf8_lossy(&output.stderr);
+    let (status, _, err) = dump(&[], &component(section));
     assert!(err.contains(": bad item 0 at 0xb in the section at 0x8: "), "{err}");
-    assert_eq!((output.status.code(), err.lines().count()), (Some(1), 1), "{err}");
+    assert_eq!((status, err.lines().count()), (1, 1), "{err}");
 }
 
 /// A byte more or less in a section, with which no section follows it: what follows is printed from
 /// where sections reach the end.
 #[test]
 fn sections_may_have_another_size() {
-    let import = b"\x0a\x06\x01\0\x01f\x01\0";
+    let import = &b"\x0a\x06\x01\0\x01f\x01\0"[..];
     let said = |sections: &[u8]| {
-        let (status, out, err) = crate::run(&[], &component(sections), Terminal::default());
+        let (status, out, err) = dump(&[], &component(sections));
         assert_eq!(status, 1);
         (out.lines().filter(|line| line.contains(" import \"f\" Func(0)")).count(), err)
     };
-    let type_section = *b"\x07\x05\x01\x40\0\x01\0";
-    for (at, by, words) in [(2, 1, "1 byte longer"), (6, 3, "3 bytes longer")] {
-        let mut bytes = type_section.to_vec();
-        (0..by).for_each(|_| bytes.insert(at, 0x55));
-        let found = said(&[&bytes[..], import].concat());
-        assert_eq!(found, (1, format!("-: the section at 0x8 may be {words}\n")));
-    }
-    // in a record with two fields
-    let record = *b"\x07\x09\x01\x72\x02\x01a\x7f\x01b\x7f";
-    for (at, by, words) in [(6, 1, "1 byte shorter"), (5, 2, "2 bytes shorter")] {
-        let mut bytes = record.to_vec();
-        bytes.drain(at..at + by);
-        let found = said(&[&bytes[..], import].concat());
+    // a function type, and a record with two fields; what is in place of some of their bytes
+    let function = &b"\x07\x05\x01\x40\0\x01\0"[..];
+    let record = b"\x07\x09\x01\x72\x02\x01a\x7f\x01b\x7f";
+    for (section, place, by, words) in [
+        (function, 2..2, &b"\x55"[..], "1 byte longer"),
+        (function, 6..6, b"\x55\x55\x55", "3 bytes longer"),
+        (record, 6..7, b"", "1 byte shorter"),
+        (record, 5..7, b"", "2 bytes shorter"),
+    ] {
+        let found = said(&[&section[..place.start], by, &section[place.end..], import].concat());
         assert_eq!(found, (1, format!("-: the section at 0x8 may be {words}\n")));
     }
 }
@@ -263,18 +255,14 @@ fn sections_may_have_another_size() {
 #[test]
 fn most_sizes_are_mended() {
     let mut lines = Vec::new();
-    for file in fs::read_dir(corpus("wasm")).expect("the corpus is there") {
-        let bytes = fs::read(file.expect("it is there").path()).expect("it is there");
-        if bytes.len() > 1_500 || wenc::list(&bytes).is_err() {
-            continue;
-        }
+    let is_small = |bytes: &Vec<u8>| bytes.len() <= 1_500 && wenc::list(bytes).is_ok();
+    for bytes in components().filter(is_small) {
         for at in (8..bytes.len()).step_by(7) {
             let (mut longer, mut shorter) = (bytes.clone(), bytes.clone());
             longer.insert(at, 0x55);
             shorter.remove(at);
             for bytes in [longer, shorter] {
-                let (_, _, err) = crate::run(&[], &bytes, Terminal::default());
-                lines.push(err.lines().count());
+                lines.push(dump(&[], &bytes).2.lines().count());
             }
         }
     }
@@ -288,7 +276,7 @@ fn most_sizes_are_mended() {
 fn many_faults_are_told_at_once() {
     let bytes = component(&b"\x06\x02\x01\x09".repeat(1 << 18));
     for options in [&[][..], &["--json"], &["--check"]] {
-        let (status, _, err) = crate::run(options, &bytes, Terminal::default());
+        let (status, _, err) = dump(options, &bytes);
         assert_eq!((status, err.lines().count()), (1, 1 << 18));
     }
 }

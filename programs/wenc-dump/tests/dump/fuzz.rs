@@ -1,17 +1,13 @@
 //! Thousands of damaged components.
 
-use crate::component;
-use crate::corpus::corpus;
+use crate::causes::part_of;
+use crate::corpus::components;
 use crate::random::Random;
 use crate::side_by_side::side_by_side;
 use crate::values::Value;
-use std::fs;
+use crate::{component, dump};
 use wenc::view::ItemView;
-use wenc::{
-    CoreSection, CoreSections, DebugNames, ListFault, ProducersReader, SectionReader, Sections,
-    Unread, list,
-};
-use wenc_dump::Terminal;
+use wenc::{CoreSection, CoreSections, DebugNames, ProducersReader, SectionReader, Sections, list};
 
 /// How many components are damaged. Programs that aren't optimized are slow.
 const COMPONENTS: usize = if cfg!(debug_assertions) { 1_000 } else { 20_000 };
@@ -51,20 +47,19 @@ impl Random {
 
 /// Small components of the corpus, and the sections of all.
 fn parts() -> (Vec<Vec<u8>>, Vec<Vec<u8>>) {
-    let (mut components, mut parts) = (Vec::new(), Vec::new());
-    for file in fs::read_dir(corpus("wasm")).expect("the corpus is there") {
-        let bytes = fs::read(file.expect("it is there").path()).expect("it is there");
+    let (mut small, mut parts) = (Vec::new(), Vec::new());
+    for bytes in components() {
         for section in Sections::new(&bytes).into_iter().flatten().flatten() {
             if section.range().len() < 400 {
                 parts.push(section.bytes().to_vec());
             }
         }
         if bytes.len() < 1_500 {
-            components.push(bytes);
+            small.push(bytes);
         }
     }
-    assert!(components.len() > 10 && parts.len() > 100);
-    (components, parts)
+    assert!(small.len() > 10 && parts.len() > 100);
+    (small, parts)
 }
 
 /// Whether all of a custom section is read.
@@ -103,31 +98,14 @@ fn is_component_read(bytes: &[u8], depth: usize) -> bool {
     depth < 100 && sections.is_ok_and(|mut sections| sections.all(|it| it.is_ok_and(is_read)))
 }
 
-/// The place of the part that `list` names, and where the section ends.
-fn part_of(bytes: &[u8], fault: ListFault) -> (usize, usize) {
-    let (section, part) = match fault {
-        ListFault::BadSection { place, .. } => (place, place),
-        ListFault::BadItem { place, unread: Some(unread), .. }
-        | ListFault::TooDeep { place, unread: Some(unread), .. } => match unread {
-            Unread::Count { place: at }
-            | Unread::Item { place: at, .. }
-            | Unread::Behind { place: at } => (place, at),
-        },
-        fault => panic!("{fault}"),
-    };
-    let mut sections = Sections::at(bytes, section).expect("it is within");
-    (part, sections.next_raw().map_or(bytes.len(), |(range, _)| range.end))
-}
-
 /// The messages for the bytes agree with the fault of `list`.
 fn is_so(bytes: &[u8]) -> u8 {
-    let run = |options: &[&str]| crate::run(options, bytes, Terminal::default());
     let is_read = is_component_read(bytes, 0);
-    let (status, out, err) = run(&[]);
+    let (status, out, err) = dump(&[], bytes);
     assert_eq!((status, err.is_empty()), (u8::from(!is_read), is_read), "{err}{bytes:02x?}");
-    let (with_check, checked, _) = run(&["--json", "--check"]);
+    let (with_check, checked, _) = dump(&["--json", "--check"], bytes);
     Value::read(&checked);
-    let (json_status, json, messages) = run(&["--json"]);
+    let (json_status, json, messages) = dump(&["--json"], bytes);
     assert_eq!((json_status, &messages), (status, &err), "{bytes:02x?}");
     assert!(with_check >= status && !out.is_empty(), "{bytes:02x?}");
     let json = Value::read(&json);

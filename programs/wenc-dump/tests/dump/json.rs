@@ -1,17 +1,14 @@
 //! JSON of worked components and core modules.
 
 use crate::values::Value;
-use crate::{FUNCTION, PROGRAM, dump, file, file_of};
+use crate::{FUNCTION, PROGRAM, component, dump, file, file_of, start};
 use std::path::Path;
 use std::process::Command;
 
-/// The file is printed like this, after its name, and with this status.
-fn expect(options: &[&str], file: &Path, status: i32, out: &str) {
-    let output = dump(&[&["--json"], options].concat(), file);
-    let name = file.to_str().expect("it is text");
-    let out = format!("{{\"file\":\"{name}\",{out}}}\n");
-    assert_eq!(String::from_utf8_lossy(&output.stdout), out);
-    assert_eq!(output.status.code(), Some(status));
+/// Checks the JSON of these bytes, after the name of the file, and the exit status.
+fn expect(options: &[&str], bytes: &[u8], status: u8, json: &str) {
+    let (is, out, _) = dump(&[&["--json"], options].concat(), bytes);
+    assert_eq!((out.as_str(), is), (&*format!("{{\"file\":\"-\",{json}}}\n"), status));
     Value::read(&out);
 }
 
@@ -24,8 +21,8 @@ fn sections_and_items() {
         {\"start\":15,\"end\":23,\"id\":10,\"kind\":\"import\",\"count\":1,\"items\":[\
         {\"start\":18,\"end\":23,\"space\":\"func\",\"index\":0,\"count\":1,\"name\":null,\"item\":\
         {\"name\":{\"name\":\"f\",\"options\":null},\"ty\":{\"Func\":0}}}]}]},\"fault\":null";
-    let file = file("json", FUNCTION);
-    expect(&[], &file, 0, out);
+    let bytes = component(FUNCTION);
+    expect(&[], &bytes, 0, out);
     let out = out.replace(
         "\"name\":null,\"item\":{\"Func\"",
         "\"name\":null,\"hex\":\"40000100\",\"item\":{\"Func\"",
@@ -34,7 +31,7 @@ fn sections_and_items() {
         "\"name\":null,\"item\":{\"name\"",
         "\"name\":null,\"hex\":\"0001660100\",\"item\":{\"name\"",
     );
-    expect(&["--hex"], &file, 0, &out);
+    expect(&["--hex"], &bytes, 0, &out);
 }
 
 #[test]
@@ -59,8 +56,7 @@ fn items_are_as_serde_would_write_them() {
         r#"{"Group":{"Sub":{"is_final":true,"supertype_idx":null,"composite_type":{"Func":"#,
         r#"{"Component":[{"Import":{"name":{"name":"m","options":null},"ty":{"Func":0}}},"#,
     ];
-    let output = dump(&["--json"], &file("json_items", sections));
-    let out = String::from_utf8(output.stdout).expect("it is text");
+    let (_, out, _) = dump(&["--json"], &component(sections));
     let items: Vec<&str> = out.split("\"item\":").skip(1).collect();
     assert_eq!(items.len(), wanted.len());
     for (is, wanted) in items.iter().zip(wanted) {
@@ -92,7 +88,7 @@ fn debug_names_custom_sections_and_nested_components() {
         \"fault\":{\"place\":49,\"message\":\"bad debug names at 0x31: \
         0x09 at 0x33, where 0x00 to 0x05 is expected\",\"cause\":{\"place\":51,\
         \"message\":\"0x09 at 0x33, where 0x00 to 0x05 is expected\"}}";
-    expect(&[], &file("json_names", &[&nested[..], names].concat()), 1, out);
+    expect(&[], &component(&[&nested[..], names].concat()), 1, out);
 }
 
 #[test]
@@ -107,7 +103,7 @@ fn core_modules() {
         {\"start\":20,\"end\":22,\"id\":14,\"kind\":null,\"name\":null,\"count\":null,\
         \"items\":[],\"unread\":20}],\"unread\":null},\
         \"fault\":{\"place\":20,\"message\":\"unknown section 14 at 0x14\"}";
-    expect(&[], &file_of("json_module", module), 1, section);
+    expect(&[], module, 1, section);
     // a module in a component, with entries and with bytes that aren't read
     let sections = b"\x01\x0e\0asm\x01\0\0\0\x02\x02\x01\x01\x01\x02";
     let out = "\"component\":{\"start\":0,\"end\":24,\"name\":null,\"sections\":[\
@@ -119,7 +115,7 @@ fn core_modules() {
         \"fault\":{\"place\":21,\"message\":\"bad item 0 at 0x15: \
         the bytes end at 0x16\",\"cause\":{\"place\":22,\
         \"message\":\"the bytes end at 0x16\"}}";
-    expect(&[], &file("json_unread", sections), 1, out);
+    expect(&[], &component(sections), 1, out);
 }
 
 /// All open parts are closed before a fault.
@@ -135,29 +131,28 @@ fn faults() {
         \"fault\":{\"place\":21,\"message\":\"bad item 0 at 0x15 in the section at 0x12: 0x09 \
         where an alias is expected\",\"cause\":{\"place\":21,\
         \"message\":\"0x09 at 0x15, where 0x00 to 0x05 is expected\"}}";
-    expect(&[], &file("json_fault", nested), 1, out);
+    expect(&[], &component(nested), 1, out);
     let out = "\"fault\":{\"place\":0,\"message\":\"no component's header at 0x0: \
         found an empty file\"}";
-    expect(&[], &file_of("json_empty", b""), 1, out);
-    let module = file_of("json_bad_module", b"\0asm\x01\0\0\0\x01");
+    expect(&[], b"", 1, out);
     let out = "\"module\":{\"start\":0,\"end\":9,\"sections\":[],\"unread\":8},\
         \"fault\":{\"place\":8,\"message\":\"bad core section at 0x8: \
         the bytes end at 0x9\",\"cause\":{\"place\":9,\
         \"message\":\"the bytes end at 0x9\"}}";
-    expect(&[], &module, 1, out);
+    expect(&[], b"\0asm\x01\0\0\0\x01", 1, out);
     // no section; a section with an unknown id, and one whose type has no known index
     let out = "\"component\":{\"start\":0,\"end\":10,\"name\":null,\"sections\":[],\"unread\":8},\
         \"fault\":{\"place\":8,\"message\":\"bad section at 0x8: \
         needs 5 bytes or more from 0xa on, where 0 are left\",\"cause\":{\"place\":10,\
         \"message\":\"needs 5 bytes or more from 0xa on, where 0 are left\"}}";
-    expect(&[], &file("json_no_section", b"\x06\x05"), 1, out);
+    expect(&[], &component(b"\x06\x05"), 1, out);
     let out = "\"component\":{\"start\":0,\"end\":16,\"name\":null,\"sections\":[\
         {\"start\":8,\"end\":11,\"id\":12,\"kind\":null,\"count\":null,\"items\":[],\"unread\":8},\
         {\"start\":11,\"end\":16,\"id\":7,\"kind\":\"type\",\"count\":1,\"items\":[\
         {\"start\":14,\"end\":16,\"space\":\"type\",\"index\":null,\"count\":1,\"name\":null,\
         \"item\":{\"Defined\":{\"Own\":0}}}]}]},\
         \"fault\":{\"place\":8,\"message\":\"unknown section 12 at 0x8\"}";
-    expect(&[], &file("json_unknown", b"\x0c\x01\x07\x07\x03\x01\x69\0"), 1, out);
+    expect(&[], &component(b"\x0c\x01\x07\x07\x03\x01\x69\0"), 1, out);
 }
 
 #[test]
@@ -167,16 +162,15 @@ fn texts_are_escaped() {
     let name = "\"\\\n\0\x1f\x7f\u{80}é漢🦀/";
     let len = u8::try_from(name.len()).expect("it is short");
     let export = [&[11, len + 6, 1, 0, len][..], name.as_bytes(), &[1, 0, 0]].concat();
-    let output = dump(&["--json"], &file("json_texts", &export));
-    let out = String::from_utf8(output.stdout).expect("it is text");
+    let (_, out, _) = dump(&["--json"], &component(&export));
     let escaped = "\"\\\"\\\\\\u000a\\u0000\\u001f\\u007f\\u0080é漢🦀/\"";
     assert!(out.contains(escaped), "{out}");
     let item = Value::read(&out);
     let item = &item.at("component").at("sections").list()[0].at("items").list()[0];
     assert_eq!(item.at("item").at("name").at("name").text(), name);
     // and the name of a file
-    let output = dump(&["--json"], Path::new("no \"file\"\n"));
-    let out = String::from_utf8(output.stdout).expect("it is text");
+    let output = start(&["--json"], Path::new("no \"file\"\n"));
+    let out = String::from_utf8(output.stdout).expect("text");
     let value = Value::read(&out);
     assert_eq!(value.at("file").text(), "no \"file\"\n");
     assert_eq!(value.at("fault").at("place"), &Value::Null);
@@ -193,12 +187,10 @@ fn what_changes_a_terminal_is_escaped() {
     // their neighbours aren't
     let plain = " ~\u{a0}\u{61b}\u{61d}\u{200d}\u{2010}\u{2027}\u{202f}\u{2065}\u{206a}\u{301}";
     let name: String = escaped.iter().copied().chain(plain.chars()).collect();
-    let data = [&[0xa6, 1][..], name.as_bytes()].concat();
     assert_eq!(name.len(), 0xa6);
-    let section = [&[0, 0xa8, 1][..], &data].concat();
-    let custom = file("json_controls", &section);
-    let output = dump(&["--json"], &custom);
-    let out = String::from_utf8(output.stdout).expect("it is text");
+    let section = [&[0, 0xa8, 1, 0xa6, 1], name.as_bytes()].concat();
+    let custom = component(&section);
+    let (status, out, _) = dump(&["--json"], &custom);
     let codes: String =
         escaped.iter().map(|letter| format!("\\u{:04x}", u32::from(*letter))).collect();
     assert!(out.contains(&format!("\"{codes}{plain}\"")), "{out}");
@@ -206,10 +198,9 @@ fn what_changes_a_terminal_is_escaped() {
     let item = &item.at("component").at("sections").list()[0].at("items").list()[0];
     assert_eq!(item.at("item").at("name").text(), name);
     // text has none of them either
-    let out = dump(&[], &custom);
-    let out = String::from_utf8(out.stdout).expect("it is text");
+    let (_, out, _) = dump(&[], &custom);
     assert!(escaped.iter().all(|letter| *letter == '\n' || !out.contains(*letter)), "{out}");
-    assert_eq!((out.lines().count(), output.status.code()), (3, Some(0)));
+    assert_eq!((out.lines().count(), status), (3, 0));
 }
 
 #[test]
@@ -217,7 +208,7 @@ fn several_files_are_several_lines() {
     let (good, bad) = (file("json_good", FUNCTION), file_of("json_bad", b""));
     let output = Command::new(PROGRAM).arg("--json").args([&good, &bad, &good]).output();
     let output = output.expect("it runs");
-    let alone = dump(&["--json"], &good);
+    let alone = start(&["--json"], &good);
     let out = String::from_utf8(output.stdout).expect("it is text");
     let lines: Vec<&str> = out.split_inclusive('\n').collect();
     assert_eq!(lines.len(), 3);

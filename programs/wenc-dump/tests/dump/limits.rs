@@ -1,16 +1,17 @@
-//! Limited memory: the program reports that memory ran out, and has a status for that.
+//! Limited memory: the program reports that memory ran out, and has an exit status for that.
 
 use crate::values::Value;
-use crate::{PROGRAM, component, file, file_of};
+use crate::{PROGRAM, component, file, file_of, start};
 use std::path::Path;
 use std::process::{Command, Output};
 use wenc::tree::Space;
 use wenc::{ComponentNameSection, ComponentSection, DebugNames};
 
-/// How many KiB are between two limits.
+/// The step from one limit to the next, in KiB.
 const STEP: usize = 64;
 
-/// How many steps the program asks for when it starts and doesn't need for an empty file, at most.
+/// The maximum number of steps of memory that the program requests at its start and doesn't need
+/// for an empty file.
 const UNUSED: usize = 5;
 
 /// Runs the program with this many KiB of memory.
@@ -27,29 +28,30 @@ fn least() -> usize {
     limits.find(|kib| limited(*kib, &[], &empty).status.success()).expect("it starts")
 }
 
-/// In each limit up to one that suffices the program prints the file, or says that memory ran out.
-/// Returns in how many limits that happens, the lesser and the greater number of text and JSON.
-fn sweep(file: &Path) -> (usize, usize) {
-    let least = least();
-    let message = format!("{}: memory ran out\n", file.display());
-    let mut refusals = [0; 2];
-    for (option, refused) in [&[][..], &["--json"]].into_iter().zip(&mut refusals) {
-        for kib in (least..).step_by(STEP) {
-            let output = limited(kib, option, file);
-            let err = String::from_utf8_lossy(&output.stderr);
-            match output.status.code() {
-                Some(0) => break,
-                Some(3) => assert_eq!(err, message, "{kib}"),
-                _ => panic!("{} in {kib} KiB: {err}", output.status),
-            }
-            if !option.is_empty() {
-                let out = Value::read(std::str::from_utf8(&output.stdout).expect("it is text"));
-                assert_eq!(out.at("fault").at("message").text(), "memory ran out");
-            }
-            *refused += 1;
+/// Returns how many limits are too low for the file with these options. In each of them the program
+/// reports that memory ran out; in the next one it does what it does without a limit.
+fn refusals(options: &[&str], file: &Path) -> usize {
+    let (ample, message) = (start(options, file), format!("{}: memory ran out\n", file.display()));
+    let limits = (least()..).step_by(STEP).take_while(|kib| {
+        let output = limited(*kib, options, file);
+        if output == ample {
+            return false;
         }
-    }
-    (refusals[0].min(refusals[1]), refusals[0].max(refusals[1]))
+        let err = String::from_utf8_lossy(&output.stderr);
+        assert_eq!((output.status.code(), &*err), (Some(3), &*message), "{kib}");
+        if options == ["--json"] {
+            let out = Value::read(std::str::from_utf8(&output.stdout).expect("text"));
+            assert_eq!(out.at("fault").at("message").text(), "memory ran out");
+        }
+        true
+    });
+    limits.count()
+}
+
+/// Returns the lesser and the greater number of limits that are too low, of text and JSON.
+fn sweep(file: &Path) -> (usize, usize) {
+    let (text, json) = (refusals(&[], file), refusals(&["--json"], file));
+    (text.min(json), text.max(json))
 }
 
 /// Expects that memory runs out under at least this many limits.
@@ -84,7 +86,6 @@ fn section(id: u8, content: &[u8]) -> Vec<u8> {
 
 /// Types of any size are printed as they are read.
 #[test]
-#[cfg_attr(debug_assertions, ignore = "the limits are those of optimized code")]
 fn a_large_type() {
     let declared = b"\x01\x7f".repeat(600_000);
     let ty = [&[1, 0x42][..], &padded(600_000), &declared].concat();
@@ -92,7 +93,6 @@ fn a_large_type() {
 }
 
 #[test]
-#[cfg_attr(debug_assertions, ignore = "the limits are those of optimized code")]
 fn a_large_custom_section_and_what_is_around_it() {
     let custom = section(0, &[&[1, b'x'][..], &[7; 1 << 20]].concat());
     let nested = section(4, &component(&section(4, &component(&custom))));
@@ -100,7 +100,6 @@ fn a_large_custom_section_and_what_is_around_it() {
 }
 
 #[test]
-#[cfg_attr(debug_assertions, ignore = "the limits are those of optimized code")]
 fn long_names_of_a_core_module() {
     let name = [&padded(1 << 19)[..], &[b'n'; 1 << 19]].concat();
     let imports = section(2, &[&[1][..], &name, &name, &[0, 0]].concat());
@@ -110,7 +109,6 @@ fn long_names_of_a_core_module() {
 }
 
 #[test]
-#[cfg_attr(debug_assertions, ignore = "the limits are those of optimized code")]
 fn many_debug_names() {
     let mut names = DebugNames::new();
     names.set_component("n".repeat(1 << 18));
@@ -122,34 +120,17 @@ fn many_debug_names() {
 
 /// To find its cause, the bytes behind a fault are copied.
 #[test]
-#[cfg_attr(debug_assertions, ignore = "the limits are those of optimized code")]
 fn a_fault_before_many_bytes() {
     let imports = [&b"\x01\0\x01f\x09"[..], &[0; 1 << 20]].concat();
     let file = file("limits_fault", &section(10, &imports));
-    let ample = crate::dump(&[], &file);
-    assert_eq!(ample.status.code(), Some(1));
-    let cause = String::from_utf8_lossy(&ample.stderr).into_owned();
+    let cause = String::from_utf8(start(&[], &file).stderr).expect("text");
     assert!(cause.ends_with(": 0x09 at 0x12, where 0x00 to 0x05 is expected\n"), "{cause}");
-    let mut refused = 0;
-    for kib in (least()..).step_by(STEP) {
-        let output = limited(kib, &[], &file);
-        let err = String::from_utf8_lossy(&output.stderr);
-        match output.status.code() {
-            Some(1) => {
-                assert_eq!(err, cause);
-                break;
-            }
-            Some(3) => assert_eq!(err, format!("{}: memory ran out\n", file.display()), "{kib}"),
-            _ => panic!("{} in {kib} KiB: {err}", output.status),
-        }
-        refused += 1;
-    }
+    let refused = refusals(&[], &file);
     assert!(refused >= 10, "{refused}");
 }
 
 /// Types in types are printed one in the other.
 #[test]
-#[cfg_attr(debug_assertions, ignore = "the limits are those of optimized code")]
 fn deep_types() {
     let mut ty = vec![0x42, 0];
     for _ in 0..99 {
@@ -161,7 +142,6 @@ fn deep_types() {
 
 /// The other files are printed, and the status is that of the worst fault.
 #[test]
-#[cfg_attr(debug_assertions, ignore = "the limits are those of optimized code")]
 fn files_after_the_one_that_memory_ran_out_in() {
     let custom = section(0, &[&[1, b'x'][..], &[7; 1 << 20]].concat());
     let (large, bad) = (file("limits_first", &custom), file_of("limits_bad", b""));

@@ -1,5 +1,5 @@
-//! The program `wenc-dump`: what it prints of worked components and of the corpus, as text and as
-//! JSON, and what it says of bad ones.
+//! The program `wenc-dump`: its output for worked components and for the corpus, as text and as
+//! JSON, and its messages for bad ones.
 
 mod causes;
 mod check;
@@ -10,7 +10,8 @@ mod custom;
 mod faults;
 mod fuzz;
 mod json;
-#[cfg(target_os = "linux")]
+// The limits are those of optimized code.
+#[cfg(all(target_os = "linux", not(debug_assertions)))]
 mod limits;
 #[cfg(unix)]
 #[path = "../../../wenc/tests/program/manual.rs"]
@@ -36,7 +37,7 @@ const PROGRAM: &str = env!("CARGO_BIN_EXE_dump-program");
 /// A component that imports a function.
 const FUNCTION: &[u8] = b"\x07\x05\x01\x40\0\x01\0\x0a\x06\x01\0\x01f\x01\0";
 
-/// What is printed of it.
+/// The output for it.
 const FUNCTION_TEXT: &str = "\
 0x0..0x17 component, 23 bytes
   0x8..0xf type section, 7 bytes, 1 item
@@ -45,20 +46,25 @@ const FUNCTION_TEXT: &str = "\
     0x12 func 0: import \"f\" Func(0)
 ";
 
-/// Runs the program with these options on a file.
-fn dump(options: &[&str], file: &Path) -> Output {
-    Command::new(PROGRAM).args(options).arg(file).output().expect("the program stands there")
+/// Starts the program with these options on a file.
+fn start(options: &[&str], file: &Path) -> Output {
+    Command::new(PROGRAM).args(options).arg(file).output().expect("the program starts")
 }
 
-/// Does what the program does with these bytes as its input, for this terminal. Returns its status,
-/// what it prints and what it says.
+/// Runs the program on these bytes, for this terminal. Returns its exit status and what it writes
+/// to standard output and to standard error.
 fn run(options: &[&str], bytes: &[u8], terminal: Terminal) -> (u8, String, String) {
     let mut out = Vec::new();
     let (status, err) = run_into(&mut out, options, bytes, terminal);
-    (status, String::from_utf8(out).expect("it is text"), err)
+    (status, String::from_utf8(out).expect("text"), err)
 }
 
-/// The same with this output. The program is compiled once for all.
+/// Runs the program on these bytes, without a terminal.
+fn dump(options: &[&str], bytes: &[u8]) -> (u8, String, String) {
+    run(options, bytes, Terminal::default())
+}
+
+/// Runs the program with this output. It is compiled once for all callers.
 fn run_into(
     mut out: &mut dyn Write,
     options: &[&str],
@@ -69,41 +75,37 @@ fn run_into(
     let mut streams = Streams { input: &mut bytes, out: &mut out, err: &mut err };
     let arguments = ["wenc-dump"].iter().chain(options).chain(&["-"]).map(Into::into);
     let status = wenc_dump::run(arguments, terminal, &mut streams);
-    (status, String::from_utf8(err).expect("it is text"))
+    (status, String::from_utf8(err).expect("text"))
 }
 
-/// A file with these bytes.
+/// Writes a file with these bytes.
 fn file_of(name: &str, bytes: &[u8]) -> PathBuf {
     let path = Path::new(env!("CARGO_TARGET_TMPDIR")).join(name);
-    fs::write(&path, bytes).expect("it is written");
+    fs::write(&path, bytes).expect("the file is written");
     path
 }
 
-/// The component that has these sections.
+/// Returns the component with these sections.
 fn component(sections: &[u8]) -> Vec<u8> {
     [b"\0asm\x0d\0\x01\0", sections].concat()
 }
 
-/// A file with the component that has these sections.
+/// Writes a file with the component with these sections.
 fn file(name: &str, sections: &[u8]) -> PathBuf {
     file_of(name, &component(sections))
 }
 
-/// The component with these sections is printed so, and these lines are said of it, each with its
-/// file in front.
-fn expect(name: &str, sections: &[u8], out: &str, err: Option<&str>) {
-    expect_of(&[], &file(name, sections), out, err);
+/// Checks what is printed of the component with these sections, and the messages.
+fn expect(sections: &[u8], out: &str, messages: &str) {
+    expect_of(&[], &component(sections), out, messages);
 }
 
-/// The file is printed like this, with these messages, each after its path.
-fn expect_of(options: &[&str], file: &Path, out: &str, err: Option<&str>) {
-    let output = dump(options, file);
-    let name = file.display();
-    assert_eq!(String::from_utf8_lossy(&output.stdout), out, "{name}");
-    let err: String =
-        err.iter().flat_map(|err| err.lines()).map(|why| format!("{name}: {why}\n")).collect();
-    assert_eq!(String::from_utf8_lossy(&output.stderr), err, "{name}");
-    assert_eq!(output.status.code(), Some(i32::from(!err.is_empty())), "{name}");
+/// Checks what is printed of these bytes, and the messages, a line for each.
+fn expect_of(options: &[&str], bytes: &[u8], out: &str, messages: &str) {
+    let err: String = messages.lines().map(|message| format!("-: {message}\n")).collect();
+    let (status, printed, told) = dump(options, bytes);
+    assert_eq!((printed.as_str(), told.as_str()), (out, err.as_str()));
+    assert_eq!(status, u8::from(!err.is_empty()), "{err}");
 }
 
 #[cfg(unix)]

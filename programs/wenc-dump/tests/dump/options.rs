@@ -2,8 +2,8 @@
 
 use crate::corpus::corpus;
 use crate::{
-    FUNCTION, FUNCTION_TEXT, PROGRAM, completions, component, dump, expect_of, file, file_of,
-    run_into,
+    FUNCTION, FUNCTION_TEXT, PROGRAM, completions, component, expect_of, file, file_of, run_into,
+    start,
 };
 use std::collections::BTreeSet;
 use std::fs;
@@ -95,7 +95,7 @@ fn options_are_completed() {
             "--width=" => "9",
             _ => "",
         };
-        assert!(dump(&[&format!("{option}{value}")], &component).status.success(), "{option}");
+        assert!(start(&[&format!("{option}{value}")], &component).status.success(), "{option}");
     }
     // what the program compares arguments with
     let source = include_str!("../../src/arguments.rs").split('"');
@@ -229,20 +229,7 @@ fn help_and_version() {
         let out = String::from_utf8(output.stdout).expect("it is text");
         assert!(output.status.success() && output.stderr.is_empty());
         assert!(out.starts_with(USAGE) && out.lines().all(|line| line.len() < 100));
-        for word in [
-            "--hex",
-            "--section",
-            "--color",
-            "--width",
-            "--wit",
-            "--json",
-            "--help",
-            "--version",
-            "standard input",
-            "\"fault\"",
-        ] {
-            assert!(out.contains(word), "{word}");
-        }
+        assert!(out.contains("standard input") && out.contains("\"fault\""), "{out}");
     }
     let version = format!("wenc-dump {}\n", env!("CARGO_PKG_VERSION"));
     for arguments in [["--version"], ["-V"]] {
@@ -285,7 +272,7 @@ fn bytes_are_printed() {
       0x12: 00 01 66 01 00
 ";
     for option in ["-x", "--hex"] {
-        expect_of(&[option], &file("bytes", FUNCTION), out, None);
+        expect_of(&[option], &component(FUNCTION), out, "");
     }
     // those of a module are printed where they are read; 17 of them are on two lines
     let module = b"\x01\x27\0asm\x01\0\0\0\x07\x05\x01\x01f\0\x02\
@@ -301,8 +288,7 @@ fn bytes_are_printed() {
         0x20: 30 31 32 33 34 35 36 37 38 39 61 62 63 64 65 66
         0x30: 10
 ";
-    let module = &module[..41];
-    expect_of(&["-x"], &file("bytes of a module", module), out, None);
+    expect_of(&["-x"], &component(&module[..41]), out, "");
 }
 
 /// What can't be printed in a file's name is escaped, a line break as well.
@@ -312,7 +298,7 @@ fn names_of_files_are_escaped() {
     use std::ffi::OsStr;
     use std::os::unix::ffi::OsStrExt;
     let name = OsStr::from_bytes(b"it's\n\x1b[2J \xe2\x80\xae\xff\\\"\xc3\xa9");
-    let output = dump(&[], Path::new(name));
+    let output = start(&[], Path::new(name));
     let err = String::from_utf8(output.stderr).expect("it is text");
     let escaped = "it's\\n\\u{1b}[2J \\u{202e}\\xff\\\\\"é: ";
     assert!(err.starts_with(escaped), "{err}");

@@ -1,10 +1,10 @@
 //! The output for large and for deep components is bounded by a multiple of their size.
 
-use crate::{dump, file_of};
+use crate::{file_of, start};
 use wenc::tree::Space;
 use wenc::{
-    Component, ComponentAliasSection, ComponentNameSection, ComponentTypeSection, DebugNames,
-    NestedComponentSection, PrimitiveValType,
+    Component, ComponentAliasSection, ComponentDefinedTypeEncoder, ComponentNameSection,
+    ComponentTypeSection, DebugNames, NestedComponentSection, PrimitiveValType,
 };
 
 /// This component, nested this deep.
@@ -21,13 +21,9 @@ fn nested(mut component: Component, depth: usize) -> Vec<u8> {
 fn sizes(name: &str, component: &[u8], status: i32) -> [usize; 4] {
     let file = file_of(name, component);
     [&[][..], &["-x"], &["--json"], &["--json", "-x"]].map(|options| {
-        let output = dump(options, &file);
-        assert_eq!(
-            output.status.code(),
-            Some(status),
-            "{}",
-            String::from_utf8_lossy(&output.stderr)
-        );
+        let output = start(options, &file);
+        let err = String::from_utf8_lossy(&output.stderr);
+        assert_eq!(output.status.code(), Some(status), "{err}");
         output.stdout.len()
     })
 }
@@ -35,10 +31,10 @@ fn sizes(name: &str, component: &[u8], status: i32) -> [usize; 4] {
 #[test]
 fn components_more_than_100_deep_are_a_fault() {
     let component = nested(Component::new(), 99);
-    assert_eq!(dump(&[], &file_of("deep", &component)).status.code(), Some(0));
+    assert_eq!(start(&[], &file_of("deep", &component)).status.code(), Some(0));
     let component = nested(Component::new(), 100);
     let file = file_of("too_deep", &component);
-    let output = dump(&[], &file);
+    let output = start(&[], &file);
     let place = component.len() - 8;
     let err = format!("{}: components more than 100 deep at {place:#x}\n", file.display());
     assert_eq!(String::from_utf8_lossy(&output.stderr), err);
@@ -79,38 +75,34 @@ fn the_innermost_of_deep_components_is_linear() {
     expect_linear("wide_and_deep", &nested(inner, 99));
 }
 
+/// A component with this many types, which this function encodes.
+fn types(number: usize, encode: impl Fn(ComponentDefinedTypeEncoder)) -> Component {
+    let mut types = ComponentTypeSection::new();
+    (0..number).for_each(|_| encode(types.defined_type()));
+    let mut component = Component::new();
+    component.section(&types);
+    component
+}
+
 /// Types of one byte each.
 #[test]
 fn many_types_are_linear() {
-    let mut types = ComponentTypeSection::new();
-    for _ in 0..50_000 {
-        types.defined_type().primitive(PrimitiveValType::U8);
-    }
-    let mut component = Component::new();
-    component.section(&types);
+    let component = types(50_000, |ty| ty.primitive(PrimitiveValType::U8));
     expect_linear("many_types", &component.finish());
 }
 
 #[test]
 fn large_types_are_linear() {
-    let mut types = ComponentTypeSection::new();
-    let tuple = vec![wenc::ComponentValType::Type(0); 50_000];
-    types.defined_type().tuple(tuple);
-    let mut component = Component::new();
-    component.section(&types);
+    let component = types(1, |ty| ty.tuple(vec![wenc::ComponentValType::Type(0); 50_000]));
     expect_linear("large_type", &nested(component, 99));
 }
 
 /// A name of 50,000 letters, of a type that 50,000 others use.
 #[test]
 fn long_names_are_linear() {
-    let mut types = ComponentTypeSection::new();
-    for _ in 0..50_000 {
-        types.defined_type().own(0);
-    }
+    let mut component = types(50_000, |ty| ty.own(0));
     let mut names = DebugNames::new();
     names.insert(Space::Types, 0, "x".repeat(50_000));
-    let mut component = Component::new();
-    component.section(&types).section(&ComponentNameSection::from(&names));
+    component.section(&ComponentNameSection::from(&names));
     expect_linear("long_names", &component.finish());
 }

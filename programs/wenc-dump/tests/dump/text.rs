@@ -1,11 +1,11 @@
 //! Text of worked components and core modules.
 
-use crate::{FUNCTION, FUNCTION_TEXT, component, expect, expect_of, file_of, run};
+use crate::{FUNCTION, FUNCTION_TEXT, component, expect, expect_of, run};
 use wenc_dump::{Terminal, colours_are_wanted};
 
 #[test]
 fn sections_and_items() {
-    expect("function", FUNCTION, FUNCTION_TEXT, None);
+    expect(FUNCTION, FUNCTION_TEXT, "");
     let out = "\
 0x0..0x27 component, 39 bytes
   0x8..0xb alias section, 3 bytes, 0 items
@@ -19,7 +19,7 @@ fn sections_and_items() {
 ";
     let sections = b"\x06\x01\0\x09\x03\x07\0\0\x09\x04\0\x01\x03\x02\
         \x0b\x0f\x02\0\x01v\x02\0\0\0\x01\x1b\x02\x01\x01\x02\x7d";
-    expect("values", sections, out, None);
+    expect(sections, out, "");
 }
 
 /// `f` is `g`, and its type is `t`.
@@ -40,7 +40,7 @@ fn debug_names() {
       func 0 \"g\"
       type 0 \"t\"
 ";
-    expect("names", &[FUNCTION, NAMES].concat(), out, None);
+    expect(&[FUNCTION, NAMES].concat(), out, "");
     // Another subsection, and after it what is none.
     let names = b"\0\x1f\x0ecomponent-name\x01\x05\x01\x01\0\x01g\x09\x02ab\x01\x03\x01\x01\0";
     let out = "\
@@ -55,12 +55,8 @@ fn debug_names() {
       0x33 names that aren't read
         0x33: 01 03 01 01 00
 ";
-    expect(
-        "bad_names",
-        &[FUNCTION, names].concat(),
-        out,
-        Some("bad debug names at 0x33: the bytes end at 0x38"),
-    );
+    let bad = "bad debug names at 0x33: the bytes end at 0x38";
+    expect(&[FUNCTION, names].concat(), out, bad);
 }
 
 /// The names of the component and of the one around it, where an index is one of theirs.
@@ -96,17 +92,14 @@ fn names_of_what_indices_refer_to() {
       func 0 \"g\"
       type 0 \"t\"
 ";
-    expect("referred", &sections, out, None);
+    expect(&sections, out, "");
 }
 
 #[test]
 fn a_long_name_after_an_index_is_cut() {
     let long = "é".repeat(100);
-    let mut names = b"\x0ecomponent-name\x01".to_vec();
-    names.extend([0xcd, 1, 3, 1, 0, 0xc8, 1]);
-    names.extend(long.as_bytes());
-    let mut custom = vec![0, 0xdf, 1];
-    custom.extend(&names);
+    let front = b"\0\xdf\x01\x0ecomponent-name\x01\xcd\x01\x03\x01\0\xc8\x01";
+    let custom = [front, long.as_bytes()].concat();
     let out = format!(
         "\
 0x0..0xf9 component, 249 bytes
@@ -124,7 +117,7 @@ fn a_long_name_after_an_index_is_cut() {
 ",
         "é".repeat(80)
     );
-    expect("long_name", &[FUNCTION, &custom].concat(), &out, None);
+    expect(&[FUNCTION, &custom].concat(), &out, "");
 }
 
 #[test]
@@ -152,7 +145,7 @@ fn modules_and_nested_components() {
 bad count at 0x18: the bytes end at 0x18
 bad core section at 0x18: the bytes end at 0x19
 no core module's header at 0x28: found other bytes: 07";
-    expect("nested", &[&module[..], nested].concat(), out, Some(bad));
+    expect(&[&module[..], nested].concat(), out, bad);
 }
 
 /// What is printed of a module with sections of all kinds.
@@ -200,7 +193,7 @@ fn core_modules() {
         \x0c\x01\x02\
         \x0e\x01\x02";
     let bad = "unknown section 14 at 0x49";
-    expect_of(&[], &file_of("core_module", module), CORE_TEXT, Some(bad));
+    expect_of(&[], module, CORE_TEXT, bad);
 }
 
 /// A section with this type.
@@ -222,20 +215,21 @@ fn a_group_without_room_in_100_columns_is_folded() {
 0x0..0x4f component, 79 bytes
   0x8..0x4f type section, 71 bytes, 1 item
 ";
-    expect("has_room", &enumeration(65), &format!("{out}{line}"), None);
+    expect(&enumeration(65), &format!("{out}{line}"), "");
     let out = out.replace("4f", "50").replace("79", "80").replace("71", "72");
     let lines = format!("    0xb type 0: Defined(Enum([\n      \"a{letters}\",\n    ]))\n");
-    expect("has_none", &enumeration(66), &format!("{out}{lines}"), None);
+    expect(&enumeration(66), &format!("{out}{lines}"), "");
+}
+
+/// A variant with the case `b`, and one with a name of this length.
+fn variant(len: u8) -> Vec<u8> {
+    let letters = "a".repeat(len.into());
+    type_section(&[&[0x71, 2, len], letters.as_bytes(), b"\0\0\x01b\0\0"].concat())
 }
 
 /// The comma after a member counts.
 #[test]
 fn a_member_without_room_in_100_columns_is_folded() {
-    let variant = |len: u8| {
-        let letters = "a".repeat(len.into());
-        let case = [&[len][..], letters.as_bytes(), b"\0\0\x01b\0\0"].concat();
-        type_section(&[&[0x71, 2][..], &case].concat())
-    };
     let letters = "a".repeat(71);
     let line = format!("      {{ name: \"{letters}\", ty: None }},\n");
     assert_eq!(line.len(), 100 + "\n".len());
@@ -245,10 +239,10 @@ fn a_member_without_room_in_100_columns_is_folded() {
     0xb type 0: Defined(Variant([
 ";
     let back = "      { name: \"b\", ty: None },\n    ]))\n";
-    expect("member_has_room", &variant(71), &format!("{front}{line}{back}"), None);
+    expect(&variant(71), &format!("{front}{line}{back}"), "");
     let front = front.replace("5b", "5c").replace("91", "92").replace("83", "84");
     let lines = format!("      {{\n        name: \"a{letters}\",\n        ty: None,\n      }},\n");
-    expect("member_has_none", &variant(72), &format!("{front}{lines}{back}"), None);
+    expect(&variant(72), &format!("{front}{lines}{back}"), "");
 }
 
 /// What the program prints of the component with these sections, and its status.
@@ -288,10 +282,6 @@ fn names_texts_and_places_have_colours() {
 /// The columns of a line are those without its colours.
 #[test]
 fn colours_take_no_columns() {
-    let variant = |len: u8| {
-        let case = [&[len][..], "a".repeat(len.into()).as_bytes(), b"\0\0\x01b\0\0"].concat();
-        type_section(&[&[0x71, 2][..], &case].concat())
-    };
     for sections in [variant(71), variant(72), [FUNCTION, NAMES].concat()] {
         let (plain, status) = printed(&sections, &["-x"], false);
         let (coloured, _) = printed(&sections, &["-x"], true);

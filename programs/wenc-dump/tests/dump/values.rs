@@ -24,31 +24,23 @@ impl Value {
 
     /// A field of an object.
     pub fn at(&self, key: &str) -> &Self {
-        match self {
-            Self::Object(fields) => fields.get(key).unwrap_or_else(|| panic!("no {key}")),
-            _ => panic!("no object: {self:?}"),
-        }
+        let Self::Object(fields) = self else { panic!("no object: {self:?}") };
+        fields.get(key).unwrap_or_else(|| panic!("no {key}"))
     }
 
     pub fn list(&self) -> &[Self] {
-        match self {
-            Self::List(values) => values,
-            _ => panic!("no list: {self:?}"),
-        }
+        let Self::List(values) = self else { panic!("no list: {self:?}") };
+        values
     }
 
     pub fn number(&self) -> u128 {
-        match self {
-            Self::Number(number) => *number,
-            _ => panic!("no number: {self:?}"),
-        }
+        let Self::Number(number) = self else { panic!("no number: {self:?}") };
+        *number
     }
 
     pub fn text(&self) -> &str {
-        match self {
-            Self::Text(text) => text,
-            _ => panic!("no text: {self:?}"),
-        }
+        let Self::Text(text) = self else { panic!("no text: {self:?}") };
+        text
     }
 }
 
