@@ -9,29 +9,28 @@
  * (wenc_list). A walk (wenc_walk_begin) reads a component without a handle, and allocates nothing.
  *
  *  - Each call but wenc_free, wenc_version, wenc_status_text, wenc_fault_text and
- *    wenc_item_fault_text returns a status, which is WENC_DONE or says why the call failed. A call
- *    that fails changes nothing: neither what its handles own, nor what its arguments point to;
- *    except that wenc_list writes which part it can't read. If the first argument is a handle that
- *    owns something, wenc_last_error then says which argument was wrong. Why bytes can't be read is
- *    said by wenc_fault_text and wenc_item_fault_text.
+ *    wenc_item_fault_text returns a status: WENC_DONE, or why it failed. A call that fails changes
+ *    neither what its handles own nor what its arguments point to, except that wenc_list writes
+ *    which part it can't read. If the first argument is a handle that owns something,
+ *    wenc_last_error then returns which argument was wrong. wenc_fault_text and
+ *    wenc_item_fault_text return why bytes can't be read.
  *
  *  - A text is UTF-8 without a terminating 0; bytes are any bytes. Both are passed as a pointer and
  *    a number of bytes, and the call keeps no pointer to them. If the number is 0, the pointer may
  *    be NULL. WENC_TEXT makes a text from a literal.
  *
- *  - A debug name is a pointer to a text, or NULL for none. It, and each option of a wenc_name, is
- *    also none if the text is {NULL, 0}: an empty one isn't NULL. WENC_NAMED makes a debug name
- *    from a literal.
+ *  - A debug name is a pointer to a text, or NULL for none. The text {NULL, 0} is also none, as a
+ *    debug name and as an option of a wenc_name; an empty text has another pointer. WENC_NAMED
+ *    makes a debug name from a literal.
  *
- *  - Results are written through the last pointers of a call. If such a pointer is NULL, the result
- *    is left out. A text or bytes without any are written as a pointer to "", and as NULL if there
- *    is no text or there are no such bytes.
+ *  - Results are written through the last pointers of a call, unless these are NULL. The pointer of
+ *    an empty text or of no bytes is "", that of a text or bytes that an item doesn't have is NULL.
  *
  *  - An index is what a call wrote to `*index`: the number of items that were in its index space
  *    before. Indices aren't checked: neither whether an item has them, nor whether the component is
  *    valid.
  *
- * What no call can check:
+ * Requirements that no call checks:
  *
  *  - A handle is {NULL}, or one that a call filled. A copy is the same handle: once what one of
  *    them owns is freed or moved to another handle, the others are invalid. Calls that take two
@@ -41,19 +40,19 @@
  *    is. Memory that a call writes to overlaps no other argument.
  *
  *  - A call that takes a `const wenc_handle *` only reads what the handle owns, and records why it
- *    fails: several threads may make such calls by one handle, or by copies of it, at a time. While
- *    any other call by the handle is made, no other thread uses it. A handle may move to another
- *    thread. The same holds for a walk, which has nothing in common with its copies but the
- *    component's bytes.
+ *    fails: several threads may make such calls by one handle, or by copies of it, at the same
+ *    time. During any other call by the handle, no other thread uses it. A handle may move to
+ *    another thread. The same holds for a walk, which shares only the component's bytes with its
+ *    copies.
  *
  *  - No call is made from a signal handler, nor in the child of a fork of a process with more than
  *    one thread.
  *
  * Versions: as long as the shared library's soname is libwenc.so.0, functions, structures,
  * enumerations and macros are only added. No structure gets another member, and no member of an
- * enumeration another number: what needs more gets a new structure, and a new function that takes
- * it. So a program runs with a later library without being compiled again, except that statuses,
- * kinds and the like may be new to it. */
+ * enumeration another number: an extension is a new structure and a new function that takes it. So
+ * a program runs with a later library without being compiled again, but may get statuses and kinds
+ * that are new to it. */
 #ifndef WENC_H
 #define WENC_H
 
@@ -70,11 +69,11 @@ extern "C" {
 #endif
 
 /* The version of this header, which is the package's: 10000 times its major number, 100 times the
- * minor one, plus the patch. It rises with each function that is added, so that
- * `#if WENC_VERSION >= 100` tells whether those of version 0.1.0 are there. */
+ * minor one, plus the patch. It rises with each function that is added: those of version 0.1.0 are
+ * declared `#if WENC_VERSION >= 100`. */
 #define WENC_VERSION 100
 
-/* A result that mustn't be ignored, where the compiler can tell. */
+/* A result that mustn't be ignored, where the compiler can warn. */
 #if defined(__GNUC__) && !defined(WENC_PARSED)
 #define WENC_CHECKED __attribute__((warn_unused_result))
 #else
@@ -83,8 +82,8 @@ extern "C" {
 
 /* A text from a literal: two arguments or members. */
 #define WENC_TEXT(literal) ("" literal), sizeof("" literal) - 1
-/* A debug name from a literal, until the end of the call or the block. In C89 there is none: begin
- * a wenc_text with {WENC_TEXT(literal)}. */
+/* A debug name from a literal, valid until the end of the call or the block. C89 has no such
+ * expression: there, initialize a wenc_text with {WENC_TEXT(literal)}. */
 #ifdef __cplusplus
 #define WENC_NAMED(literal) (WencNamed(WENC_TEXT(literal)))
 #elif defined(__STDC_VERSION__) && __STDC_VERSION__ >= 199901L
@@ -108,7 +107,7 @@ enum wenc_status {
   WENC_TOO_LARGE = 3,
   /* The component isn't finished yet (only wenc_bytes). */
   WENC_UNFINISHED = 4,
-  /* A text isn't UTF-8, bytes aren't exactly one item, or no debug names. */
+  /* A text isn't UTF-8, bytes aren't exactly one item, or debug names can't be read. */
   WENC_MALFORMED = 5,
   /* Types of components and instances nest more than 100 deep. */
   WENC_TOO_DEEP = 6,
@@ -207,9 +206,9 @@ enum wenc_alias {
   WENC_ALIAS_OUTER = 3
 };
 
-/* Builtins of the component model, for wenc_builtin. The comment before one says what `first` and
- * `second` are: the index of a type, a core table or a core memory, or whether the call may return
- * before it is done (0 or 1). An argument that isn't mentioned isn't used. */
+/* Builtins of the component model, for wenc_builtin. Each comment describes `first` and `second`:
+ * the index of a type, a core table or a core memory, or whether the call may return before it is
+ * done (0 or 1). An argument that isn't mentioned isn't used. */
 enum wenc_function {
   /* `first` is a type. */
   WENC_RESOURCE_NEW = 1,
@@ -280,7 +279,7 @@ enum wenc_context_function {
   WENC_CONTEXT_SET = 2
 };
 
-/* Options of canonical functions. The comment before one says which number it takes, if any. */
+/* Options of canonical functions. Each comment describes the number that goes with them, if any. */
 enum wenc_option {
   WENC_OPTION_UTF8 = 0,
   WENC_OPTION_UTF16 = 1,
@@ -323,9 +322,9 @@ enum wenc_core_type {
   /* Packed types of fields and elements. */
   WENC_CORE_I8 = 19,
   WENC_CORE_I16 = 20,
-  /* These two are added. */
+  /* Added to a heap type: the reference is nullable. */
   WENC_CORE_NULLABLE = 0x100,
-  /* The field, the elements or the global variable is mutable. */
+  /* Added to any of these: the field, the elements or the global variable is mutable. */
   WENC_CORE_MUTABLE = 0x200,
   WENC_CORE_FUNCREF = 0x106,
   WENC_CORE_EXTERNREF = 0x107
@@ -369,7 +368,7 @@ enum wenc_space {
   WENC_VALUES = 10,
   WENC_COMPONENTS = 11,
   WENC_TYPES = 12,
-  /* The number of spaces, and what has no index. */
+  /* The number of spaces; also the space of an item without an index. */
   WENC_SPACES = 13
 };
 
@@ -385,12 +384,12 @@ enum wenc_unread_part {
   WENC_UNREAD_BEHIND = 3
 };
 
-/* Kinds of values within items, for wenc_walk_nodes. The comment before one says what of wenc_node
- * it has. */
+/* Kinds of values within items, for wenc_walk_nodes. Each comment names the members of wenc_node
+ * that it has. */
 enum wenc_node_kind {
-  /* An option that is none. */
+  /* An option without a value. */
   WENC_NODE_ABSENT = 0,
-  /* An option that has a value, which is the next node. */
+  /* An option with a value, which is the next node. */
   WENC_NODE_PRESENT = 1,
   /* A number that isn't an index: `number`. */
   WENC_NODE_NUMBER = 2,
@@ -426,8 +425,8 @@ enum wenc_scope {
   WENC_SCOPE_TYPE = 1
 };
 
-/* The library takes and returns enumerations as 32 bits. With a compiler that makes them shorter
- * (-fshort-enums), this doesn't compile. */
+/* The library takes and returns enumerations as 32 bits. Where a compiler makes them shorter
+ * (-fshort-enums), this declaration fails. */
 #ifndef WENC_PARSED
 typedef char wenc_enums_have_32_bits[sizeof(enum wenc_status) == 4 ? 1 : -1];
 #endif
@@ -525,10 +524,10 @@ typedef struct {
 
 /* Why a call failed. */
 typedef struct {
-  /* The argument that is wrong, by its name in this header, with a terminating 0; "ref" also if its
-   * `of` is wrong, and "handle" for a call that the handle doesn't take, whatever the handle is
-   * called. NULL if no argument is wrong by itself: if there is no memory, or what was there and
-   * what is added are too many or too large together. It is never freed. */
+  /* The name of the wrong argument in this header, with a terminating 0; "ref" also if its `of` is
+   * wrong, and "handle" for a call that the handle doesn't take, whatever the parameter's name is.
+   * NULL if no argument is wrong by itself: if an allocation failed, or a limit is exceeded by what
+   * is added to earlier items. It is never freed. */
   const char *argument;
   /* The number of the member that is wrong, counting from 0, if the argument is an array. */
   size_t member;
@@ -549,9 +548,9 @@ typedef struct {
   /* The byte offset of the first byte that can't be read, or of the end where bytes are missing;
    * that of the first byte of a number that is too large, and of a type that nests too deep. */
   size_t cause;
-  /* The bytes that can be there: `byte` if the bit `byte % 8` of `expected[byte / 8]` is set. All 0
-   * if none can, as behind the last item, or if that doesn't depend on the byte alone, as in a
-   * text, in a number that is too large, or where bytes are missing. */
+  /* The bytes that are expected at `cause`: `byte` if the bit `byte % 8` of `expected[byte / 8]` is
+   * set. All 0 if none is, as after the last item, or if that doesn't depend on the byte alone, as
+   * in a text, in a number that is too large, or where bytes are missing. */
   uint8_t expected[32];
 } wenc_unread;
 
@@ -560,8 +559,8 @@ typedef struct {
   /* The place of its id, and its size in bytes from there on. */
   size_t place;
   size_t len;
-  /* The place of its content, behind its id and its size: for a core module or a component that of
-   * the module or component. It ends where the section ends. */
+  /* The place of its content, after its id and its size: for a core module or a component, of the
+   * module or component itself. It ends where the section ends. */
   size_t content;
   /* The number of items. A custom section, a module, a component and a start are one. */
   size_t items;
@@ -569,8 +568,8 @@ typedef struct {
   uint32_t id;
 } wenc_listed_section;
 
-/* An item that was read. Its texts and bytes are the handle's, or those of the component that is
- * walked over. Numbers that an item hasn't are 0. */
+/* An item that was read. Its texts and bytes are borrowed from the handle, or from the component of
+ * the walk. Numbers that an item doesn't have are 0. */
 typedef struct {
   /* Its index, or that of the first value of a start. A walk writes 0: there, the index is the sum
    * of the `indices` of all items before that have the same `space`. */
@@ -587,25 +586,25 @@ typedef struct {
   enum wenc_section section;
   /* The index space; WENC_SPACES for a custom section, which has no index. */
   enum wenc_space space;
-  /* The number of indices that it defines: 1, but for a start its results, for a recursion group
-   * its types, for a custom section 0. */
+  /* The number of indices that it defines: that of its results for a start, of its types for a
+   * recursion group, 0 for a custom section, otherwise 1. */
   uint32_t indices;
   /* The type of an import, or that ascribed to an export. */
   enum wenc_ref ref;
   uint32_t of;
   /* What an alias refers to. */
   enum wenc_alias alias;
-  /* The kind of what is exported or aliased: one of wenc_core_kind for WENC_ALIAS_CORE_EXPORT, of
+  /* The kind of the exported or aliased item: one of wenc_core_kind for WENC_ALIAS_CORE_EXPORT, of
    * wenc_outer_kind for WENC_ALIAS_OUTER, otherwise of wenc_kind. */
   uint32_t kind;
-  /* The index of what is exported; for an alias that of the instance or the outer item. */
+  /* The index of the exported item; for an alias, of the instance or the outer item. */
   uint32_t item;
   /* For WENC_ALIAS_OUTER, the number of components further out. */
   uint32_t count;
 } wenc_listed_item;
 
-/* A walk over a component. It borrows the component's bytes, which have to stay as they are, and
- * owns nothing: it may be copied, and each copy goes its own way. Offsets are byte offsets in the
+/* A walk over a component. It borrows the component's bytes, which mustn't change, and owns
+ * nothing: it may be copied, and the copies are independent. Offsets are byte offsets in the
  * component. They may be read; if they are changed, the calls read something else or fail. */
 typedef struct {
   /* The component. */
@@ -622,7 +621,7 @@ typedef struct {
   uint32_t id;
 } wenc_walk;
 
-/* A walk over the debug names in a custom section. It is as wenc_walk is. */
+/* A walk over the debug names in a custom section, with the same rules as wenc_walk. */
 typedef struct {
   /* The section's data. */
   const uint8_t *bytes;
@@ -646,17 +645,16 @@ typedef struct {
 /* A value within an item, or the item itself. Members that its kind doesn't have are 0, NULL and
  * WENC_SPACES. */
 typedef struct {
-  /* A number, a flag or an index; of others the number of values that are directly within, which
-   * are the next nodes with the next larger depth. */
+  /* A number, a flag or an index; for others the number of values directly within, which are the
+   * next nodes with the next larger depth. */
   uint64_t number;
-  /* Its name, if it is a field: that of the Rust type. NULL for others. */
+  /* The name of a field, as in the Rust type. NULL for others. */
   wenc_text name;
-  /* A text or bytes, which are the component's; or the name of a structure or variant, that of the
+  /* A text or bytes, borrowed from the component; or the name of a structure or variant, as in the
    * Rust type. */
   wenc_text text;
-  /* Its byte offset in the component and its size in bytes, of the item, of members of lists, and
-   * of texts and bytes, without what stands before these. Both are 0 for what is read together with
-   * others. */
+  /* The byte offset in the component and the size in bytes of the item, of members of lists, and of
+   * texts and bytes, without their length. Both are 0 for other values. */
   size_t place;
   size_t len;
   /* The number of values around it: 0 for the item. */
@@ -668,15 +666,15 @@ typedef struct {
   uint32_t out;
 } wenc_node;
 
-/* A function of the program that wenc_walk_nodes calls with each node, which is there during the
- * call only, and with its own last argument. If it returns false, it isn't called again. It returns
- * in no other way: neither by longjmp nor by an exception. */
+/* A function that wenc_walk_nodes calls with its own last argument and with each node, which is
+ * valid during the call only. If it returns false, it isn't called again. It mustn't leave by
+ * longjmp or by an exception. */
 typedef bool (*wenc_node_visit)(void *context, const wenc_node *node);
 
 #ifdef __cplusplus
 }
 
-/* What WENC_NAMED makes. */
+/* The value of WENC_NAMED. */
 struct WencNamed {
   wenc_text text;
   WencNamed(const char *at, size_t len) {
@@ -698,11 +696,11 @@ const char *wenc_status_text(enum wenc_status status);
 
 /* ---- handles
  *
- * The calls that begin something take a handle that owns nothing. Otherwise they return
- * WENC_BAD_ARGUMENT, of which wenc_last_error says "handle", or WENC_NO_HANDLE if the pointer is
- * NULL. They can also return WENC_NO_MEMORY. If they fail, a handle that owns nothing still owns
- * nothing, so that there is no error to ask for: WENC_BAD_ARGUMENT is then for the one other
- * argument that can be wrong, which their comments name. */
+ * The calls that begin something take a handle that owns nothing. If it owns something they return
+ * WENC_BAD_ARGUMENT, with "handle" as the argument in wenc_last_error; if the pointer is NULL,
+ * WENC_NO_HANDLE. They can also return WENC_NO_MEMORY. If they fail, a handle that owns nothing
+ * still owns nothing, and has no last error: WENC_BAD_ARGUMENT is then for the one other argument
+ * that can be wrong, which their comments name. */
 
 /* Begins a component that is built item by item. */
 WENC_CHECKED enum wenc_status wenc_new(wenc_handle *handle);
@@ -739,9 +737,9 @@ void wenc_free(wenc_handle *handle);
  * allocate, and may be called again. WENC_BAD_ARGUMENT, WENC_NO_HANDLE. */
 WENC_CHECKED enum wenc_status wenc_finish(wenc_handle *handle, const uint8_t **bytes, size_t *len);
 
-/* Writes why the last call failed that did, of those that take this handle first, since it was
- * filled; of calls that several threads make at a time by one handle, it is any that failed. A call
- * that succeeds changes nothing here. The status is WENC_DONE if none failed. WENC_NO_HANDLE. */
+/* Writes the error of the last call that failed, of those that take this handle first, since it was
+ * filled; of calls that several threads make at the same time by one handle, it is any that failed.
+ * The status is WENC_DONE if none failed. WENC_NO_HANDLE. */
 WENC_CHECKED enum wenc_status wenc_last_error(const wenc_handle *handle, wenc_error *error);
 
 /* Copies a finished component to `bytes`. WENC_BAD_ARGUMENT if `len` isn't its number of bytes;
@@ -802,7 +800,7 @@ WENC_CHECKED enum wenc_status wenc_alias_core_export(wenc_handle *handle,
                                                      enum wenc_core_kind kind, const char *name,
                                                      size_t name_len, uint32_t *index);
 
-/* Adds an alias of the item with the index `item` in an enclosing component, `count` components
+/* Adds an alias of the item with the index `item` in the component that is `count` components
  * further out (0 is this one). */
 WENC_CHECKED enum wenc_status wenc_alias_outer(wenc_handle *handle, const wenc_text *debug_name,
                                                enum wenc_outer_kind kind, uint32_t count,
@@ -817,8 +815,8 @@ WENC_CHECKED enum wenc_status wenc_component_bytes(wenc_handle *handle, const we
                                                    const uint8_t *bytes, size_t len,
                                                    uint32_t *index);
 
-/* Nests the component of another handle, which is freed and set to {NULL}. A component that is
- * built section by section takes only one that is built so too. */
+/* Nests the component of another handle, which is freed and set to {NULL}. If this component is
+ * built section by section, the other one must be too. */
 WENC_CHECKED enum wenc_status wenc_component(wenc_handle *handle, const wenc_text *debug_name,
                                              wenc_handle *nested, uint32_t *index);
 
@@ -1081,27 +1079,27 @@ WENC_CHECKED enum wenc_status wenc_names_raw(wenc_handle *names, uint8_t id, con
  *
  * These calls read a component section by section, and item by item, in linear time. Nothing is
  * allocated. They return WENC_BAD_ARGUMENT for a walk that is NULL or wasn't begun, and WENC_END if
- * nothing is left. If a call fails, the walk stays where it was: at what can't be read.
- * wenc_fault_text says why a section or an item can't be. */
+ * nothing is left. If a call fails, the walk stays before the part that can't be read;
+ * wenc_fault_text returns why. */
 
 /* Begins a walk over the component with these bytes, which it borrows: before its first section.
  * WENC_NOT_A_COMPONENT. */
 WENC_CHECKED enum wenc_status wenc_walk_begin(wenc_walk *walk, const uint8_t *bytes, size_t len);
 
-/* Goes to the next section, and writes what it is to `*section`. Items that are left of another are
- * skipped. WENC_BAD_SECTION; WENC_BAD_ITEM if the section lacks the number of its items. */
+/* Goes to the next section, and describes it in `*section`. The remaining items of the section
+ * before are skipped. WENC_BAD_SECTION; WENC_BAD_ITEM if the number of its items can't be read. */
 WENC_CHECKED enum wenc_status wenc_walk_section(wenc_walk *walk, wenc_listed_section *section);
 
 /* Goes past the next section, whatever its id and its content, which isn't read: `items` is 0.
  * WENC_BAD_SECTION if it has no size within bounds. */
 WENC_CHECKED enum wenc_status wenc_walk_skip(wenc_walk *walk, wenc_listed_section *section);
 
-/* Writes the next item of the section to `*item`. WENC_BAD_ITEM, also if bytes are behind the last
+/* Writes the next item of the section to `*item`. WENC_BAD_ITEM, also if bytes follow the last
  * item; WENC_TOO_DEEP; WENC_BAD_SECTION for a custom section without a name. The section's other
  * items can't be read then, but the next section can.
  *
- * A nested component is read by another walk, over the item's bytes. Its offsets count from there.
- * */
+ * A nested component is read by another walk, over the item's bytes, from which its offsets count.
+ */
 WENC_CHECKED enum wenc_status wenc_walk_item(wenc_walk *walk, wenc_listed_item *item);
 
 /* Begins a walk over the debug names in an item that is a custom section named "component-name".
@@ -1109,55 +1107,55 @@ WENC_CHECKED enum wenc_status wenc_walk_item(wenc_walk *walk, wenc_listed_item *
 WENC_CHECKED enum wenc_status wenc_walk_names(wenc_names_walk *names,
                                               const wenc_listed_item *item);
 
-/* Writes the next debug name to `*name`. Of several names for one thing, the first is its name.
+/* Writes the next debug name to `*name`. Of several names for one item, the first counts.
  * WENC_MALFORMED if the next subsection can't be read. */
 WENC_CHECKED enum wenc_status wenc_walk_name(wenc_names_walk *names, wenc_debug_name *name);
 
 /* Calls a function with the nodes of an item that wenc_walk_item or wenc_item_at wrote: the item,
- * and after each value those within it, in order. Together they are all that it contains, but for
- * the contents of core modules, components and custom sections. The bytes of a section named
- * "producers" have in them a structure "Producer" for each tool, with the fields "field", "name"
- * and "version".
+ * and after each value those within it, in order. They are all values of the item, without the
+ * contents of core modules, components and custom sections; but the bytes of a section named
+ * "producers" contain a structure "Producer" for each tool, with the fields "field", "name" and
+ * "version".
  *
- * `walk` is a walk over the component; it stays where it is, and the function may use it. The
- * item's types nest at most 100 deep, for which this takes 120 kB of stack. WENC_DONE also if
- * the function returned false. WENC_BAD_ARGUMENT if an argument but `context` is NULL, or if the
- * item isn't within the component's bytes; WENC_MALFORMED or WENC_TOO_DEEP if there isn't such an
- * item: wenc_item_fault_text says why. Then the function wasn't called. WENC_MALFORMED also, behind
- * the tools before it, for a tool that can't be read. */
+ * `walk` is a walk over the component; it doesn't move, and the function may use it. Types nest at
+ * most 100 deep, which takes 120 kB of stack. WENC_DONE also if the function returned false.
+ * WENC_BAD_ARGUMENT if an argument other than `context` is NULL, or if the item isn't within the
+ * component's bytes; WENC_MALFORMED or WENC_TOO_DEEP if the item can't be read, for the reason that
+ * wenc_item_fault_text returns. In these cases the function isn't called. WENC_MALFORMED also after
+ * the last tool that can be read, if another follows. */
 WENC_CHECKED enum wenc_status wenc_walk_nodes(const wenc_walk *walk, const wenc_listed_item *item,
                                               wenc_node_visit visit, void *context);
 
 /* ---- reading components at once
  *
  * wenc_section_at and wenc_item_at return WENC_BAD_ARGUMENT, WENC_FINISHED, WENC_NO_HANDLE. The
- * number that is wrong is the argument of wenc_last_error. */
+ * argument in wenc_last_error is the number that is wrong. */
 
-/* Reads a component, and keeps a copy of its bytes. WENC_NOT_A_COMPONENT, WENC_BAD_SECTION,
- * WENC_BAD_ITEM and WENC_TOO_DEEP say why it can't be read, and `*unread` which part. Also
- * WENC_NO_MEMORY, WENC_BAD_ARGUMENT for `bytes` or a handle that owns something, WENC_NO_HANDLE.
- * `*unread` is always written: all 0 for the latter and for WENC_DONE.
+/* Reads a component, and keeps a copy of its bytes. If a part can't be read, writes it to `*unread`
+ * and returns WENC_NOT_A_COMPONENT, WENC_BAD_SECTION, WENC_BAD_ITEM or WENC_TOO_DEEP. Otherwise
+ * `*unread` is all 0, and the status WENC_DONE, WENC_NO_MEMORY, WENC_NO_HANDLE, or
+ * WENC_BAD_ARGUMENT for `bytes` or a handle that owns something.
  *
  * wenc_len counts its sections, wenc_count its items. Modules and nested components aren't read. */
 WENC_CHECKED enum wenc_status wenc_list(wenc_handle *listing, const uint8_t *bytes, size_t len,
                                         wenc_unread *unread);
 
 /* Writes why the section at this byte offset of a component can't be read, as an English sentence
- * in ASCII: its first part that can't be, what is there, and what is expected there. `section` is
- * that of wenc_unread, or for a walk the `place` of the section whose item, or `next_section` if
- * the section, can't be read; 0 is the component's header.
+ * in ASCII: the first part that can't be read, what is there, and what is expected there. `section`
+ * is that of wenc_unread; or of a walk, `next_section` if the section can't be read, and the
+ * section's `place` if an item of it can't; 0 is the component's header.
  *
  * At most `size` bytes are written to `text`, the last of them a 0; none if it is NULL. Returns the
- * length of all of the sentence in bytes, without the 0: it was cut off if that isn't less than
- * `size`. Returns 0, for no sentence, if the section can be read, if the offset is that of the end
- * or past it, and if `bytes` or `len` can't be. From an offset that is no section's other sections
- * are read. The words may change with the version. */
+ * length of the whole sentence in bytes, without the 0: if that isn't less than `size`, it was cut
+ * off. Returns 0 if the section can be read, if the offset isn't before the end, and if
+ * `bytes` or `len` is wrong. An offset at which no section begins isn't detected. The words may
+ * change with the version. */
 size_t wenc_fault_text(const uint8_t *bytes, size_t len, size_t section, char *text, size_t size);
 
 /* Writes why the bytes of an item, as wenc_item takes them, aren't exactly one item of a section
- * with this id; of a custom section named "component-name" or "producers" also why its names or its
- * tools can't be read. Byte offsets in the sentence count from the item's first byte. The rest is
- * as in wenc_fault_text: 0 if the item can be read, or if an argument is wrong. */
+ * with this id; or why the names or tools of a custom section named "component-name" or "producers"
+ * can't be read. Byte offsets in the sentence count from the item's first byte. Otherwise as
+ * wenc_fault_text. Returns 0 if the item can be read, or if an argument is wrong. */
 size_t wenc_item_fault_text(enum wenc_section section, const uint8_t *bytes, size_t len, char *text,
                             size_t size);
 
