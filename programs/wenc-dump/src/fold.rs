@@ -103,7 +103,7 @@ impl<W: Write> Text<'_, W> {
         names: Names,
         depth: usize,
     ) -> io::Result<()> {
-        self.opening(node)?;
+        self.bracket(node, true)?;
         self.end_line()?;
         members.try_each(|key, part| {
             self.begin_line(depth + 1)?;
@@ -113,7 +113,7 @@ impl<W: Write> Text<'_, W> {
             self.end_line()
         })?;
         self.begin_line(depth)?;
-        self.closing(node)
+        self.bracket(node, false)
     }
 
     /// Writes a node on the line.
@@ -137,8 +137,8 @@ impl<W: Write> Text<'_, W> {
             // those of items aren't printed here
             Node::Bytes(_) => Ok(()),
             Node::List(_) | Node::Tuple(_) | Node::Struct(..) => {
-                self.opening(node)?;
-                self.closing(node)
+                self.bracket(node, true)?;
+                self.bracket(node, false)
             }
         }
     }
@@ -146,7 +146,7 @@ impl<W: Write> Text<'_, W> {
     fn flat_members(&mut self, node: &Node, members: &Members, names: Names) -> io::Result<()> {
         let space = if matches!(members, Members::Fields(_, true)) { " " } else { "" };
         let mut lead = space;
-        self.opening(node)?;
+        self.bracket(node, true)?;
         members.try_each(|key, part| {
             self.plain(lead)?;
             lead = ", ";
@@ -154,7 +154,7 @@ impl<W: Write> Text<'_, W> {
             self.flat(&part.node(), names)
         })?;
         self.plain(space)?;
-        self.closing(node)
+        self.bracket(node, false)
     }
 
     /// Writes a variant whose part has no members. The name of an index follows the bracket.
@@ -205,33 +205,24 @@ impl<W: Write> Text<'_, W> {
         key.map_or(Ok(()), |key| write!(self, "{key}: "))
     }
 
-    /// Writes the text that opens the members of a node.
-    fn opening(&mut self, node: &Node) -> io::Result<()> {
+    /// Writes the text that opens or closes the members of a node.
+    fn bracket(&mut self, node: &Node, opens: bool) -> io::Result<()> {
         match node {
-            Node::List(_) => self.plain("["),
-            Node::Tuple(_) => self.plain("("),
-            Node::Record(..) => self.plain("{"),
-            Node::Struct(name, _) => write!(self, "{name} {{"),
+            Node::List(_) => self.plain(if opens { "[" } else { "]" }),
+            Node::Tuple(_) => self.plain(if opens { "(" } else { ")" }),
+            Node::Struct(name, _) if opens => write!(self, "{name} {{"),
+            Node::Record(..) | Node::Struct(..) => self.plain(if opens { "{" } else { "}" }),
             Node::Variant(name, part) => {
                 let part = part.node();
-                self.plain(name)?;
-                self.plain(if matches!(part, Node::Record(..)) { " " } else { "(" })?;
-                self.opening(&part)
-            }
-            _ => Ok(()),
-        }
-    }
-
-    /// Writes the text that closes the members of a node.
-    fn closing(&mut self, node: &Node) -> io::Result<()> {
-        match node {
-            Node::List(_) => self.plain("]"),
-            Node::Tuple(_) => self.plain(")"),
-            Node::Record(..) | Node::Struct(..) => self.plain("}"),
-            Node::Variant(_, part) => {
-                let part = part.node();
-                self.closing(&part)?;
-                self.plain(if matches!(part, Node::Record(..)) { "" } else { ")" })
+                let (front, back) = match part {
+                    Node::Record(..) => (" ", ""),
+                    _ => ("(", ")"),
+                };
+                if opens {
+                    write!(self, "{name}{front}")?;
+                }
+                self.bracket(&part, opens)?;
+                self.plain(if opens { "" } else { back })
             }
             _ => Ok(()),
         }

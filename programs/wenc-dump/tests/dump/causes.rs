@@ -135,79 +135,52 @@ fn file_of(sections: &[u8]) -> Vec<u8> {
     if sections.starts_with(b"\0asm") { sections.to_vec() } else { component(sections) }
 }
 
-/// Kinds of damage, each with a file and its message.
-const KINDS: [(&[u8], &str); 26] = [
-    // a name of an import, of a nested item, and of a custom section
-    (
-        b"\x0a\x07\x01\0\x02a\xff\x01\0",
-        "bad item 0 at 0xb in the section at 0x8: 0xff at 0xe isn't UTF-8",
-    ),
-    (
-        b"\x07\x0c\x01\x42\x01\x04\0\x04a\xc3\x28c\x01\0",
-        "bad item 0 at 0xb in the section at 0x8: 0xc3 at 0x11 isn't UTF-8",
-    ),
-    (b"\0\x03\x02a\x80", "custom section without a name at 0x8: 0x80 at 0xc isn't UTF-8"),
+/// Sections whose first item, at 0xb, can't be read, each with the cause.
+const ITEMS: [(&[u8], &str); 14] = [
+    // a name of an import, and of a nested item
+    (b"\x0a\x07\x01\0\x02a\xff\x01\0", "0xff at 0xe isn't UTF-8"),
+    (b"\x07\x0c\x01\x42\x01\x04\0\x04a\xc3\x28c\x01\0", "0xc3 at 0x11 isn't UTF-8"),
     // unknown kinds and opcodes
-    (
-        b"\x0a\x06\x01\0\x01f\x09\x63",
-        "bad item 0 at 0xb in the section at 0x8: 0x09 at 0xe, where 0x00 to 0x05 is expected",
-    ),
-    (
-        b"\x06\x02\x01\x09",
-        "bad item 0 at 0xb in the section at 0x8: 0x09 where an alias is expected",
-    ),
-    (
-        b"\x08\x02\x01\x7f",
-        "bad item 0 at 0xb in the section at 0x8: 0x7f where a canonical function is expected",
-    ),
-    (b"\x08\x04\x01\0\0\x33", "bad item 0 at 0xb in the section at 0x8: the bytes end at 0xe"),
+    (b"\x0a\x06\x01\0\x01f\x09\x63", "0x09 at 0xe, where 0x00 to 0x05 is expected"),
+    (b"\x06\x02\x01\x09", "0x09 where an alias is expected"),
+    (b"\x08\x02\x01\x7f", "0x7f where a canonical function is expected"),
+    (b"\x08\x04\x01\0\0\x33", "the bytes end at 0xe"),
     // types of values: of a field, in a list, of two bytes, and of a core function
     (
         b"\x07\x06\x01\x72\x01\x01a\x41",
-        "bad item 0 at 0xb in the section at 0x8: \
-         0x41 at 0xf, where 0x00 to 0x3f, 0x64 or 0x73 to 0xff is expected",
+        "0x41 at 0xf, where 0x00 to 0x3f, 0x64 or 0x73 to 0xff is expected",
     ),
-    (
-        b"\x07\x03\x01\x70\x65",
-        "bad item 0 at 0xb in the section at 0x8: \
-         0x65 at 0xc, where 0x00 to 0x3f, 0x64 or 0x73 to 0xff is expected",
-    ),
+    (b"\x07\x03\x01\x70\x65", "0x65 at 0xc, where 0x00 to 0x3f, 0x64 or 0x73 to 0xff is expected"),
     (
         b"\x07\x07\x01\x72\x01\x01a\xc1\x41",
-        "bad item 0 at 0xb in the section at 0x8: \
-         0x41 at 0x10, where 0x00 to 0x3f or 0x80 to 0xff is expected",
+        "0x41 at 0x10, where 0x00 to 0x3f or 0x80 to 0xff is expected",
     ),
     (
         b"\x03\x05\x01\x60\x01\x41\0",
-        "bad item 0 at 0xb in the section at 0x8: \
-         0x41 at 0xd, where 0x63 to 0x64, 0x69 to 0x74 or 0x7b to 0x7f is expected",
+        "0x41 at 0xd, where 0x63 to 0x64, 0x69 to 0x74 or 0x7b to 0x7f is expected",
     ),
-    // too few bytes for a name, for a size and for a count
+    // too few bytes for a name
+    (b"\x0a\x0a\x01\0\xc8\x01file\x01\0", "needs 200 bytes or more from 0xe on, where 6 are left"),
+    (b"\x0a\x08\x01\0\x64file\xff", "needs 100 bytes or more from 0xd on, where 5 are left"),
+    (b"\x0a\x08\x01\0\x09file\x03", "needs 9 bytes or more from 0xd on, where 5 are left"),
+    // a number that is too large
     (
-        b"\x0a\x0a\x01\0\xc8\x01file\x01\0",
-        "bad item 0 at 0xb in the section at 0x8: \
-         needs 200 bytes or more from 0xe on, where 6 are left",
+        b"\x03\x12\x01\x50\x01\0\0\0\x02\0\xff\xff\xff\xff\xff\xff\xff\xff\xff\x02",
+        "the number at 0x12 has more than 64 bits",
     ),
-    (
-        b"\x0a\x08\x01\0\x64file\xff",
-        "bad item 0 at 0xb in the section at 0x8: \
-         needs 100 bytes or more from 0xd on, where 5 are left",
-    ),
-    (
-        b"\x0a\x08\x01\0\x09file\x03",
-        "bad item 0 at 0xb in the section at 0x8: \
-         needs 9 bytes or more from 0xd on, where 5 are left",
-    ),
+];
+
+/// Other kinds of damage, each with a file and its message.
+const KINDS: [(&[u8], &str); 12] = [
+    // a name of a custom section
+    (b"\0\x03\x02a\x80", "custom section without a name at 0x8: 0x80 at 0xc isn't UTF-8"),
+    // too few bytes for a size and for a count
     (b"\x06\x05\x01", "bad section at 0x8: needs 5 bytes or more from 0xa on, where 1 is left"),
     (b"\x06\x01\x80", "bad count at 0xa in the section at 0x8: the bytes end at 0xb"),
-    // numbers that are too large or too long
+    // numbers that are too large
     (
         b"\x07\xff\xff\xff\xff\xff\x01",
         "bad section at 0x8: the number at 0x9 has more than 32 bits",
-    ),
-    (
-        b"\x03\x12\x01\x50\x01\0\0\0\x02\0\xff\xff\xff\xff\xff\xff\xff\xff\xff\x02",
-        "bad item 0 at 0xb in the section at 0x8: the number at 0x12 has more than 64 bits",
     ),
     (
         b"\x09\x08\xff\xff\xff\xff\x1f\0\0\0",
@@ -227,8 +200,7 @@ const KINDS: [(&[u8], &str); 26] = [
     ),
     (
         b"\0asm\x01\0\0\0\x0b\x02\x07\0",
-        "bad item 0 at 0xb: \
-         needs 7 bytes or more from 0xb on, where 1 is left",
+        "bad item 0 at 0xb: needs 7 bytes or more from 0xb on, where 1 is left",
     ),
     // headers
     (b"\x04\x08\0asm\x01\0\0\0", "no component's header at 0xa: found a core module"),
@@ -240,9 +212,11 @@ const KINDS: [(&[u8], &str); 26] = [
 
 #[test]
 fn kinds_of_damage_are_told_apart() {
-    for (sections, wanted) in KINDS {
+    let item = "bad item 0 at 0xb in the section at 0x8: ";
+    let rows = ITEMS.map(|row| (item, row)).into_iter().chain(KINDS.map(|row| ("", row)));
+    for (front, (sections, wanted)) in rows {
         let (status, _, err) = dump(&[], &file_of(sections));
-        assert_eq!((err.as_str(), status), (&*format!("-: {wanted}\n"), 1), "{sections:02x?}");
+        assert_eq!((err, status), (format!("-: {front}{wanted}\n"), 1), "{sections:02x?}");
     }
 }
 

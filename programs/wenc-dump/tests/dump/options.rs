@@ -34,16 +34,11 @@ fn expect_run(arguments: &[&str], input: &[u8], (status, out, err): (i32, &str, 
 
 #[test]
 fn bad_arguments_have_the_usage_printed() {
-    expect_run(&[], b"", (2, "", &format!("wenc-dump: no file\n{USAGE}")));
-    expect_run(&["-x", "--"], b"", (2, "", &format!("wenc-dump: no file\n{USAGE}")));
-    let bad = format!("wenc-dump: no option --he\\n\n{USAGE}");
-    expect_run(&["-", "--he\n"], b"", (2, "", &bad));
-}
-
-#[test]
-fn bad_values_have_the_usage_printed() {
     for (arguments, bad) in [
-        (&["--color=blue", "-"][..], "no value of --color: blue"),
+        (&[][..], "no file"),
+        (&["-x", "--"], "no file"),
+        (&["-", "--he\n"], "no option --he\\n"),
+        (&["--color=blue", "-"], "no value of --color: blue"),
         (&["--color", "--", "-"], "no value of --color: --"),
         (&["--width=-1", "-"], "no value of --width: -1"),
         (&["--width=", "-"], "no value of --width: "),
