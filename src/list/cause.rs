@@ -17,7 +17,7 @@ pub enum Cause {
         place: usize,
         /// The byte.
         byte: u8,
-        /// The bytes that can be there; none where the end is expected.
+        /// The expected bytes; none where the end is expected.
         expected: Bytes,
     },
     /// A byte of a text that isn't UTF-8.
@@ -127,7 +127,7 @@ impl fmt::Display for Cause {
     }
 }
 
-/// The bytes that are expected in one place, as up to four ranges; none where the end is.
+/// The bytes that are expected in one place, as up to four ranges; none where the end is expected.
 ///
 /// Needs the feature `walk`.
 #[derive(Clone, Copy, PartialEq, Eq, Hash)]

@@ -1,11 +1,11 @@
-//! What is there in place of a header.
+//! What bytes without the expected header are.
 
 use crate::proved::wenc_list::{Sections, behind_module_header};
 use crate::{Component, ComponentSectionId};
 use core::fmt;
 
-/// What bytes are that don't begin with the header of a component, or of a core module, by their
-/// first ones.
+/// The kind of bytes that don't begin with the header of a component, or of a core module, by the
+/// first of them.
 ///
 /// Needs the feature `walk`.
 ///
@@ -24,7 +24,7 @@ use core::fmt;
 #[derive(Clone, Copy, Debug, PartialEq, Eq, Hash)]
 #[non_exhaustive]
 pub enum Found {
-    /// There is no byte.
+    /// No bytes.
     Nothing,
     /// A core module, where a component was expected.
     CoreModule,
@@ -32,14 +32,14 @@ pub enum Found {
     Component,
     /// A core module or a component of another version of the binary format.
     OtherVersion,
-    /// They begin as the text format does, with a parenthesis or a comment.
+    /// WebAssembly text, which begins with a parenthesis or a comment.
     Text,
     /// None of these.
     Other,
 }
 
 impl Found {
-    /// What these bytes are.
+    /// Returns what these bytes are.
     pub(crate) fn of(bytes: &[u8]) -> Self {
         // The header without the version.
         let [magic @ .., _, _, _, _] = Component::HEADER;
@@ -74,7 +74,7 @@ impl fmt::Display for Found {
     }
 }
 
-/// What an item of a section is called.
+/// Returns the words for an item of a section.
 #[inline]
 pub(super) fn item_of(section: ComponentSectionId) -> &'static str {
     match section {

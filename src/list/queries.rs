@@ -24,8 +24,8 @@ impl Listing {
         })
     }
 
-    /// Returns the exports in their order, each by its name, and the kind and the index of what is
-    /// exported. Their ascribed types are left out.
+    /// Returns the exports in their order, each by its name, and the kind and the index of the
+    /// exported item, without ascribed types.
     pub fn exports(&self) -> impl FusedIterator<Item = (&NameTree, ComponentExportKind, u32)> {
         self.items().filter_map(|item| match item {
             ItemTree::Export { name, kind, index, ty: _ } => Some((name, *kind, *index)),
@@ -36,7 +36,7 @@ impl Listing {
     /// Returns the number of indices that the items define in a space, as upstream's builder counts
     /// them: a recursion group of core types has one. By the standard it has one for each of its
     /// types: after a group of n types add n - 1.
-    /// [`Sections::index_count`](crate::Sections::index_count) counts so.
+    /// [`Sections::index_count`](crate::Sections::index_count) counts that way.
     pub fn count(&self, space: Space) -> u128 {
         self.counts[space.number()]
     }
